@@ -1,0 +1,15 @@
+pub mod Types
+pub mod Base
+pub mod Dialect
+pub mod Utf8
+pub mod Cell
+pub mod Form
+pub mod Decode
+pub mod Text
+pub mod Report
+pub mod Records
+pub mod Api
+pub mod Ledger
+pub mod Ascii
+pub mod Computes
+pub mod Examples

@@ -1,0 +1,128 @@
+-- Canonical text of a cell, a record and a table, in each dialect.
+use Prim.Native.Nat.{ℕ, _+_, _-_, _*_, _/_, _%_}
+use mathlib.Core.Bool.{Bool, true, false, _&&_, _||_}
+use mathlib.Core.List.{List, [], _∷_, _++_}
+use lib.Dec.{leb}
+use Rattle.model.specs.Types.{Kind, Text, Number, True, False, Null, Settings, Dialect, Csvj, Tdif, CsvPlus}
+use Rattle.model.specs.Base.{if_then_else_, _is_, Bytes, QUOTE, BACKSLASH, CR, LF, holds, isEmpty}
+use Rattle.model.specs.Dialect.{delimiterOf, quoteOf}
+use Rattle.model.specs.Utf8.{isSurrogate}
+
+-- a cell: its stretch in the file, its kind and its content
+pub record Value : Type 0 where
+  pub from : ℕ
+  pub upto : ℕ
+  pub kind : Kind
+  pub content : Bytes
+
+abbrev pub isText : Kind → Bool
+isText Text = true
+isText Number = false
+isText True = false
+isText False = false
+isText Null = false
+
+-- ---- CSVJ
+
+-- a lower-case hexadecimal digit
+abbrev pub hexDigit : ℕ → ℕ
+hexDigit n = if leb n 9 then 0x30 + n else 0x57 + n
+
+-- "Escapes only for quote, backslash, and bytes below 20 hex: the short forms for 08 (b), 09 (t), 0A (n), 0C (f), 0D (r), else
+-- \u00 and two lower-case digits"
+abbrev pub escaped : ℕ → Bytes
+escaped b =
+    if b is QUOTE then BACKSLASH ∷ QUOTE ∷ []
+    else if b is BACKSLASH then BACKSLASH ∷ BACKSLASH ∷ []
+    else if leb 0x20 b then b ∷ []
+    else if b is 0x08 then BACKSLASH ∷ 0x62 ∷ []
+    else if b is 0x09 then BACKSLASH ∷ 0x74 ∷ []
+    else if b is 0x0A then BACKSLASH ∷ 0x6E ∷ []
+    else if b is 0x0C then BACKSLASH ∷ 0x66 ∷ []
+    else if b is 0x0D then BACKSLASH ∷ 0x72 ∷ []
+    else BACKSLASH ∷ 0x75 ∷ 0x30 ∷ 0x30 ∷ hexDigit (b / 0x10) ∷ hexDigit (b % 0x10) ∷ []
+
+-- "A lone surrogate is \u and four lower-case digits": the pattern ED b c is \ud and three more
+abbrev pub surrogate : ℕ → ℕ → Bytes
+surrogate b c =
+    let low : ℕ = (b - 0x80) % 0x40 in
+    BACKSLASH ∷ 0x75 ∷ 0x64 ∷ hexDigit (low / 4) ∷ hexDigit (low % 4 * 4 + (c - 0x80) / 0x10) ∷ hexDigit (c % 0x10) ∷ []
+
+unfoldable pub jsonBody : Bytes → Bytes
+jsonBody [] = []
+jsonBody (a ∷ []) = escaped a
+jsonBody (a ∷ b ∷ []) = escaped a ++ jsonBody (b ∷ [])
+jsonBody (a ∷ b ∷ c ∷ bs) =
+    if isSurrogate a b then surrogate b c ++ jsonBody bs else escaped a ++ jsonBody (b ∷ c ∷ bs)
+
+unfoldable pub jsonCell : Kind → Bytes → Bytes
+jsonCell Text bs = QUOTE ∷ jsonBody bs ++ (QUOTE ∷ [])
+-- "Numbers as spelt"
+jsonCell Number bs = bs
+jsonCell True bs = 0x74 ∷ 0x72 ∷ 0x75 ∷ 0x65 ∷ []
+jsonCell False bs = 0x66 ∷ 0x61 ∷ 0x6C ∷ 0x73 ∷ 0x65 ∷ []
+jsonCell Null bs = 0x6E ∷ 0x75 ∷ 0x6C ∷ 0x6C ∷ []
+
+-- ---- text with quotes doubled
+
+unfoldable pub doubled : ℕ → Bytes → Bytes
+doubled q [] = []
+doubled q (b ∷ bs) = if b is q then q ∷ q ∷ doubled q bs else b ∷ doubled q bs
+
+unfoldable pub quotedText : ℕ → Bytes → Bytes
+quotedText q bs = q ∷ doubled q bs ++ (q ∷ [])
+
+-- ---- CSV+
+
+abbrev pub beginsMark : Bytes → Bool
+beginsMark [] = false
+beginsMark (a ∷ []) = false
+beginsMark (a ∷ b ∷ []) = false
+beginsMark (a ∷ b ∷ c ∷ bs) = a is 0xEF && b is 0xBB && c is 0xBF
+
+abbrev pub special : Settings → ℕ → Bool
+special s b = b is quoteOf (CsvPlus s) || b is delimiterOf (CsvPlus s) || b is CR || b is LF
+
+-- "quoted exactly when the content holds quote, comma, CR or LF, or is empty in a one-column table (`only`), or is the first
+-- header cell (`first`) and begins EF BB BF"
+unfoldable pub csvPlusCell : Settings → (only first : Bool) → Bytes → Bytes
+csvPlusCell s only first bs =
+    if holds (special s) bs || only && isEmpty bs || first && beginsMark bs then quotedText (quoteOf (CsvPlus s)) bs else bs
+
+-- ---- records and tables
+
+-- the text of a cell that the dialect carries. TDIF: "quoted or \N"
+unfoldable pub cellText : Dialect → (only first : Bool) → Value → Bytes
+cellText Csvj only first v = jsonCell (v .kind) (v .content)
+cellText Tdif only first v = if isText (v .kind) then quotedText QUOTE (v .content) else BACKSLASH ∷ 0x4E ∷ []
+cellText (CsvPlus s) only first v = csvPlusCell s only first (v .content)
+
+-- CSVJ: "LF". TDIF: "LF". CSV+: "CRLF"
+abbrev pub ending : Dialect → Bytes
+ending Csvj = LF ∷ []
+ending Tdif = LF ∷ []
+ending (CsvPlus s) = CR ∷ LF ∷ []
+
+-- the cells after the first
+unfoldable pub moreCells : Dialect → List Value → Bytes
+moreCells d [] = []
+moreCells d (v ∷ vs) = delimiterOf d ∷ cellText d false false v ++ moreCells d vs
+
+-- a record without its ending
+unfoldable pub recordText : Dialect → (header : Bool) → List Value → Bytes
+recordText d header [] = []
+recordText d header (v ∷ vs) = cellText d (isEmpty vs) header v ++ moreCells d vs
+
+-- the records after the header
+unfoldable pub dataText : Dialect → List (List Value) → Bytes
+dataText d [] = []
+dataText d (r ∷ rs) = recordText d false r ++ ending d ++ dataText d rs
+
+unfoldable pub tableText : Dialect → List (List Value) → Bytes
+tableText d [] = []
+tableText d (r ∷ rs) = recordText d true r ++ ending d ++ dataText d rs
+
+-- `unfolding text-computes` opens every definition of this module
+unfoldable pub text-computes : Type 0
+unfolding jsonBody jsonCell doubled quotedText csvPlusCell cellText moreCells recordText dataText tableText
+text-computes = Unit {0}
