@@ -1,1 +1,4 @@
+pub mod Tests
 pub mod Examples
+pub mod Reading
+pub mod Cells
