@@ -2,3 +2,11 @@ pub mod Tests
 pub mod Examples
 pub mod Reading
 pub mod Cells
+pub mod Viable
+pub mod ViableFile
+pub mod Lengths
+pub mod Bound
+pub mod Utf8
+pub mod CellContent
+pub mod JsonContent
+pub mod ContentForm

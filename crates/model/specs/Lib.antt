@@ -10,6 +10,7 @@ pub mod Report
 pub mod Records
 pub mod Api
 pub mod Ledger
+pub mod Viable
 pub mod Ascii
 pub mod Computes
 pub mod Examples

@@ -30,11 +30,11 @@ rows (r ∷ rs) = r .cells ∷ rows rs
 
 -- the first fault of two checks
 infixr 20 _orElse_
-abbrev pub _orElse_ : Verdict → Verdict → Verdict
+unfoldable pub _orElse_ : Verdict → Verdict → Verdict
 Sound orElse y = y
 Faulty e orElse y = Faulty e
 
-abbrev pub when : Bool → Fault → Verdict
+unfoldable pub when : Bool → Fault → Verdict
 when true e = Faulty e
 when false e = Sound
 
@@ -259,5 +259,5 @@ recordsOf (stopped e r) = r .done
 
 -- `unfolding records-computes` opens every definition of this module
 unfoldable pub records-computes : Type 0
-unfolding rows nameKey among repeatFrom repeatFault notTextFrom headerFault dataFault uncarriedFrom targetFault recordFault nothingRead complete move fileFull recordFull readByte readFrom readBytes readEnd readFile
+unfolding rows _orElse_ when nameKey among repeatFrom repeatFault notTextFrom headerFault dataFault uncarriedFrom targetFault recordFault nothingRead complete move fileFull recordFull readByte readFrom readBytes readEnd readFile
 records-computes = Unit {0}

@@ -1,0 +1,350 @@
+-- A record written with its ending, in any target, is at most 6 times (its bytes read + 1). Each cell's text is at most 6 times its
+-- raw bytes and one more (`cell-bound`), and reading counts every byte of a cell and one between two (`Counted`).
+use Prim.Native.Nat.{ℕ, suc, _+_, _*_, _≤_}
+use native.Mathlib.Omega.{arith}
+use mathlib.Core.Path.{_≡_, refl, sym, ap, _∙_}
+use mathlib.Core.Bool.{Bool, true, false}
+use mathlib.Core.Option.{Option}
+use mathlib.Core.List.{List, [], _∷_, _++_}
+use lib.ListN.{length, length-append}
+use Rattle.model.specs.Types.{Kind, Text, Number, True, False, Null, Settings, Dialect, Csvj, Tdif, CsvPlus, EeToEf, Second, Last, Char, Whole, Within, Advance, On, Broken}
+use Rattle.model.specs.Types.{Cell, Fresh, Plain, Added, More, Stop, Refuse, ByteFault, Fault, Verdict, Sound, Faulty}
+use Rattle.model.specs.Types.{Form, Top, Begin, Ended, Mark1, Mark2, PlainMark1, PlainMark2, Comment, Blanks, Wanting, Inside, After, Cr, Part, Outside, Passed, OfCell, Between, Tail, Ends, Step, To, Reject, Ending, Clean, Final, Cut}
+use Rattle.model.specs.Base.{Bytes, QUOTE, if_then_else_, isEmpty}
+use Rattle.model.specs.Dialect.{quoteOf}
+use Rattle.model.specs.Utf8.{charStep}
+use Rattle.model.specs.Cell.{cellStep}
+use Rattle.model.specs.Form.{afterCell, grow, inCell, beginRecord, beginFile, commented, formStep, formEnd, lastCell}
+use Rattle.model.specs.Decode.{kindOf, contentOf}
+use Rattle.model.specs.Text.{Value, jsonBody, jsonCell, quotedText, csvPlusCell, cellText, moreCells, recordText, ending}
+use Rattle.model.specs.Records.{Rec, Read, Progress, going, stopped, nothingRead, readByte, readFrom, readBytes, readEnd, readFile, recordsOf, recordFault, move, complete, judged, closing, cellNow, endBetween, endAt}
+use Rattle.model.proofs.Tests.{split}
+use Rattle.model.proofs.Cells.{All, all-none, all-cons, all-snoc}
+use Rattle.model.proofs.Lengths.{content-length, body-length, quoted-length}
+
+-- ---- a cell
+
+-- this value was read from these bytes
+record From (d : Dialect) (v : Value) (raw : Bytes) : Type 0 where
+  kind : v .kind ≡ kindOf d raw
+  content : v .content ≡ contentOf d raw
+
+-- no empty cell is false, the longest word
+false-long : (d : Dialect) (raw : Bytes) → kindOf d raw ≡ False → 1 ≤ length raw
+unfolding kindOf if_then_else_
+false-long Csvj [] e = let z : _≡_ {A = ℕ} 0 1 = cc in absurd (omega arith)
+false-long Tdif [] e = let z : _≡_ {A = ℕ} 0 1 = cc in absurd (omega arith)
+false-long (CsvPlus s) [] e = let z : _≡_ {A = ℕ} 0 1 = cc in absurd (omega arith)
+false-long d (b ∷ bs) e = omega arith
+
+json-bound : (k : Kind) (n : ℕ) (bs : Bytes) → length bs ≤ n → (k ≡ False → 1 ≤ n) → length (jsonCell k bs) + 2 ≤ 6 * (n + 1)
+unfolding jsonCell
+json-bound Text n bs h f =
+    let b : length (jsonBody bs) ≤ 6 * length bs = body-length bs in
+    let a : length (jsonBody bs ++ (QUOTE ∷ [])) ≡ length (jsonBody bs) + 1 = length-append (jsonBody bs) (QUOTE ∷ []) in
+    omega arith
+json-bound Number n bs h f = omega arith
+json-bound True n bs h f = omega arith
+json-bound False n bs h f = let g : 1 ≤ n = f refl in omega arith
+json-bound Null n bs h f = omega arith
+
+cell-bound : (d t : Dialect) (only first : Bool) (v : Value) (raw : Bytes) → From d v raw → length (cellText t only first v) + 2 ≤ 6 * (length raw + 1)
+unfolding cellText csvPlusCell
+cell-bound d Csvj only first v raw w =
+    let h : length (v .content) ≤ length raw = rw (w .content) (content-length d raw) in
+    json-bound (v .kind) (length raw) (v .content) h (λ e. false-long d raw (sym (w .kind) ∙ e))
+cell-bound d Tdif only first v raw w =
+    let h : length (v .content) ≤ length raw = rw (w .content) (content-length d raw) in
+    let q : length (quotedText QUOTE (v .content)) ≤ 2 * length (v .content) + 2 = quoted-length QUOTE (v .content) in
+    split (λ (l : Bytes). length l + 2 ≤ 6 * (length raw + 1)) _ (λ _. omega arith) λ _. omega arith
+cell-bound d (CsvPlus s) only first v raw w =
+    let h : length (v .content) ≤ length raw = rw (w .content) (content-length d raw) in
+    let q : length (quotedText (quoteOf (CsvPlus s)) (v .content)) ≤ 2 * length (v .content) + 2 = quoted-length (quoteOf (CsvPlus s)) (v .content) in
+    split (λ (l : Bytes). length l + 2 ≤ 6 * (length raw + 1)) _ (λ _. omega arith) λ _. omega arith
+
+-- ---- a record
+
+-- these values were read from cells of at most n bytes, with one more for each
+data Weighs (d : Dialect) : List Value → ℕ → Type 0 where
+  weigh-none : {n : ℕ} → Weighs d [] n
+  weigh-cell : {v : Value} {vs : List Value} {n m : ℕ} (raw : Bytes) → From d v raw → Weighs d vs n → suc (length raw) + n ≤ m → Weighs d (v ∷ vs) m
+
+more-bound : {d : Dialect} (t : Dialect) {vs : List Value} {n : ℕ} → Weighs d vs n → length (moreCells t vs) ≤ 6 * n
+unfolding moreCells
+more-bound t weigh-none = omega arith
+more-bound {d} t (weigh-cell {v} {vs} {n} raw w ws h) =
+    let text : Bytes = cellText t false false v in
+    let a : length (cellText t false false v) + 2 ≤ 6 * (length raw + 1) = cell-bound d t false false v raw w in
+    let b : length (moreCells t vs) ≤ 6 * n = more-bound t ws in
+    let c : length (cellText t false false v ++ moreCells t vs) ≡ length (cellText t false false v) + length (moreCells t vs) = length-append (cellText t false false v) (moreCells t vs) in
+    omega arith
+
+ending-length : (t : Dialect) → length (ending t) ≤ 2
+ending-length Csvj = omega arith
+ending-length Tdif = omega arith
+ending-length (CsvPlus s) = omega arith
+
+-- the law for a record of this size
+abbrev pub Bounded : ℕ → List Value → Type 0
+Bounded size vs = (t : Dialect) (header : Bool) → length (recordText t header vs ++ ending t) ≤ 6 * (size + 1)
+
+text-bound : {d : Dialect} {vs : List Value} {n : ℕ} → Weighs d vs (suc n) → Bounded n vs
+unfolding recordText
+text-bound weigh-none t header = let h : length (ending t) ≤ 2 = ending-length t in omega arith
+text-bound {d} (weigh-cell {v} {vs} {n} raw w ws h) t header =
+    let a : length (cellText t (isEmpty vs) header v) + 2 ≤ 6 * (length raw + 1) = cell-bound d t (isEmpty vs) header v raw w in
+    let b : length (moreCells t vs) ≤ 6 * n = more-bound t ws in
+    let c : length (cellText t (isEmpty vs) header v ++ moreCells t vs) ≡ length (cellText t (isEmpty vs) header v) + length (moreCells t vs) = length-append (cellText t (isEmpty vs) header v) (moreCells t vs) in
+    let e : length ((cellText t (isEmpty vs) header v ++ moreCells t vs) ++ ending t) ≡ length (cellText t (isEmpty vs) header v ++ moreCells t vs) + length (ending t) = length-append (cellText t (isEmpty vs) header v ++ moreCells t vs) (ending t) in
+    let k : length (ending t) ≤ 2 = ending-length t in
+    omega arith
+
+weigh-more : {d : Dialect} {vs : List Value} {n m : ℕ} → n ≤ m → Weighs d vs n → Weighs d vs m
+weigh-more h weigh-none = weigh-none
+weigh-more {m} h (weigh-cell {n = k} raw w ws g) = let f : suc (length raw) + k ≤ m = omega arith in weigh-cell raw w ws f
+
+weigh-last : {d : Dialect} {vs : List Value} {n : ℕ} (v : Value) (raw : Bytes) → From d v raw → Weighs d vs n → Weighs d (vs ++ (v ∷ [])) (n + suc (length raw))
+weigh-last {n} v raw w weigh-none = let f : suc (length raw) + 0 ≤ n + suc (length raw) = omega arith in weigh-cell raw w weigh-none f
+weigh-last v raw w (weigh-cell {n} {m} raw′ w′ ws g) =
+    let f : suc (length raw′) + (n + suc (length raw)) ≤ m + suc (length raw) = omega arith in
+    weigh-cell raw′ w′ (weigh-last v raw w ws) f
+
+-- ---- what reading counts
+
+-- a CR outside quotes closes a cell and is not counted
+abbrev slack : Form → ℕ
+slack Top = 0
+slack Begin = 0
+slack Ended = 0
+slack Mark1 = 0
+slack Mark2 = 0
+slack PlainMark1 = 0
+slack PlainMark2 = 0
+slack (Comment c) = 0
+slack Blanks = 0
+slack Wanting = 0
+slack (Inside c) = 0
+slack After = 0
+slack Cr = 1
+
+slack-one : (f : Form) → slack f ≤ 1
+slack-one Top = omega arith
+slack-one Begin = omega arith
+slack-one Ended = omega arith
+slack-one Mark1 = omega arith
+slack-one Mark2 = omega arith
+slack-one PlainMark1 = omega arith
+slack-one PlainMark2 = omega arith
+slack-one (Comment c) = omega arith
+slack-one Blanks = omega arith
+slack-one Wanting = omega arith
+slack-one (Inside c) = omega arith
+slack-one After = omega arith
+slack-one Cr = omega arith
+
+-- after such a CR only the record's end is read
+data Steady (f : Form) : Step → Type 0 where
+  y-fault : {e : ByteFault} → Steady f (Reject e)
+  y-outside : {g : Form} → Steady f (To g Outside)
+  y-passed : {g : Form} → Steady f (To g Passed)
+  y-cell : {g : Form} → slack f ≡ 0 → Steady f (To g OfCell)
+  y-between : {g : Form} {k : Bool} → slack f ≡ 0 → Steady f (To g (Between k))
+  y-tail : {k : Bool} → slack f ≡ 0 → Steady f (To Cr (Tail k))
+  y-ends : {g : Form} {k : Bool} → slack f ≡ 0 → Steady f (To g (Ends k))
+  y-over : {g : Form} → Steady f (To g (Ends false))
+
+module _ (f : Form) (z : slack f ≡ 0) where
+  after-steady : (d : Dialect) (k : Bool) (b : ℕ) → Steady f (afterCell d k b)
+  unfolding afterCell
+  after-steady Csvj k b =
+      let P : Step → Type 0 = Steady f in
+      split P _ (λ _. y-between z) λ _. split P _ (λ _. y-between z) λ _. split P _ (λ _. y-ends z) λ _. split P _ (λ _. y-tail z) λ _. y-fault
+  after-steady Tdif k b =
+      let P : Step → Type 0 = Steady f in
+      split P _ (λ _. y-between z) λ _. split P _ (λ _. y-ends z) λ _. split P _ (λ _. y-ends z) λ _. y-fault
+  after-steady (CsvPlus s) k b =
+      let P : Step → Type 0 = Steady f in
+      split P _ (λ _. y-between z) λ _. split P _ (λ _. y-ends z) λ _. split P _ (λ _. y-tail z) λ _. y-fault
+
+  grow-steady : (a : Added) {s : Step} → Steady f s → Steady f (grow a s)
+  grow-steady (More c) k = y-cell z
+  grow-steady Stop k = k
+  grow-steady (Refuse e) k = y-fault
+
+  in-cell-steady : (d : Dialect) (c : Cell) (b : ℕ) → Steady f (inCell d c b)
+  unfolding inCell
+  in-cell-steady d c b = grow-steady (cellStep d c b) (after-steady d true b)
+
+  begin-steady : (d : Dialect) (b : ℕ) → Steady f (beginRecord d b)
+  unfolding beginRecord
+  begin-steady Csvj b =
+      let P : Step → Type 0 = Steady f in
+      split P _ (λ _. y-between z) λ _. split P _ (λ _. y-ends z) λ _. split P _ (λ _. y-tail z) λ _. in-cell-steady Csvj Fresh b
+  begin-steady Tdif b = split (Steady f) _ (λ _. y-outside) λ _. in-cell-steady Tdif Fresh b
+  begin-steady (CsvPlus s) b = in-cell-steady (CsvPlus s) Fresh b
+
+  file-steady : (d : Dialect) (b : ℕ) → Steady f (beginFile d b)
+  unfolding beginFile
+  file-steady Csvj b = split (Steady f) _ (λ _. y-outside) λ _. begin-steady Csvj b
+  file-steady Tdif b = begin-steady Tdif b
+  file-steady (CsvPlus s) b = split (Steady f) _ (λ _. y-cell z) λ _. begin-steady (CsvPlus s) b
+
+  commented-steady : (o : Advance) → Steady f (commented o)
+  commented-steady Broken = y-fault
+  commented-steady (On c) = y-outside
+
+step-steady : (d : Dialect) (f : Form) (b : ℕ) → Steady f (formStep d f b)
+unfolding formStep
+step-steady d Top b = file-steady Top refl d b
+step-steady d Begin b = begin-steady Begin refl d b
+step-steady d Ended b = split (Steady Ended) _ (λ _. y-passed) λ _. begin-steady Ended refl d b
+step-steady d Mark1 b = split (Steady Mark1) _ (λ _. y-outside) λ _. y-fault
+step-steady d Mark2 b = split (Steady Mark2) _ (λ _. y-passed) λ _. y-fault
+step-steady d PlainMark1 b = split (Steady PlainMark1) _ (λ _. y-cell refl) λ _. in-cell-steady PlainMark1 refl d (Plain (Within (Second EeToEf))) b
+step-steady d PlainMark2 b = split (Steady PlainMark2) _ (λ _. y-fault) λ _. in-cell-steady PlainMark2 refl d (Plain (Within Last)) b
+step-steady d (Comment Whole) b =
+    let P : Step → Type 0 = Steady (Comment Whole) in
+    split P _ (λ _. y-passed) λ _. split P _ (λ _. y-passed) λ _. commented-steady (Comment Whole) refl (charStep Whole b)
+step-steady d (Comment (Within i)) b = commented-steady (Comment (Within i)) refl (charStep (Within i) b)
+step-steady d Blanks b = begin-steady Blanks refl d b
+step-steady d Wanting b = split (Steady Wanting) _ (λ _. y-between refl) λ _. in-cell-steady Wanting refl d Fresh b
+step-steady d (Inside c) b = in-cell-steady (Inside c) refl d c b
+step-steady d After b = after-steady After refl d false b
+step-steady d Cr b = split (Steady Cr) _ (λ _. y-over) λ _. y-fault
+
+-- where the end of the file completes a record no CR waits
+data EndsSteady (f : Form) : Ending → Type 0 where
+  e-clean : EndsSteady f Clean
+  e-final : slack f ≡ 0 → EndsSteady f Final
+  e-cut : EndsSteady f Cut
+
+cell-end-steady : (d : Dialect) (c : Cell) → EndsSteady (Inside c) (lastCell d c)
+cell-end-steady Csvj c = e-cut
+cell-end-steady Tdif c = e-cut
+cell-end-steady (CsvPlus s) c = split (EndsSteady (Inside c)) _ (λ _. e-final refl) λ _. e-cut
+
+end-steady : (d : Dialect) (f : Form) → EndsSteady f (formEnd d f)
+unfolding formEnd
+end-steady d Top = e-clean
+end-steady d Begin = e-clean
+end-steady d Ended = e-clean
+end-steady d Mark1 = e-cut
+end-steady d Mark2 = e-cut
+end-steady d PlainMark1 = e-cut
+end-steady d PlainMark2 = e-cut
+end-steady d (Comment c) = e-cut
+end-steady d Blanks = e-cut
+end-steady d Wanting = e-cut
+end-steady d (Inside c) = cell-end-steady d c
+end-steady d After = e-cut
+end-steady d Cr = e-cut
+
+-- a record's text is bounded by its own size
+abbrev pub BoundedRecord : Rec → Type 0
+BoundedRecord r = Bounded (r .size) (r .cells)
+
+module _ (d : Dialect) (target : Option Dialect) where
+  -- the cells in hand weigh no more than the bytes counted, and every complete record is bounded
+  record Counted (r : Read) : Type 0 where
+    sum : ℕ
+    cells : Weighs d (r .cells) sum
+    fits : sum + length (r .raw) ≤ r .size + slack (r .form)
+    done : All BoundedRecord (r .done)
+
+  data CountedTo : Progress → Type 0 where
+    c-going : {r : Read} → Counted r → CountedTo (going r)
+    c-stopped : {e : Fault} {r : Read} → All BoundedRecord (r .done) → CountedTo (stopped e r)
+
+  -- the cells, with the one in hand
+  close-weighs : (r : Read) (k : Bool) (i : Counted r) → Weighs d (closing d k r) (i .sum + suc (length (r .raw)))
+  close-weighs r true i = weigh-last (cellNow d r) (r .raw) (record { kind = refl; content = refl }) (i .cells)
+  close-weighs r false i = weigh-more (omega arith) (i .cells)
+
+  judged-counted : (r next : Read) (v : Verdict) → All BoundedRecord (r .done) → Counted next → CountedTo (judged r next v)
+  judged-counted r next Sound h i = c-going i
+  judged-counted r next (Faulty e) h i = c-stopped h
+
+  complete-counted : (r : Read) (vs : List Value) (f : Form) (o : ℕ) → Counted r → Bounded (r .size) vs → CountedTo (complete d target r vs f o)
+  unfolding complete
+  complete-counted r vs f o i b =
+      let g : 0 + 0 ≤ 0 + slack f = omega arith in
+      judged-counted r _ (recordFault d target (r .done) vs) (i .done) (record { sum = 0; cells = weigh-none; fits = g; done = all-snoc (i .done) b })
+
+  -- the record that ends here, with its last cell
+  closed-bound : (r : Read) (k : Bool) (i : Counted r) → slack (r .form) ≡ 0 → Bounded (r .size) (closing d k r)
+  closed-bound r k i z =
+      let h = i .fits in
+      let g : i .sum + suc (length (r .raw)) ≤ suc (r .size) = omega arith in
+      text-bound (weigh-more g (close-weighs r k i))
+
+  -- the record that ends after a CR
+  over-bound : (r : Read) (i : Counted r) → Bounded (r .size) (r .cells)
+  over-bound r i =
+      let h = i .fits in
+      let o : slack (r .form) ≤ 1 = slack-one (r .form) in
+      let g : i .sum ≤ suc (r .size) = omega arith in
+      text-bound (weigh-more g (i .cells))
+
+  move-counted : (r : Read) (b : ℕ) (s : Step) → Counted r → Steady (r .form) s → CountedTo (move d target r b s)
+  unfolding move
+  move-counted r b (Reject e) i y-fault = c-stopped (i .done)
+  move-counted r b (To f Outside) i y-outside =
+      let g : 0 + 0 ≤ 0 + slack f = omega arith in c-going (record { sum = 0; cells = weigh-none; fits = g; done = i .done })
+  move-counted r b (To f Passed) i y-passed =
+      let g : 0 + 0 ≤ 0 + slack f = omega arith in c-going (record { sum = 0; cells = weigh-none; fits = g; done = i .done })
+  move-counted r b (To f OfCell) i (y-cell z) =
+      let h = i .fits in
+      let g : i .sum + length (r .raw ++ (b ∷ [])) ≤ suc (r .size) + slack f = omega (arith, length-append (r .raw) (b ∷ [])) in
+      c-going (record { sum = i .sum; cells = i .cells; fits = g; done = i .done })
+  move-counted r b (To f (Between k)) i (y-between z) =
+      let h = i .fits in
+      let g : i .sum + suc (length (r .raw)) + 0 ≤ suc (r .size) + slack f = omega arith in
+      c-going (record { sum = i .sum + suc (length (r .raw)); cells = close-weighs r k i; fits = g; done = i .done })
+  move-counted r b (To f (Tail k)) i (y-tail z) =
+      let h = i .fits in
+      let g : i .sum + suc (length (r .raw)) + 0 ≤ r .size + 1 = omega arith in
+      c-going (record { sum = i .sum + suc (length (r .raw)); cells = close-weighs r k i; fits = g; done = i .done })
+  move-counted r b (To f (Ends k)) i (y-ends z) = complete-counted r (closing d k r) f (suc (r .offset)) i (closed-bound r k i z)
+  move-counted r b (To f (Ends k)) i y-over = complete-counted r (closing d false r) f (suc (r .offset)) i (over-bound r i)
+
+  byte-counted : (r : Read) (b : ℕ) → Counted r → CountedTo (readByte d target r b)
+  unfolding readByte
+  byte-counted r b i =
+      split CountedTo _ (λ _. c-stopped (i .done)) λ _. split CountedTo _ (λ _. c-stopped (i .done)) λ _.
+      move-counted r b (formStep d (r .form) b) i (step-steady d (r .form) b)
+
+  read-counted : (p : Progress) (xs : Bytes) → CountedTo p → CountedTo (readFrom d target p xs)
+  unfolding readFrom
+  read-counted p [] g = g
+  read-counted (stopped e r) (x ∷ xs) g = g
+  read-counted (going r) (x ∷ xs) (c-going i) = read-counted (readByte d target r x) xs (byte-counted r x i)
+
+  bytes-counted : (xs : Bytes) → CountedTo (readBytes d target xs)
+  unfolding readBytes nothingRead
+  bytes-counted xs = read-counted (going nothingRead) xs (c-going (record { sum = 0; cells = weigh-none; fits = omega arith; done = all-none }))
+
+  between-counted : (r : Read) (rs : List Rec) → Counted r → CountedTo (endBetween r rs)
+  between-counted r [] i = c-stopped (i .done)
+  between-counted r (h ∷ rs) i = c-going i
+
+  at-end-counted : (r : Read) (x : Ending) → Counted r → EndsSteady (r .form) x → CountedTo (endAt d target r x)
+  at-end-counted r Clean i e-clean = between-counted r (r .done) i
+  at-end-counted r Final i (e-final z) = complete-counted r (closing d true r) Begin (r .offset) i (closed-bound r true i z)
+  at-end-counted r Cut i e-cut = c-stopped (i .done)
+
+  end-counted : (p : Progress) → CountedTo p → CountedTo (readEnd d target p)
+  unfolding readEnd
+  end-counted (stopped e r) g = g
+  end-counted (going r) (c-going i) = at-end-counted r (formEnd d (r .form)) i (end-steady d (r .form))
+
+  counted-records : (p : Progress) → CountedTo p → All BoundedRecord (recordsOf p)
+  counted-records (going r) (c-going i) = i .done
+  counted-records (stopped e r) (c-stopped h) = h
+
+  -- every record that was read, with or without the file's end
+  pub records-bounded : (xs : Bytes) → All BoundedRecord (recordsOf (readBytes d target xs))
+  records-bounded xs = counted-records _ (bytes-counted xs)
+
+  pub records-bounded-file : (xs : Bytes) → All BoundedRecord (recordsOf (readFile d target xs))
+  unfolding readFile
+  records-bounded-file xs = counted-records _ (end-counted _ (bytes-counted xs))
