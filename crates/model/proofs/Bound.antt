@@ -73,7 +73,6 @@ more-bound : {d : Dialect} (t : Dialect) {vs : List Value} {n : ℕ} → Weighs 
 unfolding moreCells
 more-bound t weigh-none = omega arith
 more-bound {d} t (weigh-cell {v} {vs} {n} raw w ws h) =
-    let text : Bytes = cellText t false false v in
     let a : length (cellText t false false v) + 2 ≤ 6 * (length raw + 1) = cell-bound d t false false v raw w in
     let b : length (moreCells t vs) ≤ 6 * n = more-bound t ws in
     let c : length (cellText t false false v ++ moreCells t vs) ≡ length (cellText t false false v) + length (moreCells t vs) = length-append (cellText t false false v) (moreCells t vs) in

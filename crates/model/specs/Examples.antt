@@ -1,12 +1,13 @@
--- "Sixteen rows for the table of examples", as one statement.
+-- "Sixteen rows for the table of examples", as one statement; and what rules out the "errors people make here".
 use Prim.Native.Nat.{ℕ}
 use mathlib.Core.Path.{_≡_}
-use mathlib.Core.List.{List, [], _∷_}
+use mathlib.Core.List.{List, [], _∷_, _++_}
+use lib.ListN.{replicate}
 use Rattle.model.specs.Types.{Report}
 use Rattle.model.specs.Base.{Bytes}
 use Rattle.model.specs.Ascii.{ascii}
 use Rattle.model.specs.Report.{report, accepted}
-use Rattle.model.specs.Api.{reader, converter, Answer, Written}
+use Rattle.model.specs.Api.{reader, Answer, decoder, Decoded, converter, Written}
 
 -- the reader, with lists of 64 places
 abbrev pub read : (dialect : ℕ) → Bytes → Report
@@ -41,3 +42,33 @@ pub record Sixteen : Type 0 where
   pub e14 : (read 1 (ascii "\"a\"\n\"\\ud83d\"\n") ≡ accepted) × (convert 1 2 (ascii "\"a\"\n\"\\ud83d\"\n") .report ≡ report 9 2 1 4)
   pub e15 : read 3 (ascii "a\rb") ≡ report 3 1 0 2
   pub e16 : read 2 (ascii "\\N\n") ≡ report 7 1 1 0
+
+-- the decoder, with 64 bytes of room
+abbrev pub decode : (dialect : ℕ) → Bytes → Decoded
+decode d bs = decoder d bs 64
+
+abbrev pub decodes : (kind : ℕ) → Bytes → Decoded
+decodes k bs = record { report = accepted; kind = k; content = bs }
+
+-- a CSV+ file of one cell of n bytes, and another byte after them
+abbrev pub longCell : (n b : ℕ) → Bytes
+longCell n b = replicate n 0x61 ++ (b ∷ [])
+
+-- What rules out the mistakes that people make here, each by the answer that it would change.
+pub record Mistakes : Type 0 where
+  -- a CR at the end of a CSVJ file is no ending
+  pub lone-cr : (read 1 (ascii "\"a\"\r") ≡ report 4 1 0 4) × (read 1 (ascii "\r") ≡ report 4 1 0 1)
+  -- header names are compared by content: the second is a spelt with an escape
+  pub raw-names : read 1 (ascii "\"a\",\"\\u0061\"\n") ≡ report 6 1 2 0
+  -- an empty one-column CSV+ record is written as two quotes
+  pub empty-record : convert 1 3 (ascii "\"a\"\n\"\"\n") ≡ makes (ascii "a\r\n\"\"\r\n")
+  -- two escape halves are one code point
+  pub halves-joined : decode 1 (ascii "\"\\ud83d\\ude00\"") ≡ decodes 1 (0xF0 ∷ 0x9F ∷ 0x98 ∷ 0x80 ∷ [])
+  -- a comment is no record
+  pub comment-uncounted : (extent 2 (ascii "#x\n\"a\"\n#y\r\n") ≡ (1, 0)) × (read 2 (ascii "#x\n\"a\"\n\n") ≡ report 3 2 0 7)
+  -- with 4,096 bytes counted, a byte that would be 3 is 8
+  pub limit-first : (read 3 (longCell 4096 0x22) ≡ report 8 1 0 4096) × (read 3 (longCell 4095 0x22) ≡ report 3 1 0 4095)
+  -- the mark is ordinary text inside quotes
+  pub mark-in-quotes : convert 3 3 (0x22 ∷ 0xEF ∷ 0xBB ∷ 0xBF ∷ 0x22 ∷ []) ≡ makes (0x22 ∷ 0xEF ∷ 0xBB ∷ 0xBF ∷ 0x22 ∷ 0x0D ∷ 0x0A ∷ [])
+  -- an LF after a CR that ended a TDIF record is no empty line
+  pub crlf-ends-once : extent 2 (ascii "\"a\"\r\n\"b\"\r\n") ≡ (1, 1)

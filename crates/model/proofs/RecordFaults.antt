@@ -1,0 +1,92 @@
+-- No check of a complete record answers fault 2 or 3: those are of form alone.
+use Prim.Native.Nat.{ℕ, suc}
+use mathlib.Core.Path.{_≡_, refl}
+use mathlib.Core.Bool.{Bool, true, false, not}
+use mathlib.Core.Option.{Option, none, some}
+use mathlib.Core.List.{List, [], _∷_}
+use lib.ListN.{length}
+use Rattle.model.specs.Types.{Dialect, Fault, NoRecord, Byte, CutShort, Uneven, Repeats, NotText, FileTooLong, RecordTooLong, TooManyColumns, NoCells, LacksKind, LoneSurrogate, Clash, TextTooLong, OutputTooLong, Verdict, Sound, Faulty}
+use Rattle.model.specs.Base.{Bytes}
+use Rattle.model.specs.Text.{Value, isText}
+use Rattle.model.specs.Records.{Rec, _orElse_, when, nameKey, repeatFrom, repeatFault, notTextFrom, headerFault, dataFault, hasKind, losesSurrogate, uncarriedFrom, clashFault, targetFault, converting, recordFault}
+use Rattle.model.proofs.Tests.{split}
+
+abbrev pub ofForm : Fault → Bool
+ofForm NoRecord = false
+ofForm (Byte e) = true
+ofForm CutShort = false
+ofForm Uneven = false
+ofForm (Repeats c) = false
+ofForm (NotText c) = false
+ofForm FileTooLong = false
+ofForm RecordTooLong = false
+ofForm TooManyColumns = false
+ofForm NoCells = false
+ofForm (LacksKind c) = false
+ofForm (LoneSurrogate c) = false
+ofForm (Clash c) = false
+ofForm TextTooLong = false
+ofForm OutputTooLong = false
+
+pub data OfRecord : Verdict → Type 0 where
+  of-sound : OfRecord Sound
+  of-fault : {e : Fault} → ofForm e ≡ false → OfRecord (Faulty e)
+
+when-record : (t : Bool) (e : Fault) → ofForm e ≡ false → OfRecord (when t e)
+unfolding when
+when-record true e h = of-fault h
+when-record false e h = of-sound
+
+else-record : {v w : Verdict} → OfRecord v → OfRecord w → OfRecord (v orElse w)
+unfolding _orElse_
+else-record of-sound k = k
+else-record (of-fault h) k = of-fault h
+
+repeat-record : (d : Dialect) (fault : ℕ → Fault) (seen : List Bytes) (n : ℕ) (vs : List Value) → ((c : ℕ) → ofForm (fault c) ≡ false) → OfRecord (repeatFrom d fault seen n vs)
+unfolding repeatFrom
+repeat-record d fault seen n [] h = of-sound
+repeat-record d fault seen n (v ∷ vs) h =
+    split OfRecord _ (λ _. of-fault (h n)) λ _. repeat-record d fault (nameKey d (v .content) ∷ seen) (suc n) vs h
+
+not-text-record : (n : ℕ) (vs : List Value) → OfRecord (notTextFrom n vs)
+unfolding notTextFrom
+not-text-record n [] = of-sound
+not-text-record n (v ∷ vs) = else-record (when-record (not (isText (v .kind))) (NotText n) refl) (not-text-record (suc n) vs)
+
+uncarried-record : (t : Dialect) (n : ℕ) (vs : List Value) → OfRecord (uncarriedFrom t n vs)
+unfolding uncarriedFrom
+uncarried-record t n [] = of-sound
+uncarried-record t n (v ∷ vs) =
+    else-record (when-record (not (hasKind t (v .kind))) (LacksKind n) refl)
+    (else-record (when-record (losesSurrogate t v) (LoneSurrogate n) refl) (uncarried-record t (suc n) vs))
+
+header-record : (d : Dialect) (vs : List Value) → OfRecord (headerFault d vs)
+unfolding headerFault repeatFault
+header-record d vs =
+    else-record (when-record _ TooManyColumns refl) (else-record (not-text-record 1 vs) (repeat-record d Repeats [] 1 vs (λ c. refl)))
+
+data-record : (n : ℕ) (vs : List Value) → OfRecord (dataFault n vs)
+unfolding dataFault
+data-record n vs = else-record (when-record _ TooManyColumns refl) (when-record _ Uneven refl)
+
+clash-record : (t : Dialect) (header : Bool) (vs : List Value) → OfRecord (clashFault t header vs)
+unfolding repeatFault
+clash-record t true vs = repeat-record t Clash [] 1 vs (λ c. refl)
+clash-record t false vs = of-sound
+
+target-record : (t : Dialect) (header : Bool) (written : ℕ) (vs : List Value) → OfRecord (targetFault t header written vs)
+unfolding targetFault
+target-record t header written vs =
+    else-record (when-record _ NoCells refl)
+    (else-record (uncarried-record t 1 vs)
+    (else-record (clash-record t header vs) (else-record (when-record _ TextTooLong refl) (when-record _ OutputTooLong refl))))
+
+converting-record : (target : Option Dialect) (f : Dialect → Verdict) → ((t : Dialect) → OfRecord (f t)) → OfRecord (converting target f)
+converting-record none f h = of-sound
+converting-record (some t) f h = h t
+
+pub fault-record : (d : Dialect) (target : Option Dialect) (done : List Rec) (vs : List Value) → OfRecord (recordFault d target done vs)
+unfolding recordFault
+fault-record d target [] vs = else-record (header-record d vs) (converting-record target _ (λ t. target-record t true 0 vs))
+fault-record d target (h ∷ rs) vs =
+    else-record (data-record (length (h .cells)) vs) (converting-record target _ (λ t. target-record t false _ vs))
