@@ -18,8 +18,9 @@ use Rattle.model.specs.Form.{afterCell, grow, inCell, beginRecord, begin
 use Rattle.model.specs.Decode.{kindOf, contentOf}
 use Rattle.model.specs.Text.{Value, jsonBody, jsonCell, quotedText, csvPlusCell, cellText, moreCells, recordText, ending}
 use Rattle.model.specs.Records.{Rec, Read, Progress, going, stopped, nothingRead, readByte, readFrom, readBytes, readEnd, readFile, recordsOf, recordFault, move, complete, judged, closing, cellNow, endBetween, endAt}
+use Rattle.model.specs.Laws.{All, all-none, all-cons, Bounded, BoundedRecord}
 use Rattle.model.proofs.Tests.{split}
-use Rattle.model.proofs.Cells.{All, all-none, all-cons, all-snoc}
+use Rattle.model.proofs.Cells.{all-snoc}
 use Rattle.model.proofs.Lengths.{content-length, body-length, quoted-length}
 
 -- ---- a cell
@@ -82,10 +83,6 @@ ending-length : (t : Dialect) → length (ending t) ≤ 2
 ending-length Csvj = omega arith
 ending-length Tdif = omega arith
 ending-length (CsvPlus s) = omega arith
-
--- the law for a record of this size
-abbrev pub Bounded : ℕ → List Value → Type 0
-Bounded size vs = (t : Dialect) (header : Bool) → length (recordText t header vs ++ ending t) ≤ 6 * (size + 1)
 
 text-bound : {d : Dialect} {vs : List Value} {n : ℕ} → Weighs d vs (suc n) → Bounded n vs
 unfolding recordText
@@ -237,10 +234,6 @@ end-steady d Wanting = e-cut
 end-steady d (Inside c) = cell-end-steady d c
 end-steady d After = e-cut
 end-steady d Cr = e-cut
-
--- a record's text is bounded by its own size
-abbrev pub BoundedRecord : Rec → Type 0
-BoundedRecord r = Bounded (r .size) (r .cells)
 
 module _ (d : Dialect) (target : Option Dialect) where
   -- the cells in hand weigh no more than the bytes counted, and every complete record is bounded

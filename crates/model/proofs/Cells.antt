@@ -19,7 +19,8 @@ use Rattle.model.specs.Form.{afterCell, grow, inCell, beginRecord, begin
 use Rattle.model.specs.Decode.{kindOf, contentOf, judgeFrom, judgeCell}
 use Rattle.model.specs.Text.{Value}
 use Rattle.model.specs.Records.{Rec, Read, Progress, going, stopped, nothingRead, readByte, readFrom, readBytes, readEnd, readFile, recordsOf, recordFault, move, complete, judged, closing, endBetween, endAt}
-use Rattle.model.proofs.Tests.{split, impossible, is→eq}
+use Rattle.model.specs.Laws.{All, all-none, all-cons, SoundCell, SoundRecord}
+use Rattle.model.proofs.Tests.{split, is→eq}
 
 -- ---- a cell stops only where it is whole
 
@@ -238,23 +239,9 @@ sound-runs d c i (b ∷ bs) h = go (cellStep d c b) refl h (λ c′. sound-runs 
 
 -- ---- every cell that was read
 
--- a cell's value is that of a raw cell that the decoder finds sound
-pub record SoundCell (d : Dialect) (v : Value) : Type 0 where
-  pub raw : Bytes
-  pub sound : judgeCell d raw ≡ WholeCell
-  pub kind : v .kind ≡ kindOf d raw
-  pub content : v .content ≡ contentOf d raw
-
-pub data All {ℓ κ} {A : Type ℓ} (P : A → Type κ) : List A → Type (ℓ ⊔ κ) where
-  all-none : All P []
-  all-cons : {x : A} {xs : List A} → P x → All P xs → All P (x ∷ xs)
-
 pub all-snoc {ℓ κ} : {A : Type ℓ} {P : A → Type κ} {xs : List A} {y : A} → All P xs → P y → All P (xs ++ (y ∷ []))
 all-snoc all-none q = all-cons q all-none
 all-snoc (all-cons p ps) q = all-cons p (all-snoc ps q)
-
-abbrev pub SoundRecord : Dialect → Rec → Type 0
-SoundRecord d r = All (SoundCell d) (r .cells)
 
 -- the end of the file completes a record only after a whole cell
 data EndsAfter (d : Dialect) (c : Cell) : Ending → Type 0 where

@@ -12,3 +12,4 @@ pub mod JsonContent
 pub mod ContentForm
 pub mod Lengths
 pub mod Bound
+pub mod Laws

@@ -8,7 +8,8 @@ use Rattle.model.specs.Types.{Report, Dialect, Fault, Form, Begin, Part,
 use Rattle.model.specs.Base.{Bytes}
 use Rattle.model.specs.Form.{formStep, formEnd}
 use Rattle.model.specs.Text.{Value}
-use Rattle.model.specs.Records.{Rec, Read, Progress, going, stopped, readByte, readFrom, readBytes, readEnd, readFile, recordsOf, reportOf, recordFault, move, complete, judged, closing, endBetween, endAt}
+use Rattle.model.specs.Records.{Rec, Read, Progress, going, stopped, nothingRead, readByte, readFrom, readBytes, readEnd, readFile, recordsOf, reportOf, recordFault, move, complete, judged, closing, endBetween, endAt}
+use Rattle.model.specs.Laws.{Grows}
 use Rattle.model.proofs.Tests.{split}
 
 module _ (d : Dialect) (target : Option Dialect) where
@@ -36,11 +37,6 @@ module _ (d : Dialect) (target : Option Dialect) where
   fault-stays-file e r xs ys h = rw (fault-stays e r xs ys h)
 
 -- ---- complete records stay
-
--- b is a with something added
-pub record Grows {ℓ} {A : Type ℓ} (a b : List A) : Type ℓ where
-  pub added : List A
-  pub sum : b ≡ a ++ added
 
 pub grows-refl {ℓ} : {A : Type ℓ} (a : List A) → Grows a a
 grows-refl a = record { added = []; sum = sym (append-nil a) }
@@ -83,6 +79,10 @@ module _ (d : Dialect) (target : Option Dialect) where
   read-grows p [] = grows-refl (recordsOf p)
   read-grows (stopped e r) (x ∷ xs) = grows-refl (r .done)
   read-grows (going r) (x ∷ xs) = grows-trans (byte-grows r x) (read-grows (readByte d target r x) xs)
+
+  pub records-stay : (xs ys : Bytes) → Grows (recordsOf (readBytes d target xs)) (recordsOf (readBytes d target (xs ++ ys)))
+  unfolding readBytes
+  records-stay xs ys = rw (read-append d target (going nothingRead) xs ys) (read-grows (readFrom d target (going nothingRead) xs) ys)
 
   between-grows : (r : Read) (rs : List Rec) → Grows (r .done) (recordsOf (endBetween r rs))
   between-grows r [] = grows-refl (r .done)

@@ -11,6 +11,7 @@ pub mod Records
 pub mod Api
 pub mod Ledger
 pub mod Viable
+pub mod Laws
 pub mod Ascii
 pub mod Computes
 pub mod Examples
