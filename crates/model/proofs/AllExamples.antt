@@ -1,5 +1,5 @@
 -- The examples hold, by computation.
-use mathlib.Core.Path.{_≡_, refl}
+use mathlib.Core.Path.{refl}
 use Rattle.model.specs.Computes.{computes}
 use Rattle.model.specs.Examples.{Sixteen, Mistakes}
 

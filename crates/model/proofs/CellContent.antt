@@ -1,13 +1,12 @@
 -- The content of a sound cell of TDIF and CSV+ is UTF-8, and so is a number's spelling in CSVJ.
-use Prim.Native.Nat.{ℕ, _≤_, _<_}
+use Prim.Native.Nat.{ℕ, _≤_}
 use native.Mathlib.Omega.{arith}
-use mathlib.Core.Path.{_≡_, refl, sym, ap, _∙_}
+use mathlib.Core.Path.{_≡_, refl, sym, _∙_}
 use mathlib.Core.Bool.{Bool, true, false, _||_}
-use mathlib.Core.List.{List, [], _∷_}
-use lib.Dec.{leb}
+use mathlib.Core.List.{[], _∷_}
 use Rattle.model.specs.Types.{Settings, Dialect, Csvj, Tdif, CsvPlus, Inner, Char, Whole, Within, Advance, On, Broken, ByteFault}
 use Rattle.model.specs.Types.{Numeral, Minus, Zero, Integer, Point, Fraction, E, ESign, Exponent, Cell, Fresh, Quoted, Closed, InNumber, Plain, Added, More, Stop, Refuse}
-use Rattle.model.specs.Base.{Bytes, QUOTE, CR, LF, _is_, within, if_then_else_}
+use Rattle.model.specs.Base.{Bytes, QUOTE, CR, LF, _is_, if_then_else_}
 use Rattle.model.specs.Dialect.{quoteOf, delimiterOf}
 use Rattle.model.specs.Utf8.{charStep, textFrom}
 use Rattle.model.specs.Cell.{textByte, isDigit, numeralStep, firstByte, quotedByte, plainByte, cellStep, isWhole}

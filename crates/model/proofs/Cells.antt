@@ -3,20 +3,20 @@
 -- (`step-fits`); so the raw bytes of every closed cell run from a fresh cell to a whole one (`cells-sound`).
 use Prim.Native.Nat.{ℕ, suc}
 use native.Mathlib.Omega.{arith}
-use mathlib.Core.Path.{_≡_, refl, sym, ap, _∙_}
+use mathlib.Core.Path.{_≡_, refl}
 use mathlib.Core.Bool.{Bool, true, false}
 use mathlib.Core.Option.{Option}
 use mathlib.Core.List.{List, [], _∷_, _++_}
 use Rattle.model.specs.Types.{Delimiter, Comma, Semicolon, Tab, Bar, Quote, Double, Single, Settings, Dialect, Csvj, Tdif, CsvPlus, EeToEf, Second, Last, Char, Whole, Within, Advance, On, Broken}
 use Rattle.model.specs.Types.{Numeral, Minus, Zero, Integer, Point, Fraction, E, ESign, Exponent, Cell, Fresh, Quoted, Closed, Escape, Hex, InNumber, InWord, Plain, Complete, Added, More, Stop, Refuse, ByteFault}
-use Rattle.model.specs.Types.{Form, Top, Begin, Ended, Mark1, Mark2, PlainMark1, PlainMark2, Comment, Blanks, Wanting, Inside, After, Cr, Part, Outside, Passed, OfCell, Between, Tail, Ends, Step, To, Reject, Ending, Clean, Final, Cut}
+use Rattle.model.specs.Types.{Form, Top, Begin, Ended, Mark1, Mark2, PlainMark1, PlainMark2, Comment, Blanks, Wanting, Inside, After, Cr, Outside, Passed, OfCell, Between, Tail, Ends, Step, To, Reject, Ending, Clean, Final, Cut}
 use Rattle.model.specs.Types.{Fault, Verdict, Faulty, Judged, WholeCell, Unsound}
 use Rattle.model.specs.Types as types
 use Rattle.model.specs.Base.{Bytes, _is_, if_then_else_}
 use Rattle.model.specs.Utf8.{rowOf, leads, leadByte, innerStep, charStep}
 use Rattle.model.specs.Cell.{textByte, numeralStep, firstByte, quotedByte, plainByte, cellStep, isWhole}
 use Rattle.model.specs.Form.{afterCell, grow, inCell, beginRecord, beginFile, commented, formStep, formEnd, lastCell}
-use Rattle.model.specs.Decode.{kindOf, contentOf, judgeFrom, judgeCell}
+use Rattle.model.specs.Decode.{judgeFrom, judgeCell}
 use Rattle.model.specs.Text.{Value}
 use Rattle.model.specs.Records.{Rec, Read, Progress, going, stopped, nothingRead, readByte, readFrom, readBytes, readEnd, readFile, recordsOf, recordFault, move, complete, judged, closing, endBetween, endAt}
 use Rattle.model.specs.Laws.{All, all-none, all-cons, SoundCell, SoundRecord}

@@ -1,15 +1,15 @@
 -- The content of every cell that the decoder finds sound has the document's form, over the dialect.
 use Prim.Native.Nat.{ℕ}
-use mathlib.Core.Path.{_≡_, refl, sym, _∙_}
+use mathlib.Core.Path.{_≡_, refl, _∙_}
 use mathlib.Core.Bool.{Bool, true, false, _||_}
-use mathlib.Core.List.{List, [], _∷_}
+use mathlib.Core.List.{[], _∷_}
 use Rattle.model.specs.Types.{Dialect, Csvj, Tdif, CsvPlus, Whole, Cell, Fresh, Quoted, More, WholeCell}
 use Rattle.model.specs.Base.{Bytes, QUOTE, _is_, if_then_else_}
 use Rattle.model.specs.Utf8.{wideFrom, isContent}
 use Rattle.model.specs.Cell.{firstByte, cellStep, isWhole, isDigit}
 use Rattle.model.specs.Decode.{judgeCell, contentOf}
 use Rattle.model.proofs.Utf8.{text-content}
-use Rattle.model.proofs.Cells.{Runs, here, there, WholeRun, sound-runs}
+use Rattle.model.proofs.Cells.{Runs, there, WholeRun, sound-runs}
 use Rattle.model.proofs.CellContent.{tdif-content, plus-content, same-more, number-step, number-text, ascii-text, first-number}
 use Rattle.model.proofs.JsonContent.{string-content}
 

@@ -5,16 +5,16 @@ use Prim.Native.Nat.{ℕ, _+_, _*_, _/_, _%_, _≤_, _<_}
 use native.Mathlib.Omega.{arith}
 use mathlib.Core.Path.{_≡_, refl, sym, ap, _∙_}
 use mathlib.Core.Bool.{Bool, true, false, _&&_}
-use mathlib.Core.Option.{Option, none, some}
+use mathlib.Core.Option.{some}
 use mathlib.Core.List.{List, [], _∷_, _++_, append-nil}
 use lib.Dec.{leb, ltb}
 use borrow.Author.Tests.{leb-true, leb-false, le-leb, lt-leb, ne-eqb}
-use Rattle.model.specs.Types.{Dialect, Csvj, Lead, C2ToDf, E0, E1ToEc, Ed, EeToEf, F0, F1ToF3, F4, Inner, Second, LastTwo, Last, Char, Whole, Within, Advance, On, HexLeft, Four, Three, Two, One}
-use Rattle.model.specs.Types.{Cell, Fresh, Quoted, Escape, Hex, Complete, Added, More}
-use Rattle.model.specs.Base.{Bytes, QUOTE, BACKSLASH, _is_, within, if_then_else_}
+use Rattle.model.specs.Types.{Csvj, Lead, C2ToDf, E0, E1ToEc, Ed, EeToEf, F0, F1ToF3, F4, Inner, Second, LastTwo, Last, Char, Whole, Within, On, HexLeft, Four, Three, Two, One}
+use Rattle.model.specs.Types.{Cell, Quoted, Escape, Hex, Complete, More}
+use Rattle.model.specs.Base.{Bytes, QUOTE, BACKSLASH, _is_, if_then_else_}
 use Rattle.model.specs.Utf8.{rowOf, leads, leadByte, innerStep, charStep, Wide, gap, ed, lone, inner, wideStep, wideFrom, isContent, pack, isHigh, isLow, joined}
 use Rattle.model.specs.Cell.{quotedByte, cellStep, isWhole, isShort, isHex, afterHex}
-use Rattle.model.specs.Decode.{Unit16, byte, unit, InString, between, escape, digits, units, textOf, hexOf}
+use Rattle.model.specs.Decode.{Unit16, byte, unit, between, escape, digits, units, textOf, hexOf}
 use Rattle.model.proofs.Tests.{split, split-on, impossible, is→eq, and-true, within-true}
 use Rattle.model.proofs.Utf8.{ascii-whole, inner-high, Near, near-gap, near-step, Calm, wide-on}
 use Rattle.model.proofs.Cells.{Runs, here, there}

@@ -4,11 +4,11 @@ use mathlib.Core.Path.{_≡_, refl, sym, ap, _∙_}
 use mathlib.Core.Bool.{true}
 use mathlib.Core.Option.{Option}
 use mathlib.Core.List.{List, [], _∷_, _++_, append-assoc, append-nil}
-use Rattle.model.specs.Types.{Report, Dialect, Fault, Form, Begin, Part, Outside, Passed, OfCell, Between, Tail, Ends, Step, To, Reject, Verdict, Sound, Faulty, Ending, Clean, Final, Cut}
+use Rattle.model.specs.Types.{Dialect, Fault, Form, Begin, Outside, Passed, OfCell, Between, Tail, Ends, Step, To, Reject, Verdict, Sound, Faulty, Ending, Clean, Final, Cut}
 use Rattle.model.specs.Base.{Bytes}
 use Rattle.model.specs.Form.{formStep, formEnd}
 use Rattle.model.specs.Text.{Value}
-use Rattle.model.specs.Records.{Rec, Read, Progress, going, stopped, nothingRead, readByte, readFrom, readBytes, readEnd, readFile, recordsOf, reportOf, recordFault, move, complete, judged, closing, endBetween, endAt}
+use Rattle.model.specs.Records.{Rec, Read, Progress, going, stopped, nothingRead, readByte, readFrom, readBytes, readEnd, readFile, recordsOf, recordFault, move, complete, judged, closing, endBetween, endAt}
 use Rattle.model.specs.Laws.{Grows}
 use Rattle.model.proofs.Tests.{split}
 

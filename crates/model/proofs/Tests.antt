@@ -3,7 +3,7 @@ use Prim.Native.Nat.{ℕ, _≤_}
 use native.Mathlib.Omega.{arith}
 use mathlib.Core.Path.{_≡_, refl, sym, subst}
 use mathlib.Core.Bool.{Bool, true, false, _&&_}
-use lib.Dec.{leb, eqb, T, eqb→eq}
+use lib.Dec.{leb, T, eqb→eq}
 use borrow.Author.Tests.{eq-eqb, leb-true}
 use Rattle.model.specs.Base.{if_then_else_, _is_, within}
 

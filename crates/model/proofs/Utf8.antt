@@ -1,17 +1,16 @@
 -- Laws of the UTF-8 table: ASCII is a character of one byte, quotes and delimiters are ASCII, later bytes are not; and every text of
 -- UTF-8 is content.
-use Prim.Native.Nat.{ℕ, _≤_, _<_}
+use Prim.Native.Nat.{ℕ, _≤_}
 use native.Mathlib.Omega.{arith}
-use mathlib.Core.Path.{_≡_, refl, sym, _∙_}
+use mathlib.Core.Path.{_≡_, refl, _∙_}
 use mathlib.Core.Bool.{Bool, true, false, _||_}
-use mathlib.Core.Option.{Option, none, some}
-use mathlib.Core.List.{List, [], _∷_}
-use lib.Dec.{leb}
+use mathlib.Core.Option.{some}
+use mathlib.Core.List.{[], _∷_}
 use borrow.Author.Tests.{le-leb, ne-eqb}
 use Rattle.model.specs.Types.{Delimiter, Comma, Semicolon, Tab, Bar, Quote, Double, Single, Dialect, Csvj, Tdif, CsvPlus, Lead, C2ToDf, E0, E1ToEc, Ed, EeToEf, F0, F1ToF3, F4, Inner, Second, LastTwo, Last, Char, Whole, Within, Advance, On, Broken}
 use Rattle.model.specs.Base.{Bytes, CR, LF, _is_, within, if_then_else_}
 use Rattle.model.specs.Dialect.{quoteOf, delimiterOf, delimiterByte, quoteByte}
-use Rattle.model.specs.Utf8.{rowOf, leads, leadByte, afterSecond, innerStep, charStep, textFrom, Wide, gap, ed, lone, inner, settled, wideStep, wideFrom, isContent}
+use Rattle.model.specs.Utf8.{rowOf, leads, leadByte, innerStep, charStep, textFrom, Wide, gap, ed, lone, inner, settled, wideStep, wideFrom, isContent}
 use Rattle.model.proofs.Tests.{split-on, impossible, is→eq, within-true}
 
 -- ---- ASCII

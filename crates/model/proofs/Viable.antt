@@ -2,19 +2,19 @@
 -- completes one, in every dialect. `completion` names a continuation for each state; `completes` shows that it completes.
 use Prim.Native.Nat.{ℕ}
 use native.Mathlib.Omega.{arith}
-use mathlib.Core.Path.{_≡_, refl, sym, ap, _∙_}
+use mathlib.Core.Path.{_≡_, refl, _∙_}
 use mathlib.Core.Logic.{_⊎_, inl, inr, _↔_}
 use mathlib.Core.Bool.{Bool, true, false}
-use mathlib.Core.List.{List, [], _∷_, _++_}
+use mathlib.Core.List.{[], _∷_, _++_}
 use Rattle.model.specs.Types.{Delimiter, Comma, Semicolon, Tab, Bar, Quote, Double, Single, Settings, Dialect, Csvj, Tdif, CsvPlus}
-use Rattle.model.specs.Types.{Lead, C2ToDf, E0, E1ToEc, Ed, EeToEf, F0, F1ToF3, F4, Inner, Second, LastTwo, Last, Char, Whole, Within, Advance, On, Broken}
+use Rattle.model.specs.Types.{C2ToDf, E0, E1ToEc, Ed, EeToEf, F0, F1ToF3, F4, Inner, Second, LastTwo, Last, Char, Whole, Within, On}
 use Rattle.model.specs.Types.{HexLeft, Four, Three, Two, One, Numeral, Minus, Zero, Integer, Point, Fraction, E, ESign, Exponent, Word, T, Tr, Tru, F, Fa, Fal, Fals, N, Nu, Nul, Backslash}
-use Rattle.model.specs.Types.{Cell, Fresh, Quoted, Closed, Escape, Hex, InNumber, InWord, Plain, Complete, Added, More, Stop, Refuse, ByteFault, Encoding, Syntax}
-use Rattle.model.specs.Types.{Form, Top, Begin, Ended, Mark1, Mark2, PlainMark1, PlainMark2, Comment, Blanks, Wanting, Inside, After, Cr, Part, Outside, Passed, OfCell, Between, Tail, Ends, Step, To, Reject}
+use Rattle.model.specs.Types.{Cell, Fresh, Quoted, Closed, Escape, Hex, InNumber, InWord, Plain, Complete, More, Stop, ByteFault}
+use Rattle.model.specs.Types.{Form, Top, Begin, Ended, Mark1, Mark2, PlainMark1, PlainMark2, Comment, Blanks, Wanting, Inside, After, Cr, Part, Outside, Passed, OfCell, Ends, Step, To, Reject}
 use Rattle.model.specs.Base.{Bytes, LF, QUOTE, _is_, if_then_else_}
 use Rattle.model.specs.Dialect.{quoteOf, delimiterOf, delimiterByte, quoteByte}
-use Rattle.model.specs.Utf8.{rowOf, leads, leadByte, innerStep, charStep}
-use Rattle.model.specs.Cell.{textByte, numeralStep, letterOf, afterLetter, firstByte, quotedByte, plainByte, cellStep}
+use Rattle.model.specs.Utf8.{rowOf, innerStep, charStep}
+use Rattle.model.specs.Cell.{numeralStep, letterOf, afterLetter, firstByte, quotedByte, plainByte, cellStep}
 use Rattle.model.specs.Form.{afterCell, inCell, beginRecord, beginFile, isBlank, formStep}
 use Rattle.model.specs.Viable.{Completes, completed, onward}
 use Rattle.model.proofs.Tests.{same-byte}

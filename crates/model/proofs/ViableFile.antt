@@ -5,9 +5,9 @@ use Prim.Native.Nat.{ℕ, _<_}
 use native.Mathlib.Omega.{arith}
 use mathlib.Core.Path.{_≡_, refl, sym, ap, _∙_}
 use mathlib.Core.Logic.{_↔_}
-use mathlib.Core.Bool.{Bool, true, false}
+use mathlib.Core.Bool.{true, false}
 use mathlib.Core.Option.{Option}
-use mathlib.Core.List.{List, [], _∷_, _++_}
+use mathlib.Core.List.{[], _∷_, _++_}
 use lib.ListN.{length, length-append}
 use Rattle.model.specs.Types.{Dialect, ByteFault, Encoding, Syntax, Form, Top, Part, Outside, Passed, OfCell, Between, Tail, Ends, Step, To, Reject, Fault, Byte, Verdict, Sound, Faulty}
 use Rattle.model.specs.Base.{Bytes, if_then_else_}
@@ -16,7 +16,7 @@ use Rattle.model.specs.Records.{Read, Progress, going, stopped, nothingR
 use Rattle.model.specs.Viable.{Completes, completed, onward, CanGoOn, textAt, breaks}
 use Rattle.model.proofs.Tests.{split, impossible}
 use Rattle.model.proofs.Reading.{read-append, read-stopped}
-use Rattle.model.proofs.Viable.{Viable, Refused, refused-iff}
+use Rattle.model.proofs.Viable.{Viable, refused-iff}
 use Rattle.model.proofs.Encoding.{encoding-iff, syntax-whole}
 use Rattle.model.proofs.RecordFaults.{ofForm, OfRecord, of-sound, of-fault, fault-record}
 

@@ -6,12 +6,12 @@ use mathlib.Core.Option.{Option, none, some}
 use mathlib.Core.List.{List, [], _∷_, _++_, map}
 use lib.ListN.{length, take, drop}
 use lib.Dec.{leb, ltb, eqb}
-use Rattle.model.specs.Types.{Report, Kind, Text, Number, True, False, Null, Dialect, Csvj, Fault, Verdict, Sound, Faulty, Judged, WholeCell, Unsound}
+use Rattle.model.specs.Types.{Report, Kind, Text, Number, True, False, Null, Dialect, Csvj, Verdict, Sound, Faulty, Judged, WholeCell, Unsound}
 use Rattle.model.specs.Base.{if_then_else_, _is_, Bytes, isEmpty, concat, over}
 use Rattle.model.specs.Dialect.{dialectOf}
 use Rattle.model.specs.Utf8.{isContent}
 use Rattle.model.specs.Decode.{kindNumber, kindOf, contentOf, judgeCell}
-use Rattle.model.specs.Text.{Value, isText, recordText, tableText, ending}
+use Rattle.model.specs.Text.{Value, recordText, tableText, ending}
 use Rattle.model.specs.Report.{report, accepted, refusal, numberOf, columnOf}
 use Rattle.model.specs.Records.{Rec, rows, _orElse_, Progress, going, stopped, readFile, faultReport, headerFault, targetFault}
 

@@ -3,7 +3,7 @@
 use Prim.Native.Nat.{ℕ}
 use mathlib.Core.Bool.{Bool, true, false, _||_}
 use lib.Dec.{ltb}
-use Rattle.model.specs.Types.{Settings, Dialect, Csvj, Tdif, CsvPlus, Char, Whole, Within, Advance, On, Broken}
+use Rattle.model.specs.Types.{Dialect, Csvj, Tdif, CsvPlus, Char, Whole, Within, Advance, On, Broken}
 use Rattle.model.specs.Types.{HexLeft, Four, Three, Two, One, Numeral, Minus, Zero, Integer, Point, Fraction, E, ESign, Exponent}
 use Rattle.model.specs.Types.{Word, T, Tr, Tru, F, Fa, Fal, Fals, N, Nu, Nul, Backslash}
 use Rattle.model.specs.Types.{Cell, Fresh, Quoted, Closed, Escape, Hex, InNumber, InWord, Plain, Complete, Added, More, Stop, Refuse, Encoding, Syntax}

@@ -4,7 +4,7 @@ use mathlib.Core.Bool.{Bool, true, false, _&&_, _||_}
 use mathlib.Core.List.{List, [], _∷_, _++_}
 use lib.Dec.{leb}
 use Rattle.model.specs.Types.{Kind, Text, Number, True, False, Null, Dialect, Csvj, Tdif, CsvPlus, HexLeft, Four, Three, Two, One}
-use Rattle.model.specs.Types.{Cell, Fresh, Added, More, Stop, Refuse, Syntax, Fault, Byte, CutShort, Judged, WholeCell, Unsound}
+use Rattle.model.specs.Types.{Cell, Fresh, More, Stop, Refuse, Syntax, Byte, CutShort, Judged, WholeCell, Unsound}
 use Rattle.model.specs.Base.{if_then_else_, _is_, Bytes, QUOTE, BACKSLASH, begins}
 use Rattle.model.specs.Dialect.{quoteOf}
 use Rattle.model.specs.Utf8.{pack, isHigh, isLow, joined}

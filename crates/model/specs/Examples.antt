@@ -1,13 +1,13 @@
 -- "Sixteen rows for the table of examples", as one statement; and what rules out the "errors people make here".
 use Prim.Native.Nat.{ℕ}
 use mathlib.Core.Path.{_≡_}
-use mathlib.Core.List.{List, [], _∷_, _++_}
+use mathlib.Core.List.{[], _∷_, _++_}
 use lib.ListN.{replicate}
 use Rattle.model.specs.Types.{Report}
 use Rattle.model.specs.Base.{Bytes}
 use Rattle.model.specs.Ascii.{ascii}
 use Rattle.model.specs.Report.{report, accepted}
-use Rattle.model.specs.Api.{reader, Answer, decoder, Decoded, converter, Written}
+use Rattle.model.specs.Api.{reader, decoder, Decoded, converter, Written}
 
 -- the reader, with lists of 64 places
 abbrev pub read : (dialect : ℕ) → Bytes → Report

@@ -2,10 +2,10 @@
 -- counts, names, kinds and limits are left to Records.
 use Prim.Native.Nat.{ℕ}
 use mathlib.Core.Bool.{Bool, true, false, not, _||_}
-use Rattle.model.specs.Types.{Dialect, Csvj, Tdif, CsvPlus, EeToEf, Second, Last, Char, Whole, Within, Advance, On, Broken}
-use Rattle.model.specs.Types.{Cell, Fresh, Plain, Added, More, Stop, Refuse, ByteFault, Encoding, Syntax}
+use Rattle.model.specs.Types.{Dialect, Csvj, Tdif, CsvPlus, EeToEf, Second, Last, Whole, Within, Advance, On, Broken}
+use Rattle.model.specs.Types.{Cell, Fresh, Plain, Added, More, Stop, Refuse, Encoding, Syntax}
 use Rattle.model.specs.Types.{Form, Top, Begin, Ended, Mark1, Mark2, PlainMark1, PlainMark2, Comment, Blanks, Wanting, Inside, After, Cr}
-use Rattle.model.specs.Types.{Part, Outside, Passed, OfCell, Between, Tail, Ends, Step, To, Reject, Ending, Clean, Final, Cut}
+use Rattle.model.specs.Types.{Outside, Passed, OfCell, Between, Tail, Ends, Step, To, Reject, Ending, Clean, Final, Cut}
 use Rattle.model.specs.Base.{if_then_else_, _is_, LF, CR, COMMA}
 use Rattle.model.specs.Dialect.{delimiterOf}
 use Rattle.model.specs.Utf8.{charStep}

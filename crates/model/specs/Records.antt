@@ -1,12 +1,12 @@
 -- What is asked of a complete record, and reading, over any dialect: offsets, record numbers, limits, stretches.
-use Prim.Native.Nat.{ℕ, zero, suc, _+_}
+use Prim.Native.Nat.{ℕ, suc, _+_}
 use mathlib.Core.Bool.{Bool, true, false, not, _&&_}
 use mathlib.Core.Option.{Option, none, some}
 use mathlib.Core.List.{List, [], _∷_, _++_, map}
 use lib.ListN.{length}
 use lib.Dec.{leb, ltb, eqb}
-use Rattle.model.specs.Types.{Report, Kind, Text, Number, True, False, Null, Settings, Dialect, Csvj, Tdif, CsvPlus}
-use Rattle.model.specs.Types.{Form, Top, Begin, Part, Outside, Passed, OfCell, Between, Tail, Ends, Step, To, Reject, Ending, Clean, Final, Cut}
+use Rattle.model.specs.Types.{Report, Kind, Text, Number, True, False, Null, Dialect, Csvj, Tdif, CsvPlus}
+use Rattle.model.specs.Types.{Form, Top, Begin, Outside, Passed, OfCell, Between, Tail, Ends, Step, To, Reject, Ending, Clean, Final, Cut}
 use Rattle.model.specs.Types.{Fault, NoRecord, Byte, CutShort, Uneven, Repeats, NotText, FileTooLong, RecordTooLong, TooManyColumns, NoCells, LacksKind, LoneSurrogate, Clash, TextTooLong, OutputTooLong, Verdict, Sound, Faulty}
 use Rattle.model.specs.Base.{if_then_else_, within, Bytes, same, isEmpty}
 use Rattle.model.specs.Dialect.{isCsvj}

@@ -2,7 +2,7 @@
 -- is a byte or the record's start.
 use Prim.Native.Nat.{ℕ}
 use mathlib.Core.Bool.{Bool, true, false}
-use Rattle.model.specs.Types.{Report, ByteFault, Encoding, Syntax, Fault, NoRecord, Byte, CutShort, Uneven, Repeats, NotText, FileTooLong, RecordTooLong, TooManyColumns, NoCells, LacksKind, LoneSurrogate, Clash, TextTooLong, OutputTooLong}
+use Rattle.model.specs.Types.{Report, Encoding, Syntax, Fault, NoRecord, Byte, CutShort, Uneven, Repeats, NotText, FileTooLong, RecordTooLong, TooManyColumns, NoCells, LacksKind, LoneSurrogate, Clash, TextTooLong, OutputTooLong}
 
 -- "A report has number, record, column, offset"
 abbrev pub report : (number record-number column offset : ℕ) → Report
