@@ -1,0 +1,74 @@
+//! Writes the vectors as a crate of equations about the definitions, to be proved by computation.
+//!
+//! `definitions FOLDER` makes FOLDER a repository of two crates: `model`, copied from this one, and `vectors`. `rt check` in
+//! FOLDER then computes every case.
+
+use std::fs;
+use std::io;
+use std::path::Path;
+use std::process::ExitCode;
+
+use harness::{antt, vectors, vectors_folder};
+
+fn main() -> ExitCode {
+    let arguments: Vec<String> = std::env::args().skip(1).collect();
+    let [folder] = arguments.as_slice() else {
+        eprintln!("usage: definitions FOLDER");
+        return ExitCode::from(2);
+    };
+    match write_repository(Path::new(folder)) {
+        Ok(said) => {
+            println!("{said}");
+            ExitCode::SUCCESS
+        }
+        Err(error) => {
+            eprintln!("definitions: {error}");
+            ExitCode::FAILURE
+        }
+    }
+}
+
+fn write_repository(folder: &Path) -> Result<String, String> {
+    let cases = vectors::load_folder(&vectors_folder())?;
+    let module = antt::module(&cases);
+    let proofs = folder.join("crates/vectors/proofs");
+    let sources = folder.join("crates/vectors/src");
+    let made = (|| -> io::Result<()> {
+        if folder.exists() {
+            fs::remove_dir_all(folder)?;
+        }
+        fs::create_dir_all(&proofs)?;
+        fs::create_dir_all(&sources)?;
+        fs::write(folder.join("crates.txt"), "model:\nvectors: model\n")?;
+        fs::write(
+            sources.join("lib.rt"),
+            "// The vectors, computed by the prover.\n",
+        )?;
+        fs::write(proofs.join("Lib.antt"), "pub mod Vectors\n")?;
+        fs::write(proofs.join("Vectors.antt"), &module.text)?;
+        let model = Path::new(env!("CARGO_MANIFEST_DIR")).join("../crates/model");
+        for part in ["src", "specs"] {
+            copy(&model.join(part), &folder.join("crates/model").join(part))?;
+        }
+        Ok(())
+    })();
+    made.map_err(|error| format!("{}: {error}", folder.display()))?;
+    Ok(format!(
+        "definitions: {} vectors stated as equations, {} left to the programs for their length",
+        module.stated, module.left_out
+    ))
+}
+
+fn copy(from: &Path, to: &Path) -> io::Result<()> {
+    fs::create_dir_all(to)?;
+    for entry in fs::read_dir(from)? {
+        let entry = entry?;
+        let target = to.join(entry.file_name());
+        if entry.file_type()?.is_dir() {
+            copy(&entry.path(), &target)?;
+        } else {
+            fs::copy(entry.path(), target)?;
+        }
+    }
+    Ok(())
+}

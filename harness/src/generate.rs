@@ -1,0 +1,386 @@
+//! Random files: tables spelt in every way that a dialect allows, tables with a fault planted in
+//! them, and both of these with bytes changed.
+
+use crate::json::surrogate_bytes;
+use crate::rng::Rng;
+use crate::whole::Cell;
+use reference::limits::{COLUMNS, RECORD_BYTES};
+use reference::Dialect;
+
+/// A random file.
+#[derive(Clone, Debug)]
+pub struct Sample {
+    /// The file.
+    pub file: Vec<u8>,
+    /// The records that it was made of, if it is known to be sound.
+    pub records: Option<Vec<Vec<Cell>>>,
+}
+
+/// A cell before it is spelt; text is a list of code points.
+#[derive(Clone, Debug, PartialEq, Eq)]
+enum Value {
+    Text(Vec<u32>),
+    Number(&'static str),
+    True,
+    False,
+    Null,
+}
+
+/// Code points that are on an edge of some rule.
+const CODE_POINTS: [u32; 37] = [
+    0x00, 0x01, 0x08, 0x09, 0x0A, 0x0C, 0x0D, 0x1F, 0x20, 0x20, 0x22, 0x23, 0x2C, 0x2F, 0x30, 0x41,
+    0x41, 0x42, 0x4E, 0x5C, 0x61, 0x61, 0x61, 0x62, 0x62, 0x7F, 0x80, 0xE9, 0x7FF, 0x800, 0xD7FF,
+    0xE000, 0xFEFF, 0xFFFF, 0x10000, 0x1F600, 0x10FFFF,
+];
+const SURROGATES: [u32; 5] = [0xD800, 0xD83D, 0xDBFF, 0xDC00, 0xDFFF];
+const NUMBERS: [&str; 12] = [
+    "0",
+    "-0",
+    "1",
+    "-12",
+    "0.5",
+    "10.250",
+    "1e5",
+    "1E+05",
+    "-0.0e-0",
+    "2E-7",
+    "-9.9e99",
+    "12345678901234567890",
+];
+const MARK: &[u8; 3] = b"\xEF\xBB\xBF";
+/// Bytes that are likely to change what a file means.
+const BYTES: &[u8] = b"\"\"\",,\r\r\n\n\\N#  \t\0\x1FaA01-+.eEtnfu8d/[{\
+    \x7F\x80\x8F\x90\x9F\xA0\xBB\xBF\xC0\xC1\xC2\xDF\xE0\xED\xEF\xF0\xF4\xF5\xFF";
+
+/// A random file of the dialect.
+pub fn sample(rng: &mut Rng, dialect: Dialect) -> Sample {
+    let mut sample = match rng.below(100) {
+        0..=3 => no_records(rng, dialect),
+        4..=24 => faulty_table(rng, dialect),
+        _ => sound_table(rng, dialect),
+    };
+    if rng.percent(40) {
+        for _ in 0..rng.between(1, 3) {
+            mutate(rng, &mut sample.file);
+        }
+        sample.records = None;
+    }
+    sample
+}
+
+/// Changes, adds or takes away a byte, puts a mark in front, or cuts the bytes off.
+pub fn mutate(rng: &mut Rng, file: &mut Vec<u8>) {
+    let place = rng.below(file.len() + 1);
+    match rng.below(20) {
+        0 => drop(file.splice(..0, *MARK)),
+        1..=3 => file.truncate(place),
+        4..=8 => file.insert(place, rng.pick(BYTES)),
+        _ if place == file.len() => file.push(rng.pick(BYTES)),
+        9..=12 => drop(file.remove(place)),
+        13..=16 => file[place] = rng.pick(BYTES),
+        _ => file[place] ^= 1 << rng.below(8),
+    }
+}
+
+fn no_records(rng: &mut Rng, dialect: Dialect) -> Sample {
+    let mut file = Vec::new();
+    match dialect {
+        Dialect::Csvj if rng.percent(50) => file.extend(MARK),
+        Dialect::Tdif => (0..rng.below(3)).for_each(|_| spell_comment(rng, &mut file)),
+        Dialect::Csvj | Dialect::CsvPlus => {}
+    }
+    Sample {
+        file,
+        records: None,
+    }
+}
+
+fn sound_table(rng: &mut Rng, dialect: Dialect) -> Sample {
+    let records = table(rng, dialect);
+    spell(rng, dialect, &records)
+}
+
+fn table(rng: &mut Rng, dialect: Dialect) -> Vec<Vec<Value>> {
+    let columns = match rng.below(100) {
+        0..=3 if dialect == Dialect::Csvj => 0,
+        0..=3 => COLUMNS,
+        4..=39 => 1,
+        _ => rng.between(2, 5),
+    };
+    let mut records = vec![header(rng, dialect, columns)];
+    for _ in 0..rng.below(5) {
+        records.push((0..columns).map(|_| value(rng, dialect)).collect());
+    }
+    if columns == 1 && rng.percent(8) {
+        let index = rng.below(records.len());
+        records[index][0] = Value::Text(long_text(rng));
+    }
+    records
+}
+
+fn faulty_table(rng: &mut Rng, dialect: Dialect) -> Sample {
+    let mut records = table(rng, dialect);
+    let columns = records[0].len();
+    match rng.below(4) {
+        0 => {
+            let name = records[0].first().cloned();
+            records[0].push(name.unwrap_or(Value::Text(Vec::new())));
+            if columns == 0 {
+                records[0].push(Value::Text(Vec::new()));
+            }
+        }
+        1 if dialect != Dialect::CsvPlus => {
+            let place = rng.below(columns + 1);
+            records[0].insert(place, Value::Null);
+        }
+        2 => {
+            let wide = vec![Value::Text(Vec::new()); rng.between(COLUMNS, COLUMNS + 2)];
+            records.push(wide);
+        }
+        _ => {
+            let mut ragged = records[rng.below(records.len())].clone();
+            if rng.percent(50) || ragged.len() < 2 {
+                ragged.push(Value::Text(Vec::new()));
+            } else {
+                ragged.pop();
+            }
+            records.push(ragged);
+        }
+    }
+    Sample {
+        records: None,
+        ..spell(rng, dialect, &records)
+    }
+}
+
+/// Names that are distinct by the dialect's rule, though often close.
+fn header(rng: &mut Rng, dialect: Dialect, columns: usize) -> Vec<Value> {
+    let fold = |text: &[u32]| -> Vec<u32> {
+        let lower = |&point: &u32| match point {
+            0x41..=0x5A if dialect == Dialect::Tdif => point + 0x20,
+            _ => point,
+        };
+        text.iter().map(lower).collect()
+    };
+    let mut seen = Vec::new();
+    let mut names = Vec::new();
+    for column in 0..columns {
+        let mut name = text(rng, dialect);
+        if seen.contains(&fold(&name)) {
+            name.push(0x4E00 + column as u32);
+        }
+        seen.push(fold(&name));
+        names.push(Value::Text(name));
+    }
+    names
+}
+
+fn value(rng: &mut Rng, dialect: Dialect) -> Value {
+    let kind = match dialect {
+        Dialect::Csvj => rng.below(9),
+        Dialect::Tdif => rng.pick(&[3, 5]),
+        Dialect::CsvPlus => 5,
+    };
+    match kind {
+        0 => Value::Number(rng.pick(&NUMBERS)),
+        1 => Value::True,
+        2 => Value::False,
+        3 => Value::Null,
+        _ => Value::Text(text(rng, dialect)),
+    }
+}
+
+fn text(rng: &mut Rng, dialect: Dialect) -> Vec<u32> {
+    let mut points: Vec<u32> = Vec::new();
+    let has_surrogates = dialect == Dialect::Csvj && rng.percent(6);
+    for _ in 0..rng.pick(&[0, 1, 1, 1, 2, 2, 3, 4]) {
+        let point = if has_surrogates && rng.percent(50) {
+            rng.pick(&SURROGATES)
+        } else {
+            rng.pick(&CODE_POINTS)
+        };
+        let after_high = points
+            .last()
+            .is_some_and(|last| (0xD800..0xDC00).contains(last));
+        if !(after_high && (0xDC00..0xE000).contains(&point)) {
+            points.push(point);
+        }
+    }
+    points
+}
+
+/// Text near the record limit, as it is read or as a target writes it.
+fn long_text(rng: &mut Rng) -> Vec<u32> {
+    let (point, length) = match rng.below(3) {
+        0 => (0x01, rng.between(680, 685)),
+        1 => (0x22, rng.between(2_044, 2_050)),
+        _ => (0x78, rng.between(4_091, 4_099)),
+    };
+    let mut points = vec![point; length];
+    points.extend(rng.percent(30).then(|| rng.pick(&CODE_POINTS)));
+    points
+}
+
+fn content(value: &Value) -> Cell {
+    let (kind, content) = match value {
+        Value::Text(points) => (1, points.iter().flat_map(|&point| packed(point)).collect()),
+        Value::Number(spelling) => (2, spelling.as_bytes().to_vec()),
+        Value::True => (3, Vec::new()),
+        Value::False => (4, Vec::new()),
+        Value::Null => (5, Vec::new()),
+    };
+    Cell { kind, content }
+}
+
+fn packed(point: u32) -> Vec<u8> {
+    match char::from_u32(point) {
+        Some(character) => character.to_string().into_bytes(),
+        None => surrogate_bytes(point as u16).to_vec(),
+    }
+}
+
+/// Spells a table in one of the ways that the dialect allows.
+fn spell(rng: &mut Rng, dialect: Dialect, records: &[Vec<Value>]) -> Sample {
+    let mut file = Vec::new();
+    let mut sound = records[0].len() <= COLUMNS;
+    if dialect == Dialect::Csvj && rng.percent(20) {
+        file.extend(MARK);
+    }
+    for (index, record) in records.iter().enumerate() {
+        if dialect == Dialect::Tdif && rng.percent(20) {
+            spell_comment(rng, &mut file);
+        }
+        let line = spell_record(rng, dialect, record, index == 0);
+        sound &= line.len() <= RECORD_BYTES;
+        let is_last = index + 1 == records.len();
+        let no_ending = dialect == Dialect::CsvPlus && is_last && !line.is_empty();
+        file.extend(line);
+        if !(no_ending && rng.percent(40)) {
+            spell_ending(rng, dialect, &mut file);
+        }
+    }
+    if dialect == Dialect::Tdif && rng.percent(20) {
+        spell_comment(rng, &mut file);
+    }
+    let cells = |record: &Vec<Value>| record.iter().map(content).collect();
+    Sample {
+        file,
+        records: sound.then(|| records.iter().map(cells).collect()),
+    }
+}
+
+fn spell_ending(rng: &mut Rng, dialect: Dialect, file: &mut Vec<u8>) {
+    let endings: &[&[u8]] = match dialect {
+        Dialect::Tdif => &[b"\n", b"\r", b"\r\n"],
+        Dialect::Csvj | Dialect::CsvPlus => &[b"\n", b"\r\n"],
+    };
+    file.extend(rng.pick(endings));
+}
+
+fn spell_comment(rng: &mut Rng, file: &mut Vec<u8>) {
+    file.push(b'#');
+    for point in text(rng, Dialect::Tdif) {
+        if !matches!(point, 0x0A | 0x0D) {
+            file.extend(packed(point));
+        }
+    }
+    spell_ending(rng, Dialect::Tdif, file);
+}
+
+fn spell_record(rng: &mut Rng, dialect: Dialect, record: &[Value], is_header: bool) -> Vec<u8> {
+    let mut line = Vec::new();
+    spell_blanks(rng, dialect, &mut line);
+    for (index, value) in record.iter().enumerate() {
+        if index > 0 {
+            line.push(b',');
+            spell_blanks(rng, dialect, &mut line);
+        }
+        match (value, dialect) {
+            (Value::Text(points), Dialect::Csvj) => spell_string(rng, points, &mut line),
+            (Value::Text(_), Dialect::Tdif) => spell_quoted(&content(value).content, &mut line),
+            (Value::Text(_), Dialect::CsvPlus) => {
+                let bytes = content(value).content;
+                let is_mark = is_header && index == 0 && bytes.starts_with(MARK);
+                let special = bytes.iter().any(|byte| b"\",\r\n".contains(byte));
+                if is_mark || special || rng.percent(40) {
+                    spell_quoted(&bytes, &mut line);
+                } else {
+                    line.extend(bytes);
+                }
+            }
+            (Value::Number(spelling), _) => line.extend(spelling.bytes()),
+            (Value::True, _) => line.extend(b"true"),
+            (Value::False, _) => line.extend(b"false"),
+            (Value::Null, Dialect::Tdif) => line.extend(b"\\N"),
+            (Value::Null, _) => line.extend(b"null"),
+        }
+        spell_blanks(rng, dialect, &mut line);
+    }
+    line
+}
+
+fn spell_blanks(rng: &mut Rng, dialect: Dialect, line: &mut Vec<u8>) {
+    if dialect == Dialect::Csvj && rng.percent(15) {
+        let count = rng.between(1, 2);
+        line.extend((0..count).map(|_| rng.pick(b" \t")));
+    }
+}
+
+fn spell_quoted(bytes: &[u8], line: &mut Vec<u8>) {
+    line.push(b'"');
+    for &byte in bytes {
+        line.push(byte);
+        line.extend((byte == b'"').then_some(byte));
+    }
+    line.push(b'"');
+}
+
+fn spell_string(rng: &mut Rng, points: &[u32], line: &mut Vec<u8>) {
+    // A long text is spelt as short as can be, to stay near the limit.
+    let escapes = if points.len() > 100 { 0 } else { 20 };
+    line.push(b'"');
+    for &point in points {
+        let letter = short_escape(point);
+        let must_escape =
+            matches!(point, 0x00..=0x1F | 0x22 | 0x5C) || char::from_u32(point).is_none();
+        match letter {
+            Some(letter) if (must_escape || rng.percent(escapes)) && !rng.percent(escapes) => {
+                line.extend([b'\\', letter]);
+            }
+            _ if must_escape || rng.percent(escapes) => spell_units(rng, point, line),
+            _ => line.extend(packed(point)),
+        }
+    }
+    line.push(b'"');
+}
+
+fn short_escape(point: u32) -> Option<u8> {
+    Some(match point {
+        0x08 => b'b',
+        0x09 => b't',
+        0x0A => b'n',
+        0x0C => b'f',
+        0x0D => b'r',
+        0x22 => b'"',
+        0x2F => b'/',
+        0x5C => b'\\',
+        _ => return None,
+    })
+}
+
+/// One `\u` escape, or two for a code point beyond FFFF.
+fn spell_units(rng: &mut Rng, point: u32, line: &mut Vec<u8>) {
+    let mut pair = [0; 2];
+    let units: &[u16] = match char::from_u32(point) {
+        Some(character) => character.encode_utf16(&mut pair),
+        None => &[point as u16],
+    };
+    for unit in units {
+        let digits = format!("{unit:04x}");
+        line.extend(b"\\u");
+        line.extend(digits.bytes().map(|digit| match rng.percent(50) {
+            true => digit.to_ascii_uppercase(),
+            false => digit,
+        }));
+    }
+}

@@ -1,0 +1,18 @@
+//! Runs the vectors, the CSVJ conformance set and random tests against the reference, and states the vectors for the prover.
+
+pub mod antt;
+pub mod conformance;
+pub mod generate;
+pub mod json;
+pub mod ledger;
+pub mod rng;
+pub mod runner;
+pub mod vectors;
+pub mod whole;
+
+use std::path::{Path, PathBuf};
+
+/// The folder of the vectors.
+pub fn vectors_folder() -> PathBuf {
+    Path::new(env!("CARGO_MANIFEST_DIR")).join("../vectors")
+}
