@@ -7,6 +7,7 @@ pub mod json;
 pub mod ledger;
 pub mod rng;
 pub mod runner;
+pub mod sampled;
 pub mod vectors;
 pub mod whole;
 

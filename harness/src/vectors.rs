@@ -35,6 +35,14 @@ pub struct Bytes {
     items: Vec<(Vec<u8>, usize)>,
 }
 
+impl From<&[u8]> for Bytes {
+    fn from(bytes: &[u8]) -> Self {
+        Self {
+            items: vec![(bytes.to_vec(), 1)],
+        }
+    }
+}
+
 impl Bytes {
     /// The items, repeated and joined.
     pub fn to_vec(&self) -> Vec<u8> {

@@ -1,22 +1,31 @@
-//! Writes the vectors as a crate of equations about the definitions, to be proved by computation.
+//! Writes the vectors, and random cases with the reference's answers, as a crate of equations about the definitions, to
+//! be proved by computation.
 //!
-//! `definitions FOLDER` makes FOLDER a repository of two crates: `model`, copied from this one, and `vectors`. `rt check` in
-//! FOLDER then computes every case.
+//! `definitions FOLDER [COUNT [SEED]]` makes FOLDER a repository of two crates: `model`, copied from this one, and
+//! `vectors`. `rt check` in FOLDER then computes every case. COUNT is how many random cases there are.
 
 use std::fs;
 use std::io;
 use std::path::Path;
 use std::process::ExitCode;
 
-use harness::{antt, vectors, vectors_folder};
+use harness::{antt, sampled, vectors, vectors_folder};
+
+/// How many random cases there are unless the command says otherwise.
+const RANDOM_CASES: usize = 2_000;
 
 fn main() -> ExitCode {
     let arguments: Vec<String> = std::env::args().skip(1).collect();
-    let [folder] = arguments.as_slice() else {
-        eprintln!("usage: definitions FOLDER");
+    let numbers: Result<Vec<u64>, _> = arguments.iter().skip(1).map(|word| word.parse()).collect();
+    let (Some(folder), Ok(numbers)) = (arguments.first(), numbers) else {
+        eprintln!("usage: definitions FOLDER [COUNT [SEED]]");
         return ExitCode::from(2);
     };
-    match write_repository(Path::new(folder)) {
+    let count = numbers
+        .first()
+        .map_or(RANDOM_CASES, |count| *count as usize);
+    let seed = numbers.get(1).map_or(1, |seed| *seed);
+    match write_repository(Path::new(folder), count, seed) {
         Ok(said) => {
             println!("{said}");
             ExitCode::SUCCESS
@@ -28,8 +37,10 @@ fn main() -> ExitCode {
     }
 }
 
-fn write_repository(folder: &Path) -> Result<String, String> {
-    let cases = vectors::load_folder(&vectors_folder())?;
+fn write_repository(folder: &Path, count: usize, seed: u64) -> Result<String, String> {
+    let mut cases = vectors::load_folder(&vectors_folder())?;
+    let by_hand = cases.len();
+    cases.extend(sampled::cases(seed, count)?);
     let module = antt::module(&cases);
     let proofs = folder.join("crates/vectors/proofs");
     let sources = folder.join("crates/vectors/src");
@@ -54,8 +65,10 @@ fn write_repository(folder: &Path) -> Result<String, String> {
     })();
     made.map_err(|error| format!("{}: {error}", folder.display()))?;
     Ok(format!(
-        "definitions: {} vectors stated as equations, {} left to the programs for their length",
-        module.stated, module.left_out
+        "definitions: {} of {by_hand} vectors and {count} random cases stated as equations, {} left to the programs for \
+         their length",
+        module.stated - count,
+        module.left_out
     ))
 }
 
