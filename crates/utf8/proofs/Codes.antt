@@ -1,7 +1,7 @@
--- Shifts and masks on numbers: what `pack` and `joined` compute is what the definitions say.
--- A mask of k ones is the remainder by 2 ^ k, and a mark above k bits is a sum: both are laws over the width.
-use mathlib.Core.Path.{_≡_, refl, sym, ap, _∙_}
-use mathlib.Core.Bool.{true}
+-- Code points: what shifts and masks make of a number is what the definitions say. A mask of k ones is the remainder by 2 ^ k,
+-- and a mark above k bits adds: both are laws over the width.
+-- Assumes nothing.
+use mathlib.Core.Path.{_≡_, sym, ap, _∙_}
 use mathlib.Core.List.{[], _∷_}
 use Prim.Native.Nat.{ℕ, _+_, _*_, _/_, _%_, _^_, _-_, _≤_, _<_}
 use native.Mathlib.Omega.{arith}
@@ -9,8 +9,8 @@ use lib.Bits.{bitAnd, bitOr, and-mask, mask-lt, or-shifted, or-shifted-r}
 use lib.ListN.{length, take}
 use borrow.Author.Tests.{le-leb, lt-leb}
 use Rattle.model.specs.Base.{if_then_else_, Bytes}
-use Rattle.model.specs.Utf8.{pack, isHigh, isLow, joined}
-use Rattle.model.proofs.Tests.{within-true}
+use Rattle.model.specs.Utf8.{pack, joined}
+use Rattle.model.proofs.Tests.{split, within-true}
 use Rattle.utf8.specs.Codes.{packed, Packs, tenBits, Joins}
 
 -- the k low bits of u, below the mark a
@@ -48,6 +48,12 @@ packed-none u h = rw (lt-leb u 0x10FFFF h)
 pub packed-is : (u : ℕ) → u ≤ 0x10FFFF → packed u ≡ pack u
 unfolding packed if_then_else_
 packed-is u h = rw (le-leb u 0x10FFFF h)
+
+pub packed-most : (u : ℕ) → length (packed u) ≤ 4
+unfolding packed pack
+packed-most u =
+    let P : Bytes → Type 0 = λ l. length l ≤ 4 in
+    split P _ (λ _. split P _ (λ _. omega arith) λ _. split P _ (λ _. omega arith) λ _. split P _ (λ _. omega arith) λ _. omega arith) λ _. omega arith
 
 -- ---- two surrogates
 

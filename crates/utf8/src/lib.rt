@@ -4,8 +4,8 @@
 // code point, out flow its bytes. The definitions are model's specs/Utf8.antt (charStep, pack, joined), and specs/Codes.antt
 // for numbers that are no code point.
 //
-// proofs/Table.antt shows that the table is the definition's, all entries at once: an entry that changes needs only that file.
-// A return is proved from the tests that led to it, so a test that changes needs the proof of its function.
+// The prover compares the table with the definition's rows, entry by entry (proofs/Table.antt): a row that changes in both needs
+// no new proof. A return is proved from the tests that led to it, so a test that changes needs the proof of its function.
 ghost use mathlib.Core.Path.{_≡_};
 ghost use Prim.Native.Nat.{_+_, _%_, _<_};
 ghost use lib.ListN.{getD};

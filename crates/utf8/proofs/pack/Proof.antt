@@ -1,11 +1,11 @@
--- `utf8::pack` meets its contract: at each length the bits above the mark's are all zero, so that the mark adds.
+-- `utf8::pack` meets its contract: at each length the tests say how many bits stand below the mark, so that it adds.
 -- Assumes nothing.
-use mathlib.Core.Path.{_≡_, refl, _∙_}
+use mathlib.Core.Path.{refl, _∙_}
 use Prim.Native.Nat.{_/_}
 use native.Mathlib.Omega.{arith}
 use lib.Bits.{or-lt, or-shifted-r}
-use Rattle.utf8.proofs.Codes.{packs-of, packed-one, packed-two, packed-three, packed-four, packed-none}
 use borrow.Author.Needs.{needs}
+use Rattle.utf8.proofs.Codes.{packs-of, packed-one, packed-two, packed-three, packed-four, packed-none}
 use Rattle.utf8.proofs.pack.Statement.{statement}
 use Rattle.utf8.proofs.pack.Tie as tie
 
