@@ -6,7 +6,7 @@ use Rattle.utf8.proofs.six_bits.Statement.{statement}
 use Rattle.utf8.proofs.six_bits.Tie as tie
 
 cast-result : tie.Need-cast-result
-cast-result c = record { fits = rw (marked 2 6 (c .args .u)) (omega arith) }
+cast-result c = record { fits = omega (arith, marked 2 6 (c .args .u)) }
 
 returns : tie.Need-returns
 returns c = marked 2 6 (c .args .u)
