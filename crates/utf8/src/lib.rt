@@ -37,6 +37,9 @@ const LOW: [u8; 8] = [0x80, 0xA0, 0x80, 0x80, 0x80, 0x90, 0x80, 0x80];
 
 const HIGH: [u8; 8] = [0xBF, 0xBF, 0xBF, 0x9F, 0xBF, 0xBF, 0xBF, 0x8F];
 
+// "Later bytes are 80 to BF", in every row.
+const LATER: [u8; 2] = [0x80, 0xBF];
+
 // The rows' names.
 const ROWS: [Lead; 8] = [
     Lead::C2ToDf,
@@ -111,10 +114,10 @@ fn second_byte(l: Lead, b: u8) -> Advance
 fn later_byte(b: u8, after: Char) -> Advance
     ensures { λ r. ⌜ r ≡ (if within 0x80 0xBF b then On after else Broken) ⌝ }
 {
-    if b < 0x80 {
+    if b < LATER[0] {
         return Advance::Broken;
     }
-    if 0xBF < b {
+    if LATER[1] < b {
         return Advance::Broken;
     }
     Advance::On(after)
