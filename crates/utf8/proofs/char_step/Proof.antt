@@ -1,0 +1,78 @@
+-- `utf8::char_step` meets its contract: each arm answers what its definition does, and a byte that is no ASCII goes to the table.
+-- Assumes nothing.
+use mathlib.Core.Path.{_≡_, sym, _∙_}
+use Prim.Native.Nat.{zero-le}
+use native.Mathlib.Omega.{arith}
+use borrow.Author.Tests.{le-leb, lt-leb}
+use Rattle.model.specs.Base.{if_then_else_}
+use Rattle.model.specs.Utf8.{innerStep, charStep}
+use Rattle.model.proofs.Utf8.{ascii-whole}
+use borrow.Author.Needs.{needs}
+use Rattle.utf8.proofs.char_step.Statement.{statement}
+use Rattle.utf8.proofs.char_step.Tie as tie
+
+enum-told : tie.Need-enum-told
+enum-told c = search needs
+
+lead-byte-requires : tie.Need-lead-byte-requires
+lead-byte-requires c κs = search needs
+
+enum-known-c : tie.Need-enum-known-c
+enum-known-c c = search needs
+
+enum-known-i : tie.Need-enum-known-i
+enum-known-i c = search needs
+
+second-byte-requires : tie.Need-second-byte-requires
+second-byte-requires c κs = search needs
+
+enum-told-2 : tie.Need-enum-told-2
+enum-told-2 c = search needs
+
+later-byte-requires : tie.Need-later-byte-requires
+later-byte-requires c κs = search needs
+
+enum-told-3 : tie.Need-enum-told-3
+enum-told-3 c = search needs
+
+later-byte-requires-2 : tie.Need-later-byte-requires-2
+later-byte-requires-2 c κs = search needs
+
+returns : tie.Need-returns
+unfolding charStep
+returns c = sym (rw (c .before .enum-told .given .1) (ascii-whole (c .before .before .before .args .b) (omega arith)))
+
+returns-2 : tie.Need-returns-2
+unfolding charStep if_then_else_
+returns-2 c = c .lead-byte .ensures ∙ rw (c .before .before .enum-told .given .1, le-leb 0 _ zero-le, lt-leb _ 0x7F (c .before .if1 .left))
+
+returns-3 : tie.Need-returns-3
+unfolding charStep
+returns-3 c = c .second-byte .ensures ∙ rw (c .before .before .before .before .before .c .given .1, c .before .before .i .given .1)
+
+returns-4 : tie.Need-returns-4
+unfolding charStep innerStep
+returns-4 c = c .later-byte .ensures ∙ rw (c .before .before .before .before .c .given .1, c .before .enum-told2 .given .1)
+
+returns-5 : tie.Need-returns-5
+unfolding charStep innerStep
+returns-5 c = c .later-byte2 .ensures ∙ rw (c .before .before .before .before .c .given .1, c .before .enum-told3 .given .1)
+
+pub char-step-spec : {M : Type 1} → statement M
+char-step-spec =
+    tie.close
+    (tie.spec
+    enum-told
+    lead-byte-requires
+    enum-known-c
+    enum-known-i
+    second-byte-requires
+    enum-told-2
+    later-byte-requires
+    enum-told-3
+    later-byte-requires-2
+    returns
+    returns-2
+    returns-3
+    returns-4
+    returns-5)

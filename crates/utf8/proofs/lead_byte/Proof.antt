@@ -1,0 +1,74 @@
+-- `utf8::lead_byte` meets its contract: what the search finds from a row on is what it finds from the first.
+-- Assumes nothing.
+use mathlib.Core.Path.{_≡_, refl, sym, _∙_}
+use mathlib.Core.Logic.{⊎-elim}
+use Prim.Native.Nat.{_≤_, _-_}
+use native.Mathlib.Omega.{arith}
+use native.Mathlib.Numerals.{add-one}
+use lib.ListN.{drop, drop-of-length-le}
+use borrow.Author.Tests.{le-leb, lt-leb}
+use Rattle.model.specs.Base.{if_then_else_}
+use Rattle.model.specs.Utf8.{rowOf, leads, leadByte}
+use Rattle.utf8.proofs.Table.{lead-at}
+use Rattle.utf8.proofs.lead_byte.Statement.{statement}
+use Rattle.utf8.proofs.lead_byte.Tie as tie
+
+abbrev Inv-loop : tie.InvT-loop
+Inv-loop b first last rows row₀ row = (row ≤ 8) × (leadByte leads b ≡ leadByte (drop row leads) b)
+
+abbrev μ-loop : tie.MeasureT-loop
+μ-loop b first last rows row₀ row = 8 - row
+
+loop-holds : tie.Need-loop-holds Inv-loop μ-loop
+loop-holds c = (omega arith, refl)
+
+array-read-if1 : tie.Need-array-read-if1 Inv-loop μ-loop
+array-read-if1 c = omega arith
+
+array-read-if2 : tie.Need-array-read-if2 Inv-loop μ-loop
+array-read-if2 c = omega arith
+
+array-copy-out-t26 : tie.Need-array-copy-out-t26 Inv-loop μ-loop
+array-copy-out-t26 c = omega arith
+
+returns : tie.Need-returns Inv-loop μ-loop
+unfolding rowOf leads if_then_else_
+returns c =
+    let l = c .before .before .before .before in
+    let at = lead-at leads (l .loop .row) (l .before .args .b) (omega arith) in
+    sym (l .loop .inv .1 ∙ at ∙ simp (le-leb _ _ (c .before .before .if1 .taken), le-leb _ _ (c .before .if2 .taken)))
+
+add-row : tie.Need-add-row Inv-loop μ-loop
+add-row c = omega arith
+
+loop-less : tie.Need-loop-less Inv-loop μ-loop
+loop-less c = omega arith
+
+loop-again : tie.Need-loop-again Inv-loop μ-loop
+unfolding rowOf leads if_then_else_
+loop-again c =
+    let l = c .before .before in
+    let at = lead-at leads (l .loop .row) (l .before .args .b) (omega arith) in
+    (omega arith, rw add-one (l .loop .inv .1 ∙ at ∙ ⊎-elim (λ t. simp (le-leb _ _ (t .0 .taken), lt-leb _ _ (t .1 .left))) (λ t. simp (lt-leb _ _ (t .left))) (c .if1 .came)))
+
+returns-2 : tie.Need-returns-2 Inv-loop μ-loop
+unfolding leads leadByte
+returns-2 c =
+    let l = c .before in
+    sym (l .loop .inv .1 ∙ rw (drop-of-length-le leads {i = l .loop .row} (omega arith)))
+
+pub lead-byte-spec : {M : Type 1} → statement M
+lead-byte-spec =
+    tie.close
+    (tie.spec
+    Inv-loop
+    μ-loop
+    loop-holds
+    array-read-if1
+    array-read-if2
+    array-copy-out-t26
+    returns
+    add-row
+    loop-less
+    loop-again
+    returns-2)

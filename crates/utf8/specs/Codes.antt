@@ -1,0 +1,27 @@
+-- What the calls on code points answer, for numbers that are none too.
+use Prim.Native.Nat.{ℕ, _+_, _*_, _%_}
+use mathlib.Core.Path.{_≡_}
+use mathlib.Core.Bool.{true}
+use mathlib.Core.List.{[]}
+use lib.Dec.{leb}
+use lib.ListN.{length, take}
+use Rattle.model.specs.Base.{if_then_else_, Bytes}
+use Rattle.model.specs.Utf8.{pack, isHigh, isLow, joined}
+
+-- the bytes of a code point; a number past the last code point has none
+unfoldable pub packed : ℕ → Bytes
+packed u = if leb u 0x10FFFF then pack u else []
+
+-- the first `size` of `bytes` are those of u, and all of them
+pub record Packs (u : ℕ) (bytes : Bytes) (size : ℕ) : Type 0 where
+  pub packs : take size bytes ≡ packed u
+  pub sized : size ≡ length (packed u)
+
+-- ten bits of each number, above 0xFFFF
+abbrev pub tenBits : ℕ → ℕ → ℕ
+tenBits high low = 0x10000 + high % 0x400 * 0x400 + low % 0x400
+
+-- the code point of two surrogates; any other numbers give ten bits of each all the same
+pub record Joins (high low r : ℕ) : Type 0 where
+  pub bits : r ≡ tenBits high low
+  pub joins : isHigh high ≡ true → isLow low ≡ true → r ≡ joined high low

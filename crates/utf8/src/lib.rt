@@ -1,0 +1,199 @@
+// Characters of UTF-8: a text judged a byte at a time, and code points packed into bytes.
+//
+// In flow the place where a text stands and its next byte, out flows where it stands then, or that it is broken; in flows a
+// code point, out flow its bytes. The definitions are model's specs/Utf8.antt (charStep, pack, joined), and specs/Codes.antt
+// for numbers that are no code point.
+//
+// proofs/Table.antt shows that the table is the definition's, all entries at once: an entry that changes needs only that file.
+// A return is proved from the tests that led to it, so a test that changes needs the proof of its function.
+ghost use mathlib.Core.Path.{_≡_};
+ghost use Prim.Native.Nat.{_+_, _%_, _<_};
+ghost use lib.ListN.{getD};
+ghost use Rattle.model.specs.Base.{if_then_else_, within};
+ghost use Rattle.model.specs.Utf8.{leads, leadByte, innerStep, charStep};
+ghost use Rattle.model.specs.declared.Lead.the-variants.{C2ToDf};
+ghost use Rattle.model.specs.declared.Inner.the-variants.{Second};
+ghost use Rattle.model.specs.declared.Advance.the-variants.{On, Broken};
+ghost use Rattle.utf8.specs.Codes.{Packs, Joins};
+use model::Advance;
+use model::Char;
+use model::Inner;
+use model::Lead;
+
+// ---- the table
+
+// Document 01's table of first and second bytes, from C2 on. A row there is a column here:
+//
+//   first   C2-DF E0    E1-EC ED    EE-EF F0    F1-F3 F4
+//   length  2     3     3     3     3     4     4     4
+//   second  80-BF A0-BF 80-BF 80-9F 80-BF 90-BF 80-BF 80-8F
+const FIRST: [u8; 8] = [0xC2, 0xE0, 0xE1, 0xED, 0xEE, 0xF0, 0xF1, 0xF4];
+
+const LAST: [u8; 8] = [0xDF, 0xE0, 0xEC, 0xED, 0xEF, 0xF0, 0xF3, 0xF4];
+
+const LENGTH: [u8; 8] = [2, 3, 3, 3, 3, 4, 4, 4];
+
+const LOW: [u8; 8] = [0x80, 0xA0, 0x80, 0x80, 0x80, 0x90, 0x80, 0x80];
+
+const HIGH: [u8; 8] = [0xBF, 0xBF, 0xBF, 0x9F, 0xBF, 0xBF, 0xBF, 0x8F];
+
+const ROWS: [Lead; 8] = [
+    Lead::C2ToDf,
+    Lead::E0,
+    Lead::E1ToEc,
+    Lead::Ed,
+    Lead::EeToEf,
+    Lead::F0,
+    Lead::F1ToF3,
+    Lead::F4,
+];
+
+// The row of a name.
+fn row_of(l: Lead) -> usize
+    ensures { λ r. ⌜ (r < 8) × (getD leads r C2ToDf ≡ l) ⌝ }
+{
+    match l {
+        Lead::C2ToDf => 0,
+        Lead::E0 => 1,
+        Lead::E1ToEc => 2,
+        Lead::Ed => 3,
+        Lead::EeToEf => 4,
+        Lead::F0 => 5,
+        Lead::F1ToF3 => 6,
+        Lead::F4 => 7,
+    }
+}
+
+// ---- a text, a byte at a time
+
+// The first byte of a character of more than one.
+fn lead_byte(b: u8) -> Advance
+    ensures { λ r. ⌜ r ≡ leadByte leads b ⌝ }
+{
+    let first = FIRST;
+    let last = LAST;
+    let rows = ROWS;
+    let mut row: usize = 0;
+    while row < 8 {
+        if first[row] <= b {
+            if b <= last[row] {
+                return Advance::On(Char::Within(Inner::Second(rows[row])));
+            }
+        }
+        row += 1;
+    }
+    Advance::Broken
+}
+
+// The second byte of a character of this row.
+fn second_byte(l: Lead, b: u8) -> Advance
+    ensures { λ r. ⌜ r ≡ innerStep (Second l) b ⌝ }
+{
+    let row = row_of(l);
+    if b < LOW[row] {
+        return Advance::Broken;
+    }
+    if HIGH[row] < b {
+        return Advance::Broken;
+    }
+    let length = LENGTH[row];
+    if length == 2 {
+        return Advance::On(Char::Whole);
+    }
+    if length == 3 {
+        return Advance::On(Char::Within(Inner::Last));
+    }
+    Advance::On(Char::Within(Inner::LastTwo))
+}
+
+// A later byte, and where the text stands after it.
+fn later_byte(b: u8, after: Char) -> Advance
+    ensures { λ r. ⌜ r ≡ (if within 0x80 0xBF b then On after else Broken) ⌝ }
+{
+    if b < 0x80 {
+        return Advance::Broken;
+    }
+    if 0xBF < b {
+        return Advance::Broken;
+    }
+    Advance::On(after)
+}
+
+// The next byte of a text. ASCII is told before the table.
+pub fn char_step(c: Char, b: u8) -> Advance
+    ensures { λ r. ⌜ r ≡ charStep c b ⌝ }
+{
+    match c {
+        Char::Whole => {
+            if b < 0x80 {
+                Advance::On(Char::Whole)
+            } else {
+                lead_byte(b)
+            }
+        }
+        Char::Within(i) => match i {
+            Inner::Second(l) => second_byte(l, b),
+            Inner::LastTwo => later_byte(b, Char::Within(Inner::Last)),
+            Inner::Last => later_byte(b, Char::Whole),
+        },
+    }
+}
+
+// ---- code points
+
+// The bytes of a code point: the first `length` of `bytes`.
+pub struct Packed {
+    pub bytes: [u8; 4],
+    pub length: usize,
+}
+
+// The low six bits, as a later byte.
+fn six_bits(u: u32) -> u8
+    ensures { λ r. ⌜ r ≡ 0x80 + u % 0x40 ⌝ }
+{
+    ((u & 0x3F) | 0x80) as u8
+}
+
+// A code point, a surrogate too, as its bytes. What is no code point has none.
+pub fn pack(u: u32) -> Packed
+    ensures { λ r. ⌜ Packs u (r .bytes) (r .length) ⌝ }
+{
+    if u <= 0x7F {
+        return Packed {
+            bytes: [u as u8, 0, 0, 0],
+            length: 1,
+        };
+    }
+    if u <= 0x7FF {
+        let lead = ((u >> 6) | 0xC0) as u8;
+        return Packed {
+            bytes: [lead, six_bits(u), 0, 0],
+            length: 2,
+        };
+    }
+    if u <= 0xFFFF {
+        let lead = ((u >> 12) | 0xE0) as u8;
+        return Packed {
+            bytes: [lead, six_bits(u >> 6), six_bits(u), 0],
+            length: 3,
+        };
+    }
+    if u <= 0x10FFFF {
+        let lead = ((u >> 18) | 0xF0) as u8;
+        return Packed {
+            bytes: [lead, six_bits(u >> 12), six_bits(u >> 6), six_bits(u)],
+            length: 4,
+        };
+    }
+    Packed {
+        bytes: [0, 0, 0, 0],
+        length: 0,
+    }
+}
+
+// The code point of a high and a low surrogate: ten bits of each.
+pub fn joined(high: u32, low: u32) -> u32
+    ensures { λ r. ⌜ Joins high low r ⌝ }
+{
+    0x10000 + (((high & 0x3FF) << 10) | (low & 0x3FF))
+}
