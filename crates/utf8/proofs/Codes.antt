@@ -1,17 +1,17 @@
--- Shifts and masks on numbers: what `pack` and `joined` compute is what the definitions say.
--- A mask of k ones is the remainder by 2 ^ k, and a mark above k bits is a sum: both are laws over the width.
-use mathlib.Core.Path.{_≡_, refl, sym, ap, _∙_}
-use mathlib.Core.Bool.{true}
-use mathlib.Core.List.{[], _∷_}
+-- Code points: what shifts and masks make of a number is what the definitions say. A mask of k ones is the remainder by 2 ^ k,
+-- and a mark above k bits adds: both are laws over the width.
+-- Assumes nothing.
+use mathlib.Core.Path.{_≡_, sym, ap, _∙_}
+use mathlib.Core.List.{[], _∷_, _++_}
 use Prim.Native.Nat.{ℕ, _+_, _*_, _/_, _%_, _^_, _-_, _≤_, _<_}
 use native.Mathlib.Omega.{arith}
 use lib.Bits.{bitAnd, bitOr, and-mask, mask-lt, or-shifted, or-shifted-r}
 use lib.ListN.{length, take}
 use borrow.Author.Tests.{le-leb, lt-leb}
 use Rattle.model.specs.Base.{if_then_else_, Bytes}
-use Rattle.model.specs.Utf8.{pack, isHigh, isLow, joined}
-use Rattle.model.proofs.Tests.{within-true}
-use Rattle.utf8.specs.Codes.{packed, Packs, tenBits, Joins}
+use Rattle.model.specs.Utf8.{pack, joined}
+use Rattle.model.proofs.Tests.{split, within-true}
+use Rattle.utf8.specs.Codes.{packed, zeros, Packs, tenBits, Joins}
 
 -- the k low bits of u, below the mark a
 pub marked : (a k u : ℕ) → bitOr (bitAnd u (2 ^ k - 1)) (a * 2 ^ k) ≡ a * 2 ^ k + u % 2 ^ k
@@ -19,9 +19,9 @@ marked a k u = or-shifted-r a k (bitAnd u (2 ^ k - 1)) (mask-lt u k) ∙ ap (λ 
 
 -- ---- the bytes of a code point
 
--- what stands after the bytes is free
-pub packs-of : (u : ℕ) (bytes : Bytes) (size : ℕ) → packed u ≡ take size bytes → size ≡ length (take size bytes) → Packs u bytes size
-packs-of u bytes size e l = record { packs = sym e; sized = l ∙ ap length (sym e) }
+-- four bytes that begin with those of u and go on with zeros
+pub packs-of : (u : ℕ) (bytes : Bytes) (size : ℕ) → packed u ≡ take size bytes → size ≡ length (take size bytes) → bytes ≡ take 4 (take size bytes ++ zeros) → Packs u bytes size
+packs-of u bytes size e l z = record { packs = sym e; sized = l ∙ ap length (sym e); padded = z ∙ ap (λ (bs : Bytes). take 4 (bs ++ zeros)) (sym e) }
 
 pub packed-one : (u : ℕ) → u ≤ 0x7F → packed u ≡ u ∷ []
 unfolding packed pack if_then_else_
@@ -48,6 +48,12 @@ packed-none u h = rw (lt-leb u 0x10FFFF h)
 pub packed-is : (u : ℕ) → u ≤ 0x10FFFF → packed u ≡ pack u
 unfolding packed if_then_else_
 packed-is u h = rw (le-leb u 0x10FFFF h)
+
+pub packed-most : (u : ℕ) → length (packed u) ≤ 4
+unfolding packed pack
+packed-most u =
+    let P : Bytes → Type 0 = λ l. length l ≤ 4 in
+    split P _ (λ _. split P _ (λ _. omega arith) λ _. split P _ (λ _. omega arith) λ _. split P _ (λ _. omega arith) λ _. omega arith) λ _. omega arith
 
 -- ---- two surrogates
 

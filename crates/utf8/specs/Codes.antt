@@ -2,7 +2,7 @@
 use Prim.Native.Nat.{ℕ, _+_, _*_, _%_}
 use mathlib.Core.Path.{_≡_}
 use mathlib.Core.Bool.{true}
-use mathlib.Core.List.{[]}
+use mathlib.Core.List.{[], _∷_, _++_}
 use lib.Dec.{leb}
 use lib.ListN.{length, take}
 use Rattle.model.specs.Base.{if_then_else_, Bytes}
@@ -12,10 +12,14 @@ use Rattle.model.specs.Utf8.{pack, isHigh, isLow, joined}
 unfoldable pub packed : ℕ → Bytes
 packed u = if leb u 0x10FFFF then pack u else []
 
--- the first `size` of `bytes` are those of u, and all of them
+abbrev pub zeros : Bytes
+zeros = 0 ∷ 0 ∷ 0 ∷ 0 ∷ []
+
+-- the first `size` of the four bytes are those of u, and all of them; zeros follow
 pub record Packs (u : ℕ) (bytes : Bytes) (size : ℕ) : Type 0 where
   pub packs : take size bytes ≡ packed u
   pub sized : size ≡ length (packed u)
+  pub padded : bytes ≡ take 4 (packed u ++ zeros)
 
 -- ten bits of each number, above 0xFFFF
 abbrev pub tenBits : ℕ → ℕ → ℕ

@@ -1,11 +1,11 @@
 // Characters of UTF-8: a text judged a byte at a time, and code points packed into bytes.
 //
-// In flow the place where a text stands and its next byte, out flows where it stands then, or that it is broken; in flows a
-// code point, out flow its bytes. The definitions are model's specs/Utf8.antt (charStep, pack, joined), and specs/Codes.antt
-// for numbers that are no code point.
+// Where a text stands and its next byte go in, and where it stands then comes out, or that it is broken. A code point goes in,
+// and its bytes come out. The definitions are those of model's specs/Utf8.antt (charStep, pack, joined); specs/Codes.antt says
+// what is answered for a number that is no code point.
 //
-// proofs/Table.antt shows that the table is the definition's, all entries at once: an entry that changes needs only that file.
-// A return is proved from the tests that led to it, so a test that changes needs the proof of its function.
+// The prover compares the table with the definition's rows, entry by entry (proofs/Table.antt): a row that changes in both needs
+// no new proof. A return is proved from the tests that led to it, so a test that changes needs the proof of its function.
 ghost use mathlib.Core.Path.{_≡_};
 ghost use Prim.Native.Nat.{_+_, _%_, _<_};
 ghost use lib.ListN.{getD};
@@ -37,6 +37,10 @@ const LOW: [u8; 8] = [0x80, 0xA0, 0x80, 0x80, 0x80, 0x90, 0x80, 0x80];
 
 const HIGH: [u8; 8] = [0xBF, 0xBF, 0xBF, 0x9F, 0xBF, 0xBF, 0xBF, 0x8F];
 
+// "Later bytes are 80 to BF", in every row.
+const LATER: [u8; 2] = [0x80, 0xBF];
+
+// The rows' names.
 const ROWS: [Lead; 8] = [
     Lead::C2ToDf,
     Lead::E0,
@@ -48,7 +52,7 @@ const ROWS: [Lead; 8] = [
     Lead::F4,
 ];
 
-// The row of a name.
+// Where a row stands in the table.
 fn row_of(l: Lead) -> usize
     ensures { λ r. ⌜ (r < 8) × (getD leads r C2ToDf ≡ l) ⌝ }
 {
@@ -110,10 +114,10 @@ fn second_byte(l: Lead, b: u8) -> Advance
 fn later_byte(b: u8, after: Char) -> Advance
     ensures { λ r. ⌜ r ≡ (if within 0x80 0xBF b then On after else Broken) ⌝ }
 {
-    if b < 0x80 {
+    if b < LATER[0] {
         return Advance::Broken;
     }
-    if 0xBF < b {
+    if LATER[1] < b {
         return Advance::Broken;
     }
     Advance::On(after)
@@ -141,7 +145,7 @@ pub fn char_step(c: Char, b: u8) -> Advance
 
 // ---- code points
 
-// The bytes of a code point: the first `length` of `bytes`.
+// The bytes of a code point: the first `length` of `bytes`, with zeros after them.
 pub struct Packed {
     pub bytes: [u8; 4],
     pub length: usize,

@@ -1,13 +1,13 @@
 -- `utf8::char_step` meets its contract: each arm answers what its definition does, and a byte that is no ASCII goes to the table.
 -- Assumes nothing.
-use mathlib.Core.Path.{_≡_, sym, _∙_}
+use mathlib.Core.Path.{sym, _∙_}
 use Prim.Native.Nat.{zero-le}
 use native.Mathlib.Omega.{arith}
+use borrow.Author.Needs.{needs}
 use borrow.Author.Tests.{le-leb, lt-leb}
 use Rattle.model.specs.Base.{if_then_else_}
 use Rattle.model.specs.Utf8.{innerStep, charStep}
 use Rattle.model.proofs.Utf8.{ascii-whole}
-use borrow.Author.Needs.{needs}
 use Rattle.utf8.proofs.char_step.Statement.{statement}
 use Rattle.utf8.proofs.char_step.Tie as tie
 

@@ -5,11 +5,11 @@ use mathlib.Core.Logic.{⊎-elim}
 use Prim.Native.Nat.{_≤_, _-_}
 use native.Mathlib.Omega.{arith}
 use native.Mathlib.Numerals.{add-one}
-use lib.ListN.{drop, drop-of-length-le}
+use lib.ListN.{getD, drop, drop-of-length-le}
 use borrow.Author.Tests.{le-leb, lt-leb}
 use Rattle.model.specs.Base.{if_then_else_}
 use Rattle.model.specs.Utf8.{rowOf, leads, leadByte}
-use Rattle.utf8.proofs.Table.{lead-at}
+use Rattle.utf8.proofs.Table.{firsts, lasts, lead-at}
 use Rattle.utf8.proofs.lead_byte.Statement.{statement}
 use Rattle.utf8.proofs.lead_byte.Tie as tie
 
@@ -35,8 +35,9 @@ returns : tie.Need-returns Inv-loop μ-loop
 unfolding rowOf leads if_then_else_
 returns c =
     let l = c .before .before .before .before in
-    let at = lead-at leads (l .loop .row) (l .before .args .b) (omega arith) in
-    sym (l .loop .inv .1 ∙ at ∙ simp (le-leb _ _ (c .before .before .if1 .taken), le-leb _ _ (c .before .if2 .taken)))
+    let from-first = le-leb (getD firsts (l .loop .row) 0) (l .before .args .b) (c .before .before .if1 .taken) in
+    let to-last = le-leb (l .before .args .b) (getD lasts (l .loop .row) 0) (c .before .if2 .taken) in
+    sym (l .loop .inv .1 ∙ lead-at (l .loop .row) (l .before .args .b) (omega arith) ∙ simp (from-first, to-last))
 
 add-row : tie.Need-add-row Inv-loop μ-loop
 add-row c = omega arith
@@ -48,7 +49,7 @@ loop-again : tie.Need-loop-again Inv-loop μ-loop
 unfolding rowOf leads if_then_else_
 loop-again c =
     let l = c .before .before in
-    let at = lead-at leads (l .loop .row) (l .before .args .b) (omega arith) in
+    let at = lead-at (l .loop .row) (l .before .args .b) (omega arith) in
     (omega arith, rw add-one (l .loop .inv .1 ∙ at ∙ ⊎-elim (λ t. simp (le-leb _ _ (t .0 .taken), lt-leb _ _ (t .1 .left))) (λ t. simp (lt-leb _ _ (t .left))) (c .if1 .came)))
 
 returns-2 : tie.Need-returns-2 Inv-loop μ-loop

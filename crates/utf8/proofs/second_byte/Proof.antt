@@ -1,23 +1,34 @@
 -- `utf8::second_byte` meets its contract: it goes by the entries of its row.
 -- Assumes nothing.
-use mathlib.Core.Path.{_≡_, refl, sym, ap, _∙_}
-use Prim.Native.Nat.{ℕ, _<_}
-use native.Mathlib.Omega.{arith}
+use mathlib.Core.Path.{_≡_, sym, _∙_}
+use mathlib.Core.Bool.{true}
+use lib.Dec.{leb}
 use lib.ListN.{getD}
 use borrow.Author.Needs.{needs}
 use borrow.Author.Tests.{le-leb, lt-leb, eq-eqb, ne-eqb}
 use Rattle.model.specs.Base.{if_then_else_, within}
 use Rattle.model.specs.Utf8.{rowOf, leads, afterSecond, innerStep}
 use Rattle.model.specs.declared.Inner.the-variants.{Second}
-use Rattle.utf8.proofs.Table.{column, step, second-at}
+use Rattle.model.specs.declared.Advance.the-variants.{On, Broken}
+use Rattle.utf8.proofs.Table.{sizes, lows, highs, second-at}
 use Rattle.utf8.proofs.second_byte.Statement.{statement}
 use Rattle.utf8.proofs.second_byte.Tie as tie
 
 -- the definition's step, by the entries of the row that `row_of` answers
 at-row : (c : tie.After-row-of)
-    → innerStep (Second (c .before .args .l)) (c .before .args .b) ≡ step (column (λ r. r .lo2) leads) (column (λ r. r .hi2) leads) (column (λ r. r .size) leads) (c .row-of .result) (c .before .args .b)
-unfolding leads
-at-row c = ap (λ l. innerStep (Second l) (c .before .args .b)) (sym (c .row-of .ensures .1)) ∙ second-at leads (c .row-of .result) (c .before .args .b) (c .row-of .ensures .0)
+    → innerStep (Second (c .before .args .l)) (c .before .args .b)
+    ≡ (if within (getD lows (c .row-of .result) 0) (getD highs (c .row-of .result) 0) (c .before .args .b)
+    then On (afterSecond (getD sizes (c .row-of .result) 0)) else Broken)
+at-row c = second-at (c .row-of .result) (c .before .args .b) (c .row-of .ensures .0) (c .row-of .ensures .1)
+
+-- the two tests that did not refuse
+from-low : (c : tie.Else1) → leb (getD lows (c .before .row-of .result) 0) (c .before .before .args .b) ≡ true
+unfolding leads rowOf
+from-low c = le-leb _ _ (c .if1 .left)
+
+to-high : (c : tie.Else2) → leb (c .before .before .before .args .b) (getD highs (c .before .before .row-of .result) 0) ≡ true
+unfolding leads rowOf
+to-high c = le-leb _ _ (c .if2 .left)
 
 row-of-requires : tie.Need-row-of-requires
 row-of-requires c κs = search needs
@@ -26,30 +37,42 @@ array-read-if1 : tie.Need-array-read-if1
 array-read-if1 c = search needs
 
 returns : tie.Need-returns
-unfolding rowOf leads if_then_else_ step
-returns c = sym (at-row (c .before) ∙ simp (lt-leb _ _ (c .if1 .taken)))
+unfolding leads rowOf if_then_else_
+returns c = sym (at-row (c .before) ∙ simp (lt-leb (getD lows (c .before .row-of .result) 0) (c .before .before .args .b) (c .if1 .taken)))
 
 array-read-if2 : tie.Need-array-read-if2
 array-read-if2 c = search needs
 
 returns-2 : tie.Need-returns-2
-unfolding rowOf leads if_then_else_ step
-returns-2 c = sym (at-row (c .before .before) ∙ simp (le-leb _ _ (c .before .if1 .left), lt-leb _ _ (c .if2 .taken)))
+unfolding leads rowOf if_then_else_
+returns-2 c =
+    let high = lt-leb (c .before .before .before .args .b) (getD highs (c .before .before .row-of .result) 0) (c .if2 .taken) in
+    sym (at-row (c .before .before) ∙ simp (from-low (c .before), high))
 
 array-read-length : tie.Need-array-read-length
 array-read-length c = search needs
 
 returns-3 : tie.Need-returns-3
-unfolding rowOf leads if_then_else_ step
-returns-3 c = sym (at-row (c .before .before .before) ∙ simp (le-leb _ _ (c .before .before .if1 .left), le-leb _ _ (c .before .if2 .left), eq-eqb _ _ (c .if3 .taken)))
+unfolding leads rowOf if_then_else_
+returns-3 c =
+    let size = eq-eqb (getD sizes (c .before .before .before .row-of .result) 0) 2 (c .if3 .taken) in
+    sym (at-row (c .before .before .before) ∙ simp (from-low (c .before .before), to-high (c .before), size))
 
 returns-4 : tie.Need-returns-4
-unfolding rowOf leads if_then_else_ step
-returns-4 c = sym (at-row (c .before .before .before .before) ∙ simp (le-leb _ _ (c .before .before .before .if1 .left), le-leb _ _ (c .before .before .if2 .left), ne-eqb _ _ (c .before .if3 .left), eq-eqb _ _ (c .if4 .taken)))
+unfolding leads rowOf if_then_else_
+returns-4 c =
+    let row = c .before .before .before .before .row-of .result in
+    sym
+    (at-row (c .before .before .before .before)
+    ∙ simp (from-low (c .before .before .before), to-high (c .before .before), ne-eqb (getD sizes row 0) 2 (c .before .if3 .left), eq-eqb (getD sizes row 0) 3 (c .if4 .taken)))
 
 returns-5 : tie.Need-returns-5
-unfolding rowOf leads if_then_else_ step
-returns-5 c = sym (at-row (c .before .before .before .before) ∙ simp (le-leb _ _ (c .before .before .before .if1 .left), le-leb _ _ (c .before .before .if2 .left), ne-eqb _ _ (c .before .if3 .left), ne-eqb _ _ (c .if4 .left)))
+unfolding leads rowOf if_then_else_
+returns-5 c =
+    let row = c .before .before .before .before .row-of .result in
+    sym
+    (at-row (c .before .before .before .before)
+    ∙ simp (from-low (c .before .before .before), to-high (c .before .before), ne-eqb (getD sizes row 0) 2 (c .before .if3 .left), ne-eqb (getD sizes row 0) 3 (c .if4 .left)))
 
 pub second-byte-spec : {M : Type 1} → statement M
 second-byte-spec =
