@@ -7,6 +7,9 @@ use Rattle.model.specs.Base.{Bytes}
 pub data Derived : Type 0 where
   cell : (raw : Bytes) (kind : Kind) (content : Bytes) → Derived
 
+abbrev pub rawOf : Derived → Bytes
+rawOf (cell raw kind content) = raw
+
 -- a record: its bytes without its ending, which are those that the record limit counts, and its cells
 pub data Line (A : Type 0) : Type 0 where
   line : (text : Bytes) (cells : List A) → Line A
