@@ -4,3 +4,4 @@ pub mod Spelling
 pub mod Doubled
 pub mod TdifCells
 pub mod PlusCells
+pub mod Numbers

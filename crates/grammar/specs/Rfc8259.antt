@@ -51,7 +51,7 @@ pub data Int : Bytes → Type 0 where
 -- number = [ minus ] int [ frac ] [ exp ]
 pub data Number : Bytes → Type 0 where
   number :
-      {ms is fs es : Bytes} → Optional Minus ms → Int is → Optional Frac fs → Optional Exp es → Number (ms ++ (is ++ (fs ++ es)))
+      {ms ns fs es : Bytes} → Optional Minus ms → Int ns → Optional Frac fs → Optional Exp es → Number (ms ++ (ns ++ (fs ++ es)))
 
 -- ---- section 7
 
@@ -85,24 +85,24 @@ pub data Char : Bytes → Item → Type 0 where
 -- *char
 pub data Chars : Bytes → List Item → Type 0 where
   no-char : Chars [] []
-  char : {cs bs : Bytes} {i : Item} {is : List Item} → Char cs i → Chars bs is → Chars (cs ++ bs) (i ∷ is)
+  char : {cs bs : Bytes} {i : Item} {us : List Item} → Char cs i → Chars bs us → Chars (cs ++ bs) (i ∷ us)
 
 -- a code unit and the first of those that follow are the halves of a pair
 pub data Pair : ℕ → List Item → Type 0 where
-  halves : {h l : ℕ} {is : List Item} → h from 0xD800 to 0xDBFF → l from 0xDC00 to 0xDFFF → Pair h (unit l ∷ is)
+  halves : {h l : ℕ} {us : List Item} → h from 0xD800 to 0xDBFF → l from 0xDC00 to 0xDFFF → Pair h (unit l ∷ us)
 
 -- what the chars of a string stand for. "To escape an extended character that is not in the Basic Multilingual Plane, the character
 -- is represented as a 12-character sequence, encoding the UTF-16 surrogate pair"; document 01: "A high surrogate escape directly
 -- followed by a low one is one code point"
 pub data Content : List Item → Bytes → Type 0 where
   nothing : Content [] []
-  as-they-stand : {cs ts : Bytes} {is : List Item} → Content is ts → Content (octets cs ∷ is) (cs ++ ts)
+  as-they-stand : {cs ts : Bytes} {us : List Item} → Content us ts → Content (octets cs ∷ us) (cs ++ ts)
   paired :
-      {h l : ℕ} {cs ts : Bytes} {is : List Item} → Pair h (unit l ∷ is) → Octets (0x10000 + (h - 0xD800) * 0x400 + (l - 0xDC00)) cs →
-      Content is ts → Content (unit h ∷ unit l ∷ is) (cs ++ ts)
+      {h l : ℕ} {cs ts : Bytes} {us : List Item} → Pair h (unit l ∷ us) → Octets (0x10000 + (h - 0xD800) * 0x400 + (l - 0xDC00)) cs →
+      Content us ts → Content (unit h ∷ unit l ∷ us) (cs ++ ts)
   single :
-      {u : ℕ} {cs ts : Bytes} {is : List Item} → ¬ Pair u is → Octets u cs → Content is ts → Content (unit u ∷ is) (cs ++ ts)
+      {u : ℕ} {cs ts : Bytes} {us : List Item} → ¬ Pair u us → Octets u cs → Content us ts → Content (unit u ∷ us) (cs ++ ts)
 
 -- string = quotation-mark *char quotation-mark, quotation-mark = %x22
 pub data String : (raw content : Bytes) → Type 0 where
-  string : {bs ts : Bytes} {is : List Item} → Chars bs is → Content is ts → String (0x22 ∷ (bs ++ (0x22 ∷ []))) ts
+  string : {bs ts : Bytes} {us : List Item} → Chars bs us → Content us ts → String (0x22 ∷ (bs ++ (0x22 ∷ []))) ts
