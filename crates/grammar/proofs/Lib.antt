@@ -5,3 +5,5 @@ pub mod Doubled
 pub mod TdifCells
 pub mod PlusCells
 pub mod Numbers
+pub mod Strings
+pub mod StringContent
