@@ -7,3 +7,5 @@ pub mod PlusCells
 pub mod Numbers
 pub mod Strings
 pub mod StringContent
+pub mod CsvjCells
+pub mod CellGrammar
