@@ -9,3 +9,6 @@ pub mod Strings
 pub mod StringContent
 pub mod CsvjCells
 pub mod CellGrammar
+pub mod Steps
+pub mod Separators
+pub mod CellReads

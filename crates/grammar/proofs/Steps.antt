@@ -1,0 +1,95 @@
+-- Reading by form, a byte at a time: what a byte's step says of the records that it and the bytes after it give.
+use Prim.Native.Nat.{ℕ}
+use mathlib.Core.Path.{_≡_, refl, sym}
+use mathlib.Core.Bool.{Bool, true, false}
+use mathlib.Core.List.{List, [], _∷_}
+use Rattle.grammar.specs.Types.{Dialect, Csvj, Tdif, CsvPlus, Cell, Added, Stop, ByteFault, Form, Inside, Part, Outside, Passed, OfCell, Between, Tail, Ends, Step, To, Reject, Ending, Clean, Final}
+use Rattle.model.specs.Base.{Bytes, if_then_else_}
+use Rattle.model.specs.Cell.{cellStep, isWhole}
+use Rattle.model.specs.Form.{afterCell, grow, inCell, formStep, formEnd}
+use Rattle.model.proofs.Tests.{split}
+use Rattle.model.proofs.Cells.{Fits, parts, turns, completes, cellAt, step-fits}
+use Rattle.grammar.specs.Derived.{Line, line}
+use Rattle.grammar.specs.Reading.{Reads}
+use Rattle.grammar.specs.Reading as reading
+
+-- what the end of the file gives
+pub data Finishes : Ending → List (Line Bytes) → Type 0 where
+  clean : Finishes Clean []
+  final : Finishes Final (line [] ([] ∷ []) ∷ [])
+
+-- what a byte's step gives, where K f ls says that the bytes after it, read on from f, give ls
+pub data Takes (K : Form → List (Line Bytes) → Type 0) (b : ℕ) : Step → List (Line Bytes) → Type 0 where
+  outside : {f : Form} {ls : List (Line Bytes)} → K f ls → Takes K b (To f Outside) ls
+  passed : {f : Form} {ls : List (Line Bytes)} → K f ls → Takes K b (To f Passed) ls
+  of-cell :
+      {f : Form} {text raw : Bytes} {cells : List Bytes} {ls : List (Line Bytes)} → K f (line text (raw ∷ cells) ∷ ls) →
+      Takes K b (To f OfCell) (line (b ∷ text) ((b ∷ raw) ∷ cells) ∷ ls)
+  between :
+      {f : Form} {text : Bytes} {cells : List Bytes} {ls : List (Line Bytes)} → K f (line text cells ∷ ls) →
+      Takes K b (To f (Between false)) (line (b ∷ text) cells ∷ ls)
+  between-closing :
+      {f : Form} {text : Bytes} {cells : List Bytes} {ls : List (Line Bytes)} → K f (line text cells ∷ ls) →
+      Takes K b (To f (Between true)) (line (b ∷ text) ([] ∷ cells) ∷ ls)
+  tail :
+      {f : Form} {text : Bytes} {cells : List Bytes} {ls : List (Line Bytes)} → K f (line text cells ∷ ls) →
+      Takes K b (To f (Tail false)) (line text cells ∷ ls)
+  tail-closing :
+      {f : Form} {text : Bytes} {cells : List Bytes} {ls : List (Line Bytes)} → K f (line text cells ∷ ls) →
+      Takes K b (To f (Tail true)) (line text ([] ∷ cells) ∷ ls)
+  ends : {f : Form} {ls : List (Line Bytes)} → K f ls → Takes K b (To f (Ends false)) (line [] [] ∷ ls)
+  ends-closing : {f : Form} {ls : List (Line Bytes)} → K f ls → Takes K b (To f (Ends true)) (line [] ([] ∷ []) ∷ ls)
+
+pub at-end : {d : Dialect} {f : Form} {ls : List (Line Bytes)} → Reads d f [] ls → Finishes (formEnd d f) ls
+at-end (reading.ends-clean e) = rw e clean
+at-end (reading.ends-final e) = rw e final
+
+-- the first byte, where each continuation is of K
+pub first-byte :
+    {d : Dialect} {f : Form} {b : ℕ} {bs : Bytes} {ls : List (Line Bytes)} (K : Form → List (Line Bytes) → Type 0) →
+    ((g : Form) (ls : List (Line Bytes)) → Reads d g bs ls → K g ls) → Reads d f (b ∷ bs) ls → Takes K b (formStep d f b) ls
+first-byte K k (reading.outside {g} {ls} e r) = rw e (outside (k g ls r))
+first-byte K k (reading.passed {g} {ls} e r) = rw e (passed (k g ls r))
+first-byte K k (reading.of-cell {g} e r) = rw e (of-cell (k g _ r))
+first-byte K k (reading.between {g} e r) = rw e (between (k g _ r))
+first-byte K k (reading.between-closing {g} e r) = rw e (between-closing (k g _ r))
+first-byte K k (reading.tail {g} e r) = rw e (tail (k g _ r))
+first-byte K k (reading.tail-closing {g} e r) = rw e (tail-closing (k g _ r))
+first-byte K k (reading.ends {g} {ls} e r) = rw e (ends (k g ls r))
+first-byte K k (reading.ends-closing {g} {ls} e r) = rw e (ends-closing (k g ls r))
+
+-- ---- a cell that stops at a byte which is read is whole
+
+data Closing : Step → Type 0 where
+  closing-between : {f : Form} → Closing (To f (Between true))
+  closing-tail : {f : Form} → Closing (To f (Tail true))
+  closing-ends : {f : Form} → Closing (To f (Ends true))
+
+fits-whole : {d : Dialect} {c : Cell} {b : ℕ} {s : Step} → Closing s → Fits d c b s → isWhole d c ≡ true
+fits-whole closing-between (parts e w) = w
+fits-whole closing-tail (turns e w) = w
+fits-whole closing-ends (completes e w) = w
+
+pub rejected : {A : Type 0} {K : Form → List (Line Bytes) → Type 0} {b : ℕ} {e : ByteFault} {ls : List (Line Bytes)} → Takes K b (Reject e) ls → A
+rejected = elim [ ]
+
+module _ (K : Form → List (Line Bytes) → Type 0) where
+  after-closing : (d : Dialect) (b : ℕ) (ls : List (Line Bytes)) → Takes K b (afterCell d true b) ls → Closing (afterCell d true b)
+  unfolding afterCell
+  after-closing d b ls = go d
+    where
+      P : Step → Type 0
+      P s = Takes K b s ls → Closing s
+
+      go : (d : Dialect) → P (afterCell d true b)
+      go Csvj =
+          split P _ (λ _ _. closing-between) λ _. split P _ (λ _ _. closing-between) λ _. split P _ (λ _ _. closing-ends) λ _.
+          split P _ (λ _ _. closing-tail) λ _ t. rejected t
+      go Tdif =
+          split P _ (λ _ _. closing-between) λ _. split P _ (λ _ _. closing-ends) λ _. split P _ (λ _ _. closing-ends) λ _ t. rejected t
+      go (CsvPlus s) =
+          split P _ (λ _ _. closing-between) λ _. split P _ (λ _ _. closing-ends) λ _. split P _ (λ _ _. closing-tail) λ _ t. rejected t
+
+  pub stop-whole : (d : Dialect) (c : Cell) (b : ℕ) (ls : List (Line Bytes)) → cellStep d c b ≡ Stop → Takes K b (afterCell d true b) ls → isWhole d c ≡ true
+  unfolding formStep inCell cellAt
+  stop-whole d c b ls e t = fits-whole (after-closing d b ls t) (rw e at (step-fits d (Inside c) b))
