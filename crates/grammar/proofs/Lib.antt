@@ -12,3 +12,5 @@ pub mod CellGrammar
 pub mod Steps
 pub mod Separators
 pub mod CellReads
+pub mod Delimited
+pub mod TdifFiles

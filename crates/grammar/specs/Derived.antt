@@ -1,5 +1,5 @@
 -- What a derivation gives: a file's records, each with its text, and its cells with their raw bytes, kinds and contents.
-use mathlib.Core.List.{List}
+use mathlib.Core.List.{List, map}
 use Rattle.grammar.specs.Types.{Kind}
 use Rattle.model.specs.Base.{Bytes}
 
@@ -13,3 +13,7 @@ rawOf (cell raw kind content) = raw
 -- a record: its bytes without its ending, which are those that the record limit counts, and its cells
 pub data Line (A : Type 0) : Type 0 where
   line : (text : Bytes) (cells : List A) → Line A
+
+-- a record with its raw cells alone
+unfoldable pub spelling : Line Derived → Line Bytes
+spelling (line text cells) = line text (map rawOf cells)
