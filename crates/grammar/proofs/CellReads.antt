@@ -51,7 +51,7 @@ pub data Closes (After : Bytes → Bytes → List Bytes → List (Line Bytes) �
   closes : {text : Bytes} {cells : List Bytes} {ls : List (Line Bytes)} → After ys text cells ls → Closes After ys (line text ([] ∷ cells) ∷ ls)
 
 module _ {d : Dialect} {After : Bytes → Bytes → List Bytes → List (Line Bytes) → Type 0} where
-  more-cell :
+  pub more-cell :
       {c e : Cell} {b : ℕ} {bs text raw : Bytes} {cells : List Bytes} {ls : List (Line Bytes)} → cellStep d c b ≡ More e →
       CellThen d After e bs (line text (raw ∷ cells) ∷ ls) → CellThen d After c (b ∷ bs) (line (b ∷ text) ((b ∷ raw) ∷ cells) ∷ ls)
   more-cell s (cell-then m a) = cell-then (byte s m) a

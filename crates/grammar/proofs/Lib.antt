@@ -14,3 +14,4 @@ pub mod Separators
 pub mod CellReads
 pub mod Delimited
 pub mod TdifFiles
+pub mod PlusFiles
