@@ -5,10 +5,13 @@ use Prim.Native.Nat.{ℕ}
 use mathlib.Core.Path.{_≡_, refl, sym, ap, _∙_}
 use mathlib.Core.Bool.{Bool, true, false}
 use mathlib.Core.List.{List, [], _∷_, _++_}
-use Rattle.grammar.specs.Types.{Dialect, Csvj, Tdif, CsvPlus, Cell, Fresh, Added, More, Stop, Refuse, Form, Inside, OfCell, Step, To}
-use Rattle.model.specs.Base.{Bytes}
+use Rattle.grammar.specs.Types.{Dialect, Csvj, Tdif, CsvPlus, Cell, Fresh, Added, More, Stop, Refuse, Syntax, Form, Inside, OfCell, Step, To}
+use borrow.Author.Tests.{ne-eqb}
+use Rattle.model.specs.Base.{Bytes, _is_}
 use Rattle.model.specs.Cell.{cellStep, isWhole}
 use Rattle.model.specs.Form.{afterCell, grow, inCell, formStep}
+use Rattle.model.proofs.Tests.{impossible}
+use Rattle.model.proofs.CellContent.{no-more}
 use Rattle.grammar.specs.Derived.{Line, line}
 use Rattle.grammar.specs.Reading.{Reads, of-cell}
 use Rattle.grammar.proofs.Spelling.{Spells, whole, byte}
@@ -36,6 +39,18 @@ cell-reads {d} (byte {c} {e} {b} s m) r k = of-cell (cell-step d c e b s) (cell-
 pub after-whole : (d : Dialect) (c : Cell) (b : ℕ) → Reached d c → isWhole d c ≡ true → Separates d b → formStep d (Inside c) b ≡ afterCell d true b
 unfolding formStep inCell
 after-whole d c b r w x = rw (stops d c b r w x)
+
+-- where no cell is empty, the first byte of a cell
+pub data FirstOfCell (d : Dialect) : Bytes → Type 0 where
+  first-of-cell : {b : ℕ} {bs : Bytes} {e : Cell} → cellStep d Fresh b ≡ More e → FirstOfCell d (b ∷ bs)
+
+pub spells-first : {d : Dialect} {raw : Bytes} → isWhole d Fresh ≡ false → Spells d Fresh raw → (ys : Bytes) → FirstOfCell d (raw ++ ys)
+spells-first n (whole w) ys = impossible (sym n ∙ w)
+spells-first n (byte s k) ys = first-of-cell s
+
+-- it is no byte that a cell cannot begin with
+pub other-byte : (d : Dialect) (b n : ℕ) (e : Cell) → cellStep d Fresh b ≡ More e → cellStep d Fresh n ≡ Refuse Syntax → (b is n) ≡ false
+other-byte d b n e s r = ne-eqb b n (λ q. no-more (sym r ∙ (rw q at s)))
 
 -- ---- what is read is a cell and what follows it
 

@@ -15,3 +15,4 @@ pub mod CellReads
 pub mod Delimited
 pub mod TdifFiles
 pub mod PlusFiles
+pub mod CsvjFiles

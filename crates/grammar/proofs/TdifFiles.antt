@@ -30,7 +30,7 @@ use Rattle.grammar.proofs.CellGrammar.{derived-spells, spells-derived}
 use Rattle.grammar.proofs.Separators.{Reached, by-cr, by-lf}
 use Rattle.grammar.proofs.Steps.{Takes, rejected, at-end, first-byte, from-state, clean}
 use Rattle.grammar.proofs.Steps as steps
-use Rattle.grammar.proofs.CellReads.{Follows, after-whole, CellThen, cell-then, Closes, closes, in-cell-byte}
+use Rattle.grammar.proofs.CellReads.{Follows, after-whole, FirstOfCell, first-of-cell, spells-first, other-byte, CellThen, cell-then, Closes, closes, in-cell-byte}
 use Rattle.grammar.proofs.Delimited.{Cells, one-cell, more-cells, cells-read, RecordThen, record-then, After, at-tail, at-delimiter, record-of}
 
 -- ---- fields are cells with commas between them
@@ -56,29 +56,19 @@ abbrev FromLine : Bytes → List (Line Bytes) → Type 0
 FromLine xs ls = (f : Form) → Opening f → Reads Tdif f xs ls
 
 -- the first byte of a field is not of a comment and no LF
-field-byte : (b n : ℕ) (e : Cell) → cellStep Tdif Fresh b ≡ More e → cellStep Tdif Fresh n ≡ Refuse Syntax → (b is n) ≡ false
-field-byte b n e s r = ne-eqb b n (λ q. no-more (sym r ∙ (rw q at s)))
-
 open-field : {f : Form} (b : ℕ) (e : Cell) → Opening f → cellStep Tdif Fresh b ≡ More e → formStep Tdif f b ≡ formStep Tdif (Inside Fresh) b
 unfolding formStep beginFile beginRecord inCell cellStep firstByte if_then_else_
-open-field b e at-top s = rw (field-byte b 0x23 e s refl)
-open-field b e at-begin s = rw (field-byte b 0x23 e s refl)
-open-field b e at-ended s = rw (field-byte b 0x23 e s refl, field-byte b LF e s refl)
+open-field b e at-top s = rw (other-byte Tdif b 0x23 e s refl)
+open-field b e at-begin s = rw (other-byte Tdif b 0x23 e s refl)
+open-field b e at-ended s = rw (other-byte Tdif b 0x23 e s refl, other-byte Tdif b LF e s refl)
 
-data FirstOfField : Bytes → Type 0 where
-  first-of-field : {b : ℕ} {bs : Bytes} {e : Cell} → cellStep Tdif Fresh b ≡ More e → FirstOfField (b ∷ bs)
-
-spells-first : {raw : Bytes} (ys : Bytes) → Spells Tdif Fresh raw → FirstOfField (raw ++ ys)
+cells-first : {text : Bytes} {cells : List Bytes} (ys : Bytes) → Cells Tdif text cells → FirstOfCell Tdif (text ++ ys)
 unfolding isWhole
-spells-first ys (whole w) = impossible w
-spells-first ys (byte s k) = first-of-field s
+cells-first ys (one-cell m) = spells-first refl m ys
+cells-first ys (more-cells {raw} {text} m n) = rw (append-assoc raw (COMMA ∷ text) ys) (spells-first refl m (COMMA ∷ (text ++ ys)))
 
-cells-first : {text : Bytes} {cells : List Bytes} (ys : Bytes) → Cells Tdif text cells → FirstOfField (text ++ ys)
-cells-first ys (one-cell m) = spells-first ys m
-cells-first ys (more-cells {raw} {text} m n) = rw (append-assoc raw (COMMA ∷ text) ys) (spells-first (COMMA ∷ (text ++ ys)) m)
-
-from-first : {xs : Bytes} {ls : List (Line Bytes)} → FirstOfField xs → Reads Tdif (Inside Fresh) xs ls → FromLine xs ls
-from-first (first-of-field {b} {e} s) r f o = from-state (open-field b e o s) r
+from-first : {xs : Bytes} {ls : List (Line Bytes)} → FirstOfCell Tdif xs → Reads Tdif (Inside Fresh) xs ls → FromLine xs ls
+from-first (first-of-cell {b} {e} s) r f o = from-state (open-field b e o s) r
 
 -- a linebreak after a field
 break-follows : {es zs : Bytes} {ls : List (Line Bytes)} → Linebreak es → FromLine zs ls → Follows Tdif (es ++ zs) [] [] ls
@@ -241,9 +231,9 @@ module _ (bs : Bytes) where
       split P (b is LF) (λ p t. let q = is→eq b LF p in rw q (lf-taken (rw q at t))) λ _.
       split P (b is CR) (λ p t. let q = is→eq b CR p in rw q (cr-taken (rw q at t))) λ _ t. rejected t
 
-  field-byte-in : (c : Cell) (b : ℕ) (ls : List (Line Bytes)) → Takes K b (inCell Tdif c b) ls → InField c (b ∷ bs) ls
+  field-byte : (c : Cell) (b : ℕ) (ls : List (Line Bytes)) → Takes K b (inCell Tdif c b) ls → InField c (b ∷ bs) ls
   unfolding K
-  field-byte-in c b ls t = in-cell-byte K c b bs ls (λ e ls k. k) (after-byte b) t
+  field-byte c b ls t = in-cell-byte K c b bs ls (λ e ls k. k) (after-byte b) t
 
   hash-taken : {b : ℕ} {ls : List (Line Bytes)} → Takes K b (To (Comment Whole) Outside) ls → DerivedLines (0x23 ∷ bs) ls
   unfolding K
@@ -253,7 +243,7 @@ module _ (bs : Bytes) where
   unfolding beginRecord
   line-byte b ls =
       let P : Step → Type 0 = λ s. Takes K b s ls → DerivedLines (b ∷ bs) ls in
-      split P (b is 0x23) (λ p t. rw (is→eq b 0x23 p) (hash-taken t)) λ _ t. field-line (field-byte-in Fresh b ls t)
+      split P (b is 0x23) (λ p t. rw (is→eq b 0x23 p) (hash-taken t)) λ _ t. field-line (field-byte Fresh b ls t)
 
   skip-taken : {b : ℕ} {ls : List (Line Bytes)} → Takes K b (To Begin Passed) ls → AfterCr (LF ∷ bs) ls
   unfolding K
@@ -301,7 +291,7 @@ module _ (bs : Bytes) where
   step-byte (Comment c) b ls t = comment-byte c b ls t
   step-byte Blanks b ls t = tt
   step-byte Wanting b ls t = tt
-  step-byte (Inside c) b ls t = field-byte-in c b ls t
+  step-byte (Inside c) b ls t = field-byte c b ls t
   step-byte types.After b ls t = tt
   step-byte Cr b ls t = tt
 
