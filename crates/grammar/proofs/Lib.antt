@@ -16,3 +16,4 @@ pub mod Delimited
 pub mod TdifFiles
 pub mod PlusFiles
 pub mod CsvjFiles
+pub mod FileGrammar
