@@ -17,3 +17,4 @@ pub mod TdifFiles
 pub mod PlusFiles
 pub mod CsvjFiles
 pub mod FileGrammar
+pub mod Parts

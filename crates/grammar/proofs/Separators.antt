@@ -46,7 +46,7 @@ no-break : (b : ℕ) (q : Quote) → (b is 0x22) ≡ false → (b is 0x27) ≡ f
 no-break b Double h k = h
 no-break b Single h k = k
 
-break-quote : (d : Dialect) (b : ℕ) → (b is 0x22) ≡ false → (b is 0x27) ≡ false → (b is quoteOf d) ≡ false
+pub break-quote : (d : Dialect) (b : ℕ) → (b is 0x22) ≡ false → (b is 0x27) ≡ false → (b is quoteOf d) ≡ false
 break-quote Csvj b h k = h
 break-quote Tdif b h k = h
 break-quote (CsvPlus s) b h k = no-break b (s .quote) h k
@@ -159,11 +159,17 @@ or-true : (t : Bool) → (t || true) ≡ true
 or-true true = refl
 or-true false = refl
 
+pub cr-separates : (d : Dialect) → (CR is delimiterOf d || CR is CR || CR is LF) ≡ true
+cr-separates d = rw (or-true (CR is delimiterOf d))
+
+pub lf-separates : (d : Dialect) → (LF is delimiterOf d || LF is CR || LF is LF) ≡ true
+lf-separates d = or-true (LF is delimiterOf d || LF is CR)
+
 -- where a cell may be plain, blanks separate nothing
 separator-test : {d : Dialect} {b : ℕ} → Reached d (Plain Whole) → Separates d b → (b is delimiterOf d || b is CR || b is LF) ≡ true
 separator-test r (by-delimiter {d}) = rw (same-byte (delimiterOf d))
-separator-test r (by-cr {d}) = rw (or-true (CR is delimiterOf d))
-separator-test r (by-lf {d}) = or-true (LF is delimiterOf d || LF is CR)
+separator-test r (by-cr {d}) = cr-separates d
+separator-test r (by-lf {d}) = lf-separates d
 separator-test r by-space = absurd r
 separator-test r by-tab = absurd r
 

@@ -8,3 +8,4 @@ pub mod Tdif
 pub mod CsvPlus
 pub mod Derives
 pub mod Reading
+pub mod Accepted
