@@ -18,3 +18,4 @@ pub mod PlusFiles
 pub mod CsvjFiles
 pub mod FileGrammar
 pub mod Parts
+pub mod Checks
