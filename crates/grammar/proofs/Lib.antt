@@ -19,3 +19,5 @@ pub mod CsvjFiles
 pub mod FileGrammar
 pub mod Parts
 pub mod Checks
+pub mod Standing
+pub mod Accepting
