@@ -21,3 +21,4 @@ pub mod Parts
 pub mod Checks
 pub mod Standing
 pub mod Accepting
+pub mod AcceptedOnly
