@@ -12,6 +12,7 @@ use Rattle.grammar.specs.Csvj as csvj
 use Rattle.grammar.specs.Tdif as tdif
 use Rattle.grammar.specs.CsvPlus as plus
 use Rattle.grammar.proofs.CellGrammar.{derived-content}
+use Rattle.grammar.proofs.Steps.{reads-once}
 use Rattle.grammar.proofs.CsvjFiles as csvj-files
 use Rattle.grammar.proofs.TdifFiles as tdif-files
 use Rattle.grammar.proofs.PlusFiles as plus-files
@@ -119,3 +120,13 @@ form-derived d (read-by-form l ls r) = reads-derived d r
 -- reading accepts a file by form with these records, raw cells, kinds and contents exactly when the grammar derives it with them
 pub grammar-exact : (d : Dialect) (xs : Bytes) (ls : List (Line Derived)) → Derives d xs ls ↔ ReadByForm d xs ls
 grammar-exact d xs ls = ((λ k. derived-form d (file-derived d xs ls k) (derived-reads d xs ls k)), form-derived d)
+
+-- a file has at most one list of records, raw cells, kinds and contents
+pub some-decoded : (d : Dialect) {ls : List (Line Derived)} → LinesDerived d ls → map (decodedLine d) (map spelling ls) ≡ ls
+some-decoded d (lines-derived v k) = lines-decoded d (every-cons v k)
+
+pub unambiguous : (d : Dialect) (xs : Bytes) (ls ms : List (Line Derived)) → Derives d xs ls → Derives d xs ms → ls ≡ ms
+unambiguous d xs ls ms k m =
+    sym (some-decoded d (file-derived d xs ls k)) ∙
+    ap (map (decodedLine d)) (reads-once xs Top (map spelling ls) (map spelling ms) (derived-reads d xs ls k) (derived-reads d xs ms m)) ∙
+    some-decoded d (file-derived d xs ms m)

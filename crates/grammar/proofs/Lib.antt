@@ -22,3 +22,4 @@ pub mod Checks
 pub mod Standing
 pub mod Accepting
 pub mod AcceptedOnly
+pub mod Acceptance

@@ -1,6 +1,6 @@
 -- Reading by form, a byte at a time: what a byte's step says of the records that it and the bytes after it give.
 use Prim.Native.Nat.{ℕ}
-use mathlib.Core.Path.{_≡_, refl, sym, _∙_}
+use mathlib.Core.Path.{_≡_, refl, sym, ap, _∙_}
 use mathlib.Core.Bool.{Bool, true, false}
 use mathlib.Core.List.{List, [], _∷_}
 use Rattle.grammar.specs.Types.{Dialect, Csvj, Tdif, CsvPlus, Cell, Added, Stop, ByteFault, Form, Inside, Part, Outside, Passed, OfCell, Between, Tail, Ends, Step, To, Reject, Ending, Clean, Final}
@@ -57,6 +57,31 @@ first-byte K k (reading.tail {g} e r) = rw e (tail (k g _ r))
 first-byte K k (reading.tail-closing {g} e r) = rw e (tail-closing (k g _ r))
 first-byte K k (reading.ends {g} {ls} e r) = rw e (ends (k g ls r))
 first-byte K k (reading.ends-closing {g} {ls} e r) = rw e (ends-closing (k g ls r))
+
+-- ---- reading by form gives one list of records
+
+finishes-once : {x : Ending} {ls ms : List (Line Bytes)} → Finishes x ls → Finishes x ms → ls ≡ ms
+finishes-once clean clean = refl
+finishes-once final final = refl
+
+takes-once :
+    {K : Form → List (Line Bytes) → Type 0} {b : ℕ} {s : Step} {ls ms : List (Line Bytes)} →
+    ((g : Form) (ls ms : List (Line Bytes)) → K g ls → K g ms → ls ≡ ms) → Takes K b s ls → Takes K b s ms → ls ≡ ms
+takes-once u (outside {f} {ls} k) (outside {ls = ms} m) = u f ls ms k m
+takes-once u (passed {f} {ls} k) (passed {ls = ms} m) = u f ls ms k m
+takes-once u (of-cell {f} k) (of-cell m) = let e = u f _ _ k m in cc
+takes-once u (between {f} k) (between m) = let e = u f _ _ k m in cc
+takes-once u (between-closing {f} k) (between-closing m) = let e = u f _ _ k m in cc
+takes-once u (tail {f} k) (tail m) = u f _ _ k m
+takes-once u (tail-closing {f} k) (tail-closing m) = let e = u f _ _ k m in cc
+takes-once u (ends {f} {ls} k) (ends {ls = ms} m) = ap (λ l. line [] [] ∷ l) (u f ls ms k m)
+takes-once u (ends-closing {f} {ls} k) (ends-closing {ls = ms} m) = ap (λ l. line [] ([] ∷ []) ∷ l) (u f ls ms k m)
+
+pub reads-once : {d : Dialect} (xs : Bytes) (f : Form) (ls ms : List (Line Bytes)) → Reads d f xs ls → Reads d f xs ms → ls ≡ ms
+reads-once [] f ls ms r q = finishes-once (at-end r) (at-end q)
+reads-once {d} (b ∷ bs) f ls ms r q =
+    takes-once (λ g ls ms k m. reads-once bs g ls ms k m) (first-byte (λ g ls. Reads d g bs ls) (λ g ls k. k) r)
+    (first-byte (λ g ls. Reads d g bs ls) (λ g ls k. k) q)
 
 -- a byte's step is all that reading asks of a state
 pub from-state : {d : Dialect} {f g : Form} {b : ℕ} {bs : Bytes} {ls : List (Line Bytes)} → formStep d f b ≡ formStep d g b → Reads d g (b ∷ bs) ls → Reads d f (b ∷ bs) ls

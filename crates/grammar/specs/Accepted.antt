@@ -1,17 +1,17 @@
 -- What the reader asks of a file beside its form, in grammar words: the limits and the record checks of document 01 over a derivation's
--- records; and what it is for the reader to accept a file with these records.
+-- records; and what it is for the reader's records to be these.
 use Prim.Native.Nat.{ℕ, _+_, _≤_}
 use mathlib.Core.Path.{_≡_}
 use mathlib.Core.Logic.{_≢_}
-use mathlib.Core.Option.{none}
 use mathlib.Core.List.{List, [], _∷_, _++_}
 use lib.ListN.{length}
 use Rattle.grammar.specs.Types.{Text, Dialect}
 use Rattle.model.specs.Base.{Bytes}
 use Rattle.model.specs.Text.{Value}
 use Rattle.model.specs.Report.{MAXFILE, MAXRECORD, MAXCOLUMNS}
-use Rattle.model.specs.Records.{Rec, Read, going, nameKey, readFile}
+use Rattle.model.specs.Records.{Rec, nameKey}
 use Rattle.grammar.specs.Derived.{Derived, rawOf, kindIn, contentIn, Line, line, textIn, cellsIn, Every, Each}
+use Rattle.grammar.specs.Derives.{Derives}
 
 -- "Limits: 16,777,215 bytes a file, 64 columns, 4,096 bytes a record. CR and LF outside quotes, comments and the mark aren't counted in
 -- a record"
@@ -34,6 +34,12 @@ pub data ChecksHold (d : Dialect) : List (Line Derived) → Type 0 where
       {text : Bytes} {cells : List Derived} {ls : List (Line Derived)} → Every (λ c. kindIn c ≡ Text) cells → Distinct d cells →
       Every (λ l. length (cellsIn l) ≡ length cells) ls → ChecksHold d (line text cells ∷ ls)
 
+-- derived with these records, within the limits and sound
+pub record Acceptable (d : Dialect) (xs : Bytes) (ls : List (Line Derived)) : Type 0 where
+  pub derived : Derives d xs ls
+  pub limits : WithinLimits xs ls
+  pub checks : ChecksHold d ls
+
 -- ---- the reader's records are these
 
 -- a cell's kind and content, and its stretch in the file is its raw bytes
@@ -49,9 +55,3 @@ pub record ShowsCell (file : Bytes) (v : Value) (c : Derived) : Type 0 where
 pub record ShowsRecord (file : Bytes) (r : Rec) (l : Line Derived) : Type 0 where
   pub size : r .size ≡ length (textIn l)
   pub cells : Each (ShowsCell file) (r .cells) (cellsIn l)
-
--- the reader accepts the file, with these records
-pub record Accepts (d : Dialect) (xs : Bytes) (ls : List (Line Derived)) : Type 0 where
-  pub read : Read
-  pub accepted : readFile d none xs ≡ going read
-  pub shows : Each (ShowsRecord xs) (read .done) ls
