@@ -2,26 +2,33 @@
 -- (`acceptance`), and its records are then those of the derivation (`accepted-records`).
 use Prim.Native.Nat.{ℕ, _+_, _≤_}
 use native.Mathlib.Omega.{arith}
-use mathlib.Core.Path.{_≡_, refl, sym, ap, _∙_}
+use mathlib.Core.Path.{_≡_, refl, sym, ap, ap₂, _∙_}
 use mathlib.Core.Logic.{_↔_}
+use mathlib.Core.Bool.{Bool, true, false}
 use mathlib.Core.Option.{none}
+use mathlib.Core.Option as option
 use mathlib.Core.List.{List, [], _∷_, _++_, map}
-use lib.ListN.{length}
-use Rattle.grammar.specs.Types.{Dialect, ByteFault, Encoding, Syntax, Top}
+use lib.ListN.{length, length-append}
+use lib.Dec.{ltb}
+use borrow.Author.Tests.{ltb-false, le-ltb}
+use Rattle.grammar.specs.Types.{Dialect, Encoding, Syntax}
 use Rattle.grammar.specs.Types as types
 use Rattle.model.specs.declared.Report.{Report}
-use Rattle.model.specs.Base.{Bytes}
-use Rattle.model.specs.Report.{numberOf, accepted, MAXFILE, MAXRECORD}
-use Rattle.model.specs.Records.{Read, Progress, going, stopped, nothingRead, readBytes, readFile, reportOf, faultReport}
-use Rattle.grammar.specs.Derived.{Derived, Line, line, textIn, cellsIn, spelling, Every, every-none, every-cons, Each, each-none}
+use Rattle.model.specs.Base.{Bytes, if_then_else_, concat}
+use Rattle.model.specs.Dialect.{dialectOf}
+use Rattle.model.specs.Text.{Value}
+use Rattle.model.specs.Api.{answered, answerOf, reader}
+use Rattle.model.specs.Report.{numberOf, accepted, refusal, MAXFILE, MAXRECORD}
+use Rattle.model.specs.Records.{Rec, rows, Read, Progress, going, stopped, nothingRead, readBytes, readFile, reportOf}
+use Rattle.grammar.specs.Derived.{Derived, Line, line, textIn, cellsIn, spelling, Every, every-none, every-cons, Each, each-none, each-cons}
 use Rattle.grammar.specs.Derives.{Derives}
-use Rattle.grammar.specs.Reading.{Reads, decodedLine}
-use Rattle.grammar.specs.Accepted.{WithinLimits, ChecksHold, Acceptable, ShowsRecord}
+use Rattle.grammar.specs.Reading.{decodedLine}
+use Rattle.grammar.specs.Accepted.{Acceptable, cellCount, ShowsRecord}
 use Rattle.grammar.proofs.FileGrammar.{LinesDerived, lines-derived, file-derived, some-decoded, derived-reads, reads-derived, unambiguous}
-use Rattle.grammar.proofs.Checks.{ChecksFrom, checks-all, all-checks}
-use Rattle.grammar.proofs.Standing.{joined, joined-rest, Fit, fit-rest, rest-fit, Stands, tidy-rest}
+use Rattle.grammar.proofs.Checks.{each-length, checks-all, all-checks}
+use Rattle.grammar.proofs.Standing.{joined, joined-rest, fit-rest, rest-fit, Stands, tidy-rest}
 use Rattle.grammar.proofs.Accepting.{Some, some, Accepted, accepted as accepted-with, Ready, reads-accepted}
-use Rattle.grammar.proofs.AcceptedOnly.{Facts, Outcome, outcome, accepted-comes}
+use Rattle.grammar.proofs.AcceptedOnly.{stopped-going, Facts, Outcome, outcome, accepted-comes}
 
 -- ---- the beginning
 
@@ -147,7 +154,7 @@ accepted-going (stopped x r) e =
 
 -- demand 2's acceptance in grammar words: a file is accepted exactly when it is derived and the limits and the record checks hold
 pub acceptance : (d : Dialect) (xs : Bytes) → (reportOf (readFile d none xs) ≡ accepted) ↔ ((ls : List (Line Derived)) × Acceptable d xs ls)
-acceptance d xs = (only, if)
+acceptance d xs = (only, suffices)
   where
     only : reportOf (readFile d none xs) ≡ accepted → (ls : List (Line Derived)) × Acceptable d xs ls
     only e = let r = accepted-going (readFile d none xs) e in go (read-acceptable d xs (r .0) (r .1))
@@ -155,8 +162,8 @@ acceptance d xs = (only, if)
         go : {end : Read} → AcceptedAs d xs end → (ls : List (Line Derived)) × Acceptable d xs ls
         go (accepted-as ls a k) = (ls, a)
 
-    if : (ls : List (Line Derived)) × Acceptable d xs ls → reportOf (readFile d none xs) ≡ accepted
-    if a = go (acceptable-read d xs (a .0) (a .1))
+    suffices : (ls : List (Line Derived)) × Acceptable d xs ls → reportOf (readFile d none xs) ≡ accepted
+    suffices a = go (acceptable-read d xs (a .0) (a .1))
       where
         go : {ls : List (Line Derived)} → ReadAs d xs ls → reportOf (readFile d none xs) ≡ accepted
         go (read-as end e k) = ap reportOf e
@@ -167,3 +174,50 @@ accepted-records d xs ls k r e = go (read-acceptable d xs r e)
   where
     go : AcceptedAs d xs r → Each (ShowsRecord xs) (r .done) ls
     go (accepted-as ms a m) = rw (unambiguous d xs ls ms k (a .derived)) m
+
+-- ---- the reader's call
+
+count-cells : {file : Bytes} {rs : List Rec} {ls : List (Line Derived)} → Each (ShowsRecord file) rs ls → length (concat (rows rs)) ≡ cellCount ls
+unfolding rows concat
+count-cells each-none = refl
+count-cells (each-cons {x = r} {xs = rs} {y = l} {ys = ls} s k) =
+    let e : length (r .cells) ≡ length (cellsIn l) = each-length (s .cells) in
+    let q : length (concat (rows rs)) ≡ cellCount ls = count-cells k in
+    let a : length (r .cells ++ concat (rows rs)) ≡ length (r .cells) + length (concat (rows rs)) = length-append (r .cells) (concat (rows rs)) in
+    a ∙ ap₂ _+_ e q
+
+-- a report of 10
+ten : {A : Type 0} → refusal 10 ≡ accepted → A
+ten e = let k : _≡_ {A = ℕ} 10 0 = ap (λ (z : Report). z .number) e in absurd (omega arith)
+
+-- an accepted file is reported so exactly where its cells have room
+roomy : {file : Bytes} {rs : List Rec} {ls : List (Line Derived)} (vs : List Value) (room : ℕ) → Each (ShowsRecord file) rs ls → Some ls → answered rs vs room .report ≡ accepted → length vs ≤ room
+unfolding if_then_else_
+roomy vs room (each-cons {x = h} {xs = rs} s k) some e = go (ltb room (length vs)) refl
+  where
+    go : (t : Bool) → ltb room (length vs) ≡ t → length vs ≤ room
+    go true p = ten (rw p at e)
+    go false p = ltb-false room (length vs) p
+
+has-room : {file : Bytes} {rs : List Rec} {ls : List (Line Derived)} (vs : List Value) (room : ℕ) → Each (ShowsRecord file) rs ls → length vs ≤ room → answered rs vs room .report ≡ accepted
+unfolding if_then_else_
+has-room vs room each-none h = refl
+has-room vs room (each-cons s k) h = rw (le-ltb room (length vs) h)
+
+-- the reader reports acceptance of a dialect's file exactly when it is acceptable and its cells have room in the lent lists
+pub reader-acceptance :
+    (n : ℕ) (d : Dialect) (xs : Bytes) (room : ℕ) → dialectOf n ≡ option.some d →
+    (reader n xs room .report ≡ accepted) ↔ ((ls : List (Line Derived)) × Acceptable d xs ls × (cellCount ls ≤ room))
+unfolding reader
+reader-acceptance n d xs room dialect = (λ e. only (readFile d none xs) refl (rw (dialect, reader) at e), λ a. suffices (a .2) (acceptable-read d xs (a .0) (a .1)))
+  where
+    fits : {end : Read} → AcceptedAs d xs end → answered (end .done) (concat (rows (end .done))) room .report ≡ accepted → (ls : List (Line Derived)) × Acceptable d xs ls × (cellCount ls ≤ room)
+    fits {end} (accepted-as ls a k) e =
+        (ls, a, rw (count-cells k) at (roomy (concat (rows (end .done))) room k (some-lines (file-derived d xs ls (a .derived))) e))
+
+    only : (p : Progress) → readFile d none xs ≡ p → answerOf p room .report ≡ accepted → (ls : List (Line Derived)) × Acceptable d xs ls × (cellCount ls ≤ room)
+    only (going r) q e = fits (read-acceptable d xs r q) e
+    only (stopped x r) q e = let z = accepted-going (stopped x r) e in stopped-going (z .1)
+
+    suffices : {ls : List (Line Derived)} → cellCount ls ≤ room → ReadAs d xs ls → reader n xs room .report ≡ accepted
+    suffices h (read-as end e k) = rw (dialect, reader, e) (has-room (concat (rows (end .done))) room k (rw (count-cells k) h))

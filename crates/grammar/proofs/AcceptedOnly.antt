@@ -1,30 +1,30 @@
 -- A file that the reader accepts is read by form, within the limits and with sound records, and its records are those. From a state in a
 -- record there is a record to come, and from a state in a cell the rest of that cell (`reads-line`, `reads-cell`).
-use Prim.Native.Nat.{ℕ, suc, _+_, _≤_, _<_}
+use Prim.Native.Nat.{ℕ, suc, _≤_, _<_}
 use native.Mathlib.Omega.{arith}
 use mathlib.Core.Path.{_≡_, refl, sym, ap, _∙_}
 use mathlib.Core.Bool.{Bool, true, false, _&&_}
 use mathlib.Core.Option.{none}
 use mathlib.Core.List.{List, [], _∷_, _++_, map, append-assoc, append-nil}
-use lib.ListN.{length, length-append}
+use lib.ListN.{length}
 use lib.Dec.{leb}
 use borrow.Author.Tests.{leb-false}
-use Rattle.grammar.specs.Types.{Dialect, Csvj, Tdif, CsvPlus, Cell, ByteFault, Fault, Form, Top, Begin, Ended, Mark1, Mark2, PlainMark1, PlainMark2, Comment, Blanks, Wanting, Inside, After, Cr, OfCell, Outside, Passed, Between, Tail, Ends, Step, To, Reject, Ending, Clean, Final, Cut, Verdict, Sound, Faulty}
+use Rattle.grammar.specs.Types.{Dialect, Csvj, Tdif, CsvPlus, Cell, Fault, Form, Top, Begin, Ended, Mark1, Mark2, PlainMark1, PlainMark2, Comment, Blanks, Wanting, Inside, After, Cr, OfCell, Outside, Passed, Between, Tail, Ends, Step, To, Reject, Ending, Clean, Final, Cut, Verdict, Sound, Faulty}
 use Rattle.model.specs.Base.{Bytes, if_then_else_}
 use Rattle.model.specs.Cell.{isWhole}
 use Rattle.model.specs.Form.{formStep, formEnd, lastCell, counts}
 use Rattle.model.specs.Text.{Value}
 use Rattle.model.specs.Report.{MAXFILE, MAXRECORD}
-use Rattle.model.specs.Records.{Rec, Read, Progress, going, stopped, between-records, closing, judged, complete, move, fileFull, recordFull, recordFault, readByte, readFrom, endBetween, endAt, readEnd}
+use Rattle.model.specs.Records.{Rec, Read, going, stopped, between-records, closing, judged, complete, move, fileFull, recordFull, recordFault, readByte, readFrom, endBetween, endAt, readEnd}
 use Rattle.model.proofs.Tests.{split}
 use Rattle.model.proofs.Reading.{read-stopped}
-use Rattle.grammar.specs.Derived.{Derived, Line, line, textIn, Every, every-none, Each, each-none, each-cons}
+use Rattle.grammar.specs.Derived.{Derived, Line, line, every-none, Each, each-none, each-cons}
 use Rattle.grammar.specs.Reading.{Reads, decoded, decodedLine}
 use Rattle.grammar.specs.Reading as reading
 use Rattle.grammar.specs.Accepted.{ShowsCell, ShowsRecord}
-use Rattle.grammar.proofs.Parts.{Stage, at-rest, in-record, in-cell, stageOf, Recording, record-open, cell-open, NoCell, none-at-rest, none-in-record, Moves, leaves, passes, parts, turns, completes, step-moves}
+use Rattle.grammar.proofs.Parts.{Stage, at-rest, in-cell, stageOf, Recording, record-open, cell-open, NoCell, Moves, parts, turns, completes, step-moves}
 use Rattle.grammar.proofs.Checks.{LineSound, ChecksFrom, checks-none, checks-next, record-checked}
-use Rattle.grammar.proofs.Standing.{each-snoc, length-snoc, prepend, joined, joined-rest, joined-of-cell, joined-between, joined-between-closing, joined-tail-closing, joined-ends, joined-ends-closing, Fit, fit-none, fit-line, rest-fit, Stands, closes-now, stands-reset, stands-more, Rested, rested, Parted, parted, recording-tidy, rest-tidy}
+use Rattle.grammar.proofs.Standing.{each-snoc, length-snoc, joined, joined-rest, joined-of-cell, joined-between, joined-between-closing, joined-tail-closing, joined-ends, joined-ends-closing, Fit, fit-none, fit-line, rest-fit, Stands, closes-now, stands-reset, stands-more, Rested, rested, Parted, parted, recording-tidy, rest-tidy}
 use Rattle.grammar.proofs.Standing as standing
 use Rattle.grammar.specs.Types as types
 use Rattle.grammar.proofs.Standing.{moved-outside, moved-passed, moved-of-cell, moved-between, moved-between-closing, moved-tail, moved-tail-closing, moved-ends, moved-ends-closing}
@@ -135,7 +135,7 @@ not-going d e r xs {end} q =
 same-going : {r end : Read} → going r ≡ going end → r ≡ end
 same-going e = cc
 
-stopped-going : {A : Type 0} {e : Fault} {r end : Read} → stopped e r ≡ going end → A
+pub stopped-going : {A : Type 0} {e : Fault} {r end : Read} → stopped e r ≡ going end → A
 stopped-going q = let o : _≡_ {A = ℕ} 0 1 = cc in absurd (omega arith)
 
 module _ (d : Dialect) (file : Bytes) (end : Read) where

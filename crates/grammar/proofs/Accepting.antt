@@ -4,23 +4,23 @@ use native.Mathlib.Omega.{arith}
 use mathlib.Core.Path.{_≡_, refl, sym, ap, _∙_}
 use mathlib.Core.Bool.{Bool, true, false, _&&_}
 use mathlib.Core.Option.{none}
-use mathlib.Core.List.{List, [], _∷_, _++_, map, append-assoc, append-nil}
+use mathlib.Core.List.{List, [], _∷_, _++_, append-assoc, append-nil}
 use lib.ListN.{length, length-append}
 use lib.Dec.{leb}
 use borrow.Author.Tests.{lt-leb}
-use Rattle.grammar.specs.Types.{Dialect, Form, Begin, OfCell, Outside, Passed, Between, Tail, Ends, Step, To, Ending, Clean, Final, Cut, Verdict, Sound}
+use Rattle.grammar.specs.Types.{Dialect, Form, Begin, OfCell, Outside, Passed, Between, Tail, Ends, Step, To, Clean, Final, Sound}
 use Rattle.model.specs.Base.{Bytes, if_then_else_}
 use Rattle.model.specs.Form.{formStep, formEnd, counts}
 use Rattle.model.specs.Text.{Value}
 use Rattle.model.specs.Report.{MAXFILE, MAXRECORD}
-use Rattle.model.specs.Records.{Rec, Read, Progress, going, between-records, closing, judged, complete, move, fileFull, recordFull, recordFault, readByte, readFrom, endBetween, endAt, readEnd}
-use Rattle.grammar.specs.Derived.{Derived, Line, line, textIn, Every, Each, each-none, each-cons}
-use Rattle.grammar.specs.Reading.{Reads, decoded, decodedLine}
+use Rattle.model.specs.Records.{Rec, Read, going, between-records, closing, judged, complete, move, fileFull, recordFull, recordFault, readByte, readFrom, endBetween, readEnd}
+use Rattle.grammar.specs.Derived.{Derived, Line, line, Each, each-none, each-cons}
+use Rattle.grammar.specs.Reading.{Reads, decoded}
 use Rattle.grammar.specs.Reading as reading
 use Rattle.grammar.specs.Accepted.{ShowsCell, ShowsRecord}
 use Rattle.grammar.proofs.Parts.{Moves, at-rest, stageOf, Recording, step-moves}
-use Rattle.grammar.proofs.Checks.{LineSound, ChecksFrom, checks-none, checks-next, record-sound-checked}
-use Rattle.grammar.proofs.Standing.{each-snoc, length-snoc, prepend, joined, joined-rest, joined-of-cell, joined-between, joined-between-closing, joined-tail-closing, joined-ends, joined-ends-closing, Fit, fit-line, fit-rest, Stands, closes-now, stands-reset, stands-more, Rested, rested, Parted, parted, Ended, ended, recording-tidy, rest-tidy}
+use Rattle.grammar.proofs.Checks.{LineSound, ChecksFrom, checks-next, record-sound-checked}
+use Rattle.grammar.proofs.Standing.{each-snoc, length-snoc, joined, joined-rest, joined-of-cell, joined-between, joined-between-closing, joined-tail-closing, joined-ends, joined-ends-closing, Fit, fit-line, fit-rest, Stands, closes-now, stands-reset, stands-more, Rested, rested, Parted, parted, Ended, ended, recording-tidy, rest-tidy}
 use Rattle.grammar.proofs.Standing.{moved-outside, moved-passed, moved-of-cell, moved-between, moved-between-closing, moved-tail, moved-tail-closing, moved-ends, moved-ends-closing}
 
 -- at least one line

@@ -1,12 +1,11 @@
 -- A raw cell is one that the grammar derives exactly where the decoder finds it sound, and then the derivation gives the decoder's kind
 -- and content: over the dialect.
-use mathlib.Core.Path.{_≡_, refl, sym}
+use mathlib.Core.Path.{_≡_}
 use mathlib.Core.Logic.{_↔_}
-use mathlib.Core.List.{List, [], _∷_}
 use Rattle.grammar.specs.Types.{Kind, Dialect, Csvj, Tdif, CsvPlus, Fresh}
 use Rattle.model.specs.declared.Judged.the-variants.{WholeCell}
 use Rattle.model.specs.Base.{Bytes}
-use Rattle.model.specs.Decode.{kindOf, contentOf, judgeCell}
+use Rattle.model.specs.Decode.{judgeCell}
 use Rattle.grammar.specs.Derived.{Derived, cell, rawOf}
 use Rattle.grammar.specs.Derives.{DerivesCell}
 use Rattle.grammar.specs.Reading.{decoded}

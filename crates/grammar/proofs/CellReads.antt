@@ -2,10 +2,10 @@
 -- whole cell (`cell-reads`); and a file that stands in a cell goes on with the rest of a cell and then with what follows one
 -- (`in-cell-byte`).
 use Prim.Native.Nat.{ℕ}
-use mathlib.Core.Path.{_≡_, refl, sym, ap, _∙_}
-use mathlib.Core.Bool.{Bool, true, false}
+use mathlib.Core.Path.{_≡_, refl, sym, _∙_}
+use mathlib.Core.Bool.{true, false}
 use mathlib.Core.List.{List, [], _∷_, _++_}
-use Rattle.grammar.specs.Types.{Dialect, Csvj, Tdif, CsvPlus, Cell, Fresh, Added, More, Stop, Refuse, Syntax, Form, Inside, OfCell, Step, To}
+use Rattle.grammar.specs.Types.{Dialect, Cell, Fresh, Added, More, Stop, Refuse, Syntax, Form, Inside, OfCell, To}
 use borrow.Author.Tests.{ne-eqb}
 use Rattle.model.specs.Base.{Bytes, _is_}
 use Rattle.model.specs.Cell.{cellStep, isWhole}

@@ -2,17 +2,16 @@
 -- row of the table (`row-first`), the bytes after it finish the character (`Finishes`), and each row is a production of the RFC.
 use Prim.Native.Nat.{ℕ, _≤_, _<_}
 use native.Mathlib.Omega.{arith}
-use mathlib.Core.Path.{_≡_, refl, sym, _∙_}
+use mathlib.Core.Path.{_≡_, refl, sym}
 use mathlib.Core.Bool.{Bool, true, false}
 use mathlib.Core.List.{List, [], _∷_}
 use Rattle.grammar.specs.Types.{Lead, C2ToDf, E0, E1ToEc, Ed, EeToEf, F0, F1ToF3, F4, Inner, Second, LastTwo, Last, Char, Whole, Within, Advance, On, Broken}
 use Rattle.model.specs.Base.{Bytes, within, if_then_else_}
-use Rattle.model.specs.Utf8.{Row, rowOf, leads, leadByte, afterSecond, innerStep, charStep}
+use Rattle.model.specs.Utf8.{rowOf, leads, leadByte, afterSecond, innerStep, charStep}
 use Rattle.model.proofs.Tests.{split-on, within-true}
-use Rattle.model.proofs.Utf8.{inner-high, ascii-whole}
 use Rattle.grammar.specs.Rfc5234.{_from_to_}
-use Rattle.grammar.specs.Rfc3629.{UTF8-tail, UTF8-2, c2-df, UTF8-3, e0, e1-ec, ed, ee-ef, UTF8-4, f0, f1-f3, f4, UTF8-data, of-two, of-three, of-four}
-use Rattle.grammar.proofs.Ranges.{range, within-range, range-within, below-within, above-within}
+use Rattle.grammar.specs.Rfc3629.{UTF8-tail, c2-df, UTF8-3, e0, e1-ec, ed, ee-ef, UTF8-4, f0, f1-f3, f4, UTF8-data, of-two, of-three, of-four}
+use Rattle.grammar.proofs.Ranges.{range, within-range, range-within, above-within}
 
 -- ---- what a step of a character says
 

@@ -1,9 +1,8 @@
 -- The values of CSVJ are exactly the cells that its automaton reads, with the decoder's kind and content.
 use Prim.Native.Nat.{ℕ}
-use mathlib.Core.Path.{_≡_, refl, sym, ap, _∙_}
-use mathlib.Core.Bool.{Bool, true, false}
-use mathlib.Core.List.{List, [], _∷_, _++_}
-use Rattle.grammar.specs.Types.{Kind, Text, Csvj, Whole, Zero, Integer, T, Tr, Tru, F, Fa, Fal, Fals, N, Nu, Nul, Cell, Fresh, Quoted, InNumber, InWord, Added, More}
+use mathlib.Core.Path.{_≡_, refl}
+use mathlib.Core.List.{_∷_}
+use Rattle.grammar.specs.Types.{Kind, Csvj, Zero, Integer, T, Tr, Tru, F, Fa, Fal, Fals, N, Nu, Nul, Cell, Fresh, InWord, Added, More}
 use Rattle.grammar.specs.Types as types
 use Rattle.model.specs.Base.{Bytes, QUOTE, _is_, if_then_else_}
 use Rattle.model.specs.Cell.{isDigit, firstByte, cellStep, isWhole}

@@ -1,11 +1,11 @@
 -- The grammar of CSVJ derives exactly the files that its automaton reads by form. After a value, and after a space or a tab that follows
 -- one, the same may come (`Continues`, `AfterByte`); before a record's first value the same may come as at its beginning.
 use Prim.Native.Nat.{ℕ}
-use mathlib.Core.Path.{_≡_, refl, sym, ap, _∙_}
-use mathlib.Core.Bool.{Bool, true, false, _||_}
+use mathlib.Core.Path.{_≡_, refl}
+use mathlib.Core.Bool.{Bool, true, false}
 use mathlib.Core.List.{List, [], _∷_, _++_, map, append-assoc, append-nil}
-use Rattle.grammar.specs.Types.{Csvj, Cell, Fresh, Added, More}
-use Rattle.grammar.specs.Types.{Form, Top, Begin, Ended, Mark1, Mark2, PlainMark1, PlainMark2, Blanks, Wanting, Inside, After, Cr, Part, Outside, Passed, Between, Tail, Ends, Step, To, Clean, Cut}
+use Rattle.grammar.specs.Types.{Csvj, Cell, Fresh, More}
+use Rattle.grammar.specs.Types.{Form, Top, Begin, Ended, Mark1, Mark2, PlainMark1, PlainMark2, Blanks, Wanting, Inside, After, Cr, Outside, Passed, Between, Tail, Ends, Step, To, Clean, Cut}
 use Rattle.grammar.specs.Types as types
 use Rattle.model.specs.Base.{Bytes, _is_, if_then_else_}
 use Rattle.model.specs.Cell.{firstByte, cellStep, isWhole}

@@ -1,13 +1,12 @@
 -- Records of TDIF and CSV+: cells with delimiters between them and nothing else (`Cells`), and then what Tail says follows a record's
 -- text. They are read (`cells-read`), and what is read from a record's first cell on is of this form (`record-of`).
-use Prim.Native.Nat.{ℕ}
-use mathlib.Core.Path.{_≡_, refl, sym, ap, _∙_}
-use mathlib.Core.Bool.{Bool, true, false}
+use mathlib.Core.Path.{_≡_, refl, _∙_}
+use mathlib.Core.Bool.{true}
 use mathlib.Core.List.{List, [], _∷_, _++_, append-assoc, append-nil}
-use Rattle.grammar.specs.Types.{Dialect, Csvj, Tdif, CsvPlus, Cell, Fresh, Form, Inside, Between, To}
+use Rattle.grammar.specs.Types.{Dialect, CsvPlus, Fresh, Inside, Between, To}
 use Rattle.model.specs.Base.{Bytes, if_then_else_}
 use Rattle.model.specs.Dialect.{delimiterOf}
-use Rattle.model.specs.Form.{afterCell, formStep}
+use Rattle.model.specs.Form.{afterCell}
 use Rattle.model.proofs.Tests.{same-byte}
 use Rattle.model.proofs.CellContent.{Doubles, d-tdif, d-plus}
 use Rattle.grammar.specs.Derived.{Line, line}

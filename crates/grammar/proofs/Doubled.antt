@@ -5,9 +5,9 @@ use native.Mathlib.Omega.{arith}
 use mathlib.Core.Path.{_≡_, refl, sym, ap, _∙_}
 use mathlib.Core.Logic.{_≢_}
 use mathlib.Core.Bool.{Bool, true, false}
-use mathlib.Core.List.{List, [], _∷_, _++_, append-assoc}
+use mathlib.Core.List.{[], _∷_, _++_, append-assoc}
 use borrow.Author.Tests.{ne-eqb, eqb-false}
-use Rattle.grammar.specs.Types.{Dialect, Inner, Char, Whole, Within, On, Cell, Quoted, Closed, Added, More}
+use Rattle.grammar.specs.Types.{Dialect, Inner, Char, Whole, Within, On, Cell, Quoted, Closed, More}
 use Rattle.model.specs.Base.{Bytes, _is_, if_then_else_}
 use Rattle.model.specs.Dialect.{quoteOf}
 use Rattle.model.specs.Utf8.{charStep}
@@ -15,9 +15,9 @@ use Rattle.model.specs.Cell.{textByte, quotedByte, cellStep, isWhole}
 use Rattle.model.specs.Decode.{undouble}
 use Rattle.model.proofs.Tests.{impossible, is→eq, same-byte}
 use Rattle.model.proofs.Utf8.{ascii-whole, quote-ascii, inner-high}
-use Rattle.model.proofs.CellContent.{no-more, no-stop, same-more, CharOn, char-on, Doubles, d-tdif, d-plus}
+use Rattle.model.proofs.CellContent.{no-stop, same-more, char-on, Doubles, d-tdif, d-plus}
 use Rattle.grammar.proofs.Chars.{Finishes, finished, finishing, Long, long, whole-ascii, first-high}
-use Rattle.grammar.proofs.Spelling.{Spells, whole, byte, TextState, finish-spells, long-spells}
+use Rattle.grammar.proofs.Spelling.{Spells, whole, byte, TextState, long-spells}
 
 -- characters and doubled quotes, and what they stand for
 pub data Doubled (q : ℕ) : (raw content : Bytes) → Type 0 where

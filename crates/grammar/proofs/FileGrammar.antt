@@ -2,10 +2,10 @@
 -- content are the decoder's (`lines-decoded`); it has a record; and what is read is derived.
 use mathlib.Core.Path.{_≡_, refl, sym, ap, _∙_}
 use mathlib.Core.Logic.{_↔_}
-use mathlib.Core.List.{List, [], _∷_, _++_, map}
+use mathlib.Core.List.{List, _∷_, map}
 use Rattle.grammar.specs.Types.{Dialect, Csvj, Tdif, CsvPlus, Settings, Top}
 use Rattle.model.specs.Base.{Bytes}
-use Rattle.grammar.specs.Derived.{Derived, cell, rawOf, Line, line, spelling, Every, every-none, every-cons}
+use Rattle.grammar.specs.Derived.{Derived, rawOf, Line, line, spelling, Every, every-none, every-cons}
 use Rattle.grammar.specs.Derives.{DerivesCell, Derives}
 use Rattle.grammar.specs.Reading.{Reads, decoded, decodedLine, ReadByForm, read-by-form}
 use Rattle.grammar.specs.Csvj as csvj

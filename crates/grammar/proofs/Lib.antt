@@ -1,5 +1,6 @@
 pub mod Ranges
 pub mod Chars
+pub mod Texts
 pub mod Spelling
 pub mod Doubled
 pub mod TdifCells
@@ -23,3 +24,4 @@ pub mod Standing
 pub mod Accepting
 pub mod AcceptedOnly
 pub mod Acceptance
+pub mod Theorems

@@ -3,19 +3,19 @@
 use Prim.Native.Nat.{ℕ, _≤_, _<_}
 use native.Mathlib.Omega.{arith}
 use mathlib.Core.Path.{_≡_, refl, sym, ap, _∙_}
-use mathlib.Core.Bool.{Bool, true, false, _||_}
-use mathlib.Core.List.{List, [], _∷_, _++_, append-nil}
+use mathlib.Core.Bool.{true, false, _||_}
+use mathlib.Core.List.{[], _∷_, _++_, append-nil}
 use borrow.Author.Tests.{ne-eqb, eqb-false}
 use Rattle.grammar.specs.Types.{Csvj, Numeral, Zero, Integer, Point, Fraction, ESign, Exponent, Cell, Fresh, InNumber, Added, More}
 use Rattle.grammar.specs.Types as types
-use Rattle.model.specs.Base.{Bytes, QUOTE, _is_, within, begins, if_then_else_}
+use Rattle.model.specs.Base.{Bytes, QUOTE, _is_, if_then_else_}
 use Rattle.model.specs.Cell.{isDigit, numeralStep, firstByte, cellStep, isNumeral, isWhole}
 use Rattle.model.specs.Decode.{kindOf, contentOf}
 use Rattle.model.proofs.Tests.{split, split-on, impossible, is→eq}
 use Rattle.model.proofs.CellContent.{no-more, no-stop, same-more}
 use Rattle.grammar.specs.Rfc5234.{_from_to_, Optional, absent, present, DIGIT, Digits, no-digit, digit, SomeDigits, digits}
 use Rattle.grammar.specs.Rfc8259.{E, small-e, large-e, Minus, minus, Sign, negative, positive, Exp, exp, Frac, frac, Int, zero, nonzero, Number, number}
-use Rattle.grammar.proofs.Ranges.{range, within-range, range-within, above-within}
+use Rattle.grammar.proofs.Ranges.{range, within-range, range-within}
 use Rattle.grammar.proofs.Spelling.{Spells, whole, byte}
 
 -- ---- a number is read

@@ -2,24 +2,23 @@
 -- between cells is counted, and a CR or LF that ends a record is not; and a cell is left only by closing it.
 use Prim.Native.Nat.{ℕ, _≤_}
 use native.Mathlib.Omega.{arith}
-use mathlib.Core.Path.{_≡_, refl, sym, ap, _∙_}
+use mathlib.Core.Path.{_≡_, refl, sym, _∙_}
 use mathlib.Core.Logic.{_≢_}
 use mathlib.Core.Bool.{Bool, true, false, not, _||_}
 use borrow.Author.Tests.{ne-eqb}
 use Rattle.grammar.specs.Types.{Delimiter, Comma, Semicolon, Tab, Bar, Settings, Dialect, Csvj, Tdif, CsvPlus, EeToEf, Second, Last, Char, Whole, Within, Advance, On, Broken}
 use Rattle.grammar.specs.Types.{Numeral, Minus, Zero, Integer, Point, Fraction, E, ESign, Exponent, Word, T, Tr, Tru, F, Fa, Fal, Fals, N, Nu, Nul, Backslash}
 use Rattle.grammar.specs.Types.{Cell, Fresh, Quoted, Closed, Escape, Hex, InNumber, InWord, Plain, Complete, Added, More, Stop, Refuse, ByteFault}
-use Rattle.grammar.specs.Types.{Form, Top, Begin, Ended, Mark1, Mark2, PlainMark1, PlainMark2, Comment, Blanks, Wanting, Inside, After, Cr, Part, Outside, Passed, OfCell, Between, Tail, Ends, Step, To, Reject}
+use Rattle.grammar.specs.Types.{Form, Top, Begin, Ended, Mark1, Mark2, PlainMark1, PlainMark2, Comment, Blanks, Wanting, Inside, After, Cr, Outside, Passed, OfCell, Between, Tail, Ends, Step, To, Reject}
 use Rattle.model.specs.Base.{LF, CR, COMMA, _is_, if_then_else_}
 use Rattle.model.specs.Dialect.{quoteOf, delimiterOf, delimiterByte}
 use Rattle.model.specs.Utf8.{charStep}
-use Rattle.model.specs.Cell.{textByte, letterOf, numeralStep, firstByte, quotedByte, plainByte, cellStep, isWhole, inQuotes}
+use Rattle.model.specs.Cell.{textByte, letterOf, numeralStep, firstByte, quotedByte, plainByte, cellStep, inQuotes}
 use Rattle.model.specs.Form.{isBlank, afterCell, grow, inCell, beginRecord, beginFile, commented, formStep, quotesOpen, counts}
 use Rattle.model.proofs.Tests.{split, split-on, impossible, is→eq}
 use Rattle.model.proofs.Utf8.{inner-high}
-use Rattle.model.proofs.Cells.{mark-cell, mark-rest}
-use Rattle.model.proofs.CellContent.{no-more, no-stop, CharOn, char-on}
-use Rattle.grammar.proofs.Separators.{break-quote, cr-separates, lf-separates, by-lf, by-cr, stops}
+use Rattle.model.proofs.CellContent.{no-more, no-stop, char-on}
+use Rattle.grammar.proofs.Separators.{break-quote, cr-separates, lf-separates}
 
 -- ---- a CR or LF outside quotes is not of a cell
 

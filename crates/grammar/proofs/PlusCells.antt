@@ -1,29 +1,30 @@
 -- The fields of RFC 4180 with the settings of CSV+ are exactly the cells that its automaton reads, with the decoder's kind and content.
-use Prim.Native.Nat.{ℕ, _≤_, _<_}
+use Prim.Native.Nat.{ℕ, _≤_}
 use native.Mathlib.Omega.{arith}
 use mathlib.Core.Path.{_≡_, refl, sym, ap, _∙_}
 use mathlib.Core.Logic.{_≢_}
 use mathlib.Core.Bool.{Bool, true, false, _||_}
-use mathlib.Core.List.{List, [], _∷_, _++_}
+use mathlib.Core.List.{[], _∷_, _++_}
 use borrow.Author.Tests.{ne-eqb, eqb-false}
-use Rattle.grammar.specs.Types.{Kind, Text, Delimiter, Comma, Semicolon, Tab, Bar, Quote, Double, Single, Settings, Dialect, CsvPlus, Char, Whole, Within, On, Cell, Fresh, Quoted, Plain, More}
+use Rattle.grammar.specs.Types.{Kind, Text, Delimiter, Comma, Semicolon, Tab, Bar, Quote, Double, Single, Settings, CsvPlus, Char, Whole, Within, On, Cell, Fresh, Quoted, Plain, More}
 use Rattle.model.specs.Base.{Bytes, _is_, if_then_else_}
-use Rattle.model.specs.Dialect.{quoteOf, delimiterOf, delimiterByte, quoteByte}
+use Rattle.model.specs.Dialect.{standard, delimiterByte, quoteByte}
 use Rattle.model.specs.Utf8.{charStep}
 use Rattle.model.specs.Cell.{textByte, firstByte, plainByte, cellStep, isWhole}
 use Rattle.model.specs.Decode.{kindOf, undouble, contentOf}
 use Rattle.model.proofs.Tests.{split-on, impossible, is→eq, same-byte}
-use Rattle.model.proofs.Utf8.{ascii-whole, quote-ascii, delimiter-ascii, separator-ascii}
-use Rattle.model.proofs.CellContent.{no-more, no-stop, same-more, CharOn, char-on, d-plus}
-use Rattle.grammar.specs.Rfc5234.{_from_to_, LF, CR}
+use Rattle.model.proofs.Utf8.{ascii-whole, quote-ascii, delimiter-ascii}
+use Rattle.model.proofs.CellContent.{no-more, no-stop, same-more, char-on, d-plus}
+use Rattle.grammar.specs.Rfc5234.{LF, CR}
 use Rattle.grammar.specs.Derived.{Derived, cell, rawOf}
 use Rattle.grammar.specs.Reading.{decoded}
-use Rattle.grammar.specs.CsvPlus.{COMMA, DQUOTE, TEXTDATA, ascii, utf8-data, NonEscaped, nothing, textdata, Inner, Escaped, escaped, Field, an-escaped, a-non-escaped}
+use Rattle.grammar.specs.CsvPlus.{COMMA, DQUOTE, TEXTDATA, ascii, utf8-data, NonEscaped, nothing, textdata, Inner, escaped, Field, an-escaped, a-non-escaped}
+use Rattle.grammar.specs.CsvPlus.{NarrowTEXTDATA, below-quote, below-comma, above-comma}
 use Rattle.grammar.specs.CsvPlus as plus
 use Rattle.grammar.specs.Types as types
 use Rattle.grammar.proofs.Ranges.{range}
 use Rattle.grammar.proofs.Chars.{Finishes, finished, finishing, Long, long, data-long, long-data, whole-ascii, first-high}
-use Rattle.grammar.proofs.Spelling.{Spells, whole, byte, TextState, finish-spells, long-spells, Finished, finished-then, finish-of}
+use Rattle.grammar.proofs.Spelling.{Spells, whole, byte, TextState, long-spells}
 use Rattle.grammar.proofs.Doubled.{Doubled, no-char, ascii-char, long-char, two-quotes, doubled-spells, Closing, closing, spells-doubled, doubled-content}
 
 -- the quote is no separator
@@ -208,3 +209,19 @@ module _ (s : Settings) where
   pub spells-field : {raw : Bytes} → Spells (CsvPlus s) Fresh raw → FieldOf raw
   spells-field (whole w) = field-of (a-non-escaped nothing)
   spells-field (byte {b} {bs} k m) = first-field b bs k m
+
+-- ---- what RFC 4180 calls TEXTDATA is TEXTDATA of dialect 3
+
+pub narrow-textdata : {cs : Bytes} → NarrowTEXTDATA cs → TEXTDATA standard cs
+narrow-textdata (below-quote {b} r) =
+    let h : 0x20 ≤ b = r .low in
+    let k : b ≤ 0x21 = r .high in
+    ascii {b = b} (range (omega arith) (omega arith)) (λ e. omega arith) (λ e. omega arith) (λ e. omega arith) (λ e. omega arith)
+narrow-textdata (below-comma {b} r) =
+    let h : 0x23 ≤ b = r .low in
+    let k : b ≤ 0x2B = r .high in
+    ascii {b = b} (range (omega arith) (omega arith)) (λ e. omega arith) (λ e. omega arith) (λ e. omega arith) (λ e. omega arith)
+narrow-textdata (above-comma {b} r) =
+    let h : 0x2D ≤ b = r .low in
+    let k : b ≤ 0x7E = r .high in
+    ascii {b = b} (range (omega arith) (omega arith)) (λ e. omega arith) (λ e. omega arith) (λ e. omega arith) (λ e. omega arith)

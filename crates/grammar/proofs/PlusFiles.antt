@@ -1,26 +1,25 @@
 -- The grammar of CSV+ derives exactly the files that its automaton reads by form, for every delimiter and quote. At offset 0 the
 -- automaton shadows a plain cell that begins like the mark; it refuses only where the mark is complete (`top-reads`).
 use Prim.Native.Nat.{ℕ}
-use native.Mathlib.Omega.{arith}
-use mathlib.Core.Path.{_≡_, refl, sym, ap, _∙_}
+use mathlib.Core.Path.{_≡_, refl, _∙_}
 use mathlib.Core.Bool.{Bool, true, false}
-use mathlib.Core.List.{List, [], _∷_, _++_, map, append-assoc, append-nil}
+use mathlib.Core.List.{List, [], _∷_, _++_, map, append-nil}
 use borrow.Author.Tests.{eqb-false}
-use Rattle.grammar.specs.Types.{Delimiter, Comma, Semicolon, Tab, Bar, Settings, CsvPlus, EeToEf, Second, Last, Char, Whole, Within, Cell, Fresh, Plain, Added, More}
+use Rattle.grammar.specs.Types.{Delimiter, Comma, Semicolon, Tab, Bar, Settings, CsvPlus, EeToEf, Second, Last, Within, Cell, Fresh, Plain, More}
 use Rattle.grammar.specs.Types.{Form, Top, Begin, Ended, Mark1, Mark2, PlainMark1, PlainMark2, Blanks, Wanting, Inside, Cr, OfCell, Between, Tail, Ends, Step, To, Clean, Final, Cut}
 use Rattle.grammar.specs.Types as types
 use Rattle.model.specs.Base.{Bytes, _is_, if_then_else_}
-use Rattle.model.specs.Dialect.{delimiterOf, delimiterByte}
+use Rattle.model.specs.Dialect.{delimiterByte}
 use Rattle.model.specs.Cell.{cellStep, isWhole}
-use Rattle.model.specs.Form.{afterCell, inCell, beginRecord, beginFile, formStep, formEnd, lastCell}
-use Rattle.model.proofs.Tests.{split, split-on, impossible, is→eq}
+use Rattle.model.specs.Form.{afterCell, inCell, beginRecord, beginFile, formStep, formEnd}
+use Rattle.model.proofs.Tests.{split, is→eq}
 use Rattle.model.proofs.Cells.{mark-cell, mark-rest}
 use Rattle.model.proofs.CellContent.{d-plus}
 use Rattle.grammar.specs.Rfc5234.{LF, CR}
-use Rattle.grammar.specs.Derived.{Derived, cell, rawOf, Line, line, spelling}
+use Rattle.grammar.specs.Derived.{Derived, rawOf, Line, line, spelling}
 use Rattle.grammar.specs.Reading.{Reads, ends-clean, ends-final, of-cell, tail-closing, ends, ends-closing, decoded, decodedLine}
 use Rattle.grammar.specs.CsvPlus.{BeginsWithMark, mark, COMMA, Record, field, fields, Ending, lf, crlf, Records, unended, last, next, File, file}
-use Rattle.grammar.proofs.Spelling.{Spells, whole, byte}
+use Rattle.grammar.proofs.Spelling.{whole}
 use Rattle.grammar.proofs.CellGrammar.{derived-spells, spells-derived}
 use Rattle.grammar.proofs.Separators.{by-cr, by-lf}
 use Rattle.grammar.proofs.Steps.{Takes, rejected, at-end, first-byte, from-state}

@@ -1,12 +1,11 @@
 -- Ranges of bytes as the grammars write them, and the tests that model makes of a byte.
 use Prim.Native.Nat.{ℕ, _≤_, _<_}
-use native.Mathlib.Omega.{arith}
 use mathlib.Core.Path.{_≡_, refl}
 use mathlib.Core.Bool.{Bool, true, false, _&&_}
 use lib.Dec.{leb}
-use borrow.Author.Tests.{le-leb, lt-leb, leb-false}
+use borrow.Author.Tests.{le-leb, lt-leb}
 use Rattle.model.specs.Base.{within}
-use Rattle.model.proofs.Tests.{split-on, within-true}
+use Rattle.model.proofs.Tests.{within-true}
 use Rattle.grammar.specs.Rfc5234.{_from_to_}
 
 pub range : {b lo hi : ℕ} → lo ≤ b → b ≤ hi → b from lo to hi

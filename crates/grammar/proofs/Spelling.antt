@@ -1,20 +1,18 @@
 -- Bytes that take the cell automaton from a state to a whole cell. From a fresh cell they are the raw cells that the decoder finds
 -- sound (`spells-judged`, `judged-spells`); in a text they go by characters (`long-spells`, `finish-of`); a word has one spelling.
 use Prim.Native.Nat.{ℕ, _≤_}
-use native.Mathlib.Omega.{arith}
 use mathlib.Core.Path.{_≡_, refl, sym, ap, _∙_}
 use mathlib.Core.Bool.{Bool, true, false}
-use mathlib.Core.List.{List, [], _∷_, _++_}
-use Rattle.grammar.specs.Types.{Dialect, Inner, Char, Whole, Within, Advance, On, Broken, Word, Cell, Fresh, InWord, Complete, Added, More, Stop, Refuse}
-use Rattle.model.specs.declared.Judged.{Judged}
+use mathlib.Core.List.{[], _∷_, _++_}
+use Rattle.grammar.specs.Types.{Dialect, Inner, Char, Whole, Within, On, Word, Cell, Fresh, InWord, Complete, More}
 use Rattle.model.specs.declared.Judged.the-variants.{WholeCell}
 use Rattle.model.specs.Base.{Bytes, _is_, if_then_else_}
 use Rattle.model.specs.Utf8.{charStep}
 use Rattle.model.specs.Cell.{textByte, letterOf, afterLetter, cellStep, isWhole}
-use Rattle.model.specs.Decode.{judgeFrom, judgeCell}
-use Rattle.model.proofs.Tests.{split-on, impossible, is→eq}
+use Rattle.model.specs.Decode.{judgeCell}
+use Rattle.model.proofs.Tests.{impossible, is→eq}
 use Rattle.model.proofs.Cells.{Runs, here, there, WholeRun, runs-sound, sound-runs}
-use Rattle.model.proofs.CellContent.{no-more, no-stop, same-more, CharOn, char-on}
+use Rattle.model.proofs.CellContent.{no-more, no-stop, same-more, char-on}
 use Rattle.grammar.proofs.Chars.{Finishes, finished, finishing, Long, long, first-high}
 
 -- from c, these bytes make the cell whole

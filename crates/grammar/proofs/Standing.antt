@@ -1,22 +1,21 @@
 -- Where a reading stands, told by the derivation's data: the lines so far, and the text, the raw bytes and the complete cells of the record
 -- in hand (`Stands`). Each step takes a standing to the next, and the lines of the whole file stay the same (`joined`).
-use Prim.Native.Nat.{ℕ, suc, _+_, _≤_, _<_}
+use Prim.Native.Nat.{ℕ, suc, _+_, _≤_}
 use native.Mathlib.Omega.{arith}
 use mathlib.Core.Path.{_≡_, refl, sym, ap, _∙_}
-use mathlib.Core.Bool.{Bool, true, false}
+use mathlib.Core.Bool.{true, false}
 use mathlib.Core.List.{List, [], _∷_, _++_, map, append-assoc, append-nil}
 use lib.ListN.{length, length-append}
 use Rattle.grammar.specs.Types.{Dialect, Form, OfCell, Outside, Passed, Between, Tail, Ends, To}
 use Rattle.model.specs.Base.{Bytes}
 use Rattle.model.specs.Decode.{kindOf, contentOf}
-use Rattle.model.specs.Text.{Value}
 use Rattle.model.specs.Report.{MAXFILE, MAXRECORD}
 use Rattle.model.specs.Form.{counts}
-use Rattle.model.specs.Records.{Rec, Read, cellNow, closing}
+use Rattle.model.specs.Records.{Read, cellNow, closing}
 use Rattle.grammar.specs.Derived.{Derived, Line, line, textIn, Every, every-none, every-cons, Each, each-none, each-cons}
 use Rattle.grammar.specs.Reading.{decoded, decodedLine}
 use Rattle.grammar.specs.Accepted.{ShowsCell, ShowsRecord}
-use Rattle.grammar.proofs.Parts.{Stage, at-rest, in-record, in-cell, nowhere, stageOf, Recording, record-open, cell-open, NoCell, none-at-rest, none-in-record, Moves, unreached, leaves, passes, adds, parts, parts-closing, turns, turns-closing, completes, completes-closing}
+use Rattle.grammar.proofs.Parts.{Stage, at-rest, in-record, in-cell, nowhere, stageOf, Recording, record-open, cell-open, none-at-rest, none-in-record, Moves, unreached, leaves, passes, adds, parts, parts-closing, turns, turns-closing, completes, completes-closing}
 
 pub each-snoc : {A B : Type 0} {R : A → B → Type 0} {xs : List A} {ys : List B} {x : A} {y : B} → Each R xs ys → R x y → Each R (xs ++ (x ∷ [])) (ys ++ (y ∷ []))
 each-snoc each-none r = each-cons r each-none

@@ -1,12 +1,12 @@
 -- Reading by form, a byte at a time: what a byte's step says of the records that it and the bytes after it give.
 use Prim.Native.Nat.{ℕ}
-use mathlib.Core.Path.{_≡_, refl, sym, ap, _∙_}
-use mathlib.Core.Bool.{Bool, true, false}
+use mathlib.Core.Path.{_≡_, refl, ap, _∙_}
+use mathlib.Core.Bool.{true, false}
 use mathlib.Core.List.{List, [], _∷_}
-use Rattle.grammar.specs.Types.{Dialect, Csvj, Tdif, CsvPlus, Cell, Added, Stop, ByteFault, Form, Inside, Part, Outside, Passed, OfCell, Between, Tail, Ends, Step, To, Reject, Ending, Clean, Final}
-use Rattle.model.specs.Base.{Bytes, if_then_else_}
+use Rattle.grammar.specs.Types.{Dialect, Csvj, Tdif, CsvPlus, Cell, Stop, ByteFault, Form, Inside, Outside, Passed, OfCell, Between, Tail, Ends, Step, To, Reject, Ending, Clean, Final}
+use Rattle.model.specs.Base.{Bytes}
 use Rattle.model.specs.Cell.{cellStep, isWhole}
-use Rattle.model.specs.Form.{afterCell, grow, inCell, formStep, formEnd}
+use Rattle.model.specs.Form.{afterCell, inCell, formStep, formEnd}
 use Rattle.model.proofs.Tests.{split}
 use Rattle.model.proofs.Cells.{Fits, parts, turns, completes, cellAt, step-fits}
 use Rattle.grammar.specs.Derived.{Line, line}

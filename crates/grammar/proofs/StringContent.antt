@@ -1,7 +1,7 @@
 -- What a string of RFC 8259 stands for is what the decoder makes of it: its chars are the decoder's units (`chars-units`), the octets of
 -- a code point are `pack` (`octets-pack`), and pairs are joined in the same places (`content-text`). Every list of chars stands for
 -- something (`has-content`).
-use Prim.Native.Nat.{ℕ, _+_, _-_, _*_, _/_, _%_, _≤_, _<_}
+use Prim.Native.Nat.{ℕ, _+_, _*_, _/_, _%_, _≤_, _<_}
 use native.Mathlib.Omega.{arith}
 use mathlib.Core.Path.{_≡_, refl, sym, ap, _∙_}
 use mathlib.Core.Logic.{_≢_}
@@ -9,10 +9,10 @@ use mathlib.Core.Bool.{Bool, true, false, _&&_}
 use mathlib.Core.List.{List, [], _∷_, _++_, map, append-assoc, append-nil}
 use lib.Dec.{leb}
 use borrow.Author.Tests.{ne-eqb, le-leb, lt-leb, leb-true, leb-false}
-use Rattle.grammar.specs.Types.{Text, Csvj, Char, Four, Three, Two, One}
-use Rattle.model.specs.Base.{Bytes, QUOTE, BACKSLASH, _is_, within, begins, if_then_else_}
+use Rattle.grammar.specs.Types.{Text, Csvj, Char}
+use Rattle.model.specs.Base.{Bytes, QUOTE, BACKSLASH, if_then_else_}
 use Rattle.model.specs.Utf8.{pack, isHigh, isLow, joined}
-use Rattle.model.specs.Decode.{Unit16, InString, between, hexOf, units, textOf, kindOf, contentOf}
+use Rattle.model.specs.Decode.{Unit16, between, hexOf, units, textOf, kindOf, contentOf}
 use Rattle.model.specs.Decode as decode
 use Rattle.model.proofs.Tests.{split, split-on, impossible, and-true}
 use Rattle.model.proofs.Utf8.{inner-high}

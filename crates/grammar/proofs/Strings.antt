@@ -2,9 +2,9 @@
 -- to come (`StringRest`).
 use Prim.Native.Nat.{ℕ, _≤_, _<_}
 use native.Mathlib.Omega.{arith}
-use mathlib.Core.Path.{_≡_, refl, sym, ap, _∙_}
+use mathlib.Core.Path.{_≡_, refl, ap, _∙_}
 use mathlib.Core.Logic.{_≢_}
-use mathlib.Core.Bool.{Bool, true, false, _||_}
+use mathlib.Core.Bool.{true}
 use mathlib.Core.List.{List, [], _∷_, _++_, append-assoc}
 use lib.Dec.{leb, ltb}
 use borrow.Author.Tests.{ne-eqb, eqb-false, le-ltb, ltb-false, leb-true, leb-false}
@@ -14,12 +14,12 @@ use Rattle.model.specs.Utf8.{charStep}
 use Rattle.model.specs.Cell.{textByte, isDigit, isHex, isShort, afterHex, quotedByte, cellStep, isWhole}
 use Rattle.model.proofs.Tests.{split, split-on, impossible, is→eq}
 use Rattle.model.proofs.Utf8.{ascii-whole}
-use Rattle.model.proofs.CellContent.{no-more, no-stop, same-more, CharOn, char-on}
-use Rattle.grammar.specs.Rfc5234.{_from_to_, HEXDIG, decimal, upper, lower}
-use Rattle.grammar.specs.Rfc8259.{Unescaped, below-quote, below-backslash, above-backslash, above-ascii, Item, octets, unit, unescaped, quotation-mark, reverse-solidus, solidus, backspace, form-feed, line-feed, carriage-return, tab, uXXXX, Chars, no-char, char}
+use Rattle.model.proofs.CellContent.{no-more, no-stop, same-more, char-on}
+use Rattle.grammar.specs.Rfc5234.{HEXDIG, decimal, upper, lower}
+use Rattle.grammar.specs.Rfc8259.{Unescaped, below-quote, below-backslash, above-backslash, above-ascii, Item, unescaped, quotation-mark, reverse-solidus, solidus, backspace, form-feed, line-feed, carriage-return, tab, uXXXX, Chars, no-char, char}
 use Rattle.grammar.specs.Rfc8259 as json
-use Rattle.grammar.proofs.Ranges.{range, within-range, range-within, below-within, above-within}
-use Rattle.grammar.proofs.Chars.{Finishes, finished, finishing, Long, long, data-long, long-data, whole-ascii, first-high}
+use Rattle.grammar.proofs.Ranges.{range, within-range, range-within, above-within}
+use Rattle.grammar.proofs.Chars.{Finishes, finished, finishing, long, data-long, long-data, whole-ascii}
 use Rattle.grammar.proofs.Spelling.{Spells, whole, byte, long-spells}
 use Rattle.grammar.proofs.Doubled.{quoted-state}
 

@@ -1,22 +1,22 @@
 -- The fields of TDIF are exactly the cells that its automaton reads, with the decoder's kind and content.
 use Prim.Native.Nat.{ℕ, _≤_, _<_}
 use native.Mathlib.Omega.{arith}
-use mathlib.Core.Path.{_≡_, refl, sym, ap, _∙_}
+use mathlib.Core.Path.{_≡_, refl, sym, ap}
 use mathlib.Core.Logic.{_≢_}
 use mathlib.Core.Bool.{Bool, true, false}
-use mathlib.Core.List.{List, [], _∷_, _++_}
+use mathlib.Core.List.{[], _∷_, _++_}
 use lib.Dec.{leb}
 use borrow.Author.Tests.{leb-true, leb-false}
-use Rattle.grammar.specs.Types.{Kind, Text, Null, Dialect, Tdif, Whole, Cell, Fresh, Quoted, InWord, Backslash, Complete, More}
+use Rattle.grammar.specs.Types.{Kind, Text, Tdif, Whole, Cell, Fresh, Quoted, InWord, Backslash, More}
 use Rattle.model.specs.Base.{Bytes, QUOTE, BACKSLASH, _is_, if_then_else_}
 use Rattle.model.specs.Cell.{firstByte, cellStep, isWhole}
 use Rattle.model.specs.Decode.{kindOf, contentOf}
 use Rattle.model.proofs.Tests.{split-on, impossible, is→eq}
 use Rattle.model.proofs.CellContent.{no-more, same-more, d-tdif}
-use Rattle.grammar.specs.Rfc5234.{_from_to_, DQUOTE}
+use Rattle.grammar.specs.Rfc5234.{DQUOTE}
 use Rattle.grammar.specs.Derived.{Derived, cell, rawOf}
 use Rattle.grammar.specs.Reading.{decoded}
-use Rattle.grammar.specs.Tdif.{Textdata, below-quote, above-quote, utf8-data, Inner, nothing, textdata, two-quotes, Value, value, Null as NullWord, null, Field, a-null, a-value}
+use Rattle.grammar.specs.Tdif.{Textdata, below-quote, above-quote, utf8-data, Inner, nothing, textdata, two-quotes, value, null, Field, a-null, a-value}
 use Rattle.grammar.proofs.Ranges.{range}
 use Rattle.grammar.proofs.Chars.{data-long, long-data}
 use Rattle.grammar.proofs.Spelling.{Spells, whole, byte, last-letter}

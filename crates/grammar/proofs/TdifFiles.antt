@@ -2,32 +2,31 @@
 -- would be skipped; no line begins with LF, so CR LF is one linebreak in the grammar too.
 use Prim.Native.Nat.{ℕ, _≤_, _<_}
 use native.Mathlib.Omega.{arith}
-use mathlib.Core.Path.{_≡_, refl, sym, ap, _∙_}
+use mathlib.Core.Path.{_≡_, refl, ap, _∙_}
 use mathlib.Core.Logic.{_≢_}
-use mathlib.Core.Bool.{Bool, true, false}
+use mathlib.Core.Bool.{true}
 use mathlib.Core.List.{List, [], _∷_, _++_, map, append-assoc}
 use lib.Dec.{leb}
 use borrow.Author.Tests.{ne-eqb, eqb-false, leb-true, leb-false}
-use Rattle.grammar.specs.Types.{Kind, Tdif, Inner, Char, Whole, Within, Advance, On, Broken, Cell, Fresh, Added, More, Refuse, Syntax}
-use Rattle.grammar.specs.Types.{Form, Top, Begin, Ended, Mark1, Mark2, PlainMark1, PlainMark2, Comment, Blanks, Wanting, Inside, Cr, Part, Outside, Passed, Between, Ends, Step, To}
+use Rattle.grammar.specs.Types.{Tdif, Inner, Char, Whole, Within, Advance, On, Broken, Cell, Fresh, More}
+use Rattle.grammar.specs.Types.{Form, Top, Begin, Ended, Mark1, Mark2, PlainMark1, PlainMark2, Comment, Blanks, Wanting, Inside, Cr, Outside, Passed, Between, Ends, Step, To}
 use Rattle.grammar.specs.Types as types
-use Rattle.model.specs.Base.{Bytes, COMMA, QUOTE, BACKSLASH, _is_, if_then_else_}
+use Rattle.model.specs.Base.{Bytes, COMMA, _is_, if_then_else_}
 use Rattle.model.specs.Utf8.{charStep}
 use Rattle.model.specs.Cell.{firstByte, cellStep, isWhole}
 use Rattle.model.specs.Form.{afterCell, inCell, beginRecord, beginFile, commented, formStep, formEnd}
-use Rattle.model.proofs.Tests.{split, split-on, impossible, is→eq}
+use Rattle.model.proofs.Tests.{split, split-on, is→eq}
 use Rattle.model.proofs.Utf8.{ascii-whole}
-use Rattle.model.proofs.CellContent.{no-more, d-tdif}
-use Rattle.grammar.specs.Rfc5234.{_from_to_, LF, CR}
-use Rattle.grammar.specs.Derived.{Derived, cell, rawOf, Line, line, spelling}
+use Rattle.model.proofs.CellContent.{d-tdif}
+use Rattle.grammar.specs.Rfc5234.{LF, CR}
+use Rattle.grammar.specs.Derived.{Derived, rawOf, Line, line, spelling}
 use Rattle.grammar.specs.Reading.{Reads, ends-clean, outside, passed, ends-closing, decoded, decodedLine}
 use Rattle.grammar.specs.Tdif.{Linebreak, cr, lf, crlf, Fields, field, fields, ended, below-lf, below-cr, above-cr, Commentdata, Remark, commentdata, no-line, a-record}
 use Rattle.grammar.specs.Tdif as tdif
 use Rattle.grammar.proofs.Ranges.{range}
 use Rattle.grammar.proofs.Chars.{Finishes, finished, finishing, Long, long, data-long, long-data, whole-ascii, first-high}
-use Rattle.grammar.proofs.Spelling.{Spells, whole, byte}
 use Rattle.grammar.proofs.CellGrammar.{derived-spells, spells-derived}
-use Rattle.grammar.proofs.Separators.{Reached, by-cr, by-lf}
+use Rattle.grammar.proofs.Separators.{by-cr, by-lf}
 use Rattle.grammar.proofs.Steps.{Takes, rejected, at-end, first-byte, from-state, clean}
 use Rattle.grammar.proofs.Steps as steps
 use Rattle.grammar.proofs.CellReads.{Follows, after-whole, FirstOfCell, first-of-cell, spells-first, other-byte, CellThen, cell-then, Closes, closes, in-cell-byte}

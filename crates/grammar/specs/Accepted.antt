@@ -40,6 +40,11 @@ pub record Acceptable (d : Dialect) (xs : Bytes) (ls : List (Line Derived)) : Ty
   pub limits : WithinLimits xs ls
   pub checks : ChecksHold d ls
 
+-- the cells of all records
+abbrev pub cellCount : List (Line Derived) → ℕ
+cellCount [] = 0
+cellCount (l ∷ ls) = length (cellsIn l) + cellCount ls
+
 -- ---- the reader's records are these
 
 -- a cell's kind and content, and its stretch in the file is its raw bytes

@@ -1,5 +1,6 @@
 -- The ABNF of RFC 4180, as source document 003 prints it, with the settings of CSV+ for its COMMA and DQUOTE, and with document 01's
--- departures. By form alone: equal counts and distinct names are left to faults 5 and 6.
+-- departures. Each production has its own name and stands after those that it uses. By form alone: equal counts and distinct names are
+-- left to faults 5 and 6.
 use Prim.Native.Nat.{ℕ}
 use mathlib.Core.Logic.{_≢_}
 use mathlib.Core.List.{List, [], _∷_, _++_}
@@ -10,6 +11,12 @@ use Rattle.model.specs.Dialect.{delimiterByte, quoteByte}
 use Rattle.grammar.specs.Rfc5234.{_from_to_, LF, CR}
 use Rattle.grammar.specs.Rfc3629.{UTF8-data}
 use Rattle.grammar.specs.Derived.{Derived, cell, Line, line}
+
+-- TEXTDATA = %x20-21 / %x23-2B / %x2D-7E, as RFC 4180 has it
+pub data NarrowTEXTDATA : Bytes → Type 0 where
+  below-quote : {b : ℕ} → b from 0x20 to 0x21 → NarrowTEXTDATA (b ∷ [])
+  below-comma : {b : ℕ} → b from 0x23 to 0x2B → NarrowTEXTDATA (b ∷ [])
+  above-comma : {b : ℕ} → b from 0x2D to 0x7E → NarrowTEXTDATA (b ∷ [])
 
 -- EF BB BF first
 pub data BeginsWithMark : Bytes → Type 0 where
@@ -24,10 +31,15 @@ module _ (s : Settings) where
   abbrev pub DQUOTE : ℕ
   DQUOTE = quoteByte (s .quote)
 
-  -- TEXTDATA = %x20-21 / %x23-2B / %x2D-7E. Document 01 departs: "any UTF-8 without quote, comma, CR, LF"
+  -- TEXTDATA. Document 01 departs and allows more: "any UTF-8 without quote, comma, CR, LF"
   pub data TEXTDATA : Bytes → Type 0 where
     ascii : {b : ℕ} → b from 0x00 to 0x7F → b ≢ DQUOTE → b ≢ COMMA → b ≢ CR → b ≢ LF → TEXTDATA (b ∷ [])
     utf8-data : {cs : Bytes} → UTF8-data cs → TEXTDATA cs
+
+  -- CRLF = CR LF. Document 01 and source document 003 depart: "A record ends in LF or CRLF"
+  pub data Ending : Bytes → Type 0 where
+    lf : Ending (LF ∷ [])
+    crlf : Ending (CR ∷ LF ∷ [])
 
   -- non-escaped = *TEXTDATA
   pub data NonEscaped : Bytes → Type 0 where
@@ -58,11 +70,6 @@ module _ (s : Settings) where
     fields :
         {raw content text : Bytes} {kind : types.Kind} {cells : List Derived} → Field (cell raw kind content) → Record text cells →
         Record (raw ++ (COMMA ∷ text)) (cell raw kind content ∷ cells)
-
-  -- CRLF = CR LF. Document 01 and source document 003 depart: "A record ends in LF or CRLF"
-  pub data Ending : Bytes → Type 0 where
-    lf : Ending (LF ∷ [])
-    crlf : Ending (CR ∷ LF ∷ [])
 
   -- record *(CRLF record) [CRLF]. Where this could be read as a last empty record or as none, document 01 says: "the last ending may
   -- be missing", "The end directly after a record's ending starts no record". So a record with no ending is not empty

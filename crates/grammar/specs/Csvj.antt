@@ -1,6 +1,6 @@
--- The grammar of the CSVJ page (source document 000), with the values of RFC 8259. By form alone: the page leaves equal counts and
--- distinct names to its rules 3 and 4, and document 01 to faults 5 and 6; header values need be strings only by fault 7.
-use Prim.Native.Nat.{ℕ}
+-- The grammar of the CSVJ page (source document 000), with the values of RFC 8259, each production under its own name, from the page's
+-- last to its first since a name is declared before it is used. By form alone: the page leaves equal counts and distinct names to its
+-- rules 3 and 4, and document 01 to faults 5 and 6; that header values are strings is left to fault 7.
 use mathlib.Core.List.{List, [], _∷_, _++_}
 use Rattle.grammar.specs.Types as types
 use Rattle.model.specs.Base.{Bytes}

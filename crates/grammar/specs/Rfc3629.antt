@@ -1,7 +1,7 @@
--- UTF-8 by RFC 3629: the productions of its section 4, and the octets of a code point by the table of its section 3.
+-- UTF-8 by RFC 3629: the productions of its section 4, what they use first, and the octets of a code point by the table of its section 3.
 use Prim.Native.Nat.{ℕ, _+_, _*_, _≤_}
 use mathlib.Core.Path.{_≡_}
-use mathlib.Core.List.{List, [], _∷_}
+use mathlib.Core.List.{[], _∷_, _++_}
 use Rattle.model.specs.Base.{Bytes}
 use Rattle.grammar.specs.Rfc5234.{_from_to_}
 
@@ -40,6 +40,11 @@ pub data UTF8-data : Bytes → Type 0 where
 pub data UTF8-char : Bytes → Type 0 where
   in-ascii : {cs : Bytes} → UTF8-1 cs → UTF8-char cs
   beyond : {cs : Bytes} → UTF8-data cs → UTF8-char cs
+
+-- UTF8-octets = *( UTF8-char )
+pub data UTF8-octets : Bytes → Type 0 where
+  no-octets : UTF8-octets []
+  octets : {cs bs : Bytes} → UTF8-char cs → UTF8-octets bs → UTF8-octets (cs ++ bs)
 
 -- Char. number range  | UTF-8 octet sequence
 -- 0000 0000-0000 007F | 0xxxxxxx

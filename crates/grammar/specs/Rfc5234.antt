@@ -2,7 +2,7 @@
 -- a meaning, of that too. Two productions one after the other derive the bytes of the one and then of the other (`++`), and a
 -- choice ("/") is a constructor for each side.
 use Prim.Native.Nat.{ℕ, _≤_, _-_}
-use mathlib.Core.List.{List, [], _∷_}
+use mathlib.Core.List.{[], _∷_}
 use Rattle.model.specs.Base.{Bytes}
 
 -- %xLO-HI

@@ -2,7 +2,7 @@
 use Prim.Native.Nat.{ℕ, _+_, _-_, _*_}
 use mathlib.Core.List.{List, [], _∷_, _++_}
 use Rattle.model.specs.Base.{Bytes}
-use Rattle.grammar.specs.Rfc5234.{_from_to_, Optional, DIGIT, Digits, SomeDigits, HEXDIG}
+use Rattle.grammar.specs.Rfc5234.{_from_to_, Optional, Digits, SomeDigits, HEXDIG}
 use Rattle.grammar.specs.Rfc3629.{UTF8-data, Octets}
 
 -- ---- section 3

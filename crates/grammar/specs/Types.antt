@@ -30,7 +30,6 @@ pub use Rattle.model.specs.declared.Added.{Added}
 pub use Rattle.model.specs.declared.Added.the-variants.{More, Stop, Refuse}
 pub use Rattle.model.specs.declared.Form.{Form}
 pub use Rattle.model.specs.declared.Form.the-variants.{Top, Begin, Ended, Mark1, Mark2, PlainMark1, PlainMark2, Comment, Blanks, Wanting, Inside, After, Cr}
-pub use Rattle.model.specs.declared.Part.{Part}
 pub use Rattle.model.specs.declared.Part.the-variants.{Outside, Passed, OfCell, Between, Tail, Ends}
 pub use Rattle.model.specs.declared.Step.{Step}
 pub use Rattle.model.specs.declared.Step.the-variants.{To, Reject}
