@@ -2,14 +2,14 @@
 -- and content: over the dialect.
 use mathlib.Core.Path.{_≡_}
 use mathlib.Core.Logic.{_↔_}
-use Rattle.grammar.specs.Types.{Kind, Dialect, Csvj, Tdif, CsvPlus, Fresh}
+use Rattle.grammar.specs.Types.{Dialect, Csvj, Tdif, CsvPlus, Fresh}
 use Rattle.model.specs.declared.Judged.the-variants.{WholeCell}
 use Rattle.model.specs.Base.{Bytes}
 use Rattle.model.specs.Decode.{judgeCell}
 use Rattle.grammar.specs.Derived.{Derived, cell, rawOf}
 use Rattle.grammar.specs.Derives.{DerivesCell}
 use Rattle.grammar.specs.Reading.{decoded}
-use Rattle.grammar.proofs.Spelling.{Spells, spells-judged, judged-spells}
+use Rattle.grammar.proofs.Spelling.{Spells, DerivedFrom, derived-from, spells-judged, judged-spells}
 use Rattle.grammar.proofs.CsvjCells as csvj
 use Rattle.grammar.proofs.TdifCells as tdif
 use Rattle.grammar.proofs.PlusCells as plus
@@ -26,23 +26,17 @@ derived-content Csvj c v = csvj.value-content v
 derived-content Tdif c v = tdif.field-content v
 derived-content (CsvPlus s) c v = plus.field-content s v
 
-decoded-cell : (d : Dialect) (raw : Bytes) (k : Kind) (content : Bytes) → DerivesCell d (cell raw k content) → DerivesCell d (decoded d raw)
-decoded-cell d raw k content v = rw (← (derived-content d (cell raw k content) v)) v
+spells-some : (d : Dialect) (raw : Bytes) → Spells d Fresh raw → DerivedFrom (DerivesCell d) raw
+spells-some Csvj raw m = csvj.spells-value m
+spells-some Tdif raw m = tdif.spells-field m
+spells-some (CsvPlus s) raw m = plus.spells-field s m
 
 -- a cell that is read is derived
 pub spells-derived : (d : Dialect) (raw : Bytes) → Spells d Fresh raw → DerivesCell d (decoded d raw)
-spells-derived Csvj raw m = go (csvj.spells-value m)
+spells-derived d raw m = go (spells-some d raw m)
   where
-    go : csvj.ValueOf raw → DerivesCell Csvj (decoded Csvj raw)
-    go (csvj.value-of {kind} {content} v) = decoded-cell Csvj raw kind content v
-spells-derived Tdif raw m = go (tdif.spells-field m)
-  where
-    go : tdif.FieldOf raw → DerivesCell Tdif (decoded Tdif raw)
-    go (tdif.field-of {kind} {content} v) = decoded-cell Tdif raw kind content v
-spells-derived (CsvPlus s) raw m = go (plus.spells-field s m)
-  where
-    go : plus.FieldOf s raw → DerivesCell (CsvPlus s) (decoded (CsvPlus s) raw)
-    go (plus.field-of {kind} {content} v) = decoded-cell (CsvPlus s) raw kind content v
+    go : DerivedFrom (DerivesCell d) raw → DerivesCell d (decoded d raw)
+    go (derived-from {kind} {content} v) = rw (← (derived-content d (cell raw kind content) v)) v
 
 -- ---- the theorem for a single cell
 

@@ -5,7 +5,7 @@ use mathlib.Core.Path.{_≡_, refl}
 use mathlib.Core.Bool.{Bool, true, false}
 use mathlib.Core.List.{List, [], _∷_, _++_, map, append-assoc, append-nil}
 use Rattle.grammar.specs.Types.{Csvj, Cell, Fresh, More}
-use Rattle.grammar.specs.Types.{Form, Top, Begin, Ended, Mark1, Mark2, PlainMark1, PlainMark2, Blanks, Wanting, Inside, After, Cr, Outside, Passed, Between, Tail, Ends, Step, To, Clean, Cut}
+use Rattle.grammar.specs.Types.{Form, Top, Begin, Ended, Mark1, Mark2, PlainMark1, PlainMark2, Blanks, Wanting, Inside, After, Cr, Outside, Passed, Between, Tail, Ends, Step, To, Clean}
 use Rattle.grammar.specs.Types as types
 use Rattle.model.specs.Base.{Bytes, _is_, if_then_else_}
 use Rattle.model.specs.Cell.{firstByte, cellStep, isWhole}
@@ -18,7 +18,7 @@ use Rattle.grammar.specs.Csvj.{Ws, no-ws, space, tab, LineTerminator, lf
 use Rattle.grammar.proofs.Spelling.{Spells}
 use Rattle.grammar.proofs.CellGrammar.{derived-spells, spells-derived}
 use Rattle.grammar.proofs.Separators.{by-delimiter, by-cr, by-lf, by-space, by-tab}
-use Rattle.grammar.proofs.Steps.{Takes, rejected, at-end, first-byte, from-state}
+use Rattle.grammar.proofs.Steps.{Takes, rejected, by-bytes, cut-off, from-state}
 use Rattle.grammar.proofs.Steps as steps
 use Rattle.grammar.proofs.CellReads.{Follows, cell-reads, after-whole, FirstOfCell, first-of-cell, spells-first, other-byte, CellThen, cell-then, Closes, closes, in-cell-byte}
 
@@ -298,26 +298,22 @@ comma-more : {xs text : Bytes} {cells : List Bytes} {ls : List (Line Bytes)} →
 comma-more (wanted-then k t) = after-then (after-comma no-ws k) t
 
 module _ (bs : Bytes) where
-  K : Form → List (Line Bytes) → Type 0
+  abbrev K : Form → List (Line Bytes) → Type 0
   K f ls = ToCome f bs ls
 
   blank-taken : (k : Bool) (b : ℕ) {ls : List (Line Bytes)} → isBlank b ≡ true → Takes K b (To After (Between k)) ls → AfterByte (b ∷ bs) k ls
-  unfolding K
   blank-taken true b p (steps.between-closing m) = ends-now (blank-more b p m)
   blank-taken false b p (steps.between m) = ended-before (blank-more b p m)
 
   comma-taken : (k : Bool) {ls : List (Line Bytes)} → Takes K 0x2C (To Wanting (Between k)) ls → AfterByte (0x2C ∷ bs) k ls
-  unfolding K
   comma-taken true (steps.between-closing m) = ends-now (comma-more m)
   comma-taken false (steps.between m) = ended-before (comma-more m)
 
   lf-taken : (k : Bool) {b : ℕ} {ls : List (Line Bytes)} → Takes K b (To Begin (Ends k)) ls → AfterByte (LF ∷ bs) k ls
-  unfolding K
   lf-taken true (steps.ends-closing m) = ends-now (after-then (after-last no-ws) (terminator-then lf m))
   lf-taken false (steps.ends m) = ended-before (after-then (after-last no-ws) (terminator-then lf m))
 
   cr-taken : (k : Bool) {b : ℕ} {ls : List (Line Bytes)} → Takes K b (To Cr (Tail k)) ls → AfterByte (CR ∷ bs) k ls
-  unfolding K
   cr-taken true (steps.tail-closing m) = ends-now (crlf-then m)
   cr-taken false (steps.tail m) = ended-before (crlf-then m)
 
@@ -337,22 +333,18 @@ module _ (bs : Bytes) where
       go (ends-now a) = closes a
 
   value-byte : (c : Cell) (b : ℕ) (ls : List (Line Bytes)) → Takes K b (inCell Csvj c b) ls → InValue c (b ∷ bs) ls
-  unfolding K
   value-byte c b ls t = in-cell-byte K c b bs ls (λ e ls k. k) (closing-byte b) t
 
   blank-opens : (b : ℕ) {ls : List (Line Bytes)} → isBlank b ≡ true → Takes K b (To Blanks (Between false)) ls → LineThen (b ∷ bs) ls
-  unfolding K
   blank-opens b p (steps.between m) = go m
     where
       go : {xs text : Bytes} {cells : List Bytes} {ls : List (Line Bytes)} → LineThen xs (line text cells ∷ ls) → LineThen (b ∷ xs) (line (b ∷ text) cells ∷ ls)
       go (line-then x t) = line-then (blank-text b p x) t
 
   lf-opens : {b : ℕ} {ls : List (Line Bytes)} → Takes K b (To Begin (Ends false)) ls → LineThen (LF ∷ bs) ls
-  unfolding K
   lf-opens (steps.ends m) = line-then (empty no-ws no-ws) (terminator-then lf m)
 
   cr-opens : {b : ℕ} {ls : List (Line Bytes)} → Takes K b (To Cr (Tail false)) ls → LineThen (CR ∷ bs) ls
-  unfolding K
   cr-opens (steps.tail m) = go m
     where
       go : {xs text : Bytes} {cells : List Bytes} {ls : List (Line Bytes)} → AfterCr xs (line text cells ∷ ls) → LineThen (CR ∷ xs) (line text cells ∷ ls)
@@ -367,7 +359,6 @@ module _ (bs : Bytes) where
       split P (b is CR) (λ p t. rw (is→eq b CR p) (cr-opens t)) λ _ t. value-line (value-then (value-byte Fresh b ls t))
 
   mark-opens : {b : ℕ} {ls : List (Line Bytes)} → Takes K b (To Mark1 Outside) ls → TopLines (0xEF ∷ bs) ls
-  unfolding K
   mark-opens (steps.outside m) = go m
     where
       go : {xs : Bytes} {ls : List (Line Bytes)} → MarkRest xs ls → TopLines (0xEF ∷ xs) ls
@@ -380,25 +371,21 @@ module _ (bs : Bytes) where
       no-mark (line-lines (line-byte b ls t))
 
   bb-taken : {b : ℕ} {ls : List (Line Bytes)} → Takes K b (To Mark2 Outside) ls → MarkRest (0xBB ∷ bs) ls
-  unfolding K
   bb-taken (steps.outside m) = go m
     where
       go : {xs : Bytes} {ls : List (Line Bytes)} → MarkLast xs ls → MarkRest (0xBB ∷ xs) ls
       go (mark-bf k) = mark-bb k
 
   bf-taken : {b : ℕ} {ls : List (Line Bytes)} → Takes K b (To Begin Passed) ls → MarkLast (0xBF ∷ bs) ls
-  unfolding K
   bf-taken (steps.passed m) = mark-bf m
 
   blank-wants : (b : ℕ) {ls : List (Line Bytes)} → isBlank b ≡ true → Takes K b (To Wanting (Between false)) ls → WantedThen (b ∷ bs) ls
-  unfolding K
   blank-wants b p (steps.between m) = go m
     where
       go : {xs text : Bytes} {cells : List Bytes} {ls : List (Line Bytes)} → WantedThen xs (line text cells ∷ ls) → WantedThen (b ∷ xs) (line (b ∷ text) cells ∷ ls)
       go (wanted-then x t) = wanted-then (blank-wanted b p x) t
 
   lf-after-cr : {b : ℕ} {ls : List (Line Bytes)} → Takes K b (To Begin (Ends false)) ls → AfterCr (LF ∷ bs) ls
-  unfolding K
   lf-after-cr (steps.ends k) = then-lf k
 
   step-byte : (f : Form) (b : ℕ) (ls : List (Line Bytes)) → Takes K b (formStep Csvj f b) ls → ToCome f (b ∷ bs) ls
@@ -421,9 +408,6 @@ module _ (bs : Bytes) where
 no-lines : {ls : List (Line Bytes)} → steps.Finishes Clean ls → DerivedLines [] ls
 no-lines steps.clean = no-line
 
-cut-off : {A : Type 0} {ls : List (Line Bytes)} → steps.Finishes Cut ls → A
-cut-off = elim [ ]
-
 end-byte : (f : Form) (ls : List (Line Bytes)) → steps.Finishes (formEnd Csvj f) ls → ToCome f [] ls
 unfolding formEnd
 end-byte Top ls t = no-mark (no-lines t)
@@ -441,9 +425,7 @@ end-byte After ls t = cut-off t
 end-byte Cr ls t = cut-off t
 
 reads-lines : (xs : Bytes) (f : Form) (ls : List (Line Bytes)) → Reads Csvj f xs ls → ToCome f xs ls
-unfolding K
-reads-lines [] f ls r = end-byte f ls (at-end r)
-reads-lines (b ∷ bs) f ls r = step-byte bs f b ls (first-byte (K bs) (λ g ls k. reads-lines bs g ls k) r)
+reads-lines = by-bytes Csvj ToCome end-byte step-byte
 
 pub reads-file : {xs : Bytes} {l : Line Bytes} {ls : List (Line Bytes)} → Reads Csvj Top xs (l ∷ ls) → File xs (map (decodedLine Csvj) (l ∷ ls))
 reads-file {xs} {l} {ls} r = go (reads-lines xs Top (l ∷ ls) r)

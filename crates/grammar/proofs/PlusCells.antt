@@ -6,7 +6,7 @@ use mathlib.Core.Logic.{_≢_}
 use mathlib.Core.Bool.{Bool, true, false, _||_}
 use mathlib.Core.List.{[], _∷_, _++_}
 use borrow.Author.Tests.{ne-eqb, eqb-false}
-use Rattle.grammar.specs.Types.{Kind, Text, Delimiter, Comma, Semicolon, Tab, Bar, Quote, Double, Single, Settings, CsvPlus, Char, Whole, Within, On, Cell, Fresh, Quoted, Plain, More}
+use Rattle.grammar.specs.Types.{Text, Delimiter, Comma, Semicolon, Tab, Bar, Quote, Double, Single, Settings, CsvPlus, Char, Whole, Within, On, Cell, Fresh, Quoted, Plain, More}
 use Rattle.model.specs.Base.{Bytes, _is_, if_then_else_}
 use Rattle.model.specs.Dialect.{standard, delimiterByte, quoteByte}
 use Rattle.model.specs.Utf8.{charStep}
@@ -24,7 +24,7 @@ use Rattle.grammar.specs.CsvPlus as plus
 use Rattle.grammar.specs.Types as types
 use Rattle.grammar.proofs.Ranges.{range}
 use Rattle.grammar.proofs.Chars.{Finishes, finished, finishing, Long, long, data-long, long-data, whole-ascii, first-high}
-use Rattle.grammar.proofs.Spelling.{Spells, whole, byte, TextState, long-spells}
+use Rattle.grammar.proofs.Spelling.{Spells, whole, byte, DerivedFrom, derived-from, TextState, long-spells}
 use Rattle.grammar.proofs.Doubled.{Doubled, no-char, ascii-char, long-char, two-quotes, doubled-spells, Closing, closing, spells-doubled, doubled-content}
 
 -- the quote is no separator
@@ -109,9 +109,6 @@ module _ (s : Settings) where
   data PlainRest (c : Char) : Bytes → Type 0 where
     plain-rest : {cs bs : Bytes} → Finishes c cs → NonEscaped s bs → PlainRest c (cs ++ bs)
 
-  plain-text : {bs : Bytes} → PlainRest Whole bs → NonEscaped s bs
-  plain-text (plain-rest finished m) = m
-
   ascii-textdata : (b : ℕ) → b ≤ 0x7F → (b is DQUOTE s) ≡ false → isSeparator b ≡ false → TEXTDATA s (b ∷ [])
   ascii-textdata b h p q =
       split-on (b is COMMA s) (λ x. impossible (sym q ∙ (rw x))) λ x.
@@ -185,18 +182,14 @@ module _ (s : Settings) where
       ap (cell raw Text) (sym e)
   field-content (a-non-escaped {bs} m) = ap (cell bs Text) (sym (plain-content m))
 
-  -- a field of these bytes
-  pub data FieldOf (raw : Bytes) : Type 0 where
-    field-of : {kind : Kind} {content : Bytes} → Field s (cell raw kind content) → FieldOf raw
+  quoted-field : {bs : Bytes} → Closing (DQUOTE s) bs → DerivedFrom (Field s) (DQUOTE s ∷ bs)
+  quoted-field (closing m) = derived-from (an-escaped (escaped (doubled-inner m)))
 
-  quoted-field : {bs : Bytes} → Closing (DQUOTE s) bs → FieldOf (DQUOTE s ∷ bs)
-  quoted-field (closing m) = field-of (an-escaped (escaped (doubled-inner m)))
-
-  first-field : (b : ℕ) (bs : Bytes) {e : Cell} → cellStep (CsvPlus s) Fresh b ≡ More e → Spells (CsvPlus s) e bs → FieldOf (b ∷ bs)
+  first-field : (b : ℕ) (bs : Bytes) {e : Cell} → cellStep (CsvPlus s) Fresh b ≡ More e → Spells (CsvPlus s) e bs → DerivedFrom (Field s) (b ∷ bs)
   unfolding cellStep firstByte if_then_else_
   first-field b bs {e} k m = go (b is DQUOTE s) (isSeparator b) refl refl
     where
-      go : (x y : Bool) → (b is DQUOTE s) ≡ x → isSeparator b ≡ y → FieldOf (b ∷ bs)
+      go : (x y : Bool) → (b is DQUOTE s) ≡ x → isSeparator b ≡ y → DerivedFrom (Field s) (b ∷ bs)
       go true y p q =
           let z : Quoted Whole ≡ e = same-more (rw p at k) in
           let n : Spells (CsvPlus s) (Quoted Whole) bs = rw (← z) at m in
@@ -204,10 +197,10 @@ module _ (s : Settings) where
       go false true p q = no-stop (rw (p, q) at k)
       go false false p q =
           let y = char-on Plain Whole b e (rw (p, q) at k) in
-          field-of (a-non-escaped (plain-char (y .char) b p q (y .step) (spells-plain m (y .char) (y .cell))))
+          derived-from (a-non-escaped (plain-char (y .char) b p q (y .step) (spells-plain m (y .char) (y .cell))))
 
-  pub spells-field : {raw : Bytes} → Spells (CsvPlus s) Fresh raw → FieldOf raw
-  spells-field (whole w) = field-of (a-non-escaped nothing)
+  pub spells-field : {raw : Bytes} → Spells (CsvPlus s) Fresh raw → DerivedFrom (Field s) raw
+  spells-field (whole w) = derived-from (a-non-escaped nothing)
   spells-field (byte {b} {bs} k m) = first-field b bs k m
 
 -- ---- what RFC 4180 calls TEXTDATA is TEXTDATA of dialect 3

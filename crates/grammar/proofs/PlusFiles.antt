@@ -6,7 +6,7 @@ use mathlib.Core.Bool.{Bool, true, false}
 use mathlib.Core.List.{List, [], _∷_, _++_, map, append-nil}
 use borrow.Author.Tests.{eqb-false}
 use Rattle.grammar.specs.Types.{Delimiter, Comma, Semicolon, Tab, Bar, Settings, CsvPlus, EeToEf, Second, Last, Within, Cell, Fresh, Plain, More}
-use Rattle.grammar.specs.Types.{Form, Top, Begin, Ended, Mark1, Mark2, PlainMark1, PlainMark2, Blanks, Wanting, Inside, Cr, OfCell, Between, Tail, Ends, Step, To, Clean, Final, Cut}
+use Rattle.grammar.specs.Types.{Form, Top, Begin, Ended, Mark1, Mark2, PlainMark1, PlainMark2, Blanks, Wanting, Inside, Cr, OfCell, Between, Tail, Ends, Step, To, Clean, Final}
 use Rattle.grammar.specs.Types as types
 use Rattle.model.specs.Base.{Bytes, _is_, if_then_else_}
 use Rattle.model.specs.Dialect.{delimiterByte}
@@ -22,7 +22,7 @@ use Rattle.grammar.specs.CsvPlus.{BeginsWithMark, mark, COMMA, Record, f
 use Rattle.grammar.proofs.Spelling.{whole}
 use Rattle.grammar.proofs.CellGrammar.{derived-spells, spells-derived}
 use Rattle.grammar.proofs.Separators.{by-cr, by-lf}
-use Rattle.grammar.proofs.Steps.{Takes, rejected, at-end, first-byte, from-state}
+use Rattle.grammar.proofs.Steps.{Takes, rejected, at-end, first-byte, by-bytes, cut-off, from-state}
 use Rattle.grammar.proofs.Steps as steps
 use Rattle.grammar.proofs.CellReads.{Follows, after-whole, CellThen, cell-then, Closes, closes, more-cell, in-cell-byte}
 use Rattle.grammar.proofs.Delimited.{Cells, one-cell, more-cells, cells-read, RecordThen, record-then, After, at-tail, at-delimiter, record-of}
@@ -45,9 +45,6 @@ rest-mark mark-bb = (refl, mark-bf)
 
 last-mark : {b : ℕ} {bs : Bytes} → MarkLast (b ∷ bs) → b ≡ 0xBF
 last-mark mark-bf = refl
-
-no-end : {A : Type 0} {ls : List (Line Bytes)} → steps.Finishes Cut ls → A
-no-end = elim [ ]
 
 -- LF and CR are no delimiters
 separate : (s : Settings) → ((LF is COMMA s) ≡ false) × ((CR is COMMA s) ≡ false)
@@ -140,7 +137,7 @@ module _ (s : Settings) where
 
   unfinished : {A : Type 0} (c : Cell) {ls : List (Line Bytes)} → isWhole (CsvPlus s) c ≡ false → Reads (CsvPlus s) (Inside c) [] ls → A
   unfolding formEnd if_then_else_
-  unfinished c w r = no-end (rw w at (at-end r))
+  unfinished c w r = cut-off (rw w at (at-end r))
 
   mark-last-reads : (bs : Bytes) {ls : List (Line Bytes)} → ¬ MarkLast bs → Reads (CsvPlus s) (Inside afterBb) bs ls → Reads (CsvPlus s) PlainMark2 bs ls
   unfolding formStep isWhole if_then_else_
@@ -243,19 +240,16 @@ module _ (s : Settings) where
   field-rows m (cell-then k a) = record-rows m (record-of (CsvPlus s) TailThen (cell-then k a))
 
   module _ (bs : Bytes) where
-    K : Form → List (Line Bytes) → Type 0
+    abbrev K : Form → List (Line Bytes) → Type 0
     K f ls = ToCome f bs ls
 
     comma-taken : {ls : List (Line Bytes)} → Takes K (COMMA s) (To (Inside Fresh) (Between true)) ls → Closes (After (CsvPlus s) TailThen) (COMMA s ∷ bs) ls
-    unfolding K
     comma-taken (steps.between-closing k) = closes (at-delimiter (record-of (CsvPlus s) TailThen k))
 
     lf-taken : {b : ℕ} {ls : List (Line Bytes)} → Takes K b (To Begin (Ends true)) ls → Closes (After (CsvPlus s) TailThen) (LF ∷ bs) ls
-    unfolding K
     lf-taken (steps.ends-closing k) = closes (at-tail (ending-then lf k))
 
     cr-taken : {b : ℕ} {ls : List (Line Bytes)} → Takes K b (To Cr (Tail true)) ls → Closes (After (CsvPlus s) TailThen) (CR ∷ bs) ls
-    unfolding K
     cr-taken (steps.tail-closing k) = crlf-then k
       where
         crlf-then : {bs text : Bytes} {cells : List Bytes} {ls : List (Line Bytes)} → AfterCr bs (line text cells ∷ ls) → Closes (After (CsvPlus s) TailThen) (CR ∷ bs) (line text ([] ∷ cells) ∷ ls)
@@ -270,15 +264,12 @@ module _ (s : Settings) where
         split P (b is CR) (λ p t. rw (is→eq b CR p) (cr-taken t)) λ _ t. rejected t
 
     field-byte : (c : Cell) (b : ℕ) (ls : List (Line Bytes)) → Takes K b (inCell (CsvPlus s) c b) ls → InField c (b ∷ bs) ls
-    unfolding K
     field-byte c b ls t = in-cell-byte K c b bs ls (λ e ls k. k) (after-byte b) t
 
     ef-taken : {ls : List (Line Bytes)} → Takes K 0xEF (To PlainMark1 OfCell) ls → ToCome Top (0xEF ∷ bs) ls
-    unfolding K
     ef-taken (steps.of-cell k) = ((λ m. k .0 (begin-mark m .1)), field-rows some (more-cell (mark-cell s) (k .1)))
 
     bb-taken : {ls : List (Line Bytes)} → Takes K 0xBB (To PlainMark2 OfCell) ls → ToCome PlainMark1 (0xBB ∷ bs) ls
-    unfolding K
     bb-taken (steps.of-cell k) = ((λ m. k .0 (rest-mark m .1)), more-cell (mark-rest (CsvPlus s)) (k .1))
 
     top-byte : (b : ℕ) (ls : List (Line Bytes)) → Takes K b (beginFile (CsvPlus s) b) ls → ToCome Top (b ∷ bs) ls
@@ -300,7 +291,6 @@ module _ (s : Settings) where
         ((λ m. eqb-false b 0xBF p (last-mark m)), field-byte afterBb b ls t)
 
     lf-after-cr : {b : ℕ} {ls : List (Line Bytes)} → Takes K b (To Begin (Ends false)) ls → AfterCr (LF ∷ bs) ls
-    unfolding K
     lf-after-cr (steps.ends k) = then-lf k
 
     step-byte : (f : Form) (b : ℕ) (ls : List (Line Bytes)) → Takes K b (formStep (CsvPlus s) f b) ls → ToCome f (b ∷ bs) ls
@@ -332,20 +322,18 @@ module _ (s : Settings) where
   end-byte Ended ls t = tt
   end-byte Mark1 ls t = tt
   end-byte Mark2 ls t = tt
-  end-byte PlainMark1 ls t = no-end t
-  end-byte PlainMark2 ls t = no-end t
+  end-byte PlainMark1 ls t = cut-off t
+  end-byte PlainMark2 ls t = cut-off t
   end-byte (types.Comment c) ls t = tt
   end-byte Blanks ls t = tt
   end-byte Wanting ls t = tt
   end-byte (Inside c) ls t =
-      split (λ x. steps.Finishes x ls → InField c [] ls) (isWhole (CsvPlus s) c) (λ w t. final-field w t) (λ _ t. no-end t) t
+      split (λ x. steps.Finishes x ls → InField c [] ls) (isWhole (CsvPlus s) c) (λ w t. final-field w t) (λ _ t. cut-off t) t
   end-byte types.After ls t = tt
-  end-byte Cr ls t = no-end t
+  end-byte Cr ls t = cut-off t
 
   reads-rows : (xs : Bytes) (f : Form) (ls : List (Line Bytes)) → Reads (CsvPlus s) f xs ls → ToCome f xs ls
-  unfolding K
-  reads-rows [] f ls r = end-byte f ls (at-end r)
-  reads-rows (b ∷ bs) f ls r = step-byte bs f b ls (first-byte (K bs) (λ g ls k. reads-rows bs g ls k) r)
+  reads-rows = by-bytes (CsvPlus s) ToCome end-byte step-byte
 
   pub reads-file : {xs : Bytes} {l : Line Bytes} {ls : List (Line Bytes)} → Reads (CsvPlus s) Top xs (l ∷ ls) → File s xs (map (decodedLine (CsvPlus s)) (l ∷ ls))
   reads-file {xs} {l} {ls} r = let k = reads-rows xs Top (l ∷ ls) r in go (k .0) (k .1)

@@ -1,10 +1,10 @@
 -- Bytes that take the cell automaton from a state to a whole cell. From a fresh cell they are the raw cells that the decoder finds
--- sound (`spells-judged`, `judged-spells`); in a text they go by characters (`long-spells`, `finish-of`); a word has one spelling.
+-- sound (`spells-judged`, `judged-spells`); in a text they go by characters (`long-spells`); a word has one spelling.
 use Prim.Native.Nat.{ℕ, _≤_}
-use mathlib.Core.Path.{_≡_, refl, sym, ap, _∙_}
+use mathlib.Core.Path.{_≡_, refl, ap, _∙_}
 use mathlib.Core.Bool.{Bool, true, false}
 use mathlib.Core.List.{[], _∷_, _++_}
-use Rattle.grammar.specs.Types.{Dialect, Inner, Char, Whole, Within, On, Word, Cell, Fresh, InWord, Complete, More}
+use Rattle.grammar.specs.Types.{Kind, Dialect, Inner, Char, Whole, Within, Word, Cell, Fresh, InWord, Complete, More}
 use Rattle.model.specs.declared.Judged.the-variants.{WholeCell}
 use Rattle.model.specs.Base.{Bytes, _is_, if_then_else_}
 use Rattle.model.specs.Utf8.{charStep}
@@ -12,13 +12,18 @@ use Rattle.model.specs.Cell.{textByte, letterOf, afterLetter, cellStep, isWhole
 use Rattle.model.specs.Decode.{judgeCell}
 use Rattle.model.proofs.Tests.{impossible, is→eq}
 use Rattle.model.proofs.Cells.{Runs, here, there, WholeRun, runs-sound, sound-runs}
-use Rattle.model.proofs.CellContent.{no-more, no-stop, same-more, char-on}
+use Rattle.model.proofs.CellContent.{no-more, no-stop, same-more}
+use Rattle.grammar.specs.Derived.{Derived, cell}
 use Rattle.grammar.proofs.Chars.{Finishes, finished, finishing, Long, long, first-high}
 
 -- from c, these bytes make the cell whole
 pub data Spells (d : Dialect) : Cell → Bytes → Type 0 where
   whole : {c : Cell} → isWhole d c ≡ true → Spells d c []
   byte : {c e : Cell} {b : ℕ} {bs : Bytes} → cellStep d c b ≡ More e → Spells d e bs → Spells d c (b ∷ bs)
+
+-- a cell of these bytes that P derives
+pub data DerivedFrom (P : Derived → Type 0) (raw : Bytes) : Type 0 where
+  derived-from : {kind : Kind} {content : Bytes} → P (cell raw kind content) → DerivedFrom P raw
 
 -- ---- the decoder
 
@@ -52,27 +57,6 @@ module _ {d : Dialect} {f : Char → Cell} (t : TextState d f) where
   -- a character of more than one byte, read from c as text is
   pub long-spells : {c : Cell} {cs bs : Bytes} → ((b : ℕ) → 0x80 ≤ b → cellStep d c b ≡ textByte f (charStep Whole b)) → Long cs → Spells d (f Whole) bs → Spells d c (cs ++ bs)
   long-spells h (long {i} {b} e m) k = byte (h b (first-high b i e) ∙ ap (textByte f) e) (finish-spells m k)
-
-  -- a character is finished before a cell is whole
-  pub data Finished (c : Char) : Bytes → Type 0 where
-    finished-then : {cs bs : Bytes} → Finishes c cs → Spells d (f Whole) bs → Finished c (cs ++ bs)
-
-  finish-more : {i : Inner} {c : Char} {b : ℕ} {bs : Bytes} → charStep (Within i) b ≡ On c → Finished c bs → Finished (Within i) (b ∷ bs)
-  finish-more e (finished-then m k) = finished-then (finishing e m) k
-
-  finish-none : {e : Cell} (c : Char) → f c ≡ e → isWhole d e ≡ true → Finished c []
-  finish-none Whole p w = finished-then finished (whole (ap (isWhole d) p ∙ w))
-  finish-none (Within i) p w = impossible (sym (t .unfinished i) ∙ ap (isWhole d) p ∙ w)
-
-  finish-byte : {e e′ : Cell} {b : ℕ} {bs : Bytes} (c : Char) → f c ≡ e → cellStep d e b ≡ More e′ → Spells d e′ bs → ((c′ : Char) → f c′ ≡ e′ → Finished c′ bs) → Finished c (b ∷ bs)
-  finish-byte {b} Whole p s k ih = finished-then finished (byte (ap (λ c. cellStep d c b) p ∙ s) k)
-  finish-byte {e′} {b} (Within i) p s k ih =
-      let y = char-on f (Within i) b e′ (sym (t .inner i b) ∙ (rw (← p) at s)) in
-      finish-more (y .step) (ih (y .char) (y .cell))
-
-  pub finish-of : {e : Cell} {xs : Bytes} → Spells d e xs → (c : Char) → f c ≡ e → Finished c xs
-  finish-of (whole w) c p = finish-none c p w
-  finish-of (byte s k) c p = finish-byte c p s k (λ c′ q. finish-of k c′ q)
 
 -- ---- words
 

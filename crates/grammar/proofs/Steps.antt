@@ -3,7 +3,7 @@ use Prim.Native.Nat.{ℕ}
 use mathlib.Core.Path.{_≡_, refl, ap, _∙_}
 use mathlib.Core.Bool.{true, false}
 use mathlib.Core.List.{List, [], _∷_}
-use Rattle.grammar.specs.Types.{Dialect, Csvj, Tdif, CsvPlus, Cell, Stop, ByteFault, Form, Inside, Outside, Passed, OfCell, Between, Tail, Ends, Step, To, Reject, Ending, Clean, Final}
+use Rattle.grammar.specs.Types.{Dialect, Csvj, Tdif, CsvPlus, Cell, Stop, ByteFault, Form, Inside, Outside, Passed, OfCell, Between, Tail, Ends, Step, To, Reject, Ending, Clean, Final, Cut}
 use Rattle.model.specs.Base.{Bytes}
 use Rattle.model.specs.Cell.{cellStep, isWhole}
 use Rattle.model.specs.Form.{afterCell, inCell, formStep, formEnd}
@@ -57,6 +57,18 @@ first-byte K k (reading.tail {g} e r) = rw e (tail (k g _ r))
 first-byte K k (reading.tail-closing {g} e r) = rw e (tail-closing (k g _ r))
 first-byte K k (reading.ends {g} {ls} e r) = rw e (ends (k g ls r))
 first-byte K k (reading.ends-closing {g} {ls} e r) = rw e (ends-closing (k g ls r))
+
+pub cut-off : {A : Type 0} {ls : List (Line Bytes)} → Finishes Cut ls → A
+cut-off = elim [ ]
+
+-- what holds at the end of a file, and before a byte if it holds after it, holds of what is read
+pub by-bytes :
+    (d : Dialect) (P : Form → Bytes → List (Line Bytes) → Type 0) →
+    ((f : Form) (ls : List (Line Bytes)) → Finishes (formEnd d f) ls → P f [] ls) →
+    ((bs : Bytes) (f : Form) (b : ℕ) (ls : List (Line Bytes)) → Takes (λ g ls. P g bs ls) b (formStep d f b) ls → P f (b ∷ bs) ls) →
+    (xs : Bytes) (f : Form) (ls : List (Line Bytes)) → Reads d f xs ls → P f xs ls
+by-bytes d P end step [] f ls r = end f ls (at-end r)
+by-bytes d P end step (b ∷ bs) f ls r = step bs f b ls (first-byte (λ g ls. P g bs ls) (λ g ls k. by-bytes d P end step bs g ls k) r)
 
 -- ---- reading by form gives one list of records
 

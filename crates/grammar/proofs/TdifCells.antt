@@ -7,7 +7,7 @@ use mathlib.Core.Bool.{Bool, true, false}
 use mathlib.Core.List.{[], _∷_, _++_}
 use lib.Dec.{leb}
 use borrow.Author.Tests.{leb-true, leb-false}
-use Rattle.grammar.specs.Types.{Kind, Text, Tdif, Whole, Cell, Fresh, Quoted, InWord, Backslash, More}
+use Rattle.grammar.specs.Types.{Text, Tdif, Whole, Cell, Fresh, Quoted, InWord, Backslash, More}
 use Rattle.model.specs.Base.{Bytes, QUOTE, BACKSLASH, _is_, if_then_else_}
 use Rattle.model.specs.Cell.{firstByte, cellStep, isWhole}
 use Rattle.model.specs.Decode.{kindOf, contentOf}
@@ -19,7 +19,7 @@ use Rattle.grammar.specs.Reading.{decoded}
 use Rattle.grammar.specs.Tdif.{Textdata, below-quote, above-quote, utf8-data, Inner, nothing, textdata, two-quotes, value, null, Field, a-null, a-value}
 use Rattle.grammar.proofs.Ranges.{range}
 use Rattle.grammar.proofs.Chars.{data-long, long-data}
-use Rattle.grammar.proofs.Spelling.{Spells, whole, byte, last-letter}
+use Rattle.grammar.proofs.Spelling.{Spells, whole, byte, DerivedFrom, derived-from, last-letter}
 use Rattle.grammar.proofs.Doubled.{Doubled, no-char, ascii-char, long-char, two-quotes as doubled-quotes, doubled-spells, Closing, closing, spells-doubled, doubled-content}
 
 -- ---- what stands between the quotes is doubled text
@@ -54,18 +54,14 @@ unfolding kindOf contentOf if_then_else_
 field-content (a-null null) = refl
 field-content (a-value (value {bs} {ts} i)) = ap (cell (DQUOTE ∷ (bs ++ (DQUOTE ∷ []))) Text) (sym (doubled-content QUOTE (omega arith) (inner-doubled i)))
 
--- a field of these bytes
-pub data FieldOf (raw : Bytes) : Type 0 where
-  field-of : {kind : Kind} {content : Bytes} → Field (cell raw kind content) → FieldOf raw
+quoted-field : {bs : Bytes} → Closing QUOTE bs → DerivedFrom Field (QUOTE ∷ bs)
+quoted-field (closing m) = derived-from (a-value (value (doubled-inner m)))
 
-quoted-field : {bs : Bytes} → Closing QUOTE bs → FieldOf (QUOTE ∷ bs)
-quoted-field (closing m) = field-of (a-value (value (doubled-inner m)))
-
-first-field : (b : ℕ) (bs : Bytes) {e : Cell} → cellStep Tdif Fresh b ≡ More e → Spells Tdif e bs → FieldOf (b ∷ bs)
+first-field : (b : ℕ) (bs : Bytes) {e : Cell} → cellStep Tdif Fresh b ≡ More e → Spells Tdif e bs → DerivedFrom Field (b ∷ bs)
 unfolding cellStep firstByte if_then_else_
 first-field b bs {e} s k = go (b is QUOTE) (b is BACKSLASH) refl refl
   where
-    go : (x y : Bool) → (b is QUOTE) ≡ x → (b is BACKSLASH) ≡ y → FieldOf (b ∷ bs)
+    go : (x y : Bool) → (b is QUOTE) ≡ x → (b is BACKSLASH) ≡ y → DerivedFrom Field (b ∷ bs)
     go true y p q =
         let z : Quoted Whole ≡ e = same-more (rw p at s) in
         let m : Spells Tdif (Quoted Whole) bs = rw (← z) at k in
@@ -73,10 +69,10 @@ first-field b bs {e} s k = go (b is QUOTE) (b is BACKSLASH) refl refl
     go false true p q =
         let z : InWord Backslash ≡ e = same-more (rw (p, q) at s) in
         let m : Spells Tdif (InWord Backslash) bs = rw (← z) at k in
-        rw (is→eq b BACKSLASH q, last-letter Backslash refl m) (field-of (a-null null))
+        rw (is→eq b BACKSLASH q, last-letter Backslash refl m) (derived-from (a-null null))
     go false false p q = no-more (rw (p, q) at s)
 
-pub spells-field : {raw : Bytes} → Spells Tdif Fresh raw → FieldOf raw
+pub spells-field : {raw : Bytes} → Spells Tdif Fresh raw → DerivedFrom Field raw
 unfolding isWhole
 spells-field (whole w) = impossible w
 spells-field (byte {b} {bs} s k) = first-field b bs s k

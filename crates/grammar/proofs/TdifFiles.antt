@@ -27,7 +27,7 @@ use Rattle.grammar.proofs.Ranges.{range}
 use Rattle.grammar.proofs.Chars.{Finishes, finished, finishing, Long, long, data-long, long-data, whole-ascii, first-high}
 use Rattle.grammar.proofs.CellGrammar.{derived-spells, spells-derived}
 use Rattle.grammar.proofs.Separators.{by-cr, by-lf}
-use Rattle.grammar.proofs.Steps.{Takes, rejected, at-end, first-byte, from-state, clean}
+use Rattle.grammar.proofs.Steps.{Takes, rejected, by-bytes, cut-off, from-state, clean}
 use Rattle.grammar.proofs.Steps as steps
 use Rattle.grammar.proofs.CellReads.{Follows, after-whole, FirstOfCell, first-of-cell, spells-first, other-byte, CellThen, cell-then, Closes, closes, in-cell-byte}
 use Rattle.grammar.proofs.Delimited.{Cells, one-cell, more-cells, cells-read, RecordThen, record-then, After, at-tail, at-delimiter, record-of}
@@ -207,19 +207,16 @@ inner-remark : {i : Inner} {c : Char} {b : ℕ} {xs : Bytes} {ls : List (Line By
 inner-remark e (in-comment f k t) = in-comment (finishing e f) k t
 
 module _ (bs : Bytes) where
-  K : Form → List (Line Bytes) → Type 0
+  abbrev K : Form → List (Line Bytes) → Type 0
   K f ls = ToCome f bs ls
 
   comma-taken : {ls : List (Line Bytes)} → Takes K COMMA (To (Inside Fresh) (Between true)) ls → Closes (After Tdif BreakThen) (COMMA ∷ bs) ls
-  unfolding K
   comma-taken (steps.between-closing k) = closes (at-delimiter (record-of Tdif BreakThen k))
 
   lf-taken : {ls : List (Line Bytes)} → Takes K LF (To Begin (Ends true)) ls → Closes (After Tdif BreakThen) (LF ∷ bs) ls
-  unfolding K
   lf-taken (steps.ends-closing k) = closes (at-tail (break-then lf k))
 
   cr-taken : {ls : List (Line Bytes)} → Takes K CR (To Ended (Ends true)) ls → Closes (After Tdif BreakThen) (CR ∷ bs) ls
-  unfolding K
   cr-taken (steps.ends-closing k) = closes (at-tail (break-cr k))
 
   after-byte : (b : ℕ) (ls : List (Line Bytes)) → Takes K b (afterCell Tdif true b) ls → Closes (After Tdif BreakThen) (b ∷ bs) ls
@@ -231,11 +228,9 @@ module _ (bs : Bytes) where
       split P (b is CR) (λ p t. let q = is→eq b CR p in rw q (cr-taken (rw q at t))) λ _ t. rejected t
 
   field-byte : (c : Cell) (b : ℕ) (ls : List (Line Bytes)) → Takes K b (inCell Tdif c b) ls → InField c (b ∷ bs) ls
-  unfolding K
   field-byte c b ls t = in-cell-byte K c b bs ls (λ e ls k. k) (after-byte b) t
 
   hash-taken : {b : ℕ} {ls : List (Line Bytes)} → Takes K b (To (Comment Whole) Outside) ls → DerivedLines (0x23 ∷ bs) ls
-  unfolding K
   hash-taken (steps.outside k) = comment-line k
 
   line-byte : (b : ℕ) (ls : List (Line Bytes)) → Takes K b (beginRecord Tdif b) ls → DerivedLines (b ∷ bs) ls
@@ -245,19 +240,15 @@ module _ (bs : Bytes) where
       split P (b is 0x23) (λ p t. rw (is→eq b 0x23 p) (hash-taken t)) λ _ t. field-line (field-byte Fresh b ls t)
 
   skip-taken : {b : ℕ} {ls : List (Line Bytes)} → Takes K b (To Begin Passed) ls → AfterCr (LF ∷ bs) ls
-  unfolding K
   skip-taken (steps.passed k) = skips k
 
   comment-lf : {b : ℕ} {ls : List (Line Bytes)} → Takes K b (To Begin Passed) ls → InComment Whole (LF ∷ bs) ls
-  unfolding K
   comment-lf (steps.passed k) = in-comment finished tdif.Remark.nothing (break-then lf k)
 
   comment-cr : {b : ℕ} {ls : List (Line Bytes)} → Takes K b (To Ended Passed) ls → InComment Whole (CR ∷ bs) ls
-  unfolding K
   comment-cr (steps.passed k) = in-comment finished tdif.Remark.nothing (break-cr k)
 
   char-taken : {b : ℕ} {c : Char} {ls : List (Line Bytes)} → Takes K b (To (Comment c) Outside) ls → InComment c bs ls
-  unfolding K
   char-taken (steps.outside k) = k
 
   comment-byte : (c : Char) (b : ℕ) (ls : List (Line Bytes)) → Takes K b (formStep Tdif (Comment c) b) ls → InComment c (b ∷ bs) ls
@@ -297,9 +288,6 @@ module _ (bs : Bytes) where
 no-lines : {ls : List (Line Bytes)} → steps.Finishes types.Clean ls → DerivedLines [] ls
 no-lines clean = no-line
 
-cut-off : {A : Type 0} {ls : List (Line Bytes)} → steps.Finishes types.Cut ls → A
-cut-off = elim [ ]
-
 end-byte : (f : Form) (ls : List (Line Bytes)) → steps.Finishes (formEnd Tdif f) ls → ToCome f [] ls
 unfolding formEnd
 end-byte Top ls t = no-lines t
@@ -317,9 +305,7 @@ end-byte types.After ls t = tt
 end-byte Cr ls t = tt
 
 reads-lines : (xs : Bytes) (f : Form) (ls : List (Line Bytes)) → Reads Tdif f xs ls → ToCome f xs ls
-unfolding K
-reads-lines [] f ls r = end-byte f ls (at-end r)
-reads-lines (b ∷ bs) f ls r = step-byte bs f b ls (first-byte (K bs) (λ g ls k. reads-lines bs g ls k) r)
+reads-lines = by-bytes Tdif ToCome end-byte step-byte
 
 pub reads-file : {xs : Bytes} {l : Line Bytes} {ls : List (Line Bytes)} → Reads Tdif Top xs (l ∷ ls) → tdif.File xs (map (decodedLine Tdif) (l ∷ ls))
 reads-file {xs} {l} {ls} r = go (reads-lines xs Top (l ∷ ls) r)
