@@ -16,7 +16,7 @@ use Rattle.model.proofs.CellContent.{no-more, same-more, d-tdif}
 use Rattle.grammar.specs.Rfc5234.{DQUOTE}
 use Rattle.grammar.specs.Derived.{Derived, cell, rawOf}
 use Rattle.grammar.specs.Reading.{decoded}
-use Rattle.grammar.specs.Tdif.{Textdata, below-quote, above-quote, utf8-data, Inner, nothing, textdata, two-quotes, value, null, Field, a-null, a-value}
+use Rattle.grammar.specs.Tdif.{Textdata, below-quote, above-quote, utf8-data, Inner, nothing, textdata, two-quotes, value, null, Field, a-null, a-value, Value}
 use Rattle.grammar.proofs.Ranges.{range}
 use Rattle.grammar.proofs.Chars.{data-long, long-data}
 use Rattle.grammar.proofs.Spelling.{Spells, whole, byte, DerivedFrom, derived-from, last-letter}
@@ -76,3 +76,7 @@ pub spells-field : {raw : Bytes} → Spells Tdif Fresh raw → DerivedFrom Field
 unfolding isWhole
 spells-field (whole w) = impossible w
 spells-field (byte {b} {bs} s k) = first-field b bs s k
+
+-- a field that is text is a value, so a header whose cells are text is the ABNF's own: value *(comma value) linebreak
+pub text-value : {raw content : Bytes} → Field (cell raw Text content) → Value raw content
+text-value (a-value v) = v
