@@ -4,10 +4,16 @@ use mathlib.Core.Bool.{Bool, true, false, not, _&&_}
 use mathlib.Core.List.{List, [], _∷_}
 use lib.ListN.{take, drop}
 use Rattle.model.specs.declared.Dialect.{Dialect}
+use Rattle.model.specs.declared.Char.{Char}
+use Rattle.model.specs.declared.Char.the-variants.{Whole, Within}
 use Rattle.model.specs.declared.Cell.{Cell}
+use Rattle.model.specs.declared.Cell.the-variants.{Fresh, Quoted, Closed, Escape, Hex, InNumber, InWord, Plain, Complete}
 use Rattle.model.specs.declared.Added.the-variants.{More, Stop, Refuse}
 use Rattle.model.specs.Base.{Bytes, if_then_else_, _is_, within}
+use Rattle.model.specs.Dialect.{delimiterOf, quoteOf}
 use Rattle.model.specs.Cell.{cellStep}
+use Rattle.lexer.specs.declared.run.RunStop.{RunStop}
+use Rattle.lexer.specs.declared.run.RunStop.the-variants.{At, NoRun}
 use Rattle.lexer.specs.declared.run.CellEnd.{CellEnd}
 use Rattle.lexer.specs.declared.run.CellEnd.the-variants.{Stopped, Refused, Open}
 
@@ -29,3 +35,25 @@ unfoldable pub cellRun : Dialect → Cell → (i : ℕ) → Bytes → CellEnd
 cellRun d c i [] = Open c
 cellRun d c i (b ∷ bs) =
     elim (cellStep d c b) [ More c′ ↦ cellRun d c′ (suc i) bs | Stop ↦ Stopped c i | Refuse e ↦ Refused e i ]
+
+-- the byte beside the quote at which a run ends
+unfoldable pub textStop : Char → ℕ → RunStop
+textStop Whole q = At q
+textStop (Within i) q = NoRun
+
+-- in which cells ordinary bytes run: between quotes, and in a plain cell, between characters
+unfoldable pub runStop : Dialect → Cell → RunStop
+runStop d Fresh = NoRun
+runStop d (Quoted t) = textStop t 0x5C
+runStop d Closed = NoRun
+runStop d Escape = NoRun
+runStop d (Hex n) = NoRun
+runStop d (InNumber n) = NoRun
+runStop d (InWord w) = NoRun
+runStop d (Plain t) = textStop t (delimiterOf d)
+runStop d Complete = NoRun
+
+-- how many bytes run at the beginning
+unfoldable pub runLength : Dialect → RunStop → Bytes → ℕ
+runLength d (At q) bs = leading (quoteOf d) q bs
+runLength d NoRun bs = 0

@@ -51,12 +51,13 @@ loop-less : tie.Need-loop-less Inv-loop μ-loop
 loop-less c = omega arith
 
 loop-again : tie.Need-loop-again Inv-loop μ-loop
-loop-again c =
-    (omega arith,
-    c .before .before .before .before .before .before .loop .inv .1,
-    c .before .before .before .before .before .before .loop .inv .2
-    ∙ leading-on (c .before .before .before .before .before .before .before .args .s .now) (c .before .before .before .before .before .before .loop .i) (c .before .before .before .before .before .before .before .args .stop) (c .before .before .before .before .before .before .before .args .p) (c .before .before .before .before .before .before .before .args .q) (c .before .before .before .before .before .loop-test .taken) (c .before .before .before .before .before .before .loop .inv .1)
-      (goes-on (c .before .before .before .before .before .before .before .args .p) (c .before .before .before .before .before .before .before .args .q) (getD (c .before .before .before .before .before .before .before .args .s .now) (c .before .before .before .before .before .before .loop .i) 0) (c .before .before .before .if1 .left) (c .before .before .if2 .left) (c .before .if3 .left) (c .if4 .left)))
+loop-again c = (
+  omega arith,
+  c .before .before .before .before .before .before .loop .inv .1,
+  c .before .before .before .before .before .before .loop .inv .2
+      ∙ leading-on (c .before .before .before .before .before .before .before .args .s .now) (c .before .before .before .before .before .before .loop .i) (c .before .before .before .before .before .before .before .args .stop) (c .before .before .before .before .before .before .before .args .p) (c .before .before .before .before .before .before .before .args .q) (c .before .before .before .before .before .loop-test .taken) (c .before .before .before .before .before .before .loop .inv .1)
+      (goes-on (c .before .before .before .before .before .before .before .args .p) (c .before .before .before .before .before .before .before .args .q) (getD (c .before .before .before .before .before .before .before .args .s .now) (c .before .before .before .before .before .before .loop .i) 0) (c .before .before .before .if1 .left) (c .before .before .if2 .left) (c .before .if3 .left) (c .if4 .left)),
+)
 
 returns-5 : tie.Need-returns-5 Inv-loop μ-loop
 returns-5 c =
