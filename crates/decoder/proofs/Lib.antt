@@ -1,2 +1,4 @@
 pub mod Tests
 pub mod Strings
+pub mod Writing
+pub mod Doubled

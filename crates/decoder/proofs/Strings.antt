@@ -7,7 +7,7 @@ use Prim.Native.Nat.{ℕ, suc, _+_, _-_, _*_, _<_, _≤_}
 use native.Mathlib.Numerals.{add-one}
 use native.Mathlib.Omega.{arith}
 use lib.Dec.{eqb}
-use lib.ListN.{length, take, drop, getD, drop-of-length-le, length-drop}
+use lib.ListN.{length, take, drop, getD, drop-of-length-le, length-append, length-take, length-drop}
 use lib.Seq.{drop-cons}
 use borrow.Author.Tests.{ne-eqb, le-leb, lt-leb}
 use Rattle.model.specs.Base.{if_then_else_, Bytes, _is_, within, QUOTE, BACKSLASH}
@@ -195,6 +195,7 @@ goes-cut raw i bytes h e =
       on = omega arith;
       inside = omega arith;
       few = omega arith;
+      sized = refl;
     }
 
 pub goes-short : (raw : Bytes) (i b : ℕ) (bytes : Bytes) → i + 1 < length raw → getD raw i 0 ≡ BACKSLASH → (getD raw (i + 1) 0 ≡ 0x75 → ⊥)
@@ -206,6 +207,7 @@ goes-short raw i b bytes h e u s =
       on = omega arith;
       inside = omega arith;
       few = omega arith;
+      sized = refl;
     }
 
 -- a code point
@@ -218,6 +220,7 @@ goes-packed raw i u bytes size next p k e on inside =
       on = omega arith;
       inside = inside;
       few = four;
+      sized = ap length (p .packs) ∙ sym (p .sized);
     }
 
 module _ (raw : Bytes) (i h : ℕ) (u : UnitThere raw i) (e : h ≡ unitAt raw (i + 2)) (most : h ≤ 733992) (bytes : Bytes) (size next : ℕ) where
@@ -247,3 +250,24 @@ module _ (raw : Bytes) (i h : ℕ) (u : UnitThere raw i) (e : h ≡ unitAt raw (
       ∙ pair h l (units between (drop (i + 6 + 6) raw)) t (w .low)
       ∙ rw (at, whole))
       (omega arith) (rw at at (w .inside)))
+
+pub goes-length : {raw : Bytes} {i : ℕ} {bytes : Bytes} {size next : ℕ} → Goes raw i bytes size next → length (stringFrom raw i) ≡ size + length (stringFrom raw next)
+goes-length {raw} {i} {bytes} {size} {next} g = ap length (g .stands) ∙ length-append (take size bytes) (stringFrom raw next) ∙ ap (λ (n : ℕ). n + length (stringFrom raw next)) (g .sized)
+
+pub taken-whole : (n : ℕ) (l : Bytes) → length (take n l) ≡ n → n ≤ length l
+taken-whole n l e = omega (arith, length-take n l, e)
+
+-- ---- what a string says at a place
+
+module _ (raw : Bytes) (i : ℕ) where
+  pub string-end : length raw ≤ i → stringFrom raw i ≡ []
+  unfolding textOf
+  string-end h = ap textOf (at-end between raw i h)
+
+  pub string-quote : i < length raw → getD raw i 0 ≡ QUOTE → stringFrom raw i ≡ []
+  unfolding textOf
+  string-quote h e = ap textOf (at-quote raw i (i + 1) h refl e)
+
+  pub string-byte : i < length raw → (getD raw i 0 ≡ QUOTE → ⊥) → (getD raw i 0 ≡ BACKSLASH → ⊥) → stringFrom raw i ≡ getD raw i 0 ∷ stringFrom raw (i + 1)
+  unfolding textOf
+  string-byte h q b = ap textOf (at-byte raw i (i + 1) h refl q b)

@@ -44,3 +44,4 @@ pub record Goes (raw : Bytes) (i : ℕ) (bytes : Bytes) (size next : ℕ) : Type
   pub on : i + size < next
   pub inside : next ≤ length raw
   pub few : size ≤ 4
+  pub sized : length (take size bytes) ≡ size
