@@ -2,3 +2,4 @@ pub mod Tests
 pub mod Strings
 pub mod Writing
 pub mod Doubled
+pub mod FirstByte

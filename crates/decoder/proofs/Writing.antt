@@ -84,8 +84,9 @@ module _ {old : Bytes} {at : ℕ} {whole out : Bytes} {o : ℕ} where
       let e : whole ≡ p .w = sym (p .left) ∙ append-nil (p .w) in
       rw e (p .place, p .text)
 
--- nothing is left of a text from the beginning on
+-- from the beginning on
+pub written-first : (old w : Bytes) → written old 0 w ≡ over w old
+written-first old w = let from-zero : 0 + length w ≡ length w = omega arith in ap (λ (n : ℕ). w ++ drop n old) from-zero
+
 pub filled : {old whole out : Bytes} {o : ℕ} → Writing old 0 whole out o [] → out ≡ over whole old
-filled {old} {whole} p =
-    let from-zero : 0 + length whole ≡ length whole = omega arith in
-    done p .1 ∙ ap (λ (n : ℕ). whole ++ drop n old) from-zero
+filled {old} {whole} p = done p .1 ∙ written-first old whole
