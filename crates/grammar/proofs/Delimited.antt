@@ -1,0 +1,61 @@
+-- Records of TDIF and CSV+: cells with delimiters between them and nothing else (`Cells`), and then what Tail says follows a record's
+-- text. They are read (`cells-read`), and what is read from a record's first cell on is of this form (`record-of`).
+use mathlib.Core.Path.{_≡_, refl, _∙_}
+use mathlib.Core.Bool.{true}
+use mathlib.Core.List.{List, [], _∷_, _++_, append-assoc, append-nil}
+use Rattle.grammar.specs.Types.{Dialect, CsvPlus, Fresh, Inside, Between, To}
+use Rattle.model.specs.Base.{Bytes, if_then_else_}
+use Rattle.model.specs.Dialect.{delimiterOf}
+use Rattle.model.specs.Form.{afterCell}
+use Rattle.model.proofs.Tests.{same-byte}
+use Rattle.model.proofs.CellContent.{Doubles, d-tdif, d-plus}
+use Rattle.grammar.specs.Derived.{Line, line}
+use Rattle.grammar.specs.Reading.{Reads, between-closing}
+use Rattle.grammar.proofs.Spelling.{Spells}
+use Rattle.grammar.proofs.Separators.{Reached, by-delimiter}
+use Rattle.grammar.proofs.CellReads.{Follows, cell-reads, after-whole, CellThen, cell-then}
+
+-- cell *( delimiter cell )
+pub data Cells (d : Dialect) : Bytes → List Bytes → Type 0 where
+  one-cell : {raw : Bytes} → Spells d Fresh raw → Cells d raw (raw ∷ [])
+  more-cells : {raw text : Bytes} {cells : List Bytes} → Spells d Fresh raw → Cells d text cells → Cells d (raw ++ (delimiterOf d ∷ text)) (raw ∷ cells)
+
+-- ---- they are read
+
+delimiter-step : {d : Dialect} → Doubles d → afterCell d true (delimiterOf d) ≡ To (Inside Fresh) (Between true)
+unfolding afterCell if_then_else_
+delimiter-step d-tdif = refl
+delimiter-step (d-plus {s}) = rw (same-byte (delimiterOf (CsvPlus s)))
+
+fresh-reached : {d : Dialect} → Doubles d → Reached d Fresh
+fresh-reached d-tdif = tt
+fresh-reached d-plus = tt
+
+module _ {d : Dialect} (k : Doubles d) where
+  delimiter-follows : {ys text : Bytes} {cells : List Bytes} {ls : List (Line Bytes)} → Reads d (Inside Fresh) ys (line text cells ∷ ls) → Follows d (delimiterOf d ∷ ys) (delimiterOf d ∷ text) cells ls
+  delimiter-follows m c r w = between-closing (after-whole d c (delimiterOf d) r w by-delimiter ∙ delimiter-step k) m
+
+  pub cells-read : {text ys : Bytes} {cells : List Bytes} {ls : List (Line Bytes)} → Cells d text cells → Follows d ys [] [] ls → Reads d (Inside Fresh) (text ++ ys) (line text cells ∷ ls)
+  cells-read {ys} {ls} (one-cell {raw} m) f =
+      let r : Reads d (Inside Fresh) (raw ++ ys) (line (raw ++ []) (raw ∷ []) ∷ ls) = cell-reads m (fresh-reached k) f in rw (append-nil raw) at r
+  cells-read {ys} {ls} (more-cells {raw} {text} m n) f =
+      rw (append-assoc raw (delimiterOf d ∷ text) ys) (cell-reads m (fresh-reached k) (delimiter-follows (cells-read n f)))
+
+-- ---- what is read is of this form
+
+module _ (d : Dialect) (Tail : Bytes → List (Line Bytes) → Type 0) where
+  -- a record from one of its cells on
+  pub data RecordThen : Bytes → Bytes → List Bytes → List (Line Bytes) → Type 0 where
+    record-then : {text ys : Bytes} {cells : List Bytes} {ls : List (Line Bytes)} → Cells d text cells → Tail ys ls → RecordThen (text ++ ys) text cells ls
+
+  -- a record from the end of one of its cells on
+  pub data After : Bytes → Bytes → List Bytes → List (Line Bytes) → Type 0 where
+    at-tail : {ys : Bytes} {ls : List (Line Bytes)} → Tail ys ls → After ys [] [] ls
+    at-delimiter :
+        {ys text : Bytes} {cells : List Bytes} {ls : List (Line Bytes)} → RecordThen ys text cells ls →
+        After (delimiterOf d ∷ ys) (delimiterOf d ∷ text) cells ls
+
+  pub record-of : {xs text : Bytes} {cells : List Bytes} {ls : List (Line Bytes)} → CellThen d After Fresh xs (line text cells ∷ ls) → RecordThen xs text cells ls
+  record-of (cell-then {raw} m (at-tail t)) = rw (append-nil raw) (record-then (one-cell m) t)
+  record-of (cell-then {raw} m (at-delimiter (record-then {text} {ys} n t))) =
+      rw (← (append-assoc raw (delimiterOf d ∷ text) ys)) (record-then (more-cells m n) t)

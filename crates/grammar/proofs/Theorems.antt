@@ -1,0 +1,59 @@
+-- The theorems of this crate, each by its type; the arguments stand in the files that they are taken from.
+use Prim.Native.Nat.{ℕ, _≤_}
+use mathlib.Core.Path.{_≡_}
+use mathlib.Core.Logic.{_↔_}
+use mathlib.Core.Bool.{true}
+use mathlib.Core.Option.{none, some}
+use mathlib.Core.List.{List}
+use Rattle.grammar.specs.Types.{Dialect, Whole}
+use Rattle.model.specs.declared.Judged.the-variants.{WholeCell}
+use Rattle.model.specs.Base.{Bytes}
+use Rattle.model.specs.Dialect.{dialectOf}
+use Rattle.model.specs.Utf8.{textFrom}
+use Rattle.model.specs.Decode.{judgeCell}
+use Rattle.model.specs.Report.{accepted}
+use Rattle.model.specs.Records.{Read, going, readFile, reportOf}
+use Rattle.model.specs.Api.{reader}
+use Rattle.grammar.specs.Rfc3629.{UTF8-octets}
+use Rattle.grammar.specs.Derived.{Derived, rawOf, Line, Each}
+use Rattle.grammar.specs.Derives.{DerivesCell, Derives}
+use Rattle.grammar.specs.Reading.{decoded, ReadByForm}
+use Rattle.grammar.specs.Accepted.{Acceptable, cellCount, ShowsRecord}
+use Rattle.grammar.proofs.Texts.{text-exact}
+use Rattle.grammar.proofs.CellGrammar.{cell-exact, derived-content}
+use Rattle.grammar.proofs.FileGrammar.{grammar-exact, unambiguous}
+use Rattle.grammar.proofs.Acceptance.{acceptance, accepted-records, reader-acceptance}
+
+-- a text of document 01's table is UTF8-octets of RFC 3629
+pub texts : (bs : Bytes) → UTF8-octets bs ↔ (textFrom Whole bs ≡ true)
+texts = text-exact
+
+-- the decoder finds a raw cell sound exactly when the grammar derives it
+pub cells : (d : Dialect) (raw : Bytes) → DerivesCell d (decoded d raw) ↔ (judgeCell d raw ≡ WholeCell)
+cells = cell-exact
+
+-- a derivation's kind and content, by its own rules, are the decoder's
+pub contents : (d : Dialect) (c : Derived) → DerivesCell d c → c ≡ decoded d (rawOf c)
+contents = derived-content
+
+-- the automaton reads a file by form with these records exactly when the grammar derives it with them
+pub files : (d : Dialect) (xs : Bytes) (ls : List (Line Derived)) → Derives d xs ls ↔ ReadByForm d xs ls
+files = grammar-exact
+
+-- a file has at most one list of records
+pub one-meaning : (d : Dialect) (xs : Bytes) (ls ms : List (Line Derived)) → Derives d xs ls → Derives d xs ms → ls ≡ ms
+one-meaning = unambiguous
+
+-- a file is accepted exactly when it is derived and the limits and the record checks hold
+pub accepted-exactly : (d : Dialect) (xs : Bytes) → (reportOf (readFile d none xs) ≡ accepted) ↔ ((ls : List (Line Derived)) × Acceptable d xs ls)
+accepted-exactly = acceptance
+
+-- the records that were read are then those of the derivation: kinds, contents, and stretches that are the raw cells
+pub same-records : (d : Dialect) (xs : Bytes) (ls : List (Line Derived)) → Derives d xs ls → (r : Read) → readFile d none xs ≡ going r → Each (ShowsRecord xs) (r .done) ls
+same-records = accepted-records
+
+-- the reader's call, by a dialect's number and with lists of this length
+pub reader-exactly :
+    (n : ℕ) (d : Dialect) (xs : Bytes) (room : ℕ) → dialectOf n ≡ some d →
+    (reader n xs room .report ≡ accepted) ↔ ((ls : List (Line Derived)) × Acceptable d xs ls × (cellCount ls ≤ room))
+reader-exactly = reader-acceptance

@@ -1,0 +1,62 @@
+-- What the reader asks of a file beside its form, in grammar words: the limits and the record checks of document 01 over a derivation's
+-- records; and what it is for the reader's records to be these.
+use Prim.Native.Nat.{ℕ, _+_, _≤_}
+use mathlib.Core.Path.{_≡_}
+use mathlib.Core.Logic.{_≢_}
+use mathlib.Core.List.{List, [], _∷_, _++_}
+use lib.ListN.{length}
+use Rattle.grammar.specs.Types.{Text, Dialect}
+use Rattle.model.specs.Base.{Bytes}
+use Rattle.model.specs.Text.{Value}
+use Rattle.model.specs.Report.{MAXFILE, MAXRECORD, MAXCOLUMNS}
+use Rattle.model.specs.Records.{Rec, nameKey}
+use Rattle.grammar.specs.Derived.{Derived, rawOf, kindIn, contentIn, Line, line, textIn, cellsIn, Every, Each}
+use Rattle.grammar.specs.Derives.{Derives}
+
+-- "Limits: 16,777,215 bytes a file, 64 columns, 4,096 bytes a record. CR and LF outside quotes, comments and the mark aren't counted in
+-- a record"
+pub record WithinLimits (xs : Bytes) (ls : List (Line Derived)) : Type 0 where
+  pub file : length xs ≤ MAXFILE
+  pub records : Every (λ l. length (textIn l) ≤ MAXRECORD) ls
+  pub columns : Every (λ l. length (cellsIn l) ≤ MAXCOLUMNS) ls
+
+-- no two names are the same. CSVJ, CSV+: "distinct by content". TDIF: "distinct without regard to case, that is with A to Z taken as a to
+-- z"
+pub data Distinct (d : Dialect) : List Derived → Type 0 where
+  no-names : Distinct d []
+  a-name :
+      {c : Derived} {cs : List Derived} → Every (λ x. nameKey d (contentIn x) ≢ nameKey d (contentIn c)) cs → Distinct d cs →
+      Distinct d (c ∷ cs)
+
+-- "Header cells are text, distinct"; "every data record has the header's number of cells"
+pub data ChecksHold (d : Dialect) : List (Line Derived) → Type 0 where
+  checks-hold :
+      {text : Bytes} {cells : List Derived} {ls : List (Line Derived)} → Every (λ c. kindIn c ≡ Text) cells → Distinct d cells →
+      Every (λ l. length (cellsIn l) ≡ length cells) ls → ChecksHold d (line text cells ∷ ls)
+
+-- derived with these records, within the limits and sound
+pub record Acceptable (d : Dialect) (xs : Bytes) (ls : List (Line Derived)) : Type 0 where
+  pub derived : Derives d xs ls
+  pub limits : WithinLimits xs ls
+  pub checks : ChecksHold d ls
+
+-- the cells of all records
+abbrev pub cellCount : List (Line Derived) → ℕ
+cellCount [] = 0
+cellCount (l ∷ ls) = length (cellsIn l) + cellCount ls
+
+-- ---- the reader's records are these
+
+-- a cell's kind and content, and its stretch in the file is its raw bytes
+pub record ShowsCell (file : Bytes) (v : Value) (c : Derived) : Type 0 where
+  pub kind : v .kind ≡ kindIn c
+  pub content : v .content ≡ contentIn c
+  pub before : Bytes
+  pub after : Bytes
+  pub place : file ≡ before ++ (rawOf c ++ after)
+  pub from : v .from ≡ length before
+  pub upto : v .upto ≡ length before + length (rawOf c)
+
+pub record ShowsRecord (file : Bytes) (r : Rec) (l : Line Derived) : Type 0 where
+  pub size : r .size ≡ length (textIn l)
+  pub cells : Each (ShowsCell file) (r .cells) (cellsIn l)
