@@ -1,3 +1,4 @@
 mod content;
 mod escape;
 mod first;
+mod judge;
