@@ -4,3 +4,4 @@ pub mod Writing
 pub mod Doubled
 pub mod FirstByte
 pub mod Judging
+pub mod Answers
