@@ -14,11 +14,11 @@ use Rattle.model.specs.declared.Judged.the-variants.{WholeCell, Unsound}
 use Rattle.model.specs.Base.{if_then_else_, Bytes, over}
 use Rattle.model.specs.Dialect.{dialectOf, standard}
 use Rattle.model.specs.Report.{report, refusal, numberOf}
-use Rattle.model.specs.Decode.{kindNumber, kindOf, contentOf, judgeCell}
+use Rattle.model.specs.Decode.{kindOf, contentOf, judgeCell}
 use Rattle.model.specs.Api as api
 use Rattle.decoder.specs.declared.Decoded.{Decoded}
 use Rattle.decoder.specs.declared.Decoded.the-variants.{Content, Refused}
-use Rattle.decoder.specs.Answer.{Shown, answerOf, shown, soundCell, anyCell}
+use Rattle.decoder.specs.Answer.{answerOf, shown, soundCell, anyCell}
 
 -- the answer r and a room that held old and holds new are what the definition answers
 abbrev pub Decodes : api.Decoded → Decoded → (old new : Bytes) → Type 0

@@ -50,3 +50,12 @@ content-first (CsvPlus s) (b ∷ bs) = in-choice (b is quoteOf (CsvPlus s)) (Dou
 pub first-none : (raw : Bytes) → length raw ≡ 0 → 0 ≡ getD raw 0 0
 first-none [] e = refl
 first-none (b ∷ bs) e = absurd (omega arith)
+
+-- a spelling after the dialect's own quote
+pub spelt-tdif : (d : Dialect) (q b : ℕ) (r : Spelling) → d ≡ Tdif → q ≡ quoteOf d → r ≡ (if b is q then Doubled q else Nothing) → r ≡ spellingBy d b
+unfolding spellingBy
+spelt-tdif d q b r e f h = rw e (rw (f, e) at h)
+
+pub spelt-plus : (d : Dialect) (s : Settings) (q b : ℕ) (r : Spelling) → d ≡ CsvPlus s → q ≡ quoteOf d → r ≡ (if b is q then Doubled q else AsItStands) → r ≡ spellingBy d b
+unfolding spellingBy
+spelt-plus d s q b r e f h = rw e (rw (f, e) at h)

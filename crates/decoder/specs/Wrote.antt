@@ -1,7 +1,7 @@
 -- What the writers leave in a lent room.
 use Prim.Native.Nat.{ℕ, _+_, _<_, _≤_}
 use mathlib.Core.Path.{_≡_}
-use mathlib.Core.List.{List, _++_}
+use mathlib.Core.List.{_++_}
 use lib.ListN.{length, take, drop}
 use Rattle.model.specs.Base.{Bytes}
 use Rattle.decoder.specs.Strings.{stringFrom}

@@ -1,13 +1,12 @@
 // What the first byte of a cell says: its kind, and how its content is spelt.
 ghost use mathlib.Core.Path.{_≡_};
 ghost use lib.ListN.{getD};
-ghost use Rattle.model.specs.Dialect.{quoteByte};
+ghost use Rattle.model.specs.Base.{if_then_else_, _is_};
 ghost use Rattle.decoder.specs.FirstByte.{kindBy, spellingBy};
-ghost use Rattle.model.specs.declared.Dialect.the-variants.{Csvj, Tdif, CsvPlus};
+ghost use Rattle.model.specs.declared.Dialect.the-variants.{Csvj, Tdif};
+ghost use Rattle.decoder.specs.declared.first.Spelling.the-variants.{Doubled};
 use model::Dialect;
 use model::Kind;
-use model::Quote;
-use model::Settings;
 
 // How the content of a cell is spelt.
 pub enum Spelling {
@@ -72,15 +71,6 @@ pub fn kind_by(d: Dialect, b: u8) -> Kind
 
 // ---- spellings
 
-fn quote_byte(q: Quote) -> u8
-    ensures { λ r. ⌜ r ≡ quoteByte q ⌝ }
-{
-    match q {
-        Quote::Double => 0x22,
-        Quote::Single => 0x27,
-    }
-}
-
 fn csvj_spelling(b: u8) -> Spelling
     ensures { λ r. ⌜ r ≡ spellingBy Csvj b ⌝ }
 {
@@ -99,32 +89,23 @@ fn csvj_spelling(b: u8) -> Spelling
     Spelling::AsItStands
 }
 
-fn tdif_spelling(b: u8) -> Spelling
-    ensures { λ r. ⌜ r ≡ spellingBy Tdif b ⌝ }
+// Doubled after a quote, and otherwise as the dialect has it.
+fn doubled_or(q: u8, b: u8, other: Spelling) -> Spelling
+    ensures { λ r. ⌜ r ≡ (if b is q then Doubled q else other) ⌝ }
 {
-    if b == 0x22 {
-        return Spelling::Doubled(0x22);
-    }
-    Spelling::Nothing
-}
-
-fn plus_spelling(s: Settings, b: u8) -> Spelling
-    ensures { λ r. ⌜ r ≡ spellingBy (CsvPlus s) b ⌝ }
-{
-    let quote = s.quote;
-    let q = quote_byte(quote);
     if b == q {
         return Spelling::Doubled(q);
     }
-    Spelling::AsItStands
+    other
 }
 
 pub fn spelling_by(d: Dialect, b: u8) -> Spelling
     ensures { λ r. ⌜ r ≡ spellingBy d b ⌝ }
 {
+    let q = lexer::cell::quote_of(d);
     match d {
         Dialect::Csvj => csvj_spelling(b),
-        Dialect::Tdif => tdif_spelling(b),
-        Dialect::CsvPlus(s) => plus_spelling(s, b),
+        Dialect::Tdif => doubled_or(q, b, Spelling::Nothing),
+        Dialect::CsvPlus(_) => doubled_or(q, b, Spelling::AsItStands),
     }
 }

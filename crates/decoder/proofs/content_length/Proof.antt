@@ -1,9 +1,8 @@
 -- `decoder::content_length` meets its contract: the first byte says how the content is spelt.
 -- Assumes nothing.
-use mathlib.Core.Path.{_≡_, refl, sym, ap, _∙_}
+use mathlib.Core.Path.{_≡_, ap, _∙_}
 use lib.ListN.{length}
 use borrow.Author.Needs.{needs}
-use Rattle.model.specs.Base.{Bytes, over}
 use Rattle.model.specs.Decode.{contentOf}
 use Rattle.decoder.specs.FirstByte.{spellingBy, contentIn}
 use Rattle.decoder.specs.declared.first.Spelling.{Spelling}

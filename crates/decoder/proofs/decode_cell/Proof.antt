@@ -1,6 +1,6 @@
 -- `decoder::decode_cell` meets its contract: the judgement decides, and a refusal names its fault.
 -- Assumes nothing.
-use mathlib.Core.Path.{_≡_, refl, sym, ap, _∙_}
+use mathlib.Core.Path.{sym, ap, _∙_}
 use Prim.Native.Nat.{ℕ}
 use borrow.Author.Needs.{needs}
 use Rattle.model.specs.Report.{report}

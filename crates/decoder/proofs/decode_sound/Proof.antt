@@ -1,6 +1,5 @@
 -- `decoder::decode_sound` meets its contract: content that fits is written, and other content is refused.
 -- Assumes nothing.
-use mathlib.Core.Path.{_≡_, refl, sym, ap, _∙_}
 use native.Mathlib.Omega.{arith}
 use borrow.Author.Needs.{needs}
 use Rattle.decoder.proofs.Answers.{too-long, fits}

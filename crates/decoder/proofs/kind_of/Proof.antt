@@ -1,8 +1,7 @@
 -- `decoder::kind_of` meets its contract: the first byte says the kind.
 -- Assumes nothing.
-use mathlib.Core.Path.{_≡_, refl, sym, ap, _∙_}
+use mathlib.Core.Path.{ap, _∙_}
 use borrow.Author.Needs.{needs}
-use Rattle.model.specs.declared.Kind.{Kind}
 use Rattle.decoder.specs.FirstByte.{kindBy}
 use Rattle.decoder.proofs.FirstByte.{kind-first}
 use Rattle.decoder.proofs.kind_of.Statement.{statement}

@@ -1,8 +1,6 @@
 -- `decoder::put_content` meets its contract: the first byte says how the content is spelt.
 -- Assumes nothing.
-use mathlib.Core.Path.{_≡_, refl, sym, ap, _∙_}
-use Prim.Native.Nat.{_≤_}
-use lib.ListN.{length}
+use mathlib.Core.Path.{_≡_, ap, _∙_}
 use borrow.Author.Needs.{needs}
 use Rattle.model.specs.Base.{Bytes, over}
 use Rattle.model.specs.Decode.{contentOf}

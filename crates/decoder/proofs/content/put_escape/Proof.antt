@@ -1,12 +1,10 @@
 -- `decoder::content::put_escape` meets its contract: the piece that stands there is written.
 -- Assumes nothing.
-use mathlib.Core.Path.{_≡_, ap, _∙_}
-use mathlib.Core.Path.{_≡_, sym, ap, _∙_}
+use mathlib.Core.Path.{sym}
 use native.Mathlib.Omega.{arith}
 use lib.ListN.{take}
 use borrow.Author.Needs.{needs}
 use Rattle.decoder.proofs.Strings.{goes-length, taken-whole}
-use Rattle.decoder.proofs.Strings.{goes-length}
 use Rattle.decoder.proofs.content.put_escape.Statement.{statement}
 use Rattle.decoder.proofs.content.put_escape.Tie as tie
 

@@ -1,6 +1,6 @@
 -- `decoder::content::put_in` meets its contract: each spelling has its writer.
 -- Assumes nothing.
-use mathlib.Core.Path.{_≡_, refl, _∙_}
+use mathlib.Core.Path.{_∙_}
 use native.Mathlib.Omega.{arith}
 use borrow.Author.Needs.{needs}
 use Rattle.decoder.specs.FirstByte.{contentIn}

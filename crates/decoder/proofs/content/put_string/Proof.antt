@@ -1,7 +1,7 @@
 -- `decoder::content::put_string` meets its contract. The invariant: what is still to be written is what the string says from the place on.
 -- Assumes nothing.
 use mathlib.Core.List.{_∷_}
-use Prim.Native.Nat.{ℕ, _+_, _-_}
+use Prim.Native.Nat.{_+_, _-_}
 use native.Mathlib.Omega.{arith}
 use lib.ListN.{length, getD}
 use Rattle.decoder.specs.Strings.{stringFrom}

@@ -1,13 +1,12 @@
 -- `decoder::content::put_undoubled` meets its contract. The invariant: what is still to be written is the text from the place on.
 -- Assumes nothing.
 use mathlib.Core.Bool.{false}
-use mathlib.Core.List.{[], _∷_}
+use mathlib.Core.List.{_∷_}
 use mathlib.Core.Logic.{⊎-elim}
-use mathlib.Core.Path.{_≡_, refl, sym, ap, _∙_}
-use Prim.Native.Nat.{ℕ, _+_, _-_, _<_, _≤_}
+use mathlib.Core.Path.{_≡_}
+use Prim.Native.Nat.{_+_, _-_, _<_, _≤_}
 use native.Mathlib.Omega.{arith}
 use lib.ListN.{length, drop, getD}
-use Rattle.model.specs.Base.{Bytes}
 use Rattle.model.specs.Decode.{undouble}
 use Rattle.decoder.proofs.Doubled.{at-end, at-other, at-double, at-close, at-last}
 use Rattle.decoder.proofs.Writing.{Writing, start, here, store, filled}

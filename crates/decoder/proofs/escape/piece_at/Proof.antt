@@ -1,7 +1,5 @@
 -- `decoder::escape::piece_at` meets its contract, by the bytes after the backslash.
 -- Assumes nothing.
-use mathlib.Core.List.{[], _∷_}
-use mathlib.Core.Path.{_≡_}
 use native.Mathlib.Omega.{arith}
 use borrow.Author.Needs.{needs}
 use Rattle.decoder.proofs.Strings.{goes-cut, goes-short, cut-backslash, cut-unit}

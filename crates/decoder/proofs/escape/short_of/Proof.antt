@@ -1,3 +1,5 @@
+-- `decoder::escape::short_of` meets its contract, by its tests.
+-- Assumes nothing.
 use Rattle.model.specs.Base.{if_then_else_}
 use Rattle.decoder.proofs.Tests.{tests}
 use Rattle.decoder.proofs.escape.short_of.Statement.{statement}

@@ -1,3 +1,5 @@
+-- `decoder::first::csvj_kind` meets its contract, by its tests.
+-- Assumes nothing.
 use Rattle.model.specs.Base.{if_then_else_}
 use Rattle.decoder.specs.FirstByte.{kindBy}
 use Rattle.decoder.proofs.Tests.{tests}

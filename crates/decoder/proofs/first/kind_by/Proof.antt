@@ -1,7 +1,9 @@
+-- `decoder::first::kind_by` meets its contract: each arm answers what the definition does for its dialect.
+-- Assumes nothing.
+use borrow.Author.Needs.{needs}
 use Rattle.model.specs.Base.{if_then_else_}
 use Rattle.decoder.specs.FirstByte.{kindBy}
 use Rattle.decoder.proofs.Tests.{tests}
-use borrow.Author.Needs.{needs}
 use Rattle.decoder.proofs.first.kind_by.Statement.{statement}
 use Rattle.decoder.proofs.first.kind_by.Tie as tie
 

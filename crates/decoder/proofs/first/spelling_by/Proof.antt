@@ -1,9 +1,12 @@
-use Rattle.model.specs.Base.{if_then_else_}
-use Rattle.decoder.specs.FirstByte.{spellingBy}
-use Rattle.decoder.proofs.Tests.{tests}
+-- `decoder::first::spelling_by` meets its contract: each arm answers what the definition does for its dialect.
+-- Assumes nothing.
 use borrow.Author.Needs.{needs}
+use Rattle.decoder.proofs.FirstByte.{spelt-tdif, spelt-plus}
 use Rattle.decoder.proofs.first.spelling_by.Statement.{statement}
 use Rattle.decoder.proofs.first.spelling_by.Tie as tie
+
+quote-of-requires : tie.Need-quote-of-requires
+quote-of-requires c κs = search needs
 
 enum-told : tie.Need-enum-told
 enum-told c = search needs
@@ -14,37 +17,35 @@ csvj-spelling-requires c κs = search needs
 enum-told-2 : tie.Need-enum-told-2
 enum-told-2 c = search needs
 
-tdif-spelling-requires : tie.Need-tdif-spelling-requires
-tdif-spelling-requires c κs = search needs
+doubled-or-requires : tie.Need-doubled-or-requires
+doubled-or-requires c κs = search needs
 
-enum-known-d : tie.Need-enum-known-d
-enum-known-d c = search needs
+enum-told-3 : tie.Need-enum-told-3
+enum-told-3 c = search needs
 
-plus-spelling-requires : tie.Need-plus-spelling-requires
-plus-spelling-requires c κs = search needs
+doubled-or-requires-2 : tie.Need-doubled-or-requires-2
+doubled-or-requires-2 c κs = search needs
 
 returns : tie.Need-returns
-unfolding spellingBy if_then_else_
-returns c = search (tests, c .before .enum-told .given .1)
+returns c = rw (c .before .enum-told .given .1) (c .csvj-spelling .ensures)
 
 returns-2 : tie.Need-returns-2
-unfolding spellingBy if_then_else_
-returns-2 c = search (tests, c .before .enum-told2 .given .1)
+returns-2 c = spelt-tdif (c .before .before .before .before .args .d) (c .before .before .before .quote-of .result) (c .before .before .before .before .args .b) _ (c .before .enum-told2 .given .1) (c .before .before .before .quote-of .ensures) (c .doubled-or .ensures)
 
 returns-3 : tie.Need-returns-3
-unfolding spellingBy if_then_else_
-returns-3 c = search (tests, c .before .before .d .given .1)
+returns-3 c = spelt-plus (c .before .before .before .before .args .d) _ (c .before .before .before .quote-of .result) (c .before .before .before .before .args .b) _ (c .before .enum-told3 .given .1) (c .before .before .before .quote-of .ensures) (c .doubled-or2 .ensures)
 
 pub spelling-by-spec : {M : Type 1} → statement M
 spelling-by-spec =
     tie.close
     (tie.spec
+    quote-of-requires
     enum-told
     csvj-spelling-requires
     enum-told-2
-    tdif-spelling-requires
-    enum-known-d
-    plus-spelling-requires
+    doubled-or-requires
+    enum-told-3
+    doubled-or-requires-2
     returns
     returns-2
     returns-3)

@@ -1,3 +1,5 @@
+-- `decoder::first::tdif_kind` meets its contract, by its test.
+-- Assumes nothing.
 use Rattle.model.specs.Base.{if_then_else_}
 use Rattle.decoder.specs.FirstByte.{kindBy}
 use Rattle.decoder.proofs.Tests.{tests}

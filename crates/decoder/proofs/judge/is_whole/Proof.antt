@@ -1,6 +1,8 @@
+-- `decoder::judge::is_whole` meets its contract: each arm answers what the definition does for its state.
+-- Assumes nothing.
+use borrow.Author.Needs.{needs}
 use Rattle.model.specs.Cell.{isWhole}
 use Rattle.decoder.proofs.Tests.{tests}
-use borrow.Author.Needs.{needs}
 use Rattle.decoder.proofs.judge.is_whole.Statement.{statement}
 use Rattle.decoder.proofs.judge.is_whole.Tie as tie
 

@@ -1,14 +1,12 @@
 -- `decoder::judge::judge_cell` meets its contract. The invariant: the judgement from here on is the judgement from the first byte.
 -- Assumes nothing.
-use mathlib.Core.Path.{_≡_, refl, sym, ap, _∙_}
+use mathlib.Core.Path.{_≡_, refl, sym, _∙_}
 use Prim.Native.Nat.{_-_, _≤_}
 use native.Mathlib.Omega.{arith}
 use lib.ListN.{length, drop}
 use borrow.Author.Needs.{needs}
 use Rattle.model.specs.Base.{if_then_else_}
 use Rattle.model.specs.Decode.{judgeFrom, judgeCell}
-use Rattle.model.specs.declared.Cell.the-variants.{Fresh}
-use Rattle.model.specs.declared.Judged.the-variants.{WholeCell, Unsound}
 use Rattle.decoder.proofs.Judging.{judge-more, judge-stop, judge-refuse, judge-end}
 use Rattle.decoder.proofs.judge.judge_cell.Statement.{statement}
 use Rattle.decoder.proofs.judge.judge_cell.Tie as tie

@@ -1,5 +1,7 @@
-use Rattle.model.specs.Report.{numberOf}
+-- `decoder::report::byte_number` meets its contract: each arm answers the table's number.
+-- Assumes nothing.
 use borrow.Author.Needs.{needs}
+use Rattle.model.specs.Report.{numberOf}
 use Rattle.decoder.proofs.report.byte_number.Statement.{statement}
 use Rattle.decoder.proofs.report.byte_number.Tie as tie
 

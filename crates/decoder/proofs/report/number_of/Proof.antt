@@ -1,5 +1,7 @@
-use Rattle.model.specs.Report.{numberOf}
+-- `decoder::report::number_of` meets its contract: each arm answers the table's number.
+-- Assumes nothing.
 use borrow.Author.Needs.{needs}
+use Rattle.model.specs.Report.{numberOf}
 use Rattle.decoder.proofs.report.number_of.Statement.{statement}
 use Rattle.decoder.proofs.report.number_of.Tie as tie
 
