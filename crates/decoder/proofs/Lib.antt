@@ -1,0 +1,7 @@
+pub mod Tests
+pub mod Strings
+pub mod Writing
+pub mod Doubled
+pub mod FirstByte
+pub mod Judging
+pub mod Answers

@@ -1,0 +1,59 @@
+-- `decoder::content::put_bytes` meets its contract. The invariant: what is still to be written is the rest of `src`.
+-- Assumes nothing.
+use mathlib.Core.Path.{refl}
+use Prim.Native.Nat.{_-_, _≤_}
+use native.Mathlib.Omega.{arith}
+use lib.ListN.{length, drop, drop-of-length-le}
+use Rattle.decoder.proofs.Strings.{drop-next}
+use Rattle.decoder.proofs.Writing.{Writing, start, here, store, done}
+use Rattle.decoder.proofs.content.put_bytes.Statement.{statement}
+use Rattle.decoder.proofs.content.put_bytes.Tie as tie
+
+abbrev Inv-loop : tie.InvT-loop
+Inv-loop out₀ at src i₀ o₀ out i o = (i ≤ length src) × Writing out₀ at src out o (drop i src)
+
+abbrev μ-loop : tie.MeasureT-loop
+μ-loop out₀ at src i₀ o₀ out i o = length src - i
+
+loop-holds : tie.Need-loop-holds Inv-loop μ-loop
+loop-holds c = (omega arith, start _ _ _ (c .pre))
+
+shared-slice-read-out : tie.Need-shared-slice-read-out Inv-loop μ-loop
+shared-slice-read-out c = omega arith
+
+slice-write-out : tie.Need-slice-write-out Inv-loop μ-loop
+slice-write-out c = here (rw (drop-next _ _ _ (c .before .loop-test .taken) refl) at (c .before .before .loop .inv .1))
+
+add-o : tie.Need-add-o Inv-loop μ-loop
+add-o c = omega (arith, here (rw (drop-next _ _ _ (c .before .loop-test .taken) refl) at (c .before .before .loop .inv .1)), c .before .before .loop .inv .1 .long)
+
+add-i : tie.Need-add-i Inv-loop μ-loop
+add-i c = omega arith
+
+loop-less : tie.Need-loop-less Inv-loop μ-loop
+loop-less c = omega arith
+
+loop-again : tie.Need-loop-again Inv-loop μ-loop
+loop-again c = (omega arith, store (rw (drop-next _ _ _ (c .before .loop-test .taken) refl) at (c .before .before .loop .inv .1)))
+
+same-length : tie.Need-same-length Inv-loop μ-loop
+same-length c = c .before .loop .inv .1 .long
+
+returns : tie.Need-returns Inv-loop μ-loop
+returns c = done (rw (drop-of-length-le _ (c .loop-test .left)) at (c .before .loop .inv .1))
+
+pub put-bytes-spec : {M : Type 1} → statement M
+put-bytes-spec =
+    tie.close
+    (tie.spec
+    Inv-loop
+    μ-loop
+    loop-holds
+    shared-slice-read-out
+    slice-write-out
+    add-o
+    add-i
+    loop-less
+    loop-again
+    same-length
+    returns)

@@ -1,0 +1,87 @@
+-- `decoder::content::put_string` meets its contract. The invariant: what is still to be written is what the string says from the place on.
+-- Assumes nothing.
+use mathlib.Core.List.{_∷_}
+use Prim.Native.Nat.{_+_, _-_}
+use native.Mathlib.Omega.{arith}
+use lib.ListN.{length, getD}
+use Rattle.decoder.specs.Strings.{stringFrom}
+use Rattle.decoder.proofs.Strings.{string-end, string-quote, string-byte}
+use Rattle.decoder.proofs.Writing.{Writing, start, here, store, turned, room-left, filled}
+use Rattle.decoder.proofs.content.put_string.Statement.{statement}
+use Rattle.decoder.proofs.content.put_string.Tie as tie
+
+abbrev Inv-loop : tie.InvT-loop
+Inv-loop raw out₀ i₀ o₀ out i o = Writing out₀ 0 (stringFrom raw 1) out o (stringFrom raw i)
+
+abbrev μ-loop : tie.MeasureT-loop
+μ-loop raw out₀ i₀ o₀ out i o = length raw - i
+
+loop-holds : tie.Need-loop-holds Inv-loop μ-loop
+loop-holds c = start _ _ _ (omega (arith, c .before .before .pre))
+
+shared-slice-read-b : tie.Need-shared-slice-read-b Inv-loop μ-loop
+shared-slice-read-b c = omega arith
+
+same-length : tie.Need-same-length Inv-loop μ-loop
+same-length c = c .before .before .before .loop .inv .long
+
+returns : tie.Need-returns Inv-loop μ-loop
+returns c = filled (rw (string-quote (c .before .before .before .before .before .before .args .raw .now) (c .before .before .before .loop .i) (c .before .before .loop-test .taken) (c .if1 .taken)) at (c .before .before .before .loop .inv))
+
+put-escape-requires : tie.Need-put-escape-requires Inv-loop μ-loop
+put-escape-requires c κs = ((omega arith, c .before .if2 .taken), omega (arith, room-left (c .before .before .before .before .before .loop .inv)))
+
+loop-less : tie.Need-loop-less Inv-loop μ-loop
+loop-less c = omega (arith, c .before .before .put-escape .ensures .on)
+
+loop-again : tie.Need-loop-again Inv-loop μ-loop
+loop-again c = turned _ _ (c .before .before .before .before .before .before .before .before .loop .inv) (c .before .before .put-escape .ensures)
+
+-- a byte that stands for itself comes next
+now-left : (c : tie.Else2 Inv-loop μ-loop)
+    → let raw = c .before .before .before .before .before .before .before .args .raw .now in
+    let l = c .before .before .before .before .loop in
+    Writing (c .before .before .before .before .before .before .before .args .out .now) 0 (stringFrom raw 1) (l .out) (l .o) (getD raw (l .i) 0 ∷ stringFrom raw (l .i + 1))
+now-left c = rw (string-byte (c .before .before .before .before .before .before .before .args .raw .now) (c .before .before .before .before .loop .i) (c .before .before .before .loop-test .taken) (c .before .if1 .left) (c .if2 .left)) at (c .before .before .before .before .loop .inv)
+
+slice-write-out : tie.Need-slice-write-out Inv-loop μ-loop
+slice-write-out c = here (now-left c)
+
+add-o : tie.Need-add-o Inv-loop μ-loop
+add-o c = omega (arith, here (now-left c), now-left c .long)
+
+add-i : tie.Need-add-i Inv-loop μ-loop
+add-i c = omega arith
+
+loop-less-2 : tie.Need-loop-less-2 Inv-loop μ-loop
+loop-less-2 c = omega arith
+
+loop-again-2 : tie.Need-loop-again-2 Inv-loop μ-loop
+loop-again-2 c = store (now-left c)
+
+same-length-2 : tie.Need-same-length-2 Inv-loop μ-loop
+same-length-2 c = c .before .loop .inv .long
+
+returns-2 : tie.Need-returns-2 Inv-loop μ-loop
+returns-2 c = filled (rw (string-end (c .before .before .before .before .args .raw .now) (c .before .loop .i) (c .loop-test .left)) at (c .before .loop .inv))
+
+pub put-string-spec : {M : Type 1} → statement M
+put-string-spec =
+    tie.close
+    (tie.spec
+    Inv-loop
+    μ-loop
+    loop-holds
+    shared-slice-read-b
+    same-length
+    returns
+    put-escape-requires
+    loop-less
+    loop-again
+    slice-write-out
+    add-o
+    add-i
+    loop-less-2
+    loop-again-2
+    same-length-2
+    returns-2)

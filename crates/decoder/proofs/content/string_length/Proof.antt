@@ -1,0 +1,71 @@
+-- `decoder::content::string_length` meets its contract. The invariant: the count with what the rest says is what the whole says.
+-- Assumes nothing.
+use mathlib.Core.Path.{_≡_, ap}
+use Prim.Native.Nat.{_+_, _-_, _<_}
+use native.Mathlib.Omega.{arith}
+use lib.ListN.{length}
+use Rattle.decoder.specs.Strings.{stringFrom}
+use Rattle.decoder.proofs.Strings.{goes-length, string-end, string-quote, string-byte}
+use Rattle.decoder.proofs.content.string_length.Statement.{statement}
+use Rattle.decoder.proofs.content.string_length.Tie as tie
+
+abbrev Inv-loop : tie.InvT-loop
+Inv-loop raw i₀ n₀ i n = (n < i) × (n + length (stringFrom raw i) ≡ length (stringFrom raw 1))
+
+abbrev μ-loop : tie.MeasureT-loop
+μ-loop raw i₀ n₀ i n = length raw - i
+
+loop-holds : tie.Need-loop-holds Inv-loop μ-loop
+loop-holds c = (omega arith, omega arith)
+
+shared-slice-read-b : tie.Need-shared-slice-read-b Inv-loop μ-loop
+shared-slice-read-b c = omega arith
+
+returns : tie.Need-returns Inv-loop μ-loop
+returns c = omega (arith, ap length (string-quote (c .before .before .before .before .before .args .raw .now) (c .before .before .before .loop .i) (c .before .before .loop-test .taken) (c .if1 .taken)))
+
+piece-at-requires : tie.Need-piece-at-requires Inv-loop μ-loop
+piece-at-requires c κs = (omega arith, c .if2 .taken)
+
+add-n : tie.Need-add-n Inv-loop μ-loop
+add-n c = omega (arith, c .before .piece-at .ensures .on, c .before .piece-at .ensures .inside)
+
+loop-less : tie.Need-loop-less Inv-loop μ-loop
+loop-less c = omega (arith, c .before .piece-at .ensures .on)
+
+loop-again : tie.Need-loop-again Inv-loop μ-loop
+loop-again c = (omega (arith, c .before .piece-at .ensures .on), omega (arith, goes-length (c .before .piece-at .ensures)))
+
+add-n-2 : tie.Need-add-n-2 Inv-loop μ-loop
+add-n-2 c = omega arith
+
+add-i : tie.Need-add-i Inv-loop μ-loop
+add-i c = omega arith
+
+loop-less-2 : tie.Need-loop-less-2 Inv-loop μ-loop
+loop-less-2 c = omega arith
+
+loop-again-2 : tie.Need-loop-again-2 Inv-loop μ-loop
+loop-again-2 c = (omega arith, omega (arith, ap length (string-byte (c .before .before .before .before .before .before .args .raw .now) (c .before .before .before .before .loop .i) (c .before .before .before .loop-test .taken) (c .before .if1 .left) (c .if2 .left))))
+
+returns-2 : tie.Need-returns-2 Inv-loop μ-loop
+returns-2 c = omega (arith, ap length (string-end (c .before .before .before .args .raw .now) (c .before .loop .i) (c .loop-test .left)))
+
+pub string-length-spec : {M : Type 1} → statement M
+string-length-spec =
+    tie.close
+    (tie.spec
+    Inv-loop
+    μ-loop
+    loop-holds
+    shared-slice-read-b
+    returns
+    piece-at-requires
+    add-n
+    loop-less
+    loop-again
+    add-n-2
+    add-i
+    loop-less-2
+    loop-again-2
+    returns-2)

@@ -1,0 +1,34 @@
+-- `decoder::content_length` meets its contract: the first byte says how the content is spelt.
+-- Assumes nothing.
+use mathlib.Core.Path.{_≡_, ap, _∙_}
+use lib.ListN.{length}
+use borrow.Author.Needs.{needs}
+use Rattle.model.specs.Decode.{contentOf}
+use Rattle.decoder.specs.FirstByte.{spellingBy, contentIn}
+use Rattle.decoder.specs.declared.first.Spelling.{Spelling}
+use Rattle.decoder.proofs.FirstByte.{content-first}
+use Rattle.decoder.proofs.content_length.Statement.{statement}
+use Rattle.decoder.proofs.content_length.Tie as tie
+
+first-of-requires : tie.Need-first-of-requires
+first-of-requires c κs = search needs
+
+spelling-by-requires : tie.Need-spelling-by-requires
+spelling-by-requires c κs = search needs
+
+-- the spelling that was told is that of the cell
+spelt : (c : tie.After-spelling-by)
+    → contentIn (c .spelling-by .result) (c .before .before .before .args .raw .now) ≡ contentOf (c .before .before .before .args .d) (c .before .before .before .args .raw .now)
+spelt c =
+    let raw = c .before .before .before .args .raw .now in
+    ap (λ (s : Spelling). contentIn s raw) (c .spelling-by .ensures ∙ ap (spellingBy (c .before .before .before .args .d)) (c .before .first-of .ensures)) ∙ content-first (c .before .before .before .args .d) raw
+
+length-in-requires : tie.Need-length-in-requires
+length-in-requires c κs = search needs
+
+returns : tie.Need-returns
+returns c = c .length-in .ensures ∙ ap length (spelt (c .before))
+
+pub content-length-spec : {M : Type 1} → statement M
+content-length-spec =
+    tie.close (tie.spec first-of-requires spelling-by-requires length-in-requires returns)

@@ -1,0 +1,74 @@
+-- `decoder::escape::low_at` meets its contract: each test that fails leaves nothing that joins, and the last leaves the surrogate.
+-- Assumes nothing.
+use native.Mathlib.Omega.{arith}
+use borrow.Author.Needs.{needs}
+use Rattle.decoder.specs.Strings.{UnitThere}
+use Rattle.decoder.proofs.Strings.{low-cut, low-other, low-short, low-below, low-above, low-there}
+use Rattle.decoder.proofs.escape.low_at.Statement.{statement}
+use Rattle.decoder.proofs.escape.low_at.Tie as tie
+
+sub-if1 : tie.Need-sub-if1
+sub-if1 c = search needs
+
+returns : tie.Need-returns
+returns c = low-cut (c .before .before .args .raw .now) (c .before .before .args .i) (c .if1 .taken)
+
+shared-slice-read-if2 : tie.Need-shared-slice-read-if2
+shared-slice-read-if2 c = search needs
+
+returns-2 : tie.Need-returns-2
+returns-2 c = low-other (c .before .before .before .before .args .raw .now) (c .before .before .before .before .args .i) (omega arith) (c .if2 .taken)
+
+add-if3 : tie.Need-add-if3
+add-if3 c = search needs
+
+shared-slice-read-if3 : tie.Need-shared-slice-read-if3
+shared-slice-read-if3 c = search needs
+
+returns-3 : tie.Need-returns-3
+returns-3 c = low-short (c .before .before .before .before .before .before .args .raw .now) (c .before .before .before .before .before .before .args .i) (omega arith) (c .before .before .if2 .left) (c .if3 .taken)
+
+add-unit-at : tie.Need-add-unit-at
+add-unit-at c = search needs
+
+unit-at-requires : tie.Need-unit-at-requires
+unit-at-requires c κs = search needs
+
+-- a \u escape stands there
+there : (c : tie.After-unit-at) → UnitThere (c .before .before .before .before .before .before .before .args .raw .now) (c .before .before .before .before .before .before .before .args .i)
+there c = record { inside = omega arith; backslash = c .before .before .before .if2 .left; letter = c .before .if3 .left }
+
+returns-4 : tie.Need-returns-4
+returns-4 c =
+    let raw = c .before .before .before .before .before .before .before .before .args .raw .now in
+    let i = c .before .before .before .before .before .before .before .before .args .i in
+    low-below raw i (there (c .before)) (omega (arith, c .before .unit-at .ensures .0))
+
+returns-5 : tie.Need-returns-5
+returns-5 c =
+    let raw = c .before .before .before .before .before .before .before .before .before .args .raw .now in
+    let i = c .before .before .before .before .before .before .before .before .before .args .i in
+    low-above raw i (there (c .before .before)) (omega (arith, c .before .before .unit-at .ensures .0))
+
+returns-6 : tie.Need-returns-6
+returns-6 c =
+    let raw = c .before .before .before .before .before .before .before .before .before .args .raw .now in
+    let i = c .before .before .before .before .before .before .before .before .before .args .i in
+    low-there raw i (c .before .before .unit-at .result) (there (c .before .before)) (c .before .before .unit-at .ensures .0) (c .before .if4 .left) (c .if5 .left)
+
+pub low-at-spec : {M : Type 1} → statement M
+low-at-spec =
+    tie.close
+    (tie.spec
+    sub-if1
+    returns
+    shared-slice-read-if2
+    returns-2
+    add-if3
+    shared-slice-read-if3
+    returns-3
+    add-unit-at
+    unit-at-requires
+    returns-4
+    returns-5
+    returns-6)

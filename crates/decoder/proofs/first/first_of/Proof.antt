@@ -1,0 +1,18 @@
+-- `decoder::first::first_of` meets its contract.
+-- Assumes nothing.
+use borrow.Author.Needs.{needs}
+use Rattle.decoder.proofs.FirstByte.{first-none}
+use Rattle.decoder.proofs.first.first_of.Statement.{statement}
+use Rattle.decoder.proofs.first.first_of.Tie as tie
+
+returns : tie.Need-returns
+returns c = first-none (c .before .args .raw .now) (c .if1 .taken)
+
+shared-slice-read-result : tie.Need-shared-slice-read-result
+shared-slice-read-result c = search needs
+
+returns-2 : tie.Need-returns-2
+returns-2 c = search needs
+
+pub first-of-spec : {M : Type 1} → statement M
+first-of-spec = tie.close (tie.spec returns shared-slice-read-result returns-2)

@@ -1,0 +1,4 @@
+pub mod Strings
+pub mod Wrote
+pub mod FirstByte
+pub mod Answer

@@ -1,0 +1,20 @@
+-- What the writers leave in a lent room.
+use Prim.Native.Nat.{ℕ, _+_, _<_, _≤_}
+use mathlib.Core.Path.{_≡_}
+use mathlib.Core.List.{_++_}
+use lib.ListN.{length, take, drop}
+use Rattle.model.specs.Base.{Bytes}
+use Rattle.decoder.specs.Strings.{stringFrom}
+
+-- old with w over it from place at
+abbrev pub written : Bytes → ℕ → Bytes → Bytes
+written old at w = take at old ++ (w ++ drop (at + length w) old)
+
+-- a part w of the string was read from i to `read` and written from o to `write`, over old
+pub record Turned (raw : Bytes) (i : ℕ) (old : Bytes) (o : ℕ) (new : Bytes) (read write : ℕ) : Type 0 where
+  pub w : Bytes
+  pub stands : stringFrom raw i ≡ w ++ stringFrom raw read
+  pub on : i < read
+  pub inside : read ≤ length raw
+  pub place : write ≡ o + length w
+  pub text : new ≡ written old o w
