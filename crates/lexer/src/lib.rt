@@ -5,4 +5,5 @@
 // with a step called from ten places reading ran at a quarter of the speed.
 pub mod cell;
 pub mod form;
+pub mod run;
 mod value;

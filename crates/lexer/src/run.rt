@@ -1,0 +1,111 @@
+// Runs of ordinary bytes, and the rest of a cell by its step and by runs.
+use crate::cell;
+use model::Added;
+use model::ByteFault;
+use model::Cell;
+use model::Char;
+use model::Dialect;
+ghost use mathlib.Core.Path.{_≡_};
+ghost use Prim.Native.Nat.{_+_, _≤_};
+ghost use lib.ListN.{length};
+ghost use Rattle.lexer.specs.Run.{part, leading, textStop, runStop, runLength, cellRun};
+
+// How far a run of ordinary bytes goes from `at`, at most to `stop`. The run ends at a byte outside 20 to 7E hex, at `p` and at `q`.
+fn run(s: &[u8], at: usize, stop: usize, p: u8, q: u8) -> usize
+    requires { ⌜ (at ≤ stop) × (stop ≤ length (now s)) ⌝ }
+    ensures { λ r. ⌜ r ≡ at + leading p q (part (now (s .entry)) at stop) ⌝ }
+{
+    let mut i = at;
+    while i < stop {
+        let b = s[i];
+        if b < 0x20 {
+            return i;
+        }
+        if 0x7E < b {
+            return i;
+        }
+        if b == p {
+            return i;
+        }
+        if b == q {
+            return i;
+        }
+        i += 1;
+    }
+    i
+}
+
+// Where the rest of a cell ends.
+pub enum CellEnd {
+    // The byte at this place does not belong to the cell, which is whole without it.
+    Stopped(Cell, usize),
+    Refused(ByteFault, usize),
+    // The bytes ended before the cell did.
+    Open(Cell),
+}
+
+// The byte beside the quote at which a run ends in this cell, where ordinary bytes leave the cell as it is.
+pub enum RunStop {
+    At(u8),
+    NoRun,
+}
+
+fn text_stop(t: Char, q: u8) -> RunStop
+    ensures { λ r. ⌜ r ≡ textStop t q ⌝ }
+{
+    match t {
+        Char::Whole => RunStop::At(q),
+        Char::Within(_) => RunStop::NoRun,
+    }
+}
+
+fn run_stop(d: Dialect, c: Cell) -> RunStop
+    ensures { λ r. ⌜ r ≡ runStop d c ⌝ }
+{
+    match c {
+        Cell::Fresh => RunStop::NoRun,
+        Cell::Quoted(t) => text_stop(t, 0x5C),
+        Cell::Closed => RunStop::NoRun,
+        Cell::Escape => RunStop::NoRun,
+        Cell::Hex(_) => RunStop::NoRun,
+        Cell::InNumber(_) => RunStop::NoRun,
+        Cell::InWord(_) => RunStop::NoRun,
+        Cell::Plain(t) => text_stop(t, cell::delimiter_of(d)),
+        Cell::Complete => RunStop::NoRun,
+    }
+}
+
+// How far the cell's ordinary bytes go from `at`, at most to `stop`.
+fn run_on(d: Dialect, c: Cell, s: &[u8], at: usize, stop: usize) -> usize
+    requires { ⌜ (at ≤ stop) × (stop ≤ length (now s)) ⌝ }
+    ensures { λ r. ⌜ r ≡ at + runLength d (runStop d c) (part (now (s .entry)) at stop) ⌝ }
+{
+    match run_stop(d, c) {
+        RunStop::At(q) => run(s, at, stop, cell::quote_of(d), q),
+        RunStop::NoRun => at,
+    }
+}
+
+// The rest of a cell from `from`, at most to `stop`.
+pub fn cell_end(d: Dialect, c0: Cell, s: &[u8], from: usize, stop: usize) -> CellEnd
+    requires { ⌜ (from ≤ stop) × (stop ≤ length (now s)) ⌝ }
+    ensures { λ r. ⌜ r ≡ cellRun d c0 from (part (now (s .entry)) from stop) ⌝ }
+{
+    let mut c = c0;
+    let mut i = from;
+    while i < stop {
+        match cell::cell_step(d, c, s[i]) {
+            Added::More(next) => {
+                c = next;
+            }
+            Added::Stop => {
+                return CellEnd::Stopped(c, i);
+            }
+            Added::Refuse(e) => {
+                return CellEnd::Refused(e, i);
+            }
+        }
+        i = run_on(d, c, s, i + 1, stop);
+    }
+    CellEnd::Open(c)
+}
