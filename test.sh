@@ -1,5 +1,6 @@
 #!/usr/bin/env bash
-# Passes the tests: the Rust tests, the layout of the Rattle files, the vectors computed by the definitions, and the proofs.
+# Passes the tests: the proved library built for Rust to call, the Rust tests, the layout of the Rattle files, the vectors
+# computed by the definitions, and the proofs.
 # Stops at the first failure. The last line is the verdict of `rt ci`.
 set -euo pipefail
 cd "$(dirname "$0")"
@@ -10,6 +11,10 @@ part() {
   printf '== %s\n' "$name"
   "$@"
   printf '== %s: %d s\n' "$name" $((SECONDS - began))
+}
+
+library() {
+  rt staticlib tables
 }
 
 rust_tests() {
@@ -32,6 +37,7 @@ proofs() {
   rt ci 2>&1 | tee "$verdict"
 }
 
+part 'library' library
 part 'Rust tests' rust_tests
 part 'layout' layout
 part 'vectors computed by the definitions' vectors_by_definitions

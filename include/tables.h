@@ -1,0 +1,21 @@
+/* The proved library, as C sees it. Link target/staticlib/libtables.a, which `rt staticlib tables` makes. */
+#ifndef TABLES_H
+#define TABLES_H
+
+#include <stddef.h>
+#include <stdint.h>
+
+/* A report (number, record, column, offset: docs/RULES.md), and the content's length and kind, which are 0 on refusal. */
+struct tables_decode_answer {
+    size_t number;
+    size_t record_number;
+    size_t column;
+    size_t offset;
+    size_t length;
+    size_t kind;
+};
+
+/* The raw bytes of one cell to its content, in `room`. Past the content, and on refusal, the room is left as it was. */
+struct tables_decode_answer tables_decode(uint32_t dialect, const uint8_t *raw, size_t raw_length, uint8_t *room, size_t room_length);
+
+#endif
