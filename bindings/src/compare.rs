@@ -4,13 +4,8 @@ use crate::{decode, DecodeAnswer};
 use harness::generate::{mutate, sample};
 use harness::rng::Rng;
 use harness::whole::read_whole;
-use reference::{Decoded, Dialect, Report};
-
-const DIALECTS: [(u32, Dialect); 3] = [
-    (1, Dialect::Csvj),
-    (2, Dialect::Tdif),
-    (3, Dialect::CsvPlus),
-];
+use harness::DIALECTS;
+use reference::{Decoded, Report};
 
 fn refused(report: Report) -> DecodeAnswer {
     DecodeAnswer {

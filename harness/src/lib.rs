@@ -11,7 +11,15 @@ pub mod sampled;
 pub mod vectors;
 pub mod whole;
 
+use reference::Dialect;
 use std::path::{Path, PathBuf};
+
+/// The dialects with their numbers.
+pub const DIALECTS: [(u32, Dialect); 3] = [
+    (1, Dialect::Csvj),
+    (2, Dialect::Tdif),
+    (3, Dialect::CsvPlus),
+];
 
 /// The folder of the vectors.
 pub fn vectors_folder() -> PathBuf {

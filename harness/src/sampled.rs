@@ -5,14 +5,9 @@ use crate::ledger::{self, Session};
 use crate::rng::Rng;
 use crate::vectors::{Bytes, Call, Case, Fault, PieceCall, TableShape};
 use crate::whole::{convert_whole, decode_whole, read_whole};
+use crate::DIALECTS;
 use reference::limits::PIECE_ROOM;
 use reference::{Dialect, Report};
-
-const DIALECTS: [(u32, Dialect); 3] = [
-    (1, Dialect::Csvj),
-    (2, Dialect::Tdif),
-    (3, Dialect::CsvPlus),
-];
 
 /// Longer files say little more and take the prover long.
 const LONGEST: usize = 400;

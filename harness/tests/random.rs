@@ -4,15 +4,10 @@ use harness::generate::{mutate, sample};
 use harness::ledger::{check_calls, Call};
 use harness::rng::Rng;
 use harness::whole::{cells_of, convert_whole, decode_whole, read_whole, write_whole, Cell};
+use harness::DIALECTS;
 use reference::limits::{PIECE_BYTES, PIECE_ROOM, RECORD_BYTES};
-use reference::{Dialect, Report};
+use reference::Report;
 use std::collections::BTreeSet;
-
-const DIALECTS: [(u32, Dialect); 3] = [
-    (1, Dialect::Csvj),
-    (2, Dialect::Tdif),
-    (3, Dialect::CsvPlus),
-];
 
 /// How often each report number came up in each dialect.
 #[derive(Default)]
