@@ -1,34 +1,56 @@
--- The judgement by place: what it says from a place on, by what the byte there does to the cell.
+-- The judgement by how the automaton of a cell ends: it is the same run, and only what is said of its end differs.
 -- Assumes nothing.
-use mathlib.Core.Path.{_≡_, refl}
-use Prim.Native.Nat.{ℕ, _+_, _<_, _≤_}
-use native.Mathlib.Numerals.{add-one}
-use lib.ListN.{length, drop, getD, drop-of-length-le}
+use mathlib.Core.Path.{_≡_, refl, sym, ap, _∙_}
+use mathlib.Core.List.{[], _∷_}
+use Prim.Native.Nat.{ℕ, suc, _+_, _-_}
+use native.Mathlib.Omega.{arith}
+use lib.ListN.{length}
+use lib.Seq.{take-all}
 use Rattle.model.specs.declared.Dialect.{Dialect}
 use Rattle.model.specs.declared.Cell.{Cell}
-use Rattle.model.specs.declared.ByteFault.{ByteFault}
+use Rattle.model.specs.declared.Cell.the-variants.{Fresh}
 use Rattle.model.specs.declared.ByteFault.the-variants.{Syntax}
+use Rattle.model.specs.declared.Added.{Added}
 use Rattle.model.specs.declared.Added.the-variants.{More, Stop, Refuse}
 use Rattle.model.specs.declared.Fault.the-variants.{Byte, CutShort}
+use Rattle.model.specs.declared.Judged.{Judged}
 use Rattle.model.specs.declared.Judged.the-variants.{WholeCell, Unsound}
 use Rattle.model.specs.Base.{if_then_else_, Bytes}
 use Rattle.model.specs.Cell.{cellStep, isWhole}
-use Rattle.model.specs.Decode.{judgeFrom}
-use Rattle.decoder.proofs.Strings.{drop-next}
+use Rattle.model.specs.Decode.{judgeFrom, judgeCell}
+use Rattle.lexer.specs.declared.run.CellEnd.{CellEnd}
+use Rattle.lexer.specs.declared.run.CellEnd.the-variants.{Stopped, Refused, Open}
+use Rattle.lexer.specs.Run.{part, cellRun}
 
-module _ (d : Dialect) (c : Cell) (raw : Bytes) (i : ℕ) where
-  pub judge-more : (c′ : Cell) → i < length raw → cellStep d c (getD raw i 0) ≡ More c′ → judgeFrom d c i (drop i raw) ≡ judgeFrom d c′ (i + 1) (drop (i + 1) raw)
-  unfolding judgeFrom
-  judge-more c′ h e = rw (drop-next raw i (i + 1) h refl, add-one i) (rw (e, judgeFrom))
+-- what is said of an end, in a cell of n bytes
+abbrev pub judgedBy : Dialect → (n : ℕ) → CellEnd → Judged
+judgedBy d n (Stopped c i) = Unsound (Byte Syntax) i
+judgedBy d n (Refused e i) = Unsound (Byte e) i
+judgedBy d n (Open c) = if isWhole d c then WholeCell else Unsound CutShort n
 
-  pub judge-stop : i < length raw → cellStep d c (getD raw i 0) ≡ Stop → judgeFrom d c i (drop i raw) ≡ Unsound (Byte Syntax) i
-  unfolding judgeFrom
-  judge-stop h e = rw (drop-next raw i (i + 1) h refl) (rw (e, judgeFrom))
+run-judged : (d : Dialect) (c : Cell) (i : ℕ) (bs : Bytes) (n : ℕ) → n ≡ i + length bs → judgeFrom d c i bs ≡ judgedBy d n (cellRun d c i bs)
+unfolding judgeFrom cellRun
+run-judged d c i [] n e = let last : n ≡ i = e ∙ omega arith in rw last
+run-judged d c i (b ∷ bs) n e = go (cellStep d c b) refl (λ c′. run-judged d c′ (suc i) bs n (omega arith))
+  where
+    go : (a : Added) → cellStep d c b ≡ a → ((c′ : Cell) → judgeFrom d c′ (suc i) bs ≡ judgedBy d n (cellRun d c′ (suc i) bs))
+        → judgeFrom d c i (b ∷ bs) ≡ judgedBy d n (cellRun d c i (b ∷ bs))
+    go (More c′) x next =
+        let j : judgeFrom d c i (b ∷ bs) ≡ judgeFrom d c′ (suc i) bs = rw (x, judgeFrom) in
+        let r : cellRun d c i (b ∷ bs) ≡ cellRun d c′ (suc i) bs = rw (x, cellRun) in
+        j ∙ next c′ ∙ ap (judgedBy d n) (sym r)
+    go Stop x next =
+        let j : judgeFrom d c i (b ∷ bs) ≡ Unsound (Byte Syntax) i = rw (x, judgeFrom) in
+        let r : cellRun d c i (b ∷ bs) ≡ Stopped c i = rw (x, cellRun) in
+        j ∙ ap (judgedBy d n) (sym r)
+    go (Refuse f) x next =
+        let j : judgeFrom d c i (b ∷ bs) ≡ Unsound (Byte f) i = rw (x, judgeFrom) in
+        let r : cellRun d c i (b ∷ bs) ≡ Refused f i = rw (x, cellRun) in
+        j ∙ ap (judgedBy d n) (sym r)
 
-  pub judge-refuse : (f : ByteFault) → i < length raw → cellStep d c (getD raw i 0) ≡ Refuse f → judgeFrom d c i (drop i raw) ≡ Unsound (Byte f) i
-  unfolding judgeFrom
-  judge-refuse f h e = rw (drop-next raw i (i + 1) h refl) (rw (e, judgeFrom))
-
-  pub judge-end : length raw ≤ i → judgeFrom d c i (drop i raw) ≡ (if isWhole d c then WholeCell else Unsound CutShort i)
-  unfolding judgeFrom
-  judge-end h = rw (drop-of-length-le raw h)
+-- the judgement of a cell is that of its whole run
+pub judged : (d : Dialect) (raw : Bytes) (r : CellEnd) → r ≡ cellRun d Fresh 0 (part raw 0 (length raw)) → judgeCell d raw ≡ judgedBy d (length raw) r
+unfolding judgeCell
+judged d raw r e =
+    let whole : part raw 0 (length raw) ≡ raw = take-all (length raw - 0) raw (omega arith) in
+    run-judged d Fresh 0 raw (length raw) (omega arith) ∙ ap (judgedBy d (length raw)) (ap (cellRun d Fresh 0) (sym whole) ∙ sym e)

@@ -2,7 +2,8 @@
 ghost use mathlib.Core.Path.{_≡_};
 ghost use Rattle.model.specs.Cell.{betweenCharacters, mayBeEmpty, isNumeral, isWhole};
 ghost use Rattle.model.specs.Decode.{judgeCell};
-use model::Added;
+use lexer::run;
+use lexer::run::CellEnd;
 use model::ByteFault;
 use model::Cell;
 use model::Char;
@@ -66,33 +67,23 @@ fn is_whole(d: Dialect, c: Cell) -> bool
 pub fn judge_cell(d: Dialect, raw: &[u8]) -> Judged
     ensures { λ r. ⌜ r ≡ judgeCell d (now (raw .entry)) ⌝ }
 {
-    let mut c = Cell::Fresh;
-    let mut i = 0;
-    while i < raw.len() {
-        match lexer::cell::cell_step(d, c, raw[i]) {
-            Added::More(next) => {
-                c = next;
-                i += 1;
+    match run::cell_end(d, Cell::Fresh, raw, 0, raw.len()) {
+        CellEnd::Stopped(_, at) => Judged::Unsound {
+            fault: Fault::Byte(ByteFault::Syntax),
+            offset: at,
+        },
+        CellEnd::Refused(e, at) => Judged::Unsound {
+            fault: Fault::Byte(e),
+            offset: at,
+        },
+        CellEnd::Open(c) => {
+            if is_whole(d, c) {
+                return Judged::WholeCell;
             }
-            Added::Stop => {
-                return Judged::Unsound {
-                    fault: Fault::Byte(ByteFault::Syntax),
-                    offset: i,
-                };
-            }
-            Added::Refuse(e) => {
-                return Judged::Unsound {
-                    fault: Fault::Byte(e),
-                    offset: i,
-                };
+            Judged::Unsound {
+                fault: Fault::CutShort,
+                offset: raw.len(),
             }
         }
-    }
-    if is_whole(d, c) {
-        return Judged::WholeCell;
-    }
-    Judged::Unsound {
-        fault: Fault::CutShort,
-        offset: i,
     }
 }

@@ -1,13 +1,13 @@
 // The decoder of one cell. A dialect's number and the raw bytes of a cell go in, with a room to write to; the content comes out
 // in the room, and its length and kind as the answer, or a refusal that leaves the room as it was.
 //
-// It goes over the cell twice: the first pass judges and measures, the second writes, so that nothing is written before
-// everything is known to fit. The definitions are model's specs/Decode.antt and `decoder` and `decoderLeaves` of its
-// specs/Api.antt; specs/Answer.antt says what an answer stands for in document 01's numbers.
+// It judges and measures first and writes then, so that nothing is written before everything is known to fit. The definitions
+// are model's specs/Decode.antt, and `decoder` and `decoderLeaves` of its specs/Api.antt; specs/Answer.antt says what an answer
+// stands for in document 01's numbers.
 //
-// judge.rt runs the automaton of a cell over the bytes, first.rt tells kind and spelling by the first byte, escape.rt reads an
-// escape of CSVJ, and content.rt measures and writes. Each loop has one invariant over what is left of the cell: a rule that
-// changes in `undouble`, `units` or `textOf` changes a law of proofs/Doubled.antt or proofs/Strings.antt, and no loop.
+// judge.rt asks how the automaton of a cell ends, first.rt tells kind and spelling by the first byte, escape.rt reads an escape
+// of CSVJ, and content.rt measures and writes. Each loop has one invariant over what is left of the cell: a rule that changes in
+// `undouble`, `units` or `textOf` changes a law of proofs/Doubled.antt or proofs/Strings.antt, and no loop.
 ghost use mathlib.Core.Path.{_≡_};
 ghost use Prim.Native.Nat.{_≤_};
 ghost use lib.ListN.{length};
@@ -91,7 +91,7 @@ pub fn decode_cell(d: Dialect, raw: &[u8], room: &mut [u8]) -> Decoded
     }
 }
 
-// The decoder of document 01: 11 for a dialect that has no number.
+// The decoder of document 01: 11 for a number that is no dialect's.
 pub fn decode(dialect: u32, raw: &[u8], room: &mut [u8]) -> Decoded
     ensures answer { λ r. ⌜ answerOf r ≡ shown (decoder dialect (now (raw .entry)) (length (now (room .entry)))) ⌝ }
     ensures leaves { λ r. ⌜ now (room .exit) ≡ decoderLeaves dialect (now (raw .entry)) (now (room .entry)) ⌝ }
