@@ -1,8 +1,8 @@
 // The automaton of one cell and of a file around it, a byte at a time, for all three dialects. Each step is the definition's step of
 // the same state (model's specs/Cell.antt and specs/Form.antt), with its tests in the same order.
 //
-// Every function on the way of a byte is called from one place, so that the compiler can put them into the loop that calls them:
-// with a step called from ten places reading ran at a quarter of the speed.
+// The inner enums keep most functions on the way of a byte at one call site, so that the compiler can put them into the loop that
+// calls them. The speed of this crate has not been measured yet.
 pub mod cell;
 pub mod form;
 pub mod run;
