@@ -8,26 +8,29 @@ use Rattle.model.specs.Types.{Report, Encoding, Syntax, Fault, NoRecord,
 abbrev pub report : (number record-number column offset : ℕ) → Report
 report n r c o = record { number = n; record_number = r; column = c; offset = o }
 
--- "acceptance has number, column and offset 0", and "acceptance and 10, 11, 12 name record 0"
+-- "Acceptance and 10, 11, 12 name record 0; acceptance has number, column and offset 0"
 abbrev pub accepted : Report
 accepted = report 0 0 0 0
 
--- 10, 11 and 12: offset 0, column 0
+-- "10, 11, 12 name record 0"; in the table their offset and column are 0
 abbrev pub refusal : ℕ → Report
 refusal n = report n 0 0 0
 
--- "Limits: 16,777,215 bytes a file, 64 columns, 4,096 bytes a record"
+-- "Limits: 16,777,215 bytes a file"
 abbrev pub MAXFILE : ℕ
 MAXFILE = 16777215
 
+-- "4,096 bytes a record"
 abbrev pub MAXRECORD : ℕ
 MAXRECORD = 4096
 
+-- "64 columns"
 abbrev pub MAXCOLUMNS : ℕ
 MAXCOLUMNS = 64
 
 -- ---- the table of faults, column by column
 
+-- the table's "no."
 unfoldable pub numberOf : Fault → ℕ
 numberOf NoRecord = 1
 numberOf (Byte Encoding) = 2
@@ -46,6 +49,7 @@ numberOf (Clash c) = 9
 numberOf TextTooLong = 9
 numberOf OutputTooLong = 9
 
+-- the table's "column": 0 but for "first repeat" (6), "first such" (7) and fault 9's "its column"
 unfoldable pub columnOf : Fault → ℕ
 columnOf NoRecord = 0
 columnOf (Byte e) = 0
