@@ -18,27 +18,31 @@ textByte f (On c) = More (f c)
 
 -- ---- values of RFC 8259 in CSVJ, and \N of TDIF
 
+-- a digit of a JSON "number", or of an escape: DIGIT of RFC 8259
 abbrev pub isDigit : ℕ → Bool
 isDigit b = within 0x30 0x39 b
 
+-- one of the "escape digits": HEXDIG of RFC 8259, which has both cases
 abbrev pub isHex : ℕ → Bool
 isHex b = isDigit b || within 0x41 0x46 b || within 0x61 0x66 b
 
--- the escapes of one letter: " \ / b f n r t
+-- the escapes of one letter in RFC 8259: quote, \ / b f n r t
 abbrev pub isShort : ℕ → Bool
 isShort b =
     b is QUOTE || b is BACKSLASH || b is 0x2F || b is 0x62 || b is 0x66 || b is 0x6E || b is 0x72 || b is 0x74
 
+-- e of RFC 8259, which begins the exponent of a JSON "number"
 abbrev isE : ℕ → Bool
 isE b = b is 0x65 || b is 0x45
 
+-- the four "escape digits" of \u are counted down, and then the string goes on
 abbrev pub afterHex : HexLeft → Cell
 afterHex Four = Hex Three
 afterHex Three = Hex Two
 afterHex Two = Hex One
 afterHex One = Quoted Whole
 
--- number = [ minus ] int [ frac ] [ exp ], of RFC 8259
+-- a JSON "number", by RFC 8259: number = [ minus ] int [ frac ] [ exp ]
 unfoldable pub numeralStep : Numeral → ℕ → Added
 numeralStep Minus b =
     if b is 0x30 then More (InNumber Zero) else if isDigit b then More (InNumber Integer) else Refuse Syntax
@@ -57,7 +61,7 @@ numeralStep E b =
 numeralStep ESign b = if isDigit b then More (InNumber Exponent) else Refuse Syntax
 numeralStep Exponent b = if isDigit b then More (InNumber Exponent) else Stop
 
--- the letter that goes on with a word
+-- the letter that goes on with a word: "true, false, null", and \N of "A cell is \N or quoted"
 abbrev pub letterOf : Word → ℕ
 letterOf T = 0x72
 letterOf Tr = 0x75
@@ -71,6 +75,7 @@ letterOf Nu = 0x6C
 letterOf Nul = 0x6C
 letterOf Backslash = 0x4E
 
+-- what has been read of the word after that letter; its last letter completes the cell
 abbrev pub afterLetter : Word → Cell
 afterLetter T = InWord Tr
 afterLetter Tr = InWord Tru
@@ -107,8 +112,8 @@ firstByte (CsvPlus s) b =
     else if b is delimiterOf (CsvPlus s) || b is CR || b is LF then Stop
     else textByte Plain (charStep Whole b)
 
--- between the quotes, at a character's start. CSVJ: "Raw bytes below 20 hex are refused in strings". TDIF, CSV+: "a quote
--- inside doubled, any UTF-8 inside, line breaks too"
+-- between the quotes, at a character's start. CSVJ: "Raw bytes below 20 hex are refused in strings". TDIF: "a quote inside
+-- doubled, any UTF-8 inside, line breaks too". CSV+: "quotes doubled, any UTF-8 inside"
 unfoldable pub quotedByte : Dialect → ℕ → Added
 quotedByte Csvj b =
     if b is QUOTE then More Complete
@@ -118,13 +123,15 @@ quotedByte Csvj b =
 quotedByte Tdif b = if b is QUOTE then More Closed else textByte Quoted (charStep Whole b)
 quotedByte (CsvPlus s) b = if b is quoteOf (CsvPlus s) then More Closed else textByte Quoted (charStep Whole b)
 
--- in a plain cell of CSV+, at a character's start after the first
+-- in a plain cell of CSV+, at a character's start after the first: "any UTF-8 without quote, comma, CR, LF"
 unfoldable pub plainByte : Dialect → ℕ → Added
 plainByte d b =
     if b is quoteOf d then Refuse Syntax
     else if b is delimiterOf d || b is CR || b is LF then Stop
     else textByte Plain (charStep Whole b)
 
+-- the next byte of a cell: it belongs to the cell, or the cell has ended before it, or it is fault 2 or 3. Fault 2 is for a
+-- byte of text "but not inside an escape"
 unfoldable pub cellStep : Dialect → Cell → ℕ → Added
 cellStep d Fresh b = firstByte d b
 cellStep d (Quoted Whole) b = quotedByte d b
@@ -141,15 +148,18 @@ cellStep d Complete b = Stop
 
 -- ---- what has been read is a whole cell
 
+-- no character is unfinished; where "the file ends inside a [..] character" is fault 4
 abbrev pub betweenCharacters : Char → Bool
 betweenCharacters Whole = true
 betweenCharacters (Within i) = false
 
+-- CSV+: "possibly empty". CSVJ, TDIF: fault 4 for "an empty raw cell in CSVJ and TDIF"
 abbrev pub mayBeEmpty : Dialect → Bool
 mayBeEmpty Csvj = false
 mayBeEmpty Tdif = false
 mayBeEmpty (CsvPlus s) = true
 
+-- a JSON "number" may end here; elsewhere it is "A cell that ends inside a number"
 abbrev pub isNumeral : Numeral → Bool
 isNumeral Minus = false
 isNumeral Zero = true
@@ -160,6 +170,8 @@ isNumeral E = false
 isNumeral ESign = false
 isNumeral Exponent = true
 
+-- the cell may end here. It may not inside quotes or a character, nor where "A cell that ends inside a number, word, escape or
+-- `\N` is 4, and so is an empty raw cell in CSVJ and TDIF"
 unfoldable pub isWhole : Dialect → Cell → Bool
 isWhole d Fresh = mayBeEmpty d
 isWhole d (Quoted c) = false
@@ -173,6 +185,7 @@ isWhole d Complete = true
 
 -- ---- the next byte stands inside quotes
 
+-- the next byte is inside quotes, where CR and LF count; "outside quotes" they don't
 unfoldable pub inQuotes : Cell → Bool
 inQuotes Fresh = false
 inQuotes (Quoted c) = true

@@ -33,8 +33,8 @@ kindOf (CsvPlus s) bs = Text
 
 -- ---- text with quotes doubled
 
--- what follows the opening quote, up to the closing one, a doubled quote taken once. `seen`: the byte before was a quote, which
--- ends the cell unless another follows
+-- "a quote inside doubled": what follows the opening quote, up to the closing one, a doubled quote taken once. `seen`: the
+-- byte before was a quote, which ends the cell unless another follows
 unfoldable pub undouble : (q : ℕ) (seen : Bool) → Bytes → Bytes
 undouble q seen [] = []
 undouble q false (b ∷ bs) = if b is q then undouble q true bs else b ∷ undouble q false bs
@@ -42,15 +42,16 @@ undouble q true (b ∷ bs) = if b is q then b ∷ undouble q false bs else []
 
 -- ---- strings of CSVJ
 
--- a byte as it stands, or a code unit that a \u escape names
+-- what a "JSON string" is made of: a byte as it stands, or a code unit that a \u escape names
 pub data Unit16 : Type 0 where
   byte : ℕ → Unit16
   unit : ℕ → Unit16
 
+-- the value of one of the "escape digits"
 abbrev pub hexOf : ℕ → ℕ
 hexOf b = if leb b 0x39 then b - 0x30 else if leb b 0x46 then b - 0x37 else b - 0x57
 
--- what an escape of one letter stands for
+-- what an escape of one letter stands for: "08 (b), 09 (t), 0A (n), 0C (f), 0D (r)", and quote, \ and / for themselves
 abbrev pub shortOf : ℕ → ℕ
 shortOf b =
     if b is 0x62 then 0x08
@@ -60,13 +61,13 @@ shortOf b =
     else if b is 0x74 then 0x09
     else b
 
--- between escapes, after a backslash, or in a \u escape with the value of its digits so far
+-- where a "JSON string" stands: between escapes, after a backslash, or in a \u escape with the value of its digits so far
 pub data InString : Type 0 where
   between : InString
   escape : InString
   digits : HexLeft → (sofar : ℕ) → InString
 
--- what stands between the quotes, up to the closing one
+-- what stands between the quotes of a "JSON string", up to the closing one
 unfoldable pub units : InString → Bytes → List Unit16
 units e [] = []
 units between (b ∷ bs) =
@@ -88,8 +89,9 @@ textOf (unit h ∷ byte b ∷ us) = pack h ++ (b ∷ textOf us)
 textOf (unit h ∷ unit l ∷ us) =
     if isHigh h && isLow l then pack (joined h l) ++ textOf us else pack h ++ textOf (unit l ∷ us)
 
--- ---- content: "for text the decoded bytes, for a number its spelling, otherwise none"
+-- ---- content
 
+-- "for text the decoded bytes, for a number its spelling, otherwise none"
 unfoldable pub contentOf : Dialect → Bytes → Bytes
 contentOf Csvj [] = []
 contentOf Csvj (b ∷ bs) =
@@ -104,8 +106,8 @@ contentOf (CsvPlus s) (b ∷ bs) =
 
 -- ---- whether raw bytes are a single cell
 
--- "2, 3, 4 as above with offsets from the cell's start, 3 for any other byte no single cell can go on with [..] A cell that ends
--- inside a number, word, escape or \N is 4, and so is an empty raw cell in CSVJ and TDIF"
+-- "2, 3, 4 as above with offsets from the cell's start [..] 3 for any other byte no single cell can go on with [..] A cell
+-- that ends inside a number, word, escape or `\N` is 4, and so is an empty raw cell in CSVJ and TDIF"
 unfoldable pub judgeFrom : Dialect → Cell → (offset : ℕ) → Bytes → Judged
 judgeFrom d c i [] = if isWhole d c then WholeCell else Unsound CutShort i
 judgeFrom d c i (b ∷ bs) =
@@ -115,6 +117,7 @@ judgeFrom d c i (b ∷ bs) =
       | Refuse e ↦ Unsound (Byte e) i
     ]
 
+-- "the raw bytes of one cell", judged from its start. "There is no length limit and no mark rule here"
 unfoldable pub judgeCell : Dialect → Bytes → Judged
 judgeCell d bs = judgeFrom d Fresh 0 bs
 
