@@ -41,6 +41,7 @@ grow (More c) s = To (Inside c) OfCell
 grow Stop s = s
 grow (Refuse e) s = Reject e
 
+-- the next byte of a record that stands in a cell: the cell's own, or after it a delimiter or the record's "ending"
 unfoldable pub inCell : Dialect → Cell → ℕ → Step
 inCell d c b = grow (cellStep d c b) (afterCell d true b)
 
@@ -61,10 +62,12 @@ beginFile Csvj b = if b is 0xEF then To Mark1 Outside else beginRecord Csvj b
 beginFile Tdif b = beginRecord Tdif b
 beginFile (CsvPlus s) b = if b is 0xEF then To PlainMark1 OfCell else beginRecord (CsvPlus s) b
 
+-- a byte of a comment, fault 2 where it "breaks the UTF-8 table in [..] a comment"
 abbrev pub commented : Advance → Step
 commented Broken = Reject Encoding
 commented (On c) = To (Comment c) Outside
 
+-- the next byte of a file; fault 3 is one "after which no mark, comment or record can go on, by form alone"
 unfoldable pub formStep : Dialect → Form → ℕ → Step
 formStep d Top b = beginFile d b
 formStep d Begin b = beginRecord d b
@@ -111,8 +114,9 @@ formEnd d (Inside c) = lastCell d c
 formEnd d After = Cut
 formEnd d Cr = Cut
 
--- ---- "CR and LF outside quotes, comments and the mark aren't counted in a record"
+-- ---- what counts in a record
 
+-- the next byte of a file is inside quotes: a CR or LF there is none of those "outside quotes"
 abbrev pub quotesOpen : Form → Bool
 quotesOpen Top = false
 quotesOpen Begin = false
@@ -128,6 +132,8 @@ quotesOpen (Inside c) = inQuotes c
 quotesOpen After = false
 quotesOpen Cr = false
 
+-- the byte would count: "CR and LF outside quotes, comments and the mark aren't counted in a record". It is asked of a
+-- record's bytes; comments and the mark are none (Records, `move`)
 unfoldable pub counts : Form → ℕ → Bool
 counts f b = quotesOpen f || not (b is LF || b is CR)
 

@@ -16,24 +16,26 @@ use Rattle.model.specs.Decode.{kindOf, contentOf}
 use Rattle.model.specs.Text.{Value, isText, recordText, tableText, ending}
 use Rattle.model.specs.Report.{report, accepted, numberOf, columnOf, isAtByte, MAXFILE, MAXRECORD, MAXCOLUMNS}
 
--- a complete record: where it starts, how many of its bytes count, and its cells
+-- a complete record: its "record start", how many of its bytes count, and its cells
 pub record Rec : Type 0 where
   pub start : ℕ
   pub size : ℕ
   pub cells : List Value
 
+-- the cells of each record, which is all of it that its "canonical text" depends on
 unfoldable pub rows : List Rec → List (List Value)
 rows [] = []
 rows (r ∷ rs) = r .cells ∷ rows rs
 
 -- ---- checks
 
--- the first fault of two checks
+-- two checks "in this order": the fault of the first that has one
 infixr 20 _orElse_
 unfoldable pub _orElse_ : Verdict → Verdict → Verdict
 Sound orElse y = y
 Faulty e orElse y = Faulty e
 
+-- this fault, "given exactly when" the test holds
 unfoldable pub when : Bool → Fault → Verdict
 when true e = Faulty e
 when false e = Sound
@@ -50,11 +52,12 @@ nameKey Csvj bs = bs
 nameKey Tdif bs = map lower bs
 nameKey (CsvPlus s) bs = bs
 
+-- one name is among others: it "repeats an earlier one"
 unfoldable pub among : Bytes → List Bytes → Bool
 among x [] = false
 among x (y ∷ ys) = if same x y then true else among x ys
 
--- the first name, from column n on, that repeats one seen before
+-- the first name, from column n on, that "repeats an earlier one"; `seen` holds the keys of the earlier ones
 unfoldable pub repeatFrom : Dialect → (ℕ → Fault) → (seen : List Bytes) (n : ℕ) → List Value → Verdict
 repeatFrom d fault seen n [] = Sound
 repeatFrom d fault seen n (v ∷ vs) =
@@ -65,20 +68,21 @@ repeatFrom d fault seen n (v ∷ vs) =
 unfoldable pub repeatFault : Dialect → (ℕ → Fault) → List Value → Verdict
 repeatFault d fault vs = repeatFrom d fault [] 1 vs
 
--- ---- a complete record: "When a record ends: 8 for columns, 7, 6, 5, then 9 if converting"
+-- ---- a complete record
 
 -- "a header cell isn't text", "first such"
 unfoldable pub notTextFrom : ℕ → List Value → Verdict
 notTextFrom n [] = Sound
 notTextFrom n (v ∷ vs) = when (not (isText (v .kind))) (NotText n) orElse notTextFrom (suc n) vs
 
+-- the header's checks: "8 for columns, 7, 6"
 unfoldable pub headerFault : Dialect → List Value → Verdict
 headerFault d vs =
     when (ltb MAXCOLUMNS (length vs)) TooManyColumns
     orElse notTextFrom 1 vs
     orElse repeatFault d Repeats vs
 
--- "the cell count differs from the header's"
+-- a data record's checks: "8 for columns", then 5, "the cell count differs from the header's"
 unfoldable pub dataFault : (columns : ℕ) → List Value → Verdict
 dataFault columns vs =
     when (ltb MAXCOLUMNS (length vs)) TooManyColumns
@@ -123,11 +127,13 @@ targetFault t header written vs =
     orElse when (ltb MAXRECORD (length text)) TextTooLong
     orElse when (ltb MAXFILE (written + length (text ++ ending t))) OutputTooLong
 
+-- "9 if converting": nothing without a target
 abbrev pub converting : Option Dialect → (Dialect → Verdict) → Verdict
 converting none f = Sound
 converting (some t) f = f t
 
--- what is wrong with the record that follows `done`, read in d and, where there is a target, written in that
+-- "When a record ends: 8 for columns, 7, 6, 5, then 9 if converting": the fault of the record that follows `done`, read in d
+-- and, where there is a target, written in that
 unfoldable pub recordFault : Dialect → (target : Option Dialect) → (done : List Rec) → List Value → Verdict
 recordFault d target [] vs = headerFault d vs orElse converting target (λ t. targetFault t true 0 vs)
 recordFault d target (h ∷ rs) vs =
@@ -149,10 +155,11 @@ pub record Read : Type 0 where
   pub raw : Bytes
   pub cells : List Value
 
--- where a record may begin, the next byte at o
+-- where a record may begin: the next byte, at o, is the "record start" of the one "next expected"
 abbrev pub between-records : List Rec → Form → ℕ → Read
 between-records rs f o = record { done = rs; form = f; offset = o; start = o; size = 0; opened = o; raw = []; cells = [] }
 
+-- no byte of the file is read: the next one is at "offset 0"
 unfoldable pub nothingRead : Read
 nothingRead = between-records [] Top 0
 
@@ -161,7 +168,8 @@ pub data Progress : Type 0 where
   going : Read → Progress
   stopped : Fault → Read → Progress
 
--- the cell that ends before the next byte
+-- the cell that ends before the next byte; its "stretch is the raw spelling with its quotes, without spaces and tabs around a
+-- CSVJ value"
 abbrev pub cellNow : Dialect → Read → Value
 cellNow d r = record { from = r .opened; upto = r .offset; kind = kindOf d (r .raw); content = contentOf d (r .raw) }
 
@@ -170,16 +178,19 @@ abbrev pub closing : Dialect → (closes : Bool) → Read → List Value
 closing d true r = r .cells ++ (cellNow d r ∷ [])
 closing d false r = r .cells
 
+-- a faulty record stops reading where it is still "the one being read"
 abbrev pub judged : Read → Read → Verdict → Progress
 judged before next Sound = going next
 judged before next (Faulty e) = stopped e before
 
--- the record in hand is complete with these cells; where the file stands then, and the next offset
+-- "When a record ends" it is judged: the record in hand, with these cells; where the file stands then, and the next offset
 unfoldable pub complete : Dialect → (target : Option Dialect) → Read → List Value → Form → ℕ → Progress
 complete d target r vs f o =
     judged r (between-records (r .done ++ (record { start = r .start; size = r .size; cells = vs } ∷ [])) f o)
     (recordFault d target (r .done) vs)
 
+-- what the byte b, which does this to the form, does to what has been read: "CR and LF outside quotes, comments and the mark
+-- aren't counted in a record", and a comment or the mark moves the "record start" behind it
 unfoldable pub move : Dialect → (target : Option Dialect) → Read → ℕ → Step → Progress
 move d target r b (Reject e) = stopped (Byte e) r
 move d target r b (To f Outside) =
@@ -193,10 +204,11 @@ move d target r b (To f (Tail closes)) =
     going (record { done = r .done; form = f; offset = suc (r .offset); start = r .start; size = r .size; opened = suc (r .offset); raw = []; cells = closing d closes r })
 move d target r b (To f (Ends closes)) = complete d target r (closing d closes r) f (suc (r .offset))
 
--- "a limit: file or record bytes", at "first byte too many"
+-- "a limit: file or record bytes": the file has all the bytes it may have, and the next is the "first byte too many"
 unfoldable pub fileFull : Read → Bool
 fileFull r = leb MAXFILE (r .offset)
 
+-- the same for the record in hand, where the next byte would count in it
 unfoldable pub recordFull : Read → ℕ → Bool
 recordFull r b = leb MAXRECORD (r .size) && counts (r .form) b
 
@@ -213,7 +225,7 @@ readFrom d target p [] = p
 readFrom d target (stopped e r) (b ∷ bs) = stopped e r
 readFrom d target (going r) (b ∷ bs) = readFrom d target (readByte d target r b) bs
 
--- the bytes of a file, without its end
+-- the bytes of a file, without its end: what "the bytes consumed" are to a piece call
 unfoldable pub readBytes : Dialect → (target : Option Dialect) → Bytes → Progress
 readBytes d target bs = readFrom d target (going nothingRead) bs
 
@@ -224,15 +236,18 @@ abbrev pub endBetween : Read → List Rec → Progress
 endBetween r [] = stopped NoRecord r
 endBetween r (h ∷ rs) = going r
 
+-- the end of the file: after a record's ending; or completing "a last CSV+ record"; or fault 4
 abbrev pub endAt : Dialect → (target : Option Dialect) → Read → Ending → Progress
 endAt d target r Clean = endBetween r (r .done)
 endAt d target r Final = complete d target r (closing d true r) Begin (r .offset)
 endAt d target r Cut = stopped CutShort r
 
+-- the end of the file, after its bytes: "bytes are judged in file order", so an earlier fault stays
 unfoldable pub readEnd : Dialect → (target : Option Dialect) → Progress → Progress
 readEnd d target (stopped e r) = stopped e r
 readEnd d target (going r) = endAt d target r (formEnd d (r .form))
 
+-- a whole "file": its bytes, and then its end
 unfoldable pub readFile : Dialect → (target : Option Dialect) → Bytes → Progress
 readFile d target bs = readEnd d target (readBytes d target bs)
 
@@ -242,17 +257,20 @@ readFile d target bs = readEnd d target (readBytes d target bs)
 abbrev pub recordNow : Read → ℕ
 recordNow r = suc (length (r .done))
 
+-- the table's "offset": where reading stands, or "record start"
 abbrev pub placeOf : Fault → Read → ℕ
 placeOf e r = if isAtByte e then r .offset else r .start
 
+-- "A report has number, record, column, offset": that of a fault, by its row of the table
 abbrev pub faultReport : Fault → Read → Report
 faultReport e r = report (numberOf e) (recordNow r) (columnOf e) (placeOf e r)
 
+-- the report on what was read: "acceptance", or the fault's
 abbrev pub reportOf : Progress → Report
 reportOf (going r) = accepted
 reportOf (stopped e r) = faultReport e r
 
--- the records completed before any fault
+-- "the records completed before any fault"
 abbrev pub recordsOf : Progress → List Rec
 recordsOf (going r) = r .done
 recordsOf (stopped e r) = r .done
