@@ -24,37 +24,45 @@ pub record Answer : Type 0 where
   pub records : ℕ
   pub cells : List Value
 
+-- a reader's refusal: columns, data records and cells "all are 0 on refusal"
 abbrev pub noAnswer : Report → Answer
 noAnswer e = record { report = e; columns = 0; records = 0; cells = [] }
 
--- "10 exactly when the file is accepted and has more cells than the shortest list"
+-- "10 exactly when the file is accepted and has more cells than the shortest list". (No file without a header is accepted:
+-- that is fault 1.)
 abbrev pub answered : List Rec → List Value → (room : ℕ) → Answer
 answered [] vs room = noAnswer accepted
 answered (h ∷ rs) vs room =
     if ltb room (length vs) then noAnswer (refusal 10)
     else record { report = accepted; columns = length (h .cells); records = length rs; cells = vs }
 
+-- what "The reader also answers", or the fault that was met
 abbrev pub answerOf : Progress → (room : ℕ) → Answer
 answerOf (stopped e r) room = noAnswer (faultReport e r)
 answerOf (going r) room = answered (r .done) (concat (rows (r .done))) room
 
--- `room`: the length of the shortest lent list
+-- "a whole-file reader giving cell stretches". `room`: the length of "the shortest list"
 unfoldable pub reader : (dialect : ℕ) → Bytes → (room : ℕ) → Answer
 reader n bs room = elim (dialectOf n) [ none ↦ noAnswer (refusal 11) | some d ↦ answerOf (readFile d none bs) room ]
 
+-- the smaller of two lengths, for "the shortest list"
 abbrev pub least : ℕ → ℕ → ℕ
 least a b = if leb a b then a else b
 
+-- "The reader fills lent lists of start, end and kind": the starts
 abbrev pub startsOf : List Value → List ℕ
 startsOf = map (λ (v : Value). v .from)
 
+-- "The reader fills lent lists of start, end and kind": the ends
 abbrev pub endsOf : List Value → List ℕ
 endsOf = map (λ (v : Value). v .upto)
 
+-- "The reader fills lent lists of start, end and kind": the kinds, by number
 abbrev pub kindsOf : List Value → List ℕ
 kindsOf = map (λ (v : Value). kindNumber (v .kind))
 
--- the call, with the lent lists as they are afterwards
+-- the reader's call: its report, the counts that it "also answers", and "lent lists of start, end and kind" as they are
+-- afterwards
 pub record ReadCall : Type 0 where
   pub report : Report
   pub columns : ℕ
@@ -64,6 +72,7 @@ pub record ReadCall : Type 0 where
   pub ends : List ℕ
   pub kinds : List ℕ
 
+-- the reader's call: the lists are filled from their beginning, "and every place past the reported count" is as it was
 unfoldable pub readCall : (dialect : ℕ) → Bytes → (starts ends kinds : List ℕ) → ReadCall
 readCall n bs starts ends kinds =
     let a : Answer = reader n bs (least (length starts) (least (length ends) (length kinds))) in
@@ -85,6 +94,7 @@ pub record Decoded : Type 0 where
   pub kind : ℕ
   pub content : Bytes
 
+-- a decoder's "refusal", with length and kind 0
 abbrev pub notDecoded : Report → Decoded
 notDecoded e = record { report = e; kind = 0; content = [] }
 
@@ -95,10 +105,11 @@ decodedAs d bs room WholeCell =
     if ltb room (length (contentOf d bs)) then notDecoded (refusal 10)
     else record { report = accepted; kind = kindNumber (kindOf d bs); content = contentOf d bs }
 
+-- "The decoder takes the raw bytes of one cell and answers either the content's length and kind or a refusal"
 unfoldable pub decoder : (dialect : ℕ) → Bytes → (room : ℕ) → Decoded
 decoder n bs room = elim (dialectOf n) [ none ↦ notDecoded (refusal 11) | some d ↦ decodedAs d bs room (judgeCell d bs) ]
 
--- the lent room after the call
+-- the lent room after the call: as it was "on refusal, and every place past the reported count always"
 unfoldable pub decoderLeaves : (dialect : ℕ) → Bytes → (room : List ℕ) → List ℕ
 decoderLeaves n bs room = over (decoder n bs (length room) .content) room
 
@@ -109,6 +120,7 @@ pub record Written : Type 0 where
   pub report : Report
   pub text : Bytes
 
+-- a refusal: nothing is written, and the length is "0 on refusal"
 abbrev pub unwritten : Report → Written
 unwritten e = record { report = e; text = [] }
 
@@ -116,10 +128,12 @@ unwritten e = record { report = e; text = [] }
 abbrev pub fitted : (room : ℕ) → Bytes → Written
 fitted room bs = if ltb room (length bs) then unwritten (refusal 10) else record { report = accepted; text = bs }
 
+-- the canonical text of the records that were read for this target, or the fault that was met
 abbrev pub convertedAs : (target : Dialect) → (room : ℕ) → Progress → Written
 convertedAs t room (stopped e r) = unwritten (faultReport e r)
 convertedAs t room (going r) = fitted room (tableText t (rows (r .done)))
 
+-- "a whole-file converter"; "11 for a dialect number comes first everywhere", here for either number
 unfoldable pub converter : (source target : ℕ) → Bytes → (room : ℕ) → Written
 converter m n bs room =
     elim (dialectOf m) [
@@ -130,13 +144,14 @@ converter m n bs room =
       ]
     ]
 
--- the lent output after the call
+-- the lent output after the call: as it was "on refusal, and every place past the reported count always"
 unfoldable pub converterLeaves : (source target : ℕ) → Bytes → (out : List ℕ) → List ℕ
 converterLeaves m n bs out = over (converter m n bs (length out) .text) out
 
 -- ---- the writer
 
--- a table as it is given: content, a stretch and a kind for each cell, record by record. `records` counts the header
+-- "a table given to the writer": content, and a stretch and a kind for each cell, record by record. `records` counts the
+-- header
 pub record Table : Type 0 where
   pub content : Bytes
   pub starts : List ℕ
@@ -145,6 +160,7 @@ pub record Table : Type 0 where
   pub columns : ℕ
   pub records : ℕ
 
+-- "kind (1 text, 2 number, 3 true, 4 false, 5 null)"; none is an "unknown kind"
 unfoldable pub kindNamed : ℕ → Option Kind
 kindNamed n =
     if n is 1 then some Text
@@ -154,6 +170,7 @@ kindNamed n =
     else if n is 5 then some Null
     else none
 
+-- the kind and judgement of bytes, as a cell of CSVJ, are those of a number; else it is "a number not spelt as JSON's"
 abbrev pub isNumber : Kind → Judged → Bool
 isNumber Text j = false
 isNumber Number WholeCell = true
@@ -170,6 +187,7 @@ isValue True bs = isEmpty bs
 isValue False bs = isEmpty bs
 isValue Null bs = isEmpty bs
 
+-- the bytes of a "stretch" of the content
 abbrev pub part : Bytes → (from upto : ℕ) → Bytes
 part bs s e = take (e - s) (drop s bs)
 
@@ -183,6 +201,7 @@ tableCell bs s e n =
           else none
     ]
 
+-- one cell more, none where it or another is none: a single unsound cell makes the table 12
 abbrev pub cons : Option Value → Option (List Value) → Option (List Value)
 cons none vs = none
 cons (some v) none = none
@@ -197,7 +216,7 @@ tableCells bs (s ∷ ss) [] ks = none
 tableCells bs (s ∷ ss) (e ∷ es) [] = none
 tableCells bs (s ∷ ss) (e ∷ es) (k ∷ ks) = cons (tableCell bs s e k) (tableCells bs ss es ks)
 
--- cells, record by record
+-- the cells of "columns times records", record by record
 unfoldable pub rowsOf : (records columns : ℕ) → List Value → List (List Value)
 rowsOf zero columns vs = []
 rowsOf (suc n) columns vs = take columns vs ∷ rowsOf n columns (drop columns vs)
@@ -218,12 +237,16 @@ abbrev pub orNext : (n : ℕ) → Verdict → Option Report → Option Report
 orNext n Sound next = next
 orNext n (Faulty e) next = some (report (numberOf e) n (columnOf e) 0)
 
+-- the first fault of the data records from record n on, after `written` bytes of output: 9 alone, since 8, 7 and 6 are the
+-- header's
 unfoldable pub dataRowsFault : Dialect → (n written : ℕ) → List (List Value) → Option Report
 dataRowsFault t n written [] = none
 dataRowsFault t n written (r ∷ rs) =
     let next : Option Report = dataRowsFault t (suc n) (written + length (recordText t false r ++ ending t)) rs in
     orNext n (targetFault t false written r) next
 
+-- the first fault of the table: "8 for columns, 7, 6, 9" of the header, then of the data records. "Its names are compared by
+-- the target's rule, so 6 stands there for 9's clash"
 unfoldable pub rowsFault : Dialect → List (List Value) → Option Report
 rowsFault t [] = none
 rowsFault t (h ∷ rs) =
@@ -235,6 +258,7 @@ abbrev pub writtenRows : Dialect → (room : ℕ) → List (List Value) → Opti
 writtenRows t room rs (some e) = unwritten e
 writtenRows t room rs none = fitted room (tableText t rs)
 
+-- "a canonical writer": 11 first, "The writer checks 12", "then the whole table as if record by record"
 unfoldable pub writer : (target : ℕ) → Table → (room : ℕ) → Written
 writer n table room =
     elim (dialectOf n) [
@@ -242,7 +266,7 @@ writer n table room =
       | some t ↦ elim (rowsIn table) [ none ↦ unwritten (refusal 12) | some rs ↦ writtenRows t room rs (rowsFault t rs) ]
     ]
 
--- the lent output after the call
+-- the lent output after the call: as it was "on refusal, and every place past the reported count always"
 unfoldable pub writerLeaves : (target : ℕ) → Table → (out : List ℕ) → List ℕ
 writerLeaves n table out = over (writer n table (length out) .text) out
 

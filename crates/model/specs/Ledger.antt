@@ -18,25 +18,29 @@ pub data Call : Type 0 where
   piece : Bytes → (room : ℕ) → Call
   finish : (room : ℕ) → Call
 
--- a call that was made, and its answer
+-- a call that was made, and its answer: one of the ledger's "own earlier reports"
 pub record Entry : Type 0 where
   pub call : Call
   pub answer : Written
 
+-- the bytes that a call hands in: "Any other piece joins the bytes consumed", and an end call has none
 abbrev pub bytesOf : Call → Bytes
 bytesOf (piece bs room) = bs
 bytesOf (finish room) = []
 
+-- a call's "output size"
 abbrev pub roomOf : Call → ℕ
 roomOf (piece bs room) = room
 roomOf (finish room) = room
 
+-- an "end call"
 abbrev pub isFinish : Call → Bool
 isFinish (piece bs room) = false
 isFinish (finish room) = true
 
 -- ---- what earlier reports say
 
+-- "acceptance has number, column and offset 0"; no other report has number 0
 abbrev pub isAccepted : Report → Bool
 isAccepted e = e .number is 0
 
@@ -59,6 +63,7 @@ unfoldable pub consumedIn : List Entry → Bytes
 consumedIn [] = []
 consumedIn (x ∷ xs) = (if isAccepted (x .answer .report) then bytesOf (x .call) else []) ++ consumedIn xs
 
+-- "what was written before"
 unfoldable pub writtenIn : List Entry → Bytes
 writtenIn [] = []
 writtenIn (x ∷ xs) = x .answer .text ++ writtenIn xs
@@ -69,8 +74,8 @@ writtenIn (x ∷ xs) = x .answer .text ++ writtenIn xs
 abbrev pub tooSmall : Call → Bool
 tooSmall c = ltb 4096 (length (bytesOf c)) || ltb (roomOf c) 49152
 
--- the file as far as this call shows it. "If these now have a fault at a byte [..] the call reports the first"; "Any other end call
--- reports what the whole converter, given room, does for the bytes consumed"
+-- the file as far as this call shows it. "If these now have a fault at a byte [..] the call reports the first"; "Any other end
+-- call reports what the whole converter, given room, does for the bytes consumed"
 abbrev pub seenBy : Dialect → Dialect → Call → Bytes → Progress
 seenBy d t (piece bs room) consumed = readBytes d (some t) consumed
 seenBy d t (finish room) consumed = readFile d (some t) consumed
@@ -90,6 +95,7 @@ answerTo d t past c =
           else taken t (writtenIn past) (seenBy d t c (consumedIn past ++ bytesOf c))
     ]
 
+-- each call in its turn, by the calls before it and "its own earlier reports"
 unfoldable pub answersFrom : Dialect → Dialect → (past : List Entry) → List Call → List Written
 answersFrom d t past [] = []
 answersFrom d t past (c ∷ cs) =
@@ -100,7 +106,7 @@ unfoldable pub unknown : List Call → List Written
 unknown [] = []
 unknown (c ∷ cs) = unwritten (refusal 11) ∷ unknown cs
 
--- the answers to a list of calls
+-- "a single claim over every list of calls": the answers to a list of calls, of a ledger that "is fed the dialect numbers"
 unfoldable pub ledger : (source target : ℕ) → List Call → List Written
 ledger m n cs =
     elim (dialectOf m) [
@@ -108,7 +114,7 @@ ledger m n cs =
       | some d ↦ elim (dialectOf n) [ none ↦ unknown cs | some t ↦ answersFrom d t [] cs ]
     ]
 
--- a call's lent output after it
+-- a call's lent output after it: what it writes, "and nothing else"
 abbrev pub callLeaves : Written → (out : List ℕ) → List ℕ
 callLeaves a out = over (a .text) out
 

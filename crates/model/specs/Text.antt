@@ -8,13 +8,14 @@ use Rattle.model.specs.Base.{if_then_else_, _is_, Bytes, QUOTE, BACKSLAS
 use Rattle.model.specs.Dialect.{delimiterOf, quoteOf}
 use Rattle.model.specs.Utf8.{isSurrogate}
 
--- a cell: its stretch in the file, its kind and its content
+-- "A cell has a kind [..] and content"; from and upto are its "stretch" in the file
 pub record Value : Type 0 where
   pub from : ℕ
   pub upto : ℕ
   pub kind : Kind
   pub content : Bytes
 
+-- the kind is "1 text"
 abbrev pub isText : Kind → Bool
 isText Text = true
 isText Number = false
@@ -24,7 +25,7 @@ isText Null = false
 
 -- ---- CSVJ
 
--- a lower-case hexadecimal digit
+-- one of the "lower-case digits"
 abbrev pub hexDigit : ℕ → ℕ
 hexDigit n = if leb n 9 then 0x30 + n else 0x57 + n
 
@@ -48,6 +49,7 @@ surrogate b c =
     let low : ℕ = (b - 0x80) % 0x40 in
     BACKSLASH ∷ 0x75 ∷ 0x64 ∷ hexDigit (low / 4) ∷ hexDigit (low % 4 * 4 + (c - 0x80) / 0x10) ∷ hexDigit (c % 0x10) ∷ []
 
+-- content between the quotes of a "JSON string": a lone surrogate as its escape, every other byte as `escaped` says
 unfoldable pub jsonBody : Bytes → Bytes
 jsonBody [] = []
 jsonBody (a ∷ []) = escaped a
@@ -55,6 +57,7 @@ jsonBody (a ∷ b ∷ []) = escaped a ++ jsonBody (b ∷ [])
 jsonBody (a ∷ b ∷ c ∷ bs) =
     if isSurrogate a b then surrogate b c ++ jsonBody bs else escaped a ++ jsonBody (b ∷ c ∷ bs)
 
+-- a cell of CSVJ: "JSON string, number, true, false, null"
 unfoldable pub jsonCell : Kind → Bytes → Bytes
 jsonCell Text bs = QUOTE ∷ jsonBody bs ++ (QUOTE ∷ [])
 -- "Numbers as spelt"
@@ -65,26 +68,30 @@ jsonCell Null bs = 0x6E ∷ 0x75 ∷ 0x6C ∷ 0x6C ∷ []
 
 -- ---- text with quotes doubled
 
+-- "a quote inside doubled"
 unfoldable pub doubled : ℕ → Bytes → Bytes
 doubled q [] = []
 doubled q (b ∷ bs) = if b is q then q ∷ q ∷ doubled q bs else b ∷ doubled q bs
 
+-- a "quoted cell" of TDIF or CSV+
 unfoldable pub quotedText : ℕ → Bytes → Bytes
 quotedText q bs = q ∷ doubled q bs ++ (q ∷ [])
 
 -- ---- CSV+
 
+-- it "begins EF BB BF"
 abbrev pub beginsMark : Bytes → Bool
 beginsMark [] = false
 beginsMark (a ∷ []) = false
 beginsMark (a ∷ b ∷ []) = false
 beginsMark (a ∷ b ∷ c ∷ bs) = a is 0xEF && b is 0xBB && c is 0xBF
 
+-- one of "quote, comma, CR or LF", by the settings
 abbrev pub special : Settings → ℕ → Bool
 special s b = b is quoteOf (CsvPlus s) || b is delimiterOf (CsvPlus s) || b is CR || b is LF
 
--- "quoted exactly when the content holds quote, comma, CR or LF, or is empty in a one-column table (`only`), or is the first
--- header cell (`first`) and begins EF BB BF"
+-- "quoted exactly when the content holds quote, comma, CR or LF, or is empty in a one-column table, or is the first header
+-- cell and begins EF BB BF". `only`: its record has no other cell; `first`: it is the first header cell
 unfoldable pub csvPlusCell : Settings → (only first : Bool) → Bytes → Bytes
 csvPlusCell s only first bs =
     if holds (special s) bs || only && isEmpty bs || first && beginsMark bs then quotedText (quoteOf (CsvPlus s)) bs else bs
@@ -103,21 +110,22 @@ ending Csvj = LF ∷ []
 ending Tdif = LF ∷ []
 ending (CsvPlus s) = CR ∷ LF ∷ []
 
--- the cells after the first
+-- the cells after the first, a delimiter before each and "no spaces"
 unfoldable pub moreCells : Dialect → List Value → Bytes
 moreCells d [] = []
 moreCells d (v ∷ vs) = delimiterOf d ∷ cellText d false false v ++ moreCells d vs
 
--- a record without its ending
+-- a record as written, "without its ending"
 unfoldable pub recordText : Dialect → (header : Bool) → List Value → Bytes
 recordText d header [] = []
 recordText d header (v ∷ vs) = cellText d (isEmpty vs) header v ++ moreCells d vs
 
--- the records after the header
+-- the "data records", each with its ending
 unfoldable pub dataText : Dialect → List (List Value) → Bytes
 dataText d [] = []
 dataText d (r ∷ rs) = recordText d false r ++ ending d ++ dataText d rs
 
+-- the "canonical text" of a table, which is "a header record and then data records"
 unfoldable pub tableText : Dialect → List (List Value) → Bytes
 tableText d [] = []
 tableText d (r ∷ rs) = recordText d true r ++ ending d ++ dataText d rs
