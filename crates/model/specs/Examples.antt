@@ -1,4 +1,4 @@
--- "Sixteen rows for the table of examples", as one statement; and what rules out the "errors people make here".
+-- "Sixteen rows for the table of examples", as one statement; and what rules out the "Errors people make here".
 use Prim.Native.Nat.{ℕ}
 use mathlib.Core.Path.{_≡_}
 use mathlib.Core.List.{[], _∷_, _++_}
@@ -9,11 +9,11 @@ use Rattle.model.specs.Ascii.{ascii}
 use Rattle.model.specs.Report.{report, accepted}
 use Rattle.model.specs.Api.{reader, decoder, Decoded, converter, Written}
 
--- the reader, with lists of 64 places
+-- the report of the reader, with lists of 64 places
 abbrev pub read : (dialect : ℕ) → Bytes → Report
 read d bs = reader d bs 64 .report
 
--- columns and data records
+-- columns and data records, for "accepted, no columns, no data"
 abbrev pub extent : (dialect : ℕ) → Bytes → ℕ × ℕ
 extent d bs = (reader d bs 64 .columns, reader d bs 64 .records)
 
@@ -21,10 +21,11 @@ extent d bs = (reader d bs 64 .columns, reader d bs 64 .records)
 abbrev pub convert : (source target : ℕ) → Bytes → Written
 convert d t bs = converter d t bs 64
 
+-- the answer of a converter that is accepted and writes these bytes, for rows with "to CSVJ:" and "to CSV+:"
 abbrev pub makes : Bytes → Written
 makes bs = record { report = accepted; text = bs }
 
--- E1 to E16. A row with two answers is a pair
+-- "These sixteen stand as a single proved statement about the definitions": E1 to E16. A row with two answers is a pair
 pub record Sixteen : Type 0 where
   pub e1 : read 1 [] ≡ report 1 1 0 0
   pub e2 : (read 1 (ascii "\n") ≡ accepted) × (extent 1 (ascii "\n") ≡ (0, 0))
@@ -47,14 +48,15 @@ pub record Sixteen : Type 0 where
 abbrev pub decode : (dialect : ℕ) → Bytes → Decoded
 decode d bs = decoder d bs 64
 
+-- the answer of a decoder that is accepted: "the content's length and kind", with the content itself
 abbrev pub decodes : (kind : ℕ) → Bytes → Decoded
 decodes k bs = record { report = accepted; kind = k; content = bs }
 
--- a CSV+ file of one cell of n bytes, and another byte after them
+-- a CSV+ file of one cell of n bytes, and another byte after them, which may be the "first byte too many"
 abbrev pub longCell : (n b : ℕ) → Bytes
 longCell n b = replicate n 0x61 ++ (b ∷ [])
 
--- What rules out the mistakes that people make here, each by the answer that it would change.
+-- What rules out "Errors people make here" and others like them, each by the answer that it would change.
 pub record Mistakes : Type 0 where
   -- a CR at the end of a CSVJ file is no ending
   pub lone-cr : (read 1 (ascii "\"a\"\r") ≡ report 4 1 0 4) × (read 1 (ascii "\r") ≡ report 4 1 0 1)
