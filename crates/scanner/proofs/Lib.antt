@@ -1,0 +1,5 @@
+pub mod Tests
+pub mod Placing
+pub mod Coming
+pub mod Calm
+pub mod Scanning

@@ -1,0 +1,44 @@
+-- Laws of putting cells into lists.
+use Prim.Native.Nat.{ℕ, zero, suc, _+_, _≤_, _<_}
+use native.Mathlib.Numerals.{add-one}
+use native.Mathlib.Omega.{arith}
+use mathlib.Core.Path.{_≡_, refl, sym, ap, _∙_}
+use mathlib.Core.Bool.{Bool, true, false}
+use mathlib.Core.List.{List, [], _∷_, _++_}
+use lib.ListN.{length, set, length-set}
+use borrow.Author.Tests.{lt-ltb, le-ltb}
+use Rattle.model.specs.Base.{if_then_else_}
+use Rattle.model.proofs.Tests.{split}
+use Rattle.scanner.specs.Placed.{putAt, putIf, placed}
+
+pub not-put : (closes : Bool) (room k x : ℕ) (old : List ℕ) → closes ≡ false → old ≡ putIf closes room k x old
+unfolding putIf if_then_else_
+not-put closes room k x old e = rw e
+
+pub no-room : (closes : Bool) (room k x : ℕ) (old : List ℕ) → closes ≡ true → room ≤ k → old ≡ putIf closes room k x old
+unfolding putIf putAt if_then_else_
+no-room closes room k x old e h = rw (e, le-ltb k room h)
+
+pub put-there : (closes : Bool) (room k x : ℕ) (old : List ℕ) → closes ≡ true → k < room → set old k x ≡ putIf closes room k x old
+unfolding putIf putAt if_then_else_
+put-there closes room k x old e h = rw (e, lt-ltb k room h)
+
+-- ---- lengths
+
+pub length-put : (room k x : ℕ) (old : List ℕ) → length (putAt room k x old) ≡ length old
+unfolding putAt
+length-put room k x old = split (λ (xs : List ℕ). length xs ≡ length old) _ (λ _. length-set old k x) λ _. refl
+
+pub length-placed : (room k : ℕ) (xs old : List ℕ) → length (placed room k xs old) ≡ length old
+unfolding placed
+length-placed room k [] old = refl
+length-placed room k (x ∷ xs) old = length-placed room (suc k) xs (putAt room k x old) ∙ length-put room k x old
+
+-- ---- one more at the end
+
+pub placed-snoc : (room k : ℕ) (xs : List ℕ) (x : ℕ) (old : List ℕ) → placed room k (xs ++ (x ∷ [])) old ≡ putAt room (k + length xs) x (placed room k xs old)
+unfolding placed
+placed-snoc room k [] x old = let e : k ≡ k + 0 = omega arith in ap (λ (n : ℕ). putAt room n x old) e
+placed-snoc room k (y ∷ ys) x old =
+    let e : suc k + length ys ≡ k + suc (length ys) = omega arith in
+    placed-snoc room (suc k) ys x (putAt room k y old) ∙ ap (λ (n : ℕ). putAt room n x (placed room (suc k) ys (putAt room k y old))) e

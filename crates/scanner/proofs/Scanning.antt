@@ -1,0 +1,272 @@
+-- What holds at each turn of the scanner's loop, and how each way through a turn keeps it.
+use Prim.Native.Nat.{ℕ, zero, suc, _+_, _-_, _≤_, _<_}
+use native.Mathlib.Numerals.{add-one}
+use native.Mathlib.Omega.{arith}
+use mathlib.Core.Path.{_≡_, refl, sym, ap, subst, _∙_}
+use mathlib.Core.Bool.{Bool, true, false}
+use mathlib.Core.List.{List, [], _∷_, _++_, map}
+use lib.ListN.{length, drop, getD, length-append}
+use lib.Seq.{drop-cons}
+use borrow.Author.Tests.{le-leb, lt-leb}
+use Rattle.model.specs.Base.{if_then_else_, Bytes}
+use Rattle.model.specs.Decode.{kindNumber, kindOf}
+use Rattle.model.specs.Text.{Value}
+use Rattle.model.specs.Report.{MAXFILE}
+use Rattle.model.specs.Form.{formEnd}
+use Rattle.model.specs.Records.{Read, between-records, closing, cellNow, fileFull, recordFull}
+use Rattle.model.specs.Api.{startsOf, endsOf, kindsOf}
+use Rattle.model.proofs.Tests.{impossible}
+use Rattle.lexer.specs.Run.{part}
+use Rattle.lexer.proofs.Runs.{part-end}
+use Rattle.scanner.specs.Types.{Dialect, Cell, Form, Inside, Part, Outside, Passed, OfCell, Between, Tail, Ends, To, Reject, Ending, Clean, Final, Cut, ByteFault, Byte, CutShort, FileTooLong, RecordTooLong, InHand, Event, Completed, LastRecord, Failed, Finished}
+use Rattle.scanner.specs.Next.{Next, closesCell, endsRecord, oneMore, handAfter, grown, cellsAfter, failed, completed, ended, stepped, nextRecord}
+use Rattle.scanner.specs.Ahead.{readAt, steppedAt, outer}
+use Rattle.scanner.specs.Placed.{putAt, putIf, placed}
+use Rattle.scanner.proofs.Placing.{placed-snoc}
+use Rattle.scanner.proofs.Coming.{carried-at}
+use Rattle.scanner.proofs.Calm.{Calm, leaves, passes, grows, blanks, parts, tails, finishes}
+
+-- ---- lists
+
+abbrev fromOf : Value → ℕ
+fromOf v = v .from
+
+abbrev uptoOf : Value → ℕ
+uptoOf v = v .upto
+
+abbrev numberOf : Value → ℕ
+numberOf v = kindNumber (v .kind)
+
+length-map : (φ : Value → ℕ) (vs : List Value) → length (map φ vs) ≡ length vs
+length-map φ [] = refl
+length-map φ (v ∷ vs) = ap suc (length-map φ vs)
+
+map-snoc : (φ : Value → ℕ) (vs : List Value) (v : Value) → map φ (vs ++ (v ∷ [])) ≡ map φ vs ++ (φ v ∷ [])
+map-snoc φ [] v = refl
+map-snoc φ (w ∷ vs) v = ap (λ (l : List ℕ). φ w ∷ l) (map-snoc φ vs v)
+
+drop-past : (i : ℕ) (xs : Bytes) → length xs ≤ i → drop i xs ≡ []
+drop-past zero [] h = refl
+drop-past zero (x ∷ xs) h = absurd (omega arith)
+drop-past (suc i) [] h = refl
+drop-past (suc i) (x ∷ xs) h = drop-past i xs (omega arith)
+
+-- the cell that closes is put after the others
+closing-put : (φ : Value → ℕ) (room base n : ℕ) (old : List ℕ) (d : Dialect) (k : Bool) (r : Read) → length (r .cells) ≡ n → putIf k room (base + n) (φ (cellNow d r)) (placed room base (map φ (r .cells)) old) ≡ placed room base (map φ (closing d k r)) old
+unfolding putIf if_then_else_
+closing-put φ room base n old d true r e =
+    let l : length (map φ (r .cells)) ≡ n = length-map φ (r .cells) ∙ e in
+    rw (map-snoc φ (r .cells) (cellNow d r), placed-snoc room base (map φ (r .cells)) (φ (cellNow d r)) old, l)
+closing-put φ room base n old d false r e = refl
+
+closing-counts : (d : Dialect) (k : Bool) (r : Read) (n : ℕ) → length (r .cells) ≡ n → length (closing d k r) ≡ oneMore k n
+unfolding oneMore if_then_else_
+closing-counts d true r n e = length-append (r .cells) (cellNow d r ∷ []) ∙ ap (λ (m : ℕ). m + 1) e
+closing-counts d false r n e = e
+
+one-more-few : (k : Bool) (a n i : ℕ) → a + n ≤ i → a + oneMore k n ≤ i + 1
+unfolding oneMore if_then_else_
+one-more-few true a n i h = omega arith
+one-more-few false a n i h = omega arith
+
+-- ---- the invariant
+
+module _ (d : Dialect) (file : Bytes) (first : Form) (from room base : ℕ) (starts₀ ends₀ kinds₀ : List ℕ) where
+  abbrev Whole : Next
+  Whole = nextRecord d (between-records [] first from) (drop from file)
+
+  -- the lists hold the cells of the record in hand
+  pub record Holds (vs : List Value) (starts ends kinds : List ℕ) : Type 0 where
+    pub at-starts : starts ≡ placed room base (map fromOf vs) starts₀
+    pub at-ends : ends ≡ placed room base (map uptoOf vs) ends₀
+    pub at-kinds : kinds ≡ placed room base (map numberOf vs) kinds₀
+
+  -- the file lies on before i, where these are in hand; nothing else is asked of i
+  pub record Reached (f : Form) (i : ℕ) (h : InHand) (vs : List Value) : Type 0 where
+    pub inside : i ≤ length file
+    pub under : i ≤ MAXFILE
+    pub counted : length vs ≡ h .cells
+    pub few : base + h .cells ≤ i
+    pub sized : h .size ≤ i
+    pub opened : h .opened ≤ i
+    pub rest : outer f ≡ true → vs ≡ []
+
+  pub record Scanning (f : Form) (i : ℕ) (h : InHand) (starts ends kinds : List ℕ) : Type 0 where
+    pub vs : List Value
+    pub same : Whole ≡ nextRecord d (readAt file f i h vs) (drop i file)
+    pub reached : Reached f i h vs
+    pub lists : Holds vs starts ends kinds
+
+  pub begins : from ≤ length file → from ≤ MAXFILE → base ≤ from → Scanning first from (record { start = from; size = 0; opened = from; cells = 0 }) starts₀ ends₀ kinds₀
+  unfolding placed
+  begins l m b =
+      record {
+        vs = [];
+        same = ap (λ (raw : Bytes). nextRecord d (record { done = []; form = first; offset = from; start = from; size = 0; opened = from; raw = raw; cells = [] }) (drop from file)) (sym (part-end file from));
+        reached = record { inside = l; under = m; counted = refl; few = omega arith; sized = omega arith; opened = omega arith; rest = λ _. refl };
+        lists = record { at-starts = refl; at-ends = refl; at-kinds = refl };
+      }
+
+  -- ---- one byte
+
+  module _ (f : Form) (i : ℕ) (h : InHand) (vs : List Value) (q : Reached f i h vs) where
+    abbrev Here : Read
+    Here = readAt file f i h vs
+
+    -- what is put where this part closes a cell
+    abbrev PutStarts : Part → List ℕ → List ℕ
+    PutStarts p xs = putIf (closesCell p) room (base + h .cells) (h .opened) xs
+
+    abbrev PutEnds : Part → List ℕ → List ℕ
+    PutEnds p xs = putIf (closesCell p) room (base + h .cells) i xs
+
+    abbrev PutKinds : Part → List ℕ → List ℕ
+    PutKinds p xs = putIf (closesCell p) room (base + h .cells) (kindNumber (kindOf d (part file (h .opened) i))) xs
+
+    -- the lists hold the record's cells after a byte that closes one or not
+    put-closing : (k : Bool) {starts ends kinds : List ℕ} → Holds vs starts ends kinds → Holds (closing d k Here) (putIf k room (base + h .cells) (h .opened) starts) (putIf k room (base + h .cells) i ends) (putIf k room (base + h .cells) (kindNumber (kindOf d (part file (h .opened) i))) kinds)
+    put-closing k y =
+        record {
+          at-starts = ap (λ (xs : List ℕ). putIf k room (base + h .cells) (h .opened) xs) (y .at-starts) ∙ closing-put fromOf room base (h .cells) starts₀ d k Here (q .counted);
+          at-ends = ap (λ (xs : List ℕ). putIf k room (base + h .cells) i xs) (y .at-ends) ∙ closing-put uptoOf room base (h .cells) ends₀ d k Here (q .counted);
+          at-kinds = ap (λ (xs : List ℕ). putIf k room (base + h .cells) (kindNumber (kindOf d (part file (h .opened) i))) xs) (y .at-kinds) ∙ closing-put numberOf room base (h .cells) kinds₀ d k Here (q .counted);
+        }
+
+    -- no cell closes, and none was complete
+    put-none : {starts ends kinds : List ℕ} → vs ≡ [] → Holds vs starts ends kinds → Holds [] (putIf false room (base + h .cells) (h .opened) starts) (putIf false room (base + h .cells) i ends) (putIf false room (base + h .cells) (kindNumber (kindOf d (part file (h .opened) i))) kinds)
+    unfolding putIf if_then_else_
+    put-none {starts = starts} {ends = ends} {kinds = kinds} e y = subst (λ (ws : List Value). Holds ws starts ends kinds) e y
+
+    put-same : {starts ends kinds : List ℕ} → Holds vs starts ends kinds → Holds vs (putIf false room (base + h .cells) (h .opened) starts) (putIf false room (base + h .cells) i ends) (putIf false room (base + h .cells) (kindNumber (kindOf d (part file (h .opened) i))) kinds)
+    unfolding putIf if_then_else_
+    put-same y = y
+
+    module _ (g : Form) (l : i < length file) (m : i < MAXFILE) where
+      goes-on : (p : Part) → endsRecord p ≡ false → Whole ≡ steppedAt d file f i h vs (To g p) → Whole ≡ nextRecord d (readAt file g (i + 1) (handAfter p i h) (cellsAfter d p Here)) (drop (i + 1) file)
+      unfolding stepped if_then_else_
+      goes-on p e w =
+          w ∙ rw e (ap (λ (r : Read). nextRecord d r (drop (i + 1) file)) (carried-at d file p f g i h vs (q .opened) l))
+
+      pub on : (p : Part) → Calm f (To g p) → endsRecord p ≡ false → Whole ≡ steppedAt d file f i h vs (To g p) → {starts ends kinds : List ℕ} → Holds vs starts ends kinds → Scanning g (i + 1) (handAfter p i h) (PutStarts p starts) (PutEnds p ends) (PutKinds p kinds)
+      on Outside (leaves o) e w y =
+          let b : base + h .cells ≤ i = q .few in
+          record { vs = []; same = goes-on Outside e w; reached = record { inside = omega arith; under = omega arith; counted = refl; few = omega arith; sized = omega arith; opened = omega arith; rest = λ _. refl }; lists = put-none (q .rest o) y }
+      on Passed (passes o) e w y =
+          let b : base + h .cells ≤ i = q .few in
+          record { vs = []; same = goes-on Passed e w; reached = record { inside = omega arith; under = omega arith; counted = refl; few = omega arith; sized = omega arith; opened = omega arith; rest = λ _. refl }; lists = put-none (q .rest o) y }
+      on OfCell (grows o) e w y =
+          let b : base + h .cells ≤ i = q .few in
+          let s : h .size ≤ i = q .sized in
+          let n : h .opened ≤ i = q .opened in
+          record { vs = vs; same = goes-on OfCell e w; reached = record { inside = omega arith; under = omega arith; counted = q .counted; few = omega arith; sized = omega arith; opened = omega arith; rest = λ t. impossible (sym o ∙ t) }; lists = put-same y }
+      on (Between k) (blanks o) e w y =
+          let b : base + h .cells ≤ i = q .few in
+          let s : h .size ≤ i = q .sized in
+          record { vs = closing d false Here; same = goes-on (Between false) e w; reached = record { inside = omega arith; under = omega arith; counted = closing-counts d false Here (h .cells) (q .counted); few = one-more-few false base (h .cells) i b; sized = omega arith; opened = omega arith; rest = λ _. q .rest o }; lists = put-closing false y }
+      on (Between k) (parts o) e w y =
+          let b : base + h .cells ≤ i = q .few in
+          let s : h .size ≤ i = q .sized in
+          record { vs = closing d k Here; same = goes-on (Between k) e w; reached = record { inside = omega arith; under = omega arith; counted = closing-counts d k Here (h .cells) (q .counted); few = one-more-few k base (h .cells) i b; sized = omega arith; opened = omega arith; rest = λ t. impossible (sym o ∙ t) }; lists = put-closing k y }
+      on (Tail k) (tails o) e w y =
+          let b : base + h .cells ≤ i = q .few in
+          let s : h .size ≤ i = q .sized in
+          record { vs = closing d k Here; same = goes-on (Tail k) e w; reached = record { inside = omega arith; under = omega arith; counted = closing-counts d k Here (h .cells) (q .counted); few = one-more-few k base (h .cells) i b; sized = omega arith; opened = omega arith; rest = λ t. impossible (sym o ∙ t) }; lists = put-closing k y }
+      on (Ends k) finishes e w y = impossible (sym e)
+
+  -- ---- the ways out of the loop
+
+  -- the event, and the lists with the cells that go with it
+  pub record Out (e : Event) (starts ends kinds : List ℕ) : Type 0 where
+    pub event : e ≡ Whole .event
+    pub at-starts : starts ≡ placed room base (startsOf (Whole .cells)) starts₀
+    pub at-ends : ends ≡ placed room base (endsOf (Whole .cells)) ends₀
+    pub at-kinds : kinds ≡ placed room base (kindsOf (Whole .cells)) kinds₀
+
+  pub gives : (n : Next) {starts ends kinds : List ℕ} → Whole ≡ n → Holds (n .cells) starts ends kinds → Out (n .event) starts ends kinds
+  gives n w y =
+      record {
+        event = ap (λ (x : Next). x .event) (sym w);
+        at-starts = y .at-starts ∙ ap (λ (x : Next). placed room base (startsOf (x .cells)) starts₀) (sym w);
+        at-ends = y .at-ends ∙ ap (λ (x : Next). placed room base (endsOf (x .cells)) ends₀) (sym w);
+        at-kinds = y .at-kinds ∙ ap (λ (x : Next). placed room base (kindsOf (x .cells)) kinds₀) (sym w);
+      }
+
+  module _ (f : Form) (i : ℕ) (h : InHand) {starts ends kinds : List ℕ} (y : Scanning f i h starts ends kinds) where
+    abbrev There : Read
+    There = readAt file f i h (y .vs)
+
+    pub too-long-file : i < length file → MAXFILE ≤ i → Out (Failed FileTooLong i) starts ends kinds
+    unfolding nextRecord fileFull if_then_else_
+    too-long-file l m =
+        let n : drop i file ≡ getD file i 0 ∷ drop (i + 1) file = rw (add-one, drop-cons file i 0) in
+        gives (failed FileTooLong There) (y .same ∙ rw (n, nextRecord, le-leb MAXFILE i m)) (y .lists)
+
+    pub too-long-record : i < length file → i < MAXFILE → recordFull There (getD file i 0) ≡ true → Out (Failed RecordTooLong i) starts ends kinds
+    unfolding nextRecord fileFull if_then_else_
+    too-long-record l m e =
+        let n : drop i file ≡ getD file i 0 ∷ drop (i + 1) file = rw (add-one, drop-cons file i 0) in
+        gives (failed RecordTooLong There) (y .same ∙ rw (n, nextRecord, lt-leb MAXFILE i m, e)) (y .lists)
+
+    at-end : length file ≤ i → Whole ≡ ended d There (formEnd d f)
+    unfolding nextRecord
+    at-end l =
+        let n : drop i file ≡ [] = drop-past i file l in
+        y .same ∙ rw n
+
+    pub cut-short : length file ≤ i → formEnd d f ≡ Cut → Out (Failed CutShort i) starts ends kinds
+    cut-short l e = gives (failed CutShort There) (at-end l ∙ ap (λ (x : Ending). ended d There x) e) (y .lists)
+
+    pub clean-end : length file ≤ i → formEnd d f ≡ Clean → Out (Finished i) starts ends kinds
+    clean-end l e = gives (ended d There Clean) (at-end l ∙ ap (λ (x : Ending). ended d There x) e) (y .lists)
+
+    pub last-record : length file ≤ i → formEnd d f ≡ Final → Out (LastRecord (h .start) (h .cells + 1)) (putIf true room (base + h .cells) (h .opened) starts) (putIf true room (base + h .cells) i ends) (putIf true room (base + h .cells) (kindNumber (kindOf d (part file (h .opened) i))) kinds)
+    last-record l e =
+        let n : length (closing d true There) ≡ h .cells + 1 = closing-one d There (h .cells) (y .reached .counted) in
+        subst (λ (k : ℕ). Out (LastRecord (h .start) k) (putIf true room (base + h .cells) (h .opened) starts) (putIf true room (base + h .cells) i ends) (putIf true room (base + h .cells) (kindNumber (kindOf d (part file (h .opened) i))) kinds)) n
+        (gives (ended d There Final) (at-end l ∙ ap (λ (x : Ending). ended d There x) e) (put-closing f i h (y .vs) (y .reached) true (y .lists)))
+      where
+        closing-one : (d′ : Dialect) (r : Read) (n : ℕ) → length (r .cells) ≡ n → length (closing d′ true r) ≡ n + 1
+        closing-one d′ r n c = length-append (r .cells) (cellNow d′ r ∷ []) ∙ ap (λ (m : ℕ). m + 1) c
+
+  -- a byte that ends its record, or that no record goes on with
+  module _ (f : Form) (i : ℕ) (h : InHand) (vs : List Value) (q : Reached f i h vs) {starts ends kinds : List ℕ} (y : Holds vs starts ends kinds) where
+    pub refused : (x : ByteFault) → Whole ≡ steppedAt d file f i h vs (Reject x) → Out (Failed (Byte x) i) starts ends kinds
+    unfolding stepped
+    refused x w = gives (failed (Byte x) (readAt file f i h vs)) w y
+
+    pub ends-here : (g : Form) (k : Bool) → Whole ≡ steppedAt d file f i h vs (To g (Ends k)) → Out (Completed (h .start) (oneMore k (h .cells)) g (i + 1)) (putIf k room (base + h .cells) (h .opened) starts) (putIf k room (base + h .cells) i ends) (putIf k room (base + h .cells) (kindNumber (kindOf d (part file (h .opened) i))) kinds)
+    unfolding stepped if_then_else_
+    ends-here g k w =
+        let r : Read = readAt file f i h vs in
+        let n : length (closing d k r) ≡ oneMore k (h .cells) = closing-counts d k r (h .cells) (q .counted) in
+        subst (λ (m : ℕ). Out (Completed (h .start) m g (i + 1)) (putIf k room (base + h .cells) (h .opened) starts) (putIf k room (base + h .cells) i ends) (putIf k room (base + h .cells) (kindNumber (kindOf d (part file (h .opened) i))) kinds)) n
+        (gives (completed r (closing d k r) g (i + 1)) w (put-closing f i h vs q k y))
+
+    pub completes : (g : Form) (p : Part) → endsRecord p ≡ true → Whole ≡ steppedAt d file f i h vs (To g p) → Out (Completed (handAfter p i h .start) (handAfter p i h .cells) g (i + 1)) (putIf (closesCell p) room (base + h .cells) (h .opened) starts) (putIf (closesCell p) room (base + h .cells) i ends) (putIf (closesCell p) room (base + h .cells) (kindNumber (kindOf d (part file (h .opened) i))) kinds)
+    completes g Outside e w = impossible e
+    completes g Passed e w = impossible e
+    completes g OfCell e w = impossible e
+    completes g (Between k) e w = impossible e
+    completes g (Tail k) e w = impossible e
+    completes g (Ends k) e w = ends-here g k w
+
+  -- ---- without a step
+
+  pub grows-to : (f : Form) (i j : ℕ) (h : InHand) (vs : List Value) → i ≤ j → j ≤ length file → j ≤ MAXFILE → Reached f i h vs → Reached f j (grown h (j - i)) vs
+  grows-to f i j h vs l m n q =
+      let b : base + h .cells ≤ i = q .few in
+      let s : h .size ≤ i = q .sized in
+      let o : h .opened ≤ i = q .opened in
+      record { inside = m; under = n; counted = q .counted; few = omega arith; sized = omega arith; opened = omega arith; rest = q .rest }
+
+  pub still-open : (f : Form) (c : Cell) (i j : ℕ) (h : InHand) {starts ends kinds : List ℕ} (y : Scanning f i h starts ends kinds) → i < j → j ≤ length file → j ≤ MAXFILE → Whole ≡ nextRecord d (readAt file (Inside c) j (grown h (j - i)) (y .vs)) (drop j file) → Scanning (Inside c) j (grown h (j - i)) starts ends kinds
+  still-open f c i j h y l m n w =
+      let b : base + h .cells ≤ i = y .reached .few in
+      let s : h .size ≤ i = y .reached .sized in
+      let o : h .opened ≤ i = y .reached .opened in
+      record { vs = y .vs; same = w; reached = record { inside = m; under = n; counted = y .reached .counted; few = omega arith; sized = omega arith; opened = omega arith; rest = λ t. impossible t }; lists = y .lists }
+
+  pub skipped : (f : Form) (i j : ℕ) (h : InHand) {starts ends kinds : List ℕ} (y : Scanning f i h starts ends kinds) → outer f ≡ true → i < j → j ≤ length file → j ≤ MAXFILE → Whole ≡ nextRecord d (readAt file f j (handAfter Outside (j - 1) h) []) (drop j file) → Scanning f j (handAfter Outside (j - 1) h) starts ends kinds
+  skipped f i j h {starts = ss} {ends = es} {kinds = ks} y o l m n w =
+      let b : base + h .cells ≤ i = y .reached .few in
+      record { vs = []; same = w; reached = record { inside = m; under = n; counted = refl; few = omega arith; sized = omega arith; opened = omega arith; rest = λ _. refl }; lists = subst (λ (ws : List Value). Holds ws ss es ks) (y .reached .rest o) (y .lists) }

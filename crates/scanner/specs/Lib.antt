@@ -1,0 +1,4 @@
+pub mod Types
+pub mod Next
+pub mod Ahead
+pub mod Placed

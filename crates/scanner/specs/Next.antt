@@ -1,0 +1,129 @@
+-- The next record of a file. Reading goes from record to record: a byte moves reading as `move` of model's Records says, but a
+-- complete record is handed over before it is judged.
+use Prim.Native.Nat.{ℕ, _+_, _≤_, _<_}
+use mathlib.Core.Bool.{Bool, true, false}
+use mathlib.Core.List.{List, [], _∷_, _++_}
+use lib.ListN.{length}
+use Rattle.model.specs.Base.{if_then_else_, Bytes}
+use Rattle.model.specs.Form.{formStep, formEnd}
+use Rattle.model.specs.Text.{Value}
+use Rattle.model.specs.Report.{MAXFILE}
+use Rattle.model.specs.Records.{Read, closing, fileFull, recordFull}
+use Rattle.scanner.specs.Types.{Dialect, Form, Part, Outside, Passed, OfCell, Between, Tail, Ends, Step, To, Reject, Ending, Clean, Final, Cut, Fault, Byte, CutShort, FileTooLong, RecordTooLong, InHand, Event, Completed, LastRecord, Failed, Finished}
+
+-- ---- what a byte does to the record in hand
+
+-- a cell ends before this byte
+abbrev pub closesCell : Part → Bool
+closesCell Outside = false
+closesCell Passed = false
+closesCell OfCell = false
+closesCell (Between closes) = closes
+closesCell (Tail closes) = closes
+closesCell (Ends closes) = closes
+
+-- this is a record's last byte
+abbrev pub endsRecord : Part → Bool
+endsRecord Outside = false
+endsRecord Passed = false
+endsRecord OfCell = false
+endsRecord (Between closes) = false
+endsRecord (Tail closes) = false
+endsRecord (Ends closes) = true
+
+-- how many cells are complete, with the one that ends
+unfoldable pub oneMore : (closes : Bool) → ℕ → ℕ
+oneMore closes n = if closes then n + 1 else n
+
+-- the record in hand after the byte at i
+abbrev pub handAfter : Part → (i : ℕ) → InHand → InHand
+handAfter Outside i h = record { start = h .start; size = 0; opened = i + 1; cells = 0 }
+handAfter Passed i h = record { start = i + 1; size = 0; opened = i + 1; cells = 0 }
+handAfter OfCell i h = record { start = h .start; size = h .size + 1; opened = h .opened; cells = h .cells }
+handAfter (Between closes) i h = record { start = h .start; size = h .size + 1; opened = i + 1; cells = oneMore closes (h .cells) }
+handAfter (Tail closes) i h = record { start = h .start; size = h .size; opened = i + 1; cells = oneMore closes (h .cells) }
+handAfter (Ends closes) i h = record { start = h .start; size = h .size; opened = i + 1; cells = oneMore closes (h .cells) }
+
+-- n more bytes of the cell in hand
+abbrev pub grown : InHand → ℕ → InHand
+grown h n = record { start = h .start; size = h .size + n; opened = h .opened; cells = h .cells }
+
+-- the bytes of the cell in hand after the byte b
+abbrev pub rawAfter : Part → (b : ℕ) → Bytes → Bytes
+rawAfter Outside b raw = []
+rawAfter Passed b raw = []
+rawAfter OfCell b raw = raw ++ (b ∷ [])
+rawAfter (Between closes) b raw = []
+rawAfter (Tail closes) b raw = []
+rawAfter (Ends closes) b raw = []
+
+-- the record's complete cells after the next byte
+abbrev pub cellsAfter : Dialect → Part → Read → List Value
+cellsAfter d Outside r = []
+cellsAfter d Passed r = []
+cellsAfter d OfCell r = r .cells
+cellsAfter d (Between closes) r = closing d closes r
+cellsAfter d (Tail closes) r = closing d closes r
+cellsAfter d (Ends closes) r = closing d closes r
+
+-- the record in hand as numbers
+abbrev pub handOf : Read → InHand
+handOf r = record { start = r .start; size = r .size; opened = r .opened; cells = length (r .cells) }
+
+-- reading after the byte b, which is this part of the file
+abbrev pub carried : Dialect → Read → (b : ℕ) → Form → Part → Read
+carried d r b f p =
+    let h : InHand = handAfter p (r .offset) (handOf r) in
+    record {
+      done = r .done;
+      form = f;
+      offset = r .offset + 1;
+      start = h .start;
+      size = h .size;
+      opened = h .opened;
+      raw = rawAfter p b (r .raw);
+      cells = cellsAfter d p r;
+    }
+
+-- ---- the next record
+
+-- what reading comes to next, and the cells of the record in hand then
+pub record Next : Type 0 where
+  pub event : Event
+  pub cells : List Value
+
+abbrev pub failed : Fault → Read → Next
+failed e r = record { event = Failed e (r .offset); cells = r .cells }
+
+-- the record is complete with these cells; where the file stands after it, and the next offset
+abbrev pub completed : Read → List Value → Form → ℕ → Next
+completed r vs f o = record { event = Completed (r .start) (length vs) f o; cells = vs }
+
+-- the next byte b takes this step, and `rest` says what comes of reading after it
+unfoldable pub stepped : Dialect → Read → (b : ℕ) → (rest : Read → Next) → Step → Next
+stepped d r b rest (Reject e) = failed (Byte e) r
+stepped d r b rest (To f p) =
+    if endsRecord p then completed r (closing d (closesCell p) r) f (r .offset + 1) else rest (carried d r b f p)
+
+-- the file ends here
+abbrev pub ended : Dialect → Read → Ending → Next
+ended d r Clean = record { event = Finished (r .offset); cells = r .cells }
+ended d r Final = record { event = LastRecord (r .start) (length (closing d true r)); cells = closing d true r }
+ended d r Cut = failed CutShort r
+
+unfoldable pub nextRecord : Dialect → Read → Bytes → Next
+nextRecord d r [] = ended d r (formEnd d (r .form))
+nextRecord d r (b ∷ bs) =
+    if fileFull r then failed FileTooLong r
+    else if recordFull r b then failed RecordTooLong r
+    else stepped d r b (λ r′. nextRecord d r′ bs) (formStep d (r .form) b)
+
+-- ---- how far an event lies
+
+-- the cells up to here are at most as many as the bytes read, and a complete record lies in the file and under its limit.
+-- `base`: how many cells came before; `from`: where reading began
+abbrev pub Fits : (length from base : ℕ) → Event → Type 0
+Fits n from base (Completed start cells f next) = (from < next) × (next ≤ n) × (next ≤ MAXFILE) × (base + cells ≤ next)
+Fits n from base (LastRecord start cells) = (n ≤ MAXFILE) × (base + cells ≤ n + 1)
+Fits n from base (Failed e offset) = Unit {0}
+Fits n from base (Finished offset) = Unit {0}
