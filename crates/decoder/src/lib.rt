@@ -26,7 +26,7 @@ use model::Settings;
 mod content;
 mod escape;
 mod first;
-mod judge;
+pub mod judge;
 mod report;
 
 // What the decoder answers.

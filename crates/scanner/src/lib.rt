@@ -1,11 +1,31 @@
-// The scanner: from record to record of a file, in any dialect, by form and limits alone.
-
+// The scanner: from record to record of a file, in any dialect, by form and limits alone. A complete record is handed over before it
+// is judged, and its cells are put into lent lists as far as there is room. The definition is `nextRecord` of specs/Next.antt, and
+// proofs/Reading.antt has the law that reading a file goes from record to record so.
+//
+// The loop holds numbers and the place in the file; ahead.rt finds what stands ahead of it, which is mostly a whole cell. Each
+// function on this way is called from one place, or its answer would go through memory: that costs half of the speed.
 pub mod ahead;
 pub mod hand;
+pub mod limits;
 pub mod place;
 
+ghost use mathlib.Core.Path.{_≡_};
+ghost use mathlib.Core.List.{[]};
+ghost use Prim.Native.Nat.{_≤_};
+ghost use lib.ListN.{length, drop};
+ghost use Rattle.model.specs.Report.{MAXFILE};
+ghost use Rattle.model.specs.Records.{between-records};
+ghost use Rattle.model.specs.Api.{startsOf, endsOf, kindsOf};
+ghost use Rattle.scanner.specs.Next.{nextRecord, Fits};
+ghost use Rattle.scanner.specs.Placed.{placed};
+use ahead::Met;
+use hand::InHand;
+use model::Dialect;
+use model::Ending;
 use model::Fault;
 use model::Form;
+use model::Part;
+use model::Step;
 
 // What reading comes to next.
 pub enum Event {
@@ -30,4 +50,164 @@ pub enum Event {
     Finished {
         offset: usize,
     },
+}
+
+// The next record from `from` on. Its cells go into the lists from place `base` on, up to `room`.
+pub fn next_record(
+    d: Dialect,
+    file: &[u8],
+    from: usize,
+    first: Form,
+    room: usize,
+    base: usize,
+    starts: &mut [usize],
+    ends: &mut [usize],
+    kinds: &mut [u8],
+) -> Event
+    requires { ⌜ (from ≤ length (now file)) × (from ≤ MAXFILE) × (base ≤ from) ⌝ }
+    requires { ⌜ (room ≤ length (now starts)) × (room ≤ length (now ends)) × (room ≤ length (now kinds)) ⌝ }
+    ensures { λ r. ⌜ r ≡ nextRecord d (between-records [] first from) (drop from (now (file .entry))) .event ⌝ }
+    ensures { λ r. ⌜ now (starts .exit) ≡ placed room base (startsOf (nextRecord d (between-records [] first from) (drop from (now (file .entry))) .cells)) (now (starts .entry)) ⌝ }
+    ensures { λ r. ⌜ now (ends .exit) ≡ placed room base (endsOf (nextRecord d (between-records [] first from) (drop from (now (file .entry))) .cells)) (now (ends .entry)) ⌝ }
+    ensures { λ r. ⌜ now (kinds .exit) ≡ placed room base (kindsOf (nextRecord d (between-records [] first from) (drop from (now (file .entry))) .cells)) (now (kinds .entry)) ⌝ }
+    ensures { λ r. ⌜ Fits (length (now (file .entry))) from base r ⌝ }
+{
+    let mut form = first;
+    let mut i = from;
+    let mut h = InHand {
+        start: from,
+        size: 0,
+        opened: from,
+        cells: 0,
+    };
+    while i < file.len() {
+        if 16777215 <= i {
+            return Event::Failed {
+                fault: Fault::FileTooLong,
+                offset: i,
+            };
+        }
+        if limits::is_full(form, h.size, file[i]) {
+            return Event::Failed {
+                fault: Fault::RecordTooLong,
+                offset: i,
+            };
+        }
+        match ahead::ahead(d, file, form, i, h.size) {
+            Met::Is(s) => match s {
+                Step::Reject(e) => {
+                    return Event::Failed {
+                        fault: Fault::Byte(e),
+                        offset: i,
+                    };
+                }
+                Step::To(f, p) => {
+                    place::put(
+                        hand::closes_cell(p),
+                        d,
+                        file,
+                        h.opened,
+                        i,
+                        room,
+                        base + h.cells,
+                        starts,
+                        ends,
+                        kinds,
+                    );
+                    h = hand::moved(p, i, h);
+                    i += 1;
+                    if hand::ends_record(p) {
+                        return Event::Completed {
+                            start: h.start,
+                            cells: h.cells,
+                            form: f,
+                            next: i,
+                        };
+                    }
+                    form = f;
+                    continue;
+                }
+            },
+            Met::Skipped(j) => {
+                h = hand::moved(Part::Outside, j - 1, h);
+                i = j;
+                continue;
+            }
+            Met::AfterCell { closes, at: j } => {
+                h = hand::grown_by(h, j - i);
+                i = j;
+                match lexer::form::after_cell(d, closes, file[j]) {
+                    Step::Reject(e) => {
+                        return Event::Failed {
+                            fault: Fault::Byte(e),
+                            offset: i,
+                        };
+                    }
+                    Step::To(f, p) => {
+                        place::put(
+                            hand::closes_cell(p),
+                            d,
+                            file,
+                            h.opened,
+                            i,
+                            room,
+                            base + h.cells,
+                            starts,
+                            ends,
+                            kinds,
+                        );
+                        h = hand::moved(p, i, h);
+                        i += 1;
+                        if hand::ends_record(p) {
+                            return Event::Completed {
+                                start: h.start,
+                                cells: h.cells,
+                                form: f,
+                                next: i,
+                            };
+                        }
+                        form = f;
+                        continue;
+                    }
+                }
+            }
+            Met::Refused(e, j) => {
+                return Event::Failed {
+                    fault: Fault::Byte(e),
+                    offset: j,
+                };
+            }
+            Met::Open(c, j) => {
+                h = hand::grown_by(h, j - i);
+                form = Form::Inside(c);
+                i = j;
+                continue;
+            }
+        }
+    }
+    match limits::file_end(d, form) {
+        Ending::Clean => Event::Finished { offset: i },
+        Ending::Final => {
+            place::put(
+                true,
+                d,
+                file,
+                h.opened,
+                i,
+                room,
+                base + h.cells,
+                starts,
+                ends,
+                kinds,
+            );
+            Event::LastRecord {
+                start: h.start,
+                cells: h.cells + 1,
+            }
+        }
+        Ending::Cut => Event::Failed {
+            fault: Fault::CutShort,
+            offset: i,
+        },
+    }
 }
