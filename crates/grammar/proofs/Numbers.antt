@@ -14,7 +14,7 @@ use Rattle.model.specs.Decode.{kindOf, contentOf}
 use Rattle.model.proofs.Tests.{split, split-on, impossible, is→eq}
 use Rattle.model.proofs.CellContent.{no-more, no-stop, same-more}
 use Rattle.grammar.specs.Rfc5234.{_from_to_, DIGIT, Digits, no-digit, digit, SomeDigits, digits}
-use Rattle.grammar.specs.Rfc8259.{Number, number, no-minus, a-minus, Optional-frac, no-frac, a-frac, Optional-exp, no-exp, an-exp, decimal-point, Digit1-9, digit1-9, E, small-e, large-e, exp, Optional-sign, no-sign, negative, positive, frac, Int, a-zero, nonzero, minus, plus, zero}
+use Rattle.grammar.specs.Rfc8259.{Number, number, no-minus, a-minus, Optional-frac, no-frac, a-frac, Optional-exp, no-exp, an-exp, decimal-point, digit1-9, E, small-e, large-e, exp, Optional-sign, no-sign, negative, positive, frac, Int, a-zero, nonzero, minus, plus, zero}
 use Rattle.grammar.proofs.Ranges.{range, within-range, range-within}
 use Rattle.grammar.proofs.Spelling.{Spells, whole, byte}
 

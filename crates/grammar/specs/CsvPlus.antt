@@ -1,6 +1,6 @@
--- The ABNF of RFC 4180, as source document 003 prints it, production by production in its order, with the settings of CSV+ for its COMMA
--- and DQUOTE, and with document 01's departures. Its CR and LF are those of Rfc5234. By form alone: equal counts and distinct names are
--- left to faults 5 and 6.
+-- The ABNF of RFC 4180, as source document 003 prints it, production by production in its order, with document 01's departures and with a
+-- delimiter and a quote that are set. Its CR and LF are those of Rfc5234. By form alone: equal counts and distinct names are left to
+-- faults 5 and 6.
 use Prim.Native.Nat.{ℕ}
 use mathlib.Core.Logic.{_≢_}
 use mathlib.Core.List.{List, [], _∷_, _++_}
@@ -25,7 +25,8 @@ module _ (s : Settings) where
       file : {xs : Bytes} {ls : List (Line Derived)} → ¬ BeginsWithMark xs → Table xs ls → File xs ls
 
     -- header [CRLF [record *(CRLF record) [CRLF]]]. Where this could be read as a last empty record or as none, document 01 says: "the
-    -- last ending may be missing", "The end directly after a record's ending starts no record". So a record with no ending is not empty
+    -- last ending may be missing", "The end directly after a record's ending starts no record", and of no bytes "the file ends before any
+    -- record begins". So a record with no ending is not empty
     pub data Table : Bytes → List (Line Derived) → Type 0 where
       header-unended : {b : ℕ} {text : Bytes} {cells : List Derived} → Header (b ∷ text) cells → Table (b ∷ text) (line (b ∷ text) cells ∷ [])
       header-alone : {text es : Bytes} {cells : List Derived} → Header text cells → CRLF es → Table (text ++ es) (line text cells ∷ [])
@@ -82,11 +83,11 @@ module _ (s : Settings) where
       no-textdata : Non-escaped []
       textdata : {cs bs : Bytes} → TEXTDATA cs → Non-escaped bs → Non-escaped (cs ++ bs)
 
-    -- COMMA = %x2C, or the delimiter that is set
+    -- COMMA = %x2C, in dialect 3. Source document 003 lets it be set: "The separator between cells. The default is ,"
     pub data COMMA : ℕ → Type 0 where
       comma : COMMA (delimiterByte (s .delimiter))
 
-    -- DQUOTE = %x22, or the quote that is set
+    -- DQUOTE = %x22, in dialect 3. Source document 003 lets it be set: "The character that is used around escaped cells"
     pub data DQUOTE : ℕ → Type 0 where
       dquote : DQUOTE (quoteByte (s .quote))
 

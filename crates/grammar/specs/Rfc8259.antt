@@ -147,7 +147,8 @@ mutual
   pub data Quotation-mark : ℕ → Type 0 where
     a-quotation-mark : Quotation-mark 0x22
 
-  -- unescaped = %x20-21 / %x23-5B / %x5D-10FFFF, in UTF-8
+  -- unescaped = %x20-21 / %x23-5B / %x5D-10FFFF, in UTF-8, which has no octets for D800-DFFF. Document 01: "UTF-8 text in a file obeys
+  -- this table of first and second bytes"
   pub data Unescaped : Bytes → Type 0 where
     below-quote : {b : ℕ} → b from 0x20 to 0x21 → Unescaped (b ∷ [])
     below-backslash : {b : ℕ} → b from 0x23 to 0x5B → Unescaped (b ∷ [])
