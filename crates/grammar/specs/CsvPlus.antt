@@ -87,9 +87,13 @@ module _ (s : Settings) where
     pub data COMMA : ℕ → Type 0 where
       comma : COMMA (delimiterByte (s .delimiter))
 
+    -- CR = %x0D
+
     -- DQUOTE = %x22, in dialect 3. Source document 003 lets it be set: "The character that is used around escaped cells"
     pub data DQUOTE : ℕ → Type 0 where
       dquote : DQUOTE (quoteByte (s .quote))
+
+    -- LF = %x0A
 
     -- CRLF = CR LF. Document 01 departs: "A record ends in LF or CRLF"
     pub data CRLF : Bytes → Type 0 where

@@ -63,6 +63,10 @@ mutual
     lf : Line-terminator (LF ∷ [])
     crlf : Line-terminator CRLF
 
+  -- LF = %x0A
+
+  -- CRLF = %x0D.0A
+
   -- value = false / null / true / number / string; a number's content is "its spelling"
   pub data Value : Derived → Type 0 where
     a-false : {bs : Bytes} → json.False bs → Value (cell bs types.False [])

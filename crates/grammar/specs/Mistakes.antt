@@ -1,6 +1,6 @@
--- The mistakes that the theorems rule out, each at the production that would be widened to make it. `proofs/Refused.antt` has them from
--- the theorems' statements alone, whatever the productions are; `proofs/Absent.antt` has them from the productions alone. So a
--- production that makes one of them true makes the theorems false.
+-- The mistakes that the theorems rule out. Each field says that one is not made, at the production that would be widened to make it.
+-- `proofs/Refused.antt` proves all from the statement of the theorems (`Exact`), whatever the productions are; `proofs/Absent.antt` from
+-- the productions. So a production that is widened to make one makes the theorems false.
 use mathlib.Core.Path.{_≡_}
 use mathlib.Core.Logic.{_≢_}
 use mathlib.Core.List.{List, [], _∷_}
@@ -28,7 +28,7 @@ abbrev pub tooLong : Bytes
 tooLong = replicate 4097 0x61
 
 pub record Mistakes : Type 0 where
-  -- an empty line in TDIF: LF
+  -- an empty line in TDIF: LF where a line may stand
   pub empty-line : (ls : List (Line Derived)) → ¬ tdif.Lines (0x0A ∷ []) ls
   -- a space beside a quoted CSV+ cell: ` "a"`, and `"a" `
   pub space-before : (kind : Kind) (content : Bytes) → ¬ plus.Field standard (cell (0x20 ∷ 0x22 ∷ 0x61 ∷ 0x22 ∷ []) kind content)

@@ -90,3 +90,5 @@ mutual
     cr : Linebreak (CR ∷ [])
     lf : Linebreak (LF ∷ [])
     crlf : Linebreak CRLF
+
+-- LF = %x0A, CR = %x0D, CRLF = CR LF, DQUOTE = %x22, UTF8-data = UTF8-2 / UTF8-3 / UTF8-4
