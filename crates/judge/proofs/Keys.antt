@@ -3,17 +3,17 @@
 use mathlib.Core.Path.{_≡_, refl, sym, ap, _∙_}
 use mathlib.Core.Bool.{Bool, true, false, _&&_}
 use mathlib.Core.List.{List, [], _∷_, map}
-use Prim.Native.Nat.{ℕ, _+_, _<_, _≤_}
+use Prim.Native.Nat.{ℕ, zero, suc, _+_, _-_, _<_, _≤_}
 use native.Mathlib.Omega.{arith}
 use lib.ListN.{length, drop, getD, length-map, drop-of-length-le}
 use lib.Dec.{eqb}
 use borrow.Author.Tests.{eq-eqb, ne-eqb}
 use Rattle.model.specs.declared.Dialect.{Dialect}
 use Rattle.model.specs.declared.Dialect.the-variants.{Csvj, Tdif, CsvPlus}
-use Rattle.model.specs.Base.{Bytes, same}
-use Rattle.model.specs.Records.{lower, nameKey}
+use Rattle.model.specs.Base.{if_then_else_, Bytes, same}
+use Rattle.model.specs.Records.{lower, nameKey, among}
 use Rattle.decoder.proofs.Strings.{drop-next}
-use Rattle.judge.specs.Keys.{folded}
+use Rattle.judge.specs.Keys.{folded, keyAt, keysBefore}
 
 -- the key is the name with each byte folded
 pub key-folds : (d : Dialect) (bs : Bytes) → nameKey d bs ≡ map (folded d) bs
@@ -60,3 +60,29 @@ module _ (d : Dialect) (a b : Bytes) where
 
     pub same-next : folded d (getD a i 0) ≡ folded d (getD b i 0) → sameFrom d a b i ≡ sameFrom d a b (i + 1)
     same-next e = same-at ∙ rw (eq-eqb (folded d (getD a i 0)) (folded d (getD b i 0)) e)
+
+-- ---- the names before a place
+
+module _ (d : Dialect) (file : Bytes) (starts ends : List ℕ) where
+  -- the key of the cell at a place
+  abbrev pub keyOf : ℕ → Bytes
+  keyOf n = keyAt d file (getD starts n 0) (getD ends n 0)
+
+  keys-last : (n : ℕ) → 0 < n → keysBefore d file starts ends n ≡ keyOf (n - 1) ∷ keysBefore d file starts ends (n - 1)
+  unfolding keysBefore
+  keys-last zero h = absurd (omega arith)
+  keys-last (suc n) h = let e : suc n - 1 ≡ n = omega arith in rw e
+
+  module _ (key : Bytes) where
+    pub among-none : among key (keysBefore d file starts ends 0) ≡ false
+    unfolding among keysBefore
+    among-none = refl
+
+    pub among-last : (n : ℕ) → 0 < n → same key (keyOf (n - 1)) ≡ true → among key (keysBefore d file starts ends n) ≡ true
+    unfolding among if_then_else_
+    among-last n h e = rw (keys-last n h, e)
+
+    pub among-before : (n : ℕ) → 0 < n → same key (keyOf (n - 1)) ≡ false
+        → among key (keysBefore d file starts ends n) ≡ among key (keysBefore d file starts ends (n - 1))
+    unfolding among if_then_else_
+    among-before n h e = rw (keys-last n h, e)

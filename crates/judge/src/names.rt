@@ -1,8 +1,13 @@
 // Names of a header: whether one repeats an earlier one.
 ghost use mathlib.Core.Path.{_≡_};
+ghost use Prim.Native.Nat.{_<_, _≤_};
+ghost use lib.ListN.{length, getD};
 ghost use Rattle.model.specs.Base.{same};
-ghost use Rattle.model.specs.Records.{lower, nameKey};
-ghost use Rattle.judge.specs.Keys.{folded};
+ghost use Rattle.model.specs.Decode.{contentOf};
+ghost use Rattle.model.specs.Records.{lower, nameKey, among};
+ghost use Rattle.judge.specs.Cells.{Inside};
+ghost use Rattle.judge.specs.Keys.{folded, keyAt, keysBefore};
+use decoder::Decoded;
 use model::Dialect;
 
 // A to Z taken as a to z.
@@ -30,7 +35,7 @@ fn fold_byte(d: Dialect, b: u8) -> u8
 }
 
 // Whether two names are the same.
-pub fn same_name(d: Dialect, a: &[u8], b: &[u8]) -> bool
+fn same_name(d: Dialect, a: &[u8], b: &[u8]) -> bool
     ensures { λ r. ⌜ r ≡ same (nameKey d (now (a .entry))) (nameKey d (now (b .entry))) ⌝ }
 {
     if a.len() != b.len() {
@@ -44,4 +49,61 @@ pub fn same_name(d: Dialect, a: &[u8], b: &[u8]) -> bool
         i += 1;
     }
     true
+}
+
+// Whether a raw cell has this name. The room is for its content.
+fn has_name(d: Dialect, name: &[u8], raw: &[u8], room: &mut [u8]) -> bool
+    requires { ⌜ length (now raw) ≤ length (now room) ⌝ }
+    ensures { λ r. ⌜ r ≡ same (nameKey d (now (name .entry))) (nameKey d (contentOf d (now (raw .entry)))) ⌝ }
+{
+    let Decoded::Content { length, kind: _ } = decoder::decode_sound(d, raw, room) else {
+        return false;
+    };
+    same_name(d, name, &room[..length])
+}
+
+// Whether one of the first n cells has this name, from the latest to the first.
+fn is_among(
+    d: Dialect,
+    name: &[u8],
+    file: &[u8],
+    starts: &[usize],
+    ends: &[usize],
+    n: usize,
+) -> bool
+    requires { ⌜ Inside (length (now file)) (now starts) (now ends) ⌝ }
+    requires { ⌜ n ≤ length (now starts) ⌝ }
+    ensures { λ r. ⌜ r ≡ among (nameKey d (now (name .entry))) (keysBefore d (now (file .entry)) (now (starts .entry)) (now (ends .entry)) n) ⌝ }
+{
+    let mut room = [0u8; 4096];
+    let mut j = n;
+    while 0 < j {
+        j -= 1;
+        let from = starts[j];
+        let upto = ends[j];
+        if has_name(d, name, &file[from..upto], &mut room) {
+            return true;
+        }
+    }
+    false
+}
+
+// Whether the name of cell n repeats an earlier one.
+fn repeats(d: Dialect, file: &[u8], starts: &[usize], ends: &[usize], n: usize) -> bool
+    requires { ⌜ Inside (length (now file)) (now starts) (now ends) ⌝ }
+    requires { ⌜ n < length (now starts) ⌝ }
+    ensures { λ r. ⌜ r ≡ among (keyAt d (now (file .entry)) (getD (now (starts .entry)) n 0) (getD (now (ends .entry)) n 0))
+        (keysBefore d (now (file .entry)) (now (starts .entry)) (now (ends .entry)) n) ⌝ }
+{
+    let from = starts[n];
+    let upto = ends[n];
+    let mut room = [0u8; 4096];
+    let Decoded::Content { length, kind: _ } = decoder::decode_sound(
+        d,
+        &file[from..upto],
+        &mut room,
+    ) else {
+        return false;
+    };
+    is_among(d, &room[..length], file, starts, ends, n)
 }
