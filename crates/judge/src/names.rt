@@ -4,11 +4,13 @@ ghost use Prim.Native.Nat.{_<_, _≤_};
 ghost use lib.ListN.{length, getD};
 ghost use Rattle.model.specs.Base.{same};
 ghost use Rattle.model.specs.Decode.{contentOf};
-ghost use Rattle.model.specs.Records.{lower, nameKey, among};
-ghost use Rattle.judge.specs.Cells.{Inside};
+ghost use Rattle.model.specs.Records.{lower, nameKey, among, repeatFault};
+ghost use Rattle.judge.specs.Cells.{valuesOf, Inside};
 ghost use Rattle.judge.specs.Keys.{folded, keyAt, keysBefore};
 use decoder::Decoded;
 use model::Dialect;
+use model::Fault;
+use model::Verdict;
 
 // A to Z taken as a to z.
 fn lower_case(b: u8) -> u8
@@ -106,4 +108,20 @@ fn repeats(d: Dialect, file: &[u8], starts: &[usize], ends: &[usize], n: usize) 
         return false;
     };
     is_among(d, &room[..length], file, starts, ends, n)
+}
+
+// The first name that repeats an earlier one.
+pub fn first_repeat(d: Dialect, file: &[u8], starts: &[usize], ends: &[usize]) -> Verdict
+    requires { ⌜ Inside (length (now file)) (now starts) (now ends) ⌝ }
+    ensures { λ r. ⌜ r ≡ repeatFault d Fault.Repeats (valuesOf d (now (file .entry)) (now (starts .entry)) (now (ends .entry))) ⌝ }
+{
+    let mut n = 0;
+    while n < starts.len() {
+        if repeats(d, file, starts, ends, n) {
+            let column = n + 1;
+            return Verdict::Faulty(Fault::Repeats { column });
+        }
+        n += 1;
+    }
+    Verdict::Sound
 }
