@@ -1,6 +1,6 @@
 -- What the decoder answers where the room is as long as the raw cell: no refusal, since content is no longer than the cell.
 -- Assumes nothing.
-use mathlib.Core.Path.{_≡_, refl, sym, ap, _∙_}
+use mathlib.Core.Path.{_≡_, sym, ap, _∙_}
 use Prim.Native.Nat.{ℕ, _≤_}
 use native.Mathlib.Omega.{arith}
 use lib.ListN.{length, take, drop, length-append}
@@ -18,12 +18,6 @@ use Rattle.model.proofs.Lengths.{content-length}
 use Rattle.decoder.specs.declared.Decoded.{Decoded}
 use Rattle.decoder.specs.declared.Decoded.the-variants.{Content, Refused}
 use Rattle.decoder.specs.Answer.{Shown, answerOf, shown, soundCell}
-
--- the first n bytes of a room are the content of the cell
-pub record Holds (d : Dialect) (raw room : Bytes) (n : ℕ) : Type 0 where
-  pub content : take n room ≡ contentOf d raw
-  pub inside : n ≤ length room
-  pub whole : n ≡ length (take n room)
 
 some-kind : (k : Kind) → 0 ≡ kindNumber k → ⊥
 some-kind Text e = omega arith
@@ -44,15 +38,25 @@ module _ (d : Dialect) (raw old : Bytes) (h : length raw ≤ length old) where
       let z : 0 ≡ kindNumber (kindOf d raw) = ap (λ (s : Shown). s .kind) (sym (ap answerOf told) ∙ ensured ∙ ap shown fits) in
       absurd (some-kind (kindOf d raw) z)
 
-  pub holds : (r : Decoded) (n : ℕ) (k : Kind) (new : Bytes) → r ≡ Content n k
+  pub decoded : (r : Decoded) (n : ℕ) (k : Kind) (new : Bytes) → r ≡ Content n k
       → (answerOf r ≡ shown (soundCell d raw (length old))) × (new ≡ over (soundCell d raw (length old) .content) old)
-      → Holds d raw new n
-  holds r n k new told ensured =
-      let size : n ≡ length (contentOf d raw) = ap (λ (s : Shown). s .length) (sym (ap answerOf told) ∙ ensured .0 ∙ ap shown fits) in
-      let all : new ≡ over (contentOf d raw) old = ensured .1 ∙ ap (λ (a : api.Decoded). over (a .content) old) fits in
-      let front : take n new ≡ contentOf d raw = ap (take n) all ∙ take-at (contentOf d raw) (drop (length (contentOf d raw)) old) n (sym size) in
-      record {
-        content = front;
-        inside = omega (arith, size, ap length all, length-append (contentOf d raw) (drop (length (contentOf d raw)) old));
-        whole = size ∙ sym (ap length front);
-      }
+      → (n ≡ length (contentOf d raw)) × (new ≡ over (contentOf d raw) old)
+  decoded r n k new told ensured = (
+    ap (λ (s : Shown). s .length) (sym (ap answerOf told) ∙ ensured .0 ∙ ap shown fits),
+    ensured .1 ∙ ap (λ (a : api.Decoded). over (a .content) old) fits,
+  )
+
+-- the first n bytes of a room are this content
+pub record Holds (content room : Bytes) (n : ℕ) : Type 0 where
+  pub front : take n room ≡ content
+  pub inside : n ≤ length room
+  pub whole : n ≡ length (take n room)
+
+pub holds : (content old new : Bytes) (n : ℕ) → (n ≡ length content) × (new ≡ over content old) → Holds content new n
+holds content old new n p =
+    let front : take n new ≡ content = ap (take n) (p .1) ∙ take-at content (drop (length content) old) n (sym (p .0)) in
+    record {
+      front = front;
+      inside = omega (arith, p .0, ap length (p .1), length-append content (drop (length content) old));
+      whole = p .0 ∙ sym (ap length front);
+    }

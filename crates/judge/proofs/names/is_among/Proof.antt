@@ -4,7 +4,6 @@ use mathlib.Core.Path.{_≡_, refl, sym, _∙_}
 use Prim.Native.Nat.{_-_, _≤_}
 use native.Mathlib.Omega.{arith}
 use lib.ListN.{length, getD}
-use borrow.Author.Needs.{needs}
 use Rattle.model.specs.Report.{MAXRECORD}
 use Rattle.model.specs.Records.{nameKey, among}
 use Rattle.judge.specs.Cells.{Stretch}

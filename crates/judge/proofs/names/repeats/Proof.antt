@@ -1,16 +1,17 @@
 -- `judge::names::repeats` meets its contract: the room holds the name, which is looked for among the earlier ones.
 -- Assumes nothing.
-use mathlib.Core.Path.{_≡_, refl, ap, _∙_}
-use Prim.Native.Nat.{_≤_}
+use mathlib.Core.Path.{refl, ap, _∙_}
 use lib.ListN.{length, getD, replicate}
 use borrow.Author.Needs.{needs}
 use Rattle.model.specs.Base.{Bytes}
+use Rattle.model.specs.Decode.{contentOf}
 use Rattle.model.specs.Records.{nameKey, among}
+use Rattle.model.specs.Report.{MAXRECORD}
 use Rattle.model.specs.Api.{part}
 use Rattle.judge.specs.Cells.{Stretch}
 use Rattle.judge.specs.Keys.{keysBefore}
 use Rattle.judge.proofs.Cells.{part-fits}
-use Rattle.judge.proofs.Decoding.{Holds, holds, never-refused}
+use Rattle.judge.proofs.Decoding.{Holds, holds}
 use Rattle.judge.proofs.names.repeats.Statement.{statement}
 use Rattle.judge.proofs.names.repeats.Tie as tie
 
@@ -30,47 +31,30 @@ shared-slice-read-upto c = search needs
 at-n : (c : tie.Start) → Stretch (length (c .args .file .now)) (getD (c .args .starts .now) (c .args .n) 0) (getD (c .args .ends .now) (c .args .n) 0)
 at-n c = c .pre .0 .each (c .args .n) (c .pre .1)
 
--- its bytes
-abbrev raw : tie.Start → Bytes
-raw c = part (c .args .file .now) (getD (c .args .starts .now) (c .args .n) 0) (getD (c .args .ends .now) (c .args .n) 0)
+-- the name, and the room before it is written
+abbrev name : tie.Start → Bytes
+name c = contentOf (c .args .d) (part (c .args .file .now) (getD (c .args .starts .now) (c .args .n) 0) (getD (c .args .ends .now) (c .args .n) 0))
 
--- the room before the call
 abbrev zeros : Bytes
-zeros = replicate 4096 0
+zeros = replicate MAXRECORD 0
 
-fits : (c : tie.Start) → length (raw c) ≤ length zeros
-fits c = part-fits (c .args .file .now) (getD (c .args .starts .now) (c .args .n) 0) (getD (c .args .ends .now) (c .args .n) 0) (at-n c) zeros refl
+sub-put-name : tie.Need-sub-put-name
+sub-put-name c = at-n (c .before .before .before .before .before) .forward
 
-sub-decode-sound : tie.Need-sub-decode-sound
-sub-decode-sound c = at-n (c .before .before .before .before .before) .forward
+part-put-name-start : tie.Need-part-put-name-start
+part-put-name-start c = at-n (c .before .before .before .before .before) .forward
 
-part-decode-sound-start : tie.Need-part-decode-sound-start
-part-decode-sound-start c = at-n (c .before .before .before .before .before) .forward
+part-put-name-end : tie.Need-part-put-name-end
+part-put-name-end c = at-n (c .before .before .before .before .before) .within
 
-part-decode-sound-end : tie.Need-part-decode-sound-end
-part-decode-sound-end c = at-n (c .before .before .before .before .before) .within
+slice-aggregate-put-name : tie.Need-slice-aggregate-put-name
+slice-aggregate-put-name c = search needs
 
-slice-aggregate-decode-sound : tie.Need-slice-aggregate-decode-sound
-slice-aggregate-decode-sound c = search needs
+put-name-requires : tie.Need-put-name-requires
+put-name-requires c κs = part-fits _ _ _ (at-n (c .before .before .before .before .before .before .before)) zeros refl
 
-decode-sound-requires : tie.Need-decode-sound-requires
-decode-sound-requires c κs = search needs
-
-enum-known-length : tie.Need-enum-known-length
-enum-known-length c = search needs
-
-enum-told : tie.Need-enum-told
-enum-told c = search needs
-
-returns : tie.Need-returns
-returns c =
-    let s = c .before .before .before .before .before .before .before .before .before .before .before in
-    never-refused (s .args .d) (raw s) zeros (fits s) (c .before .before .before .decode-sound .result) _ (c .enum-told .given .1) (c .before .before .before .decode-sound .ensures .0)
-
-held : (c : tie.After-known-told) → Holds (c .before .before .before .before .before .before .before .before .before .before .before .before .args .d) (raw (c .before .before .before .before .before .before .before .before .before .before .before .before)) (c .before .before .before .before .decode-sound .last .1 .1 .0) (c .before .length .given .0 .0)
-held c =
-    let s = c .before .before .before .before .before .before .before .before .before .before .before .before in
-    holds (s .args .d) (raw s) zeros (fits s) (c .before .before .before .before .decode-sound .result) _ _ _ (c .before .length .given .1) (c .before .before .before .before .decode-sound .ensures)
+held : (c : tie.After-room2) → Holds (name (c .before .before .before .before .before .before .before .before .before)) (c .before .put-name .last .1 .1 .0) (c .before .put-name .result)
+held c = holds (name (c .before .before .before .before .before .before .before .before .before)) zeros _ _ (c .before .put-name .ensures)
 
 array-share-prefix-room : tie.Need-array-share-prefix-room
 array-share-prefix-room c = held c .inside
@@ -81,10 +65,10 @@ slice-aggregate-is-among c = held (c .before) .whole
 is-among-requires : tie.Need-is-among-requires
 is-among-requires c κs = search needs
 
-returns-2 : tie.Need-returns-2
-returns-2 c =
-    let s = c .before .before .before .before .before .before .before .before .before .before .before .before .before .before .args in
-    c .is-among .ensures ∙ ap (λ (b : Bytes). among (nameKey (s .d) b) (keysBefore (s .d) (s .file .now) (s .starts .now) (s .ends .now) (s .n))) (held (c .before .before) .content)
+returns : tie.Need-returns
+returns c =
+    let s = c .before .before .before .before .before .before .before .before .before .before .before .args in
+    c .is-among .ensures ∙ ap (λ (b : Bytes). among (nameKey (s .d) b) (keysBefore (s .d) (s .file .now) (s .starts .now) (s .ends .now) (s .n))) (held (c .before .before) .front)
 
 pub repeats-spec : {M : Type 1} → statement M
 repeats-spec =
@@ -94,15 +78,12 @@ repeats-spec =
     shared-slice-read-from
     mul-upto
     shared-slice-read-upto
-    sub-decode-sound
-    part-decode-sound-start
-    part-decode-sound-end
-    slice-aggregate-decode-sound
-    decode-sound-requires
-    enum-known-length
-    enum-told
-    returns
+    sub-put-name
+    part-put-name-start
+    part-put-name-end
+    slice-aggregate-put-name
+    put-name-requires
     array-share-prefix-room
     slice-aggregate-is-among
     is-among-requires
-    returns-2)
+    returns)
