@@ -16,9 +16,13 @@ use Rattle.model.specs.declared.Cell.{Cell}
 use Rattle.model.specs.declared.Cell.the-variants.{Fresh, Quoted, Closed, Escape, Hex, InNumber, InWord, Plain, Complete}
 use Rattle.model.specs.declared.Added.the-variants.{More, Stop, Refuse}
 use Rattle.model.specs.declared.ByteFault.{ByteFault}
+use Rattle.model.specs.declared.Form.the-variants.{Comment}
+use Rattle.model.specs.declared.Part.the-variants.{Outside}
+use Rattle.model.specs.declared.Step.the-variants.{To}
 use Rattle.model.specs.Base.{Bytes, if_then_else_, within, _is_, QUOTE, CR, LF}
 use Rattle.model.specs.Dialect.{quoteOf, delimiterOf}
 use Rattle.model.specs.Cell.{quotedByte, plainByte, cellStep}
+use Rattle.model.specs.Form.{formStep}
 use Rattle.model.proofs.Tests.{split, impossible, within-true}
 use Rattle.lexer.specs.declared.run.RunStop.{RunStop}
 use Rattle.lexer.specs.declared.run.RunStop.the-variants.{At, NoRun}
@@ -131,7 +135,7 @@ plain-runs d b e =
     rw (k .not-first, k .not-second, ne-eqb b CR (omega arith), ne-eqb b LF (omega arith), ascii b (omega arith))
 
 -- in a cell with a run stop every ordinary byte leaves the cell as it is
-run-step : (d : Dialect) (c : Cell) (q b : ℕ) → runStop d c ≡ At q → ordinary (quoteOf d) q b ≡ true → cellStep d c b ≡ More c
+pub run-step : (d : Dialect) (c : Cell) (q b : ℕ) → runStop d c ≡ At q → ordinary (quoteOf d) q b ≡ true → cellStep d c b ≡ More c
 unfolding runStop textStop
 run-step d Fresh q b e h = no-run e
 run-step d (Quoted Whole) q b e h = let k : 0x5C ≡ q = cc in quoted-runs d b (rw k h)
@@ -144,6 +148,15 @@ run-step d (InWord w) q b e h = no-run e
 run-step d (Plain Whole) q b e h = let k : delimiterOf d ≡ q = cc in plain-runs d b (rw k h)
 run-step d (Plain (Within i)) q b e h = no-run e
 run-step d Complete q b e h = no-run e
+
+-- in a comment every ordinary byte leaves the file where it stands
+pub comment-step : (d : Dialect) (b : ℕ) → ordinary 0 0 b ≡ true → formStep d (Comment Whole) b ≡ To (Comment Whole) Outside
+unfolding formStep if_then_else_
+comment-step d b e =
+    let k = plainly 0 0 b e in
+    let l : 0x20 ≤ b = k .low in
+    let h : b ≤ 0x7E = k .high in
+    rw (ne-eqb b LF (omega arith), ne-eqb b CR (omega arith), ascii b (omega arith))
 
 -- ---- the rest of a cell
 
@@ -208,11 +221,14 @@ leading-short p q (b ∷ bs) =
     let h : leading p q bs ≤ length bs = leading-short p q bs in
     split (λ (n : ℕ). n ≤ suc (length bs)) _ (λ _. omega arith) λ _. omega arith
 
-pub run-short : (d : Dialect) (r : RunStop) (s : Bytes) (i stop : ℕ) → i ≤ stop → stop ≤ length s → i + runLength d r (part s i stop) ≤ stop
-unfolding runLength
-run-short d (At q) s i stop h k =
-    let l : leading (quoteOf d) q (part s i stop) ≤ length (part s i stop) = leading-short (quoteOf d) q (part s i stop) in
+pub part-short : (p q : ℕ) (s : Bytes) (i stop : ℕ) → i ≤ stop → stop ≤ length s → i + leading p q (part s i stop) ≤ stop
+part-short p q s i stop h k =
+    let l : leading p q (part s i stop) ≤ length (part s i stop) = leading-short p q (part s i stop) in
     let g : length (drop i s) ≡ length s - i = length-drop i s in
     let m : length (part s i stop) ≡ stop - i = length-take-le (stop - i) (drop i s) (omega arith) in
     omega arith
+
+pub run-short : (d : Dialect) (r : RunStop) (s : Bytes) (i stop : ℕ) → i ≤ stop → stop ≤ length s → i + runLength d r (part s i stop) ≤ stop
+unfolding runLength
+run-short d (At q) s i stop h k = part-short (quoteOf d) q s i stop h k
 run-short d NoRun s i stop h k = omega arith

@@ -30,6 +30,10 @@ unfoldable pub leading : (p q : ℕ) → Bytes → ℕ
 leading p q [] = 0
 leading p q (b ∷ bs) = if ordinary p q b then suc (leading p q bs) else 0
 
+-- how many ordinary bytes stand at the beginning of the rest of a comment, which has no stops of its own: no ordinary byte is 0
+abbrev pub commentRun : Bytes → ℕ
+commentRun bs = leading 0 0 bs
+
 -- the rest of a cell, up to where it stops or is refused: where, or the cell that is still open
 unfoldable pub cellRun : Dialect → Cell → (i : ℕ) → Bytes → CellEnd
 cellRun d c i [] = Open c

@@ -8,7 +8,7 @@ use model::Dialect;
 ghost use mathlib.Core.Path.{_≡_};
 ghost use Prim.Native.Nat.{_+_, _≤_};
 ghost use lib.ListN.{length};
-ghost use Rattle.lexer.specs.Run.{part, leading, textStop, runStop, runLength, cellRun};
+ghost use Rattle.lexer.specs.Run.{part, leading, commentRun, textStop, runStop, runLength, cellRun};
 
 // How far a run of ordinary bytes goes from `at`, at most to `stop`. The run ends at a byte outside 20 to 7E hex, at `p` and at `q`.
 fn run(s: &[u8], at: usize, stop: usize, p: u8, q: u8) -> usize
@@ -33,6 +33,17 @@ fn run(s: &[u8], at: usize, stop: usize, p: u8, q: u8) -> usize
         i += 1;
     }
     i
+}
+
+// A comment has no stops of its own, and no ordinary byte is 0.
+const NO_STOP: u8 = 0;
+
+// How far the ordinary bytes of a comment go from `at`, at most to `stop`.
+pub fn comment_run(s: &[u8], at: usize, stop: usize) -> usize
+    requires { ⌜ (at ≤ stop) × (stop ≤ length (now s)) ⌝ }
+    ensures { λ r. ⌜ r ≡ at + commentRun (part (now (s .entry)) at stop) ⌝ }
+{
+    run(s, at, stop, NO_STOP, NO_STOP)
 }
 
 // Where the rest of a cell ends.
