@@ -10,7 +10,7 @@ use Rattle.model.specs.Base.{Bytes, within, if_then_else_}
 use Rattle.model.specs.Utf8.{rowOf, leads, leadByte, afterSecond, innerStep, charStep}
 use Rattle.model.proofs.Tests.{split-on, within-true}
 use Rattle.grammar.specs.Rfc5234.{_from_to_}
-use Rattle.grammar.specs.Rfc3629.{UTF8-tail, c2-df, UTF8-3, e0, e1-ec, ed, ee-ef, UTF8-4, f0, f1-f3, f4, UTF8-data, of-two, of-three, of-four}
+use Rattle.grammar.specs.Rfc3629.{UTF8-tail, tail, c2-df, UTF8-3, e0, e1-ec, ed, ee-ef, UTF8-4, f0, f1-f3, f4, UTF8-data, of-two, of-three, of-four}
 use Rattle.grammar.proofs.Ranges.{range, within-range, range-within, above-within}
 
 -- ---- what a step of a character says
@@ -55,11 +55,11 @@ second-of l b r = rw (range-within r)
 
 tail-of : {b : ℕ} → UTF8-tail b → charStep (Within Last) b ≡ On Whole
 unfolding charStep innerStep if_then_else_
-tail-of r = rw (range-within r)
+tail-of (tail r) = rw (range-within r)
 
 tail-of-two : {b : ℕ} → UTF8-tail b → charStep (Within LastTwo) b ≡ On (Within Last)
 unfolding charStep innerStep if_then_else_
-tail-of-two r = rw (range-within r)
+tail-of-two (tail r) = rw (range-within r)
 
 -- a first byte of the row l, a second byte of that row, and what follows
 row-long : (l : Lead) {a b : ℕ} {bs : Bytes} → a from rowOf l .lo to (rowOf l .hi) → b from rowOf l .lo2 to (rowOf l .hi2) → Finishes (afterSecond (rowOf l .size)) bs → Long (a ∷ b ∷ bs)
@@ -76,19 +76,19 @@ just n = range (omega arith) (omega arith)
 
 pub data-long : {cs : Bytes} → UTF8-data cs → Long cs
 unfolding rowOf if_then_else_
-data-long (of-two (c2-df a b)) = row-long C2ToDf a b finished
+data-long (of-two (c2-df a (tail b))) = row-long C2ToDf a b finished
 data-long (of-three (e0 b c)) = row-long E0 (just 0xE0) b (one-more c)
-data-long (of-three (e1-ec a b c)) = row-long E1ToEc a b (one-more c)
+data-long (of-three (e1-ec a (tail b) c)) = row-long E1ToEc a b (one-more c)
 data-long (of-three (ed b c)) = row-long Ed (just 0xED) b (one-more c)
-data-long (of-three (ee-ef a b c)) = row-long EeToEf a b (one-more c)
+data-long (of-three (ee-ef a (tail b) c)) = row-long EeToEf a b (one-more c)
 data-long (of-four (f0 b c d)) = row-long F0 (just 0xF0) b (two-more c d)
-data-long (of-four (f1-f3 a b c d)) = row-long F1ToF3 a b (two-more c d)
+data-long (of-four (f1-f3 a (tail b) c d)) = row-long F1ToF3 a b (two-more c d)
 data-long (of-four (f4 b c d)) = row-long F4 (just 0xF4) b (two-more c d)
 
 -- ---- what is read is of a production
 
 data Tail : Bytes → Type 0 where
-  tail : {b : ℕ} → UTF8-tail b → Tail (b ∷ [])
+  a-tail : {b : ℕ} → UTF8-tail b → Tail (b ∷ [])
 
 data TwoTails : Bytes → Type 0 where
   tails : {b c : ℕ} → UTF8-tail b → UTF8-tail c → TwoTails (b ∷ c ∷ [])
@@ -104,17 +104,17 @@ finish-one : {bs : Bytes} → Finishes (Within Last) bs → Tail bs
 unfolding charStep innerStep if_then_else_
 finish-one (finishing {c} {b} {bs} e k) =
     split-on (within 0x80 0xBF b)
-    (λ p. let w : Whole ≡ c = same-step refl (rw p at e) in rw (finish-none (rw (← w) at k)) (tail (within-range 0x80 0xBF b p))) λ p.
+    (λ p. let w : Whole ≡ c = same-step refl (rw p at e) in rw (finish-none (rw (← w) at k)) (a-tail (tail (within-range 0x80 0xBF b p)))) λ p.
     no-step (rw p at e)
 
 tail-after : {b : ℕ} {bs : Bytes} → UTF8-tail b → Tail bs → TwoTails (b ∷ bs)
-tail-after r (tail s) = tails r s
+tail-after r (a-tail s) = tails r s
 
 finish-two : {bs : Bytes} → Finishes (Within LastTwo) bs → TwoTails bs
 unfolding charStep innerStep if_then_else_
 finish-two (finishing {c} {b} {bs} e k) =
     split-on (within 0x80 0xBF b)
-    (λ p. let w : Within Last ≡ c = same-step refl (rw p at e) in tail-after (within-range 0x80 0xBF b p) (finish-one (rw (← w) at k))) λ p.
+    (λ p. let w : Within Last ≡ c = same-step refl (rw p at e) in tail-after (tail (within-range 0x80 0xBF b p)) (finish-one (rw (← w) at k))) λ p.
     no-step (rw p at e)
 
 finish-row : (l : Lead) {bs : Bytes} → Finishes (Within (Second l)) bs → RowRest l bs
@@ -128,20 +128,20 @@ equals : {b n : ℕ} → b from n to n → b ≡ n
 equals r = let h = r .low in let k = r .high in omega arith
 
 three : {a b : ℕ} {bs : Bytes} → ((c : ℕ) → UTF8-tail c → UTF8-3 (a ∷ b ∷ c ∷ [])) → Tail bs → UTF8-data (a ∷ b ∷ bs)
-three f (tail {b = c} t) = of-three (f c t)
+three f (a-tail {b = c} t) = of-three (f c t)
 
 four : {a b : ℕ} {bs : Bytes} → ((c d : ℕ) → UTF8-tail c → UTF8-tail d → UTF8-4 (a ∷ b ∷ c ∷ d ∷ [])) → TwoTails bs → UTF8-data (a ∷ b ∷ bs)
 four f (tails {b = c} {c = d} t u) = of-four (f c d t u)
 
 row-data : (l : Lead) {a : ℕ} {bs : Bytes} → a from rowOf l .lo to (rowOf l .hi) → RowRest l bs → UTF8-data (a ∷ bs)
 unfolding rowOf if_then_else_
-row-data C2ToDf r (row-rest s k) = rw (finish-none k) (of-two (c2-df r s))
+row-data C2ToDf r (row-rest s k) = rw (finish-none k) (of-two (c2-df r (tail s)))
 row-data E0 r (row-rest s k) = rw (equals r) (three (λ c t. e0 s t) (finish-one k))
-row-data E1ToEc r (row-rest s k) = three (λ c t. e1-ec r s t) (finish-one k)
+row-data E1ToEc r (row-rest s k) = three (λ c t. e1-ec r (tail s) t) (finish-one k)
 row-data Ed r (row-rest s k) = rw (equals r) (three (λ c t. ed s t) (finish-one k))
-row-data EeToEf r (row-rest s k) = three (λ c t. ee-ef r s t) (finish-one k)
+row-data EeToEf r (row-rest s k) = three (λ c t. ee-ef r (tail s) t) (finish-one k)
 row-data F0 r (row-rest s k) = rw (equals r) (four (λ c d t u. f0 s t u) (finish-two k))
-row-data F1ToF3 r (row-rest s k) = four (λ c d t u. f1-f3 r s t u) (finish-two k)
+row-data F1ToF3 r (row-rest s k) = four (λ c d t u. f1-f3 r (tail s) t u) (finish-two k)
 row-data F4 r (row-rest s k) = rw (equals r) (four (λ c d t u. f4 s t u) (finish-two k))
 
 -- a first byte's row

@@ -9,7 +9,7 @@ use Rattle.model.specs.Cell.{isDigit, firstByte, cellStep, isWhole}
 use Rattle.model.specs.Decode.{kindOf, contentOf}
 use Rattle.model.proofs.Tests.{split, impossible, is→eq}
 use Rattle.model.proofs.CellContent.{no-more, same-more}
-use Rattle.grammar.specs.Rfc8259.{spelt-false, spelt-null, spelt-true, string}
+use Rattle.grammar.specs.Rfc8259.{spelt-false, spelt-null, spelt-true, string, a-quotation-mark}
 use Rattle.grammar.specs.Derived.{Derived, rawOf}
 use Rattle.grammar.specs.Reading.{decoded}
 use Rattle.grammar.specs.Csvj.{Value, a-false, a-null, a-true, a-number, a-string}
@@ -24,7 +24,7 @@ value-spells (a-false spelt-false) = byte refl (byte refl (byte refl (byte refl 
 value-spells (a-null spelt-null) = byte refl (byte refl (byte refl (byte refl (whole refl))))
 value-spells (a-true spelt-true) = byte refl (byte refl (byte refl (byte refl (whole refl))))
 value-spells (a-number n) = number-spells n
-value-spells (a-string (string c k)) = byte refl (chars-spell c)
+value-spells (a-string (string a-quotation-mark c a-quotation-mark k)) = byte refl (chars-spell c)
 
 pub value-content : {c : Derived} → Value c → c ≡ decoded Csvj (rawOf c)
 unfolding kindOf contentOf if_then_else_

@@ -14,7 +14,8 @@ use Rattle.model.proofs.Tests.{split, split-on, is→eq}
 use Rattle.grammar.specs.Rfc5234.{LF, CR}
 use Rattle.grammar.specs.Derived.{Derived, rawOf, Line, line, spelling}
 use Rattle.grammar.specs.Reading.{Reads, ends-clean, outside, passed, between, between-closing, tail, tail-closing, ends, ends-closing, decoded, decodedLine}
-use Rattle.grammar.specs.Csvj.{Ws, no-ws, space, tab, LineTerminator, lf, crlf, Comma, comma, Values, value, values, LineText, empty, filled, ALine, ended, DataLines, no-line, data-line, CsvjFile, csvj-file, File, unmarked, marked}
+use Rattle.grammar.specs.Csvj.{File, unmarked, marked, Csvj-file, csvj-file, Data-lines, no-line, a-line, header-line, data-line, ended, Line-text, empty, filled, Values, value, values, Comma, comma, Line-terminator, lf, crlf, Ws, no-ws, space, tab}
+use Rattle.grammar.specs.Csvj as csvj
 use Rattle.grammar.proofs.Spelling.{Spells}
 use Rattle.grammar.proofs.CellGrammar.{derived-spells, spells-derived}
 use Rattle.grammar.proofs.Separators.{by-delimiter, by-cr, by-lf, by-space, by-tab}
@@ -58,7 +59,7 @@ comma-continues k =
       after-blank = between refl k;
     }
 
-terminator-continues : {es zs : Bytes} {ls : List (Line Bytes)} → LineTerminator es → Reads Csvj Begin zs ls → Continues (es ++ zs) [] [] ls
+terminator-continues : {es zs : Bytes} {ls : List (Line Bytes)} → Line-terminator es → Reads Csvj Begin zs ls → Continues (es ++ zs) [] [] ls
 unfolding formStep afterCell if_then_else_
 terminator-continues lf k =
     record {
@@ -131,7 +132,7 @@ cr-step at-top = refl
 cr-step at-begin = refl
 cr-step at-blanks = refl
 
-terminator-opening : {es zs : Bytes} {ls : List (Line Bytes)} → LineTerminator es → Reads Csvj Begin zs ls → FromLine (es ++ zs) (line [] [] ∷ ls)
+terminator-opening : {es zs : Bytes} {ls : List (Line Bytes)} → Line-terminator es → Reads Csvj Begin zs ls → FromLine (es ++ zs) (line [] [] ∷ ls)
 unfolding formStep if_then_else_
 terminator-opening lf k f o = ends (lf-step o) k
 terminator-opening crlf k f o = tail (cr-step o) (ends refl k)
@@ -153,7 +154,7 @@ values-read {ys} {rest} (values {raw} {cs} {text} v c m) k =
     rw (append-assoc raw (cs ++ text) ys, append-assoc raw (cs ++ text) rest, append-assoc cs text ys, append-assoc cs text rest)
     (cell-reads (derived-spells Csvj _ v) tt (comma-follows c (from-wanted (values-first ys m) (values-read m k)) .after-value))
 
-text-reads : {text es zs : Bytes} {cells : List Derived} {ls : List (Line Bytes)} → LineText text cells → LineTerminator es → Reads Csvj Begin zs ls → FromLine (text ++ (es ++ zs)) (line text (map rawOf cells) ∷ ls)
+text-reads : {text es zs : Bytes} {cells : List Derived} {ls : List (Line Bytes)} → Line-text text cells → Line-terminator es → Reads Csvj Begin zs ls → FromLine (text ++ (es ++ zs)) (line text (map rawOf cells) ∷ ls)
 text-reads {es} {zs} {ls} (empty {ws} {vs} a b) e k =
     let r : FromLine (ws ++ (vs ++ (es ++ zs))) (line (ws ++ (vs ++ [])) [] ∷ ls) = ws-opening a (ws-opening b (terminator-opening e k)) in
     rw (append-assoc ws vs (es ++ zs)) (rw (append-nil vs) at r)
@@ -162,17 +163,17 @@ text-reads {es} {zs} {ls} (filled {ws} {vs} {text} {cells} a m b) e k =
     let q : FromLine (ws ++ (text ++ (vs ++ (es ++ zs)))) (line (ws ++ (text ++ (vs ++ []))) (map rawOf cells) ∷ ls) = ws-opening a (from-first (values-first (vs ++ (es ++ zs)) m) r) in
     rw (append-assoc ws (text ++ vs) (es ++ zs), append-assoc text vs (es ++ zs)) (rw (append-nil vs) at q)
 
-line-reads : {bs xs : Bytes} {l : Line Derived} {ls : List (Line Bytes)} → ALine bs l → Reads Csvj Begin xs ls → FromLine (bs ++ xs) (spelling l ∷ ls)
+line-reads : {bs xs : Bytes} {l : Line Derived} {ls : List (Line Bytes)} → csvj.Line bs l → Reads Csvj Begin xs ls → FromLine (bs ++ xs) (spelling l ∷ ls)
 unfolding spelling
 line-reads {xs} (ended {text} {es} t e) k = rw (append-assoc text es xs) (text-reads t e k)
 
-lines-read : {xs : Bytes} {ls : List (Line Derived)} → DataLines xs ls → Reads Csvj Begin xs (map spelling ls)
+lines-read : {xs : Bytes} {ls : List (Line Derived)} → Data-lines xs ls → Reads Csvj Begin xs (map spelling ls)
 unfolding formEnd
 lines-read no-line = ends-clean refl
-lines-read (data-line l k) = line-reads l (lines-read k) Begin at-begin
+lines-read (a-line (data-line l) k) = line-reads l (lines-read k) Begin at-begin
 
-csvj-reads : {xs : Bytes} {ls : List (Line Derived)} → CsvjFile xs ls → FromLine xs (map spelling ls)
-csvj-reads (csvj-file l k) = line-reads l (lines-read k)
+csvj-reads : {xs : Bytes} {ls : List (Line Derived)} → Csvj-file xs ls → FromLine xs (map spelling ls)
+csvj-reads (csvj-file (header-line l) k) = line-reads l (lines-read k)
 
 pub file-reads : {xs : Bytes} {ls : List (Line Derived)} → File xs ls → Reads Csvj Top xs (map spelling ls)
 unfolding formStep beginFile if_then_else_
@@ -182,10 +183,10 @@ file-reads (marked k) = outside refl (outside refl (passed refl (csvj-reads k Be
 -- ---- what is read is derived
 
 abbrev DerivedLines : Bytes → List (Line Bytes) → Type 0
-DerivedLines xs ls = DataLines xs (map (decodedLine Csvj) ls)
+DerivedLines xs ls = Data-lines xs (map (decodedLine Csvj) ls)
 
 data TerminatorThen : Bytes → List (Line Bytes) → Type 0 where
-  terminator-then : {es zs : Bytes} {ls : List (Line Bytes)} → LineTerminator es → DerivedLines zs ls → TerminatorThen (es ++ zs) ls
+  terminator-then : {es zs : Bytes} {ls : List (Line Bytes)} → Line-terminator es → DerivedLines zs ls → TerminatorThen (es ++ zs) ls
 
 -- value *( comma value ) ws
 data ValuesText : Bytes → List Bytes → Type 0 where
@@ -213,7 +214,7 @@ data WantedThen : Bytes → List (Line Bytes) → Type 0 where
   wanted-then : {text ys : Bytes} {cells : List Bytes} {ls : List (Line Bytes)} → WantedText text cells → TerminatorThen ys ls → WantedThen (text ++ ys) (line text cells ∷ ls)
 
 data LineThen : Bytes → List (Line Bytes) → Type 0 where
-  line-then : {text ys : Bytes} {cells : List Bytes} {ls : List (Line Bytes)} → LineText text (map (decoded Csvj) cells) → TerminatorThen ys ls → LineThen (text ++ ys) (line text cells ∷ ls)
+  line-then : {text ys : Bytes} {cells : List Bytes} {ls : List (Line Bytes)} → Line-text text (map (decoded Csvj) cells) → TerminatorThen ys ls → LineThen (text ++ ys) (line text cells ∷ ls)
 
 data AfterCr : Bytes → List (Line Bytes) → Type 0 where
   then-lf : {zs : Bytes} {ls : List (Line Bytes)} → DerivedLines zs ls → AfterCr (LF ∷ zs) (line [] [] ∷ ls)
@@ -279,13 +280,13 @@ blank-after : (b : ℕ) {text : Bytes} {cells : List Bytes} → isBlank b ≡ tr
 blank-after b p (after-last w) = after-last (blank-ws b p w)
 blank-after b p (after-comma w k) = after-comma (blank-ws b p w) k
 
-blank-text : (b : ℕ) {text : Bytes} {cells : List Derived} → isBlank b ≡ true → LineText text cells → LineText (b ∷ text) cells
+blank-text : (b : ℕ) {text : Bytes} {cells : List Derived} → isBlank b ≡ true → Line-text text cells → Line-text (b ∷ text) cells
 blank-text b p (empty w v) = empty (blank-ws b p w) v
 blank-text b p (filled w k v) = filled (blank-ws b p w) k v
 
 line-lines : {xs : Bytes} {ls : List (Line Bytes)} → LineThen xs ls → DerivedLines xs ls
 unfolding decodedLine
-line-lines (line-then {text} t (terminator-then {es} {zs} e k)) = rw (← (append-assoc text es zs)) (data-line (ended t e) k)
+line-lines (line-then {text} t (terminator-then {es} {zs} e k)) = rw (← (append-assoc text es zs)) (a-line (data-line (ended t e)) k)
 
 -- the LF of a CRLF
 crlf-then : {xs text : Bytes} {cells : List Bytes} {ls : List (Line Bytes)} → AfterCr xs (line text cells ∷ ls) → AfterThen (CR ∷ xs) text cells ls
@@ -430,8 +431,8 @@ reads-lines = by-bytes Csvj ToCome end-byte step-byte
 pub reads-file : {xs : Bytes} {l : Line Bytes} {ls : List (Line Bytes)} → Reads Csvj Top xs (l ∷ ls) → File xs (map (decodedLine Csvj) (l ∷ ls))
 reads-file {xs} {l} {ls} r = go (reads-lines xs Top (l ∷ ls) r)
   where
-    first : {xs : Bytes} {l : Line Derived} {ls : List (Line Derived)} → DataLines xs (l ∷ ls) → CsvjFile xs (l ∷ ls)
-    first (data-line l k) = csvj-file l k
+    first : {xs : Bytes} {l : Line Derived} {ls : List (Line Derived)} → Data-lines xs (l ∷ ls) → Csvj-file xs (l ∷ ls)
+    first (a-line (data-line l) k) = csvj-file (header-line l) k
 
     go : {xs : Bytes} {l : Line Bytes} {ls : List (Line Bytes)} → TopLines xs (l ∷ ls) → File xs (map (decodedLine Csvj) (l ∷ ls))
     go (no-mark k) = unmarked (first k)

@@ -30,19 +30,19 @@ csvj-values : {text : Bytes} {cells : List Derived} → csvj.Values text cells �
 csvj-values (csvj.value v) = every-cons v every-none
 csvj-values (csvj.values v c k) = every-cons v (csvj-values k)
 
-csvj-text : {text : Bytes} {cells : List Derived} → csvj.LineText text cells → Every (DerivesCell Csvj) cells
+csvj-text : {text : Bytes} {cells : List Derived} → csvj.Line-text text cells → Every (DerivesCell Csvj) cells
 csvj-text (csvj.empty a b) = every-none
 csvj-text (csvj.filled a k b) = csvj-values k
 
-csvj-line : {bs : Bytes} {l : Line Derived} → csvj.ALine bs l → CellsDerived Csvj l
+csvj-line : {bs : Bytes} {l : Line Derived} → csvj.Line bs l → CellsDerived Csvj l
 csvj-line (csvj.ended t e) = cells-derived (csvj-text t)
 
-csvj-lines : {xs : Bytes} {ls : List (Line Derived)} → csvj.DataLines xs ls → Every (CellsDerived Csvj) ls
+csvj-lines : {xs : Bytes} {ls : List (Line Derived)} → csvj.Data-lines xs ls → Every (CellsDerived Csvj) ls
 csvj-lines csvj.no-line = every-none
-csvj-lines (csvj.data-line l k) = every-cons (csvj-line l) (csvj-lines k)
+csvj-lines (csvj.a-line (csvj.data-line l) k) = every-cons (csvj-line l) (csvj-lines k)
 
-csvj-first : {xs : Bytes} {ls : List (Line Derived)} → csvj.CsvjFile xs ls → LinesDerived Csvj ls
-csvj-first (csvj.csvj-file l k) = lines-derived (csvj-line l) (csvj-lines k)
+csvj-first : {xs : Bytes} {ls : List (Line Derived)} → csvj.Csvj-file xs ls → LinesDerived Csvj ls
+csvj-first (csvj.csvj-file (csvj.header-line l) k) = lines-derived (csvj-line l) (csvj-lines k)
 
 csvj-file : {xs : Bytes} {ls : List (Line Derived)} → csvj.File xs ls → LinesDerived Csvj ls
 csvj-file (csvj.unmarked k) = csvj-first k
@@ -50,24 +50,24 @@ csvj-file (csvj.marked k) = csvj-first k
 
 tdif-fields : {text : Bytes} {cells : List Derived} → tdif.Fields text cells → Every (DerivesCell Tdif) cells
 tdif-fields (tdif.field v) = every-cons v every-none
-tdif-fields (tdif.fields v k) = every-cons v (tdif-fields k)
+tdif-fields (tdif.fields v c k) = every-cons v (tdif-fields k)
 
 tdif-record : {bs : Bytes} {l : Line Derived} → tdif.Record bs l → CellsDerived Tdif l
 tdif-record (tdif.ended f b) = cells-derived (tdif-fields f)
 
 tdif-lines : {xs : Bytes} {ls : List (Line Derived)} → tdif.Lines xs ls → Every (CellsDerived Tdif) ls
 tdif-lines tdif.no-line = every-none
-tdif-lines (tdif.Lines.comment c k) = tdif-lines k
+tdif-lines (tdif.a-comment c k) = tdif-lines k
 tdif-lines (tdif.a-record r k) = every-cons (tdif-record r) (tdif-lines k)
 
 tdif-file : {xs : Bytes} {ls : List (Line Derived)} → tdif.File xs ls → LinesDerived Tdif ls
-tdif-file (tdif.File.comment c k) = tdif-file k
-tdif-file (tdif.header r k) = lines-derived (tdif-record r) (tdif-lines k)
+tdif-file (tdif.comment-first c k) = tdif-file k
+tdif-file (tdif.header-first (tdif.header r) k) = lines-derived (tdif-record r) (tdif-lines k)
 
 module _ (s : Settings) where
   plus-record : {text : Bytes} {cells : List Derived} → plus.Record s text cells → Every (DerivesCell (CsvPlus s)) cells
   plus-record (plus.field v) = every-cons v every-none
-  plus-record (plus.fields v k) = every-cons v (plus-record k)
+  plus-record (plus.fields v c k) = every-cons v (plus-record k)
 
   some-lines : {ls : List (Line Derived)} → LinesDerived (CsvPlus s) ls → Every (CellsDerived (CsvPlus s)) ls
   some-lines (lines-derived l k) = every-cons l k
@@ -78,7 +78,7 @@ module _ (s : Settings) where
   plus-records (plus.next r e k) = lines-derived (cells-derived (plus-record r)) (some-lines (plus-records k))
 
   plus-file : {xs : Bytes} {ls : List (Line Derived)} → plus.File s xs ls → LinesDerived (CsvPlus s) ls
-  plus-file (plus.file n k) = plus-records k
+  plus-file (plus.file n k) = plus-records (plus-files.table-records s k)
 
 pub file-derived : (d : Dialect) (xs : Bytes) (ls : List (Line Derived)) → Derives d xs ls → LinesDerived d ls
 file-derived Csvj xs ls k = csvj-file k

@@ -1,3 +1,4 @@
+pub mod Absent
 pub mod Ranges
 pub mod Chars
 pub mod Texts
@@ -24,4 +25,5 @@ pub mod Standing
 pub mod Accepting
 pub mod AcceptedOnly
 pub mod Acceptance
+pub mod Refused
 pub mod Theorems

@@ -13,8 +13,8 @@ use Rattle.model.specs.Cell.{isDigit, numeralStep, firstByte, cellStep, isNumer
 use Rattle.model.specs.Decode.{kindOf, contentOf}
 use Rattle.model.proofs.Tests.{split, split-on, impossible, is→eq}
 use Rattle.model.proofs.CellContent.{no-more, no-stop, same-more}
-use Rattle.grammar.specs.Rfc5234.{_from_to_, Optional, absent, present, DIGIT, Digits, no-digit, digit, SomeDigits, digits}
-use Rattle.grammar.specs.Rfc8259.{E, small-e, large-e, Minus, minus, Sign, negative, positive, Exp, exp, Frac, frac, Int, zero, nonzero, Number, number}
+use Rattle.grammar.specs.Rfc5234.{_from_to_, DIGIT, Digits, no-digit, digit, SomeDigits, digits}
+use Rattle.grammar.specs.Rfc8259.{Number, number, no-minus, a-minus, Optional-frac, no-frac, a-frac, Optional-exp, no-exp, an-exp, decimal-point, digit1-9, E, small-e, large-e, exp, Optional-sign, no-sign, negative, positive, frac, Int, a-zero, nonzero, minus, plus, zero}
 use Rattle.grammar.proofs.Ranges.{range, within-range, range-within}
 use Rattle.grammar.proofs.Spelling.{Spells, whole, byte}
 
@@ -71,16 +71,16 @@ e-step exp-integer large-e = refl
 e-step exp-fraction small-e = refl
 e-step exp-fraction large-e = refl
 
-sign-step : {s : ℕ} → Sign (s ∷ []) → cellStep Csvj (InNumber types.E) s ≡ More (InNumber ESign)
+sign-step : {s : ℕ} → Optional-sign (s ∷ []) → cellStep Csvj (InNumber types.E) s ≡ More (InNumber ESign)
 unfolding cellStep numeralStep if_then_else_
-sign-step negative = refl
-sign-step positive = refl
+sign-step (negative minus) = refl
+sign-step (positive plus) = refl
 
-exponent-spells : {ss bs : Bytes} → Optional Sign ss → SomeDigits bs → Spells Csvj (InNumber types.E) (ss ++ (bs ++ []))
+exponent-spells : {ss bs : Bytes} → Optional-sign ss → SomeDigits bs → Spells Csvj (InNumber types.E) (ss ++ (bs ++ []))
 unfolding isWhole
-exponent-spells absent ds = some-digits-spell after-e ds (whole refl)
-exponent-spells (present negative) ds = byte (sign-step negative) (some-digits-spell after-sign ds (whole refl))
-exponent-spells (present positive) ds = byte (sign-step positive) (some-digits-spell after-sign ds (whole refl))
+exponent-spells no-sign ds = some-digits-spell after-e ds (whole refl)
+exponent-spells (negative minus) ds = byte (sign-step (negative minus)) (some-digits-spell after-sign ds (whole refl))
+exponent-spells (positive plus) ds = byte (sign-step (positive plus)) (some-digits-spell after-sign ds (whole refl))
 
 before-whole : {n : Numeral} → BeforeExp n → isWhole Csvj (InNumber n) ≡ true
 unfolding isWhole
@@ -88,9 +88,9 @@ before-whole exp-zero = refl
 before-whole exp-integer = refl
 before-whole exp-fraction = refl
 
-exp-spells : {n : Numeral} {es : Bytes} → BeforeExp n → Optional Exp es → Spells Csvj (InNumber n) es
-exp-spells i absent = whole (before-whole i)
-exp-spells i (present (exp {ss} {bs} e s ds)) = byte (e-step i e) (rw (append-nil bs) at (exponent-spells s ds))
+exp-spells : {n : Numeral} {es : Bytes} → BeforeExp n → Optional-exp es → Spells Csvj (InNumber n) es
+exp-spells i no-exp = whole (before-whole i)
+exp-spells i (an-exp (exp {ss} {bs} e s ds)) = byte (e-step i e) (rw (append-nil bs) at (exponent-spells s ds))
 
 -- the states that a fraction may follow
 data BeforeFrac : Numeral → Type 0 where
@@ -106,9 +106,9 @@ unfolding cellStep numeralStep if_then_else_
 point-step frac-zero = refl
 point-step frac-integer = refl
 
-frac-spells : {n : Numeral} {fs es : Bytes} → BeforeFrac n → Optional Frac fs → Optional Exp es → Spells Csvj (InNumber n) (fs ++ es)
-frac-spells i absent e = exp-spells (frac-exp i) e
-frac-spells i (present (frac ds)) e = byte (point-step i) (some-digits-spell after-point ds (exp-spells exp-fraction e))
+frac-spells : {n : Numeral} {fs es : Bytes} → BeforeFrac n → Optional-frac fs → Optional-exp es → Spells Csvj (InNumber n) (fs ++ es)
+frac-spells i no-frac e = exp-spells (frac-exp i) e
+frac-spells i (a-frac (frac decimal-point ds)) e = byte (point-step i) (some-digits-spell after-point ds (exp-spells exp-fraction e))
 
 -- where an int may begin
 data BeforeInt : Cell → Type 0 where
@@ -137,39 +137,39 @@ nonzero-step {b} i r = go i
     go int-fresh = rw (other QUOTE (omega arith), other 0x2D (omega arith), other 0x30 (omega arith), is-digit)
     go int-minus = rw (other 0x30 (omega arith), is-digit)
 
-int-spells : {c : Cell} {ns fs es : Bytes} → BeforeInt c → Int ns → Optional Frac fs → Optional Exp es → Spells Csvj c (ns ++ (fs ++ es))
-int-spells i zero f e = byte (zero-step i) (frac-spells frac-zero f e)
-int-spells i (nonzero r ds) f e = byte (nonzero-step i r) (digits-spell in-integer ds (frac-spells frac-integer f e))
+int-spells : {c : Cell} {ns fs es : Bytes} → BeforeInt c → Int ns → Optional-frac fs → Optional-exp es → Spells Csvj c (ns ++ (fs ++ es))
+int-spells i (a-zero zero) f e = byte (zero-step i) (frac-spells frac-zero f e)
+int-spells i (nonzero (digit1-9 r) ds) f e = byte (nonzero-step i r) (digits-spell in-integer ds (frac-spells frac-integer f e))
 
 pub number-spells : {bs : Bytes} → Number bs → Spells Csvj Fresh bs
 unfolding cellStep firstByte if_then_else_
-number-spells (number absent i f e) = int-spells int-fresh i f e
-number-spells (number (present minus) i f e) = byte refl (int-spells int-minus i f e)
+number-spells (number no-minus i f e) = int-spells int-fresh i f e
+number-spells (number (a-minus minus) i f e) = byte refl (int-spells int-minus i f e)
 
 -- ---- what is read is a number
 
 -- what is still to come of a number
 pub data NumberRest : Numeral → Bytes → Type 0 where
-  rest-minus : {ns fs es : Bytes} → Int ns → Optional Frac fs → Optional Exp es → NumberRest types.Minus (ns ++ (fs ++ es))
-  rest-zero : {fs es : Bytes} → Optional Frac fs → Optional Exp es → NumberRest Zero (fs ++ es)
-  rest-integer : {ds fs es : Bytes} → Digits ds → Optional Frac fs → Optional Exp es → NumberRest Integer (ds ++ (fs ++ es))
-  rest-point : {ds es : Bytes} → SomeDigits ds → Optional Exp es → NumberRest Point (ds ++ es)
-  rest-fraction : {ds es : Bytes} → Digits ds → Optional Exp es → NumberRest Fraction (ds ++ es)
-  rest-e : {ss ds : Bytes} → Optional Sign ss → SomeDigits ds → NumberRest types.E (ss ++ ds)
+  rest-minus : {ns fs es : Bytes} → Int ns → Optional-frac fs → Optional-exp es → NumberRest types.Minus (ns ++ (fs ++ es))
+  rest-zero : {fs es : Bytes} → Optional-frac fs → Optional-exp es → NumberRest Zero (fs ++ es)
+  rest-integer : {ds fs es : Bytes} → Digits ds → Optional-frac fs → Optional-exp es → NumberRest Integer (ds ++ (fs ++ es))
+  rest-point : {ds es : Bytes} → SomeDigits ds → Optional-exp es → NumberRest Point (ds ++ es)
+  rest-fraction : {ds es : Bytes} → Digits ds → Optional-exp es → NumberRest Fraction (ds ++ es)
+  rest-e : {ss ds : Bytes} → Optional-sign ss → SomeDigits ds → NumberRest types.E (ss ++ ds)
   rest-sign : {ds : Bytes} → SomeDigits ds → NumberRest ESign ds
   rest-exponent : {ds : Bytes} → Digits ds → NumberRest Exponent ds
 
 minus-digit : {b : ℕ} {bs : Bytes} → b from 0x31 to 0x39 → NumberRest Integer bs → NumberRest types.Minus (b ∷ bs)
-minus-digit r (rest-integer ds f e) = rest-minus (nonzero r ds) f e
+minus-digit r (rest-integer ds f e) = rest-minus (nonzero (digit1-9 r) ds) f e
 
 zero-e : {b : ℕ} {bs : Bytes} → E b → NumberRest types.E bs → NumberRest Zero (b ∷ bs)
-zero-e x (rest-e s ds) = rest-zero absent (present (exp x s ds))
+zero-e x (rest-e s ds) = rest-zero no-frac (an-exp (exp x s ds))
 
 integer-digit : {b : ℕ} {bs : Bytes} → DIGIT b → NumberRest Integer bs → NumberRest Integer (b ∷ bs)
 integer-digit r (rest-integer ds f e) = rest-integer (digit r ds) f e
 
 integer-e : {b : ℕ} {bs : Bytes} → E b → NumberRest types.E bs → NumberRest Integer (b ∷ bs)
-integer-e x (rest-e s ds) = rest-integer no-digit absent (present (exp x s ds))
+integer-e x (rest-e s ds) = rest-integer no-digit no-frac (an-exp (exp x s ds))
 
 point-digit : {b : ℕ} {bs : Bytes} → DIGIT b → NumberRest Fraction bs → NumberRest Point (b ∷ bs)
 point-digit r (rest-fraction ds e) = rest-point (digits r ds) e
@@ -178,13 +178,13 @@ fraction-digit : {b : ℕ} {bs : Bytes} → DIGIT b → NumberRest Fraction bs �
 fraction-digit r (rest-fraction ds e) = rest-fraction (digit r ds) e
 
 fraction-e : {b : ℕ} {bs : Bytes} → E b → NumberRest types.E bs → NumberRest Fraction (b ∷ bs)
-fraction-e x (rest-e s ds) = rest-fraction no-digit (present (exp x s ds))
+fraction-e x (rest-e s ds) = rest-fraction no-digit (an-exp (exp x s ds))
 
 e-digit : {b : ℕ} {bs : Bytes} → DIGIT b → NumberRest Exponent bs → NumberRest types.E (b ∷ bs)
-e-digit r (rest-exponent ds) = rest-e absent (digits r ds)
+e-digit r (rest-exponent ds) = rest-e no-sign (digits r ds)
 
-e-sign : {b : ℕ} {bs : Bytes} → Sign (b ∷ []) → NumberRest ESign bs → NumberRest types.E (b ∷ bs)
-e-sign s (rest-sign ds) = rest-e (present s) ds
+e-sign : {b : ℕ} {bs : Bytes} → Optional-sign (b ∷ []) → NumberRest ESign bs → NumberRest types.E (b ∷ bs)
+e-sign s (rest-sign ds) = rest-e s ds
 
 sign-digit : {b : ℕ} {bs : Bytes} → DIGIT b → NumberRest Exponent bs → NumberRest ESign (b ∷ bs)
 sign-digit r (rest-exponent ds) = rest-sign (digits r ds)
@@ -193,20 +193,20 @@ exponent-digit : {b : ℕ} {bs : Bytes} → DIGIT b → NumberRest Exponent bs �
 exponent-digit r (rest-exponent ds) = rest-exponent (digit r ds)
 
 minus-zero : {bs : Bytes} → NumberRest Zero bs → NumberRest types.Minus (0x30 ∷ bs)
-minus-zero (rest-zero f e) = rest-minus zero f e
+minus-zero (rest-zero f e) = rest-minus (a-zero zero) f e
 
 zero-point : {bs : Bytes} → NumberRest Point bs → NumberRest Zero (0x2E ∷ bs)
-zero-point (rest-point ds e) = rest-zero (present (frac ds)) e
+zero-point (rest-point ds e) = rest-zero (a-frac (frac decimal-point ds)) e
 
 integer-point : {bs : Bytes} → NumberRest Point bs → NumberRest Integer (0x2E ∷ bs)
-integer-point (rest-point ds e) = rest-integer no-digit (present (frac ds)) e
+integer-point (rest-point ds e) = rest-integer no-digit (a-frac (frac decimal-point ds)) e
 
 number-none : (n : Numeral) → isNumeral n ≡ true → NumberRest n []
 number-none types.Minus w = impossible w
-number-none Zero w = rest-zero absent absent
-number-none Integer w = rest-integer no-digit absent absent
+number-none Zero w = rest-zero no-frac no-exp
+number-none Integer w = rest-integer no-digit no-frac no-exp
 number-none Point w = impossible w
-number-none Fraction w = rest-fraction no-digit absent
+number-none Fraction w = rest-fraction no-digit no-exp
 number-none types.E w = impossible w
 number-none ESign w = impossible w
 number-none Exponent w = rest-exponent no-digit
@@ -222,8 +222,8 @@ digit-nonzero b p q =
 e-letter : (b : ℕ) → (b is 0x65 || b is 0x45) ≡ true → E b
 e-letter b t = split-on (b is 0x65) (λ p. rw (is→eq b 0x65 p) small-e) λ p. rw (is→eq b 0x45 (rw p at t)) large-e
 
-sign-of : (b : ℕ) → (b is 0x2B || b is 0x2D) ≡ true → Sign (b ∷ [])
-sign-of b t = split-on (b is 0x2B) (λ p. rw (is→eq b 0x2B p) positive) λ p. rw (is→eq b 0x2D (rw p at t)) negative
+sign-of : (b : ℕ) → (b is 0x2B || b is 0x2D) ≡ true → Optional-sign (b ∷ [])
+sign-of b t = split-on (b is 0x2B) (λ p. rw (is→eq b 0x2B p) (positive plus)) λ p. rw (is→eq b 0x2D (rw p at t)) (negative minus)
 
 module _ {b : ℕ} {bs : Bytes} {e : Cell} (ih : (m : Numeral) → InNumber m ≡ e → NumberRest m bs) where
   number-byte : (n : Numeral) → numeralStep n b ≡ More e → NumberRest n (b ∷ bs)
@@ -271,13 +271,13 @@ spells-number (whole w) n p = number-end n p w
 spells-number (byte s k) n p = number-at n p s (λ m q. spells-number k m q)
 
 pub rest-negative : {bs : Bytes} → NumberRest types.Minus bs → Number (0x2D ∷ bs)
-rest-negative (rest-minus i f e) = number (present minus) i f e
+rest-negative (rest-minus i f e) = number (a-minus minus) i f e
 
 pub rest-nought : {bs : Bytes} → NumberRest Zero bs → Number (0x30 ∷ bs)
-rest-nought (rest-zero f e) = number absent zero f e
+rest-nought (rest-zero f e) = number no-minus (a-zero zero) f e
 
 pub rest-positive : {b : ℕ} {bs : Bytes} → b from 0x31 to 0x39 → NumberRest Integer bs → Number (b ∷ bs)
-rest-positive r (rest-integer ds f e) = number absent (nonzero r ds) f e
+rest-positive r (rest-integer ds f e) = number no-minus (nonzero (digit1-9 r) ds) f e
 
 -- ---- what it stands for
 
@@ -286,9 +286,9 @@ pub data NumberFirst : Bytes → Type 0 where
   number-first : {b : ℕ} {bs : Bytes} → (b is 0x2D || isDigit b) ≡ true → NumberFirst (b ∷ bs)
 
 pub first-of-number : {bs : Bytes} → Number bs → NumberFirst bs
-first-of-number (number (present minus) i f e) = number-first refl
-first-of-number (number absent zero f e) = number-first refl
-first-of-number (number absent (nonzero {b} r ds) f e) =
+first-of-number (number (a-minus minus) i f e) = number-first refl
+first-of-number (number no-minus (a-zero zero) f e) = number-first refl
+first-of-number (number no-minus (nonzero (digit1-9 {b} r) ds) f e) =
     let h : 0x31 ≤ b = r .low in
     let p : isDigit b ≡ true = range-within {lo = 0x30} {hi = 0x39} (range (omega arith) (r .high)) in
     number-first {b = b} (rw (ne-eqb b 0x2D (λ z. omega arith), p))

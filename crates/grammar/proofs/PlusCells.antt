@@ -18,7 +18,7 @@ use Rattle.model.proofs.CellContent.{no-more, no-stop, same-more, char-on, d-pl
 use Rattle.grammar.specs.Rfc5234.{LF, CR}
 use Rattle.grammar.specs.Derived.{Derived, cell, rawOf}
 use Rattle.grammar.specs.Reading.{decoded}
-use Rattle.grammar.specs.CsvPlus.{COMMA, DQUOTE, TEXTDATA, ascii, utf8-data, NonEscaped, nothing, textdata, Inner, escaped, Field, an-escaped, a-non-escaped}
+use Rattle.grammar.specs.CsvPlus.{Field, an-escaped, a-non-escaped, escaped, Inner, nothing, inner-textdata, inner-comma, inner-cr, inner-lf, Non-escaped, no-textdata, textdata, comma, dquote, TEXTDATA, ascii, utf8-data}
 use Rattle.grammar.specs.CsvPlus.{NarrowTEXTDATA, below-quote, below-comma, above-comma}
 use Rattle.grammar.specs.CsvPlus as plus
 use Rattle.grammar.specs.Types as types
@@ -26,6 +26,13 @@ use Rattle.grammar.proofs.Ranges.{range}
 use Rattle.grammar.proofs.Chars.{Finishes, finished, finishing, Long, long, data-long, long-data, whole-ascii, first-high}
 use Rattle.grammar.proofs.Spelling.{Spells, whole, byte, DerivedFrom, derived-from, TextState, long-spells}
 use Rattle.grammar.proofs.Doubled.{Doubled, no-char, ascii-char, long-char, two-quotes, doubled-spells, Closing, closing, spells-doubled, doubled-content}
+
+-- the bytes of COMMA and DQUOTE
+abbrev pub COMMA : Settings → ℕ
+COMMA s = delimiterByte (s .delimiter)
+
+abbrev pub DQUOTE : Settings → ℕ
+DQUOTE s = quoteByte (s .quote)
 
 -- the quote is no separator
 separate : (s : Settings) → (DQUOTE s ≢ COMMA s) × (DQUOTE s ≢ CR) × (DQUOTE s ≢ LF)
@@ -45,26 +52,26 @@ module _ (s : Settings) where
   -- ---- what stands between quotes is doubled text
 
   inner-doubled : {bs ts : Bytes} → Inner s bs ts → Doubled (DQUOTE s) bs ts
-  inner-doubled plus.Inner.nothing = no-char
-  inner-doubled (plus.Inner.textdata (ascii {b} r n x y z) i) = ascii-char (r .high) n (inner-doubled i)
-  inner-doubled (plus.Inner.textdata (utf8-data u) i) = long-char (data-long u) (inner-doubled i)
-  inner-doubled (plus.Inner.comma i) = ascii-char (delimiter-ascii (CsvPlus s)) (λ e. separate s .0 (sym e)) (inner-doubled i)
-  inner-doubled (plus.Inner.cr i) = ascii-char {b = CR} (omega arith) (λ e. separate s .1 (sym e)) (inner-doubled i)
-  inner-doubled (plus.Inner.lf i) = ascii-char {b = LF} (omega arith) (λ e. separate s .2 (sym e)) (inner-doubled i)
-  inner-doubled (plus.Inner.two-quotes i) = two-quotes (inner-doubled i)
+  inner-doubled nothing = no-char
+  inner-doubled (inner-textdata (ascii {b} r n x y z) i) = ascii-char (r .high) n (inner-doubled i)
+  inner-doubled (inner-textdata (utf8-data u) i) = long-char (data-long u) (inner-doubled i)
+  inner-doubled (inner-comma comma i) = ascii-char (delimiter-ascii (CsvPlus s)) (λ e. separate s .0 (sym e)) (inner-doubled i)
+  inner-doubled (inner-cr i) = ascii-char {b = CR} (omega arith) (λ e. separate s .1 (sym e)) (inner-doubled i)
+  inner-doubled (inner-lf i) = ascii-char {b = LF} (omega arith) (λ e. separate s .2 (sym e)) (inner-doubled i)
+  inner-doubled (plus.two-quotes dquote dquote i) = two-quotes (inner-doubled i)
 
   ascii-inner : (b : ℕ) {bs ts : Bytes} → b ≤ 0x7F → b ≢ DQUOTE s → Inner s bs ts → Inner s (b ∷ bs) (b ∷ ts)
   ascii-inner b h n i =
-      split-on (b is COMMA s) (λ p. rw (is→eq b (COMMA s) p) (plus.Inner.comma i)) λ p.
-      split-on (b is CR) (λ q. rw (is→eq b CR q) (plus.Inner.cr i)) λ q.
-      split-on (b is LF) (λ r. rw (is→eq b LF r) (plus.Inner.lf i)) λ r.
-      plus.Inner.textdata (ascii (range (omega arith) h) n (eqb-false b (COMMA s) p) (eqb-false b CR q) (eqb-false b LF r)) i
+      split-on (b is COMMA s) (λ p. rw (is→eq b (COMMA s) p) (inner-comma comma i)) λ p.
+      split-on (b is CR) (λ q. rw (is→eq b CR q) (inner-cr i)) λ q.
+      split-on (b is LF) (λ r. rw (is→eq b LF r) (inner-lf i)) λ r.
+      inner-textdata (ascii (range (omega arith) h) n (eqb-false b (COMMA s) p) (eqb-false b CR q) (eqb-false b LF r)) i
 
   doubled-inner : {bs ts : Bytes} → Doubled (DQUOTE s) bs ts → Inner s bs ts
-  doubled-inner no-char = plus.Inner.nothing
+  doubled-inner no-char = nothing
   doubled-inner (ascii-char {b} h n m) = ascii-inner b h n (doubled-inner m)
-  doubled-inner (long-char l m) = plus.Inner.textdata (utf8-data (long-data l)) (doubled-inner m)
-  doubled-inner (two-quotes m) = plus.Inner.two-quotes (doubled-inner m)
+  doubled-inner (long-char l m) = inner-textdata (utf8-data (long-data l)) (doubled-inner m)
+  doubled-inner (two-quotes m) = plus.two-quotes dquote dquote (doubled-inner m)
 
   -- ---- plain text
 
@@ -99,15 +106,15 @@ module _ (s : Settings) where
   start-whole at-fresh = refl
   start-whole at-plain = refl
 
-  plain-spells : {c : Cell} {bs : Bytes} → NonEscaped s bs → Start c → Spells (CsvPlus s) c bs
-  plain-spells nothing i = whole (start-whole i)
+  plain-spells : {c : Cell} {bs : Bytes} → Non-escaped s bs → Start c → Spells (CsvPlus s) c bs
+  plain-spells no-textdata i = whole (start-whole i)
   plain-spells (textdata (ascii {b} r n x y z) m) i =
       byte (plain-step b i (ne-eqb b (DQUOTE s) n) (no-separator b x y z) ∙ ap (textByte Plain) (ascii-whole b (r .high))) (plain-spells m at-plain)
   plain-spells (textdata (utf8-data u) m) i = long-spells plain-state (plain-high i) (data-long u) (plain-spells m at-plain)
 
   -- what is still to come in a plain cell
   data PlainRest (c : Char) : Bytes → Type 0 where
-    plain-rest : {cs bs : Bytes} → Finishes c cs → NonEscaped s bs → PlainRest c (cs ++ bs)
+    plain-rest : {cs bs : Bytes} → Finishes c cs → Non-escaped s bs → PlainRest c (cs ++ bs)
 
   ascii-textdata : (b : ℕ) → b ≤ 0x7F → (b is DQUOTE s) ≡ false → isSeparator b ≡ false → TEXTDATA s (b ∷ [])
   ascii-textdata b h p q =
@@ -116,7 +123,7 @@ module _ (s : Settings) where
       split-on (b is LF) (λ z. impossible (sym q ∙ (rw (x, y, z)))) λ z.
       ascii (range (omega arith) h) (eqb-false b (DQUOTE s) p) (eqb-false b (COMMA s) x) (eqb-false b CR y) (eqb-false b LF z)
 
-  plain-char : (c : Char) (b : ℕ) {bs : Bytes} → (b is DQUOTE s) ≡ false → isSeparator b ≡ false → charStep Whole b ≡ On c → PlainRest c bs → NonEscaped s (b ∷ bs)
+  plain-char : (c : Char) (b : ℕ) {bs : Bytes} → (b is DQUOTE s) ≡ false → isSeparator b ≡ false → charStep Whole b ≡ On c → PlainRest c bs → Non-escaped s (b ∷ bs)
   plain-char Whole b p q e (plain-rest finished m) = textdata (ascii-textdata b (whole-ascii b e) p q) m
   plain-char (Within i) b p q e (plain-rest f m) = textdata (utf8-data (long-data (long e f))) m
 
@@ -124,7 +131,7 @@ module _ (s : Settings) where
   plain-inner e (plain-rest f m) = plain-rest (finishing e f) m
 
   plain-none : {e : Cell} (c : Char) → Plain c ≡ e → isWhole (CsvPlus s) e ≡ true → PlainRest c []
-  plain-none Whole p w = plain-rest finished nothing
+  plain-none Whole p w = plain-rest finished no-textdata
   plain-none (Within i) p w = impossible (sym (plain-state .unfinished i) ∙ ap (isWhole (CsvPlus s)) p ∙ w)
 
   plain-byte : {e e′ : Cell} {b : ℕ} {bs : Bytes} (c : Char) → Plain c ≡ e → cellStep (CsvPlus s) e b ≡ More e′ → ((c′ : Char) → Plain c′ ≡ e′ → PlainRest c′ bs) → PlainRest c (b ∷ bs)
@@ -151,7 +158,7 @@ module _ (s : Settings) where
   at-quote = rw (same-byte (DQUOTE s))
 
   pub field-spells : {c : Derived} → Field s c → Spells (CsvPlus s) Fresh (rawOf c)
-  field-spells (an-escaped (escaped i)) = byte at-quote (doubled-spells d-plus (inner-doubled i))
+  field-spells (an-escaped (escaped dquote i dquote)) = byte at-quote (doubled-spells d-plus (inner-doubled i))
   field-spells (a-non-escaped m) = plain-spells m at-fresh
 
   quoted-content : (bs : Bytes) → contentOf (CsvPlus s) (DQUOTE s ∷ bs) ≡ undouble (DQUOTE s) false bs
@@ -162,9 +169,9 @@ module _ (s : Settings) where
   unfolding contentOf if_then_else_
   plain-first b bs n = rw (ne-eqb b (DQUOTE s) n)
 
-  plain-content : {bs : Bytes} → NonEscaped s bs → contentOf (CsvPlus s) bs ≡ bs
+  plain-content : {bs : Bytes} → Non-escaped s bs → contentOf (CsvPlus s) bs ≡ bs
   unfolding contentOf
-  plain-content nothing = refl
+  plain-content no-textdata = refl
   plain-content (textdata {bs} (ascii {b} r n x y z) m) = plain-first b bs n
   plain-content (textdata {bs} (utf8-data u) m) = go (data-long u)
     where
@@ -176,14 +183,14 @@ module _ (s : Settings) where
 
   pub field-content : {c : Derived} → Field s c → c ≡ decoded (CsvPlus s) (rawOf c)
   unfolding kindOf
-  field-content (an-escaped (escaped {bs} {ts} i)) =
+  field-content (an-escaped (escaped {bs} {ts} dquote i dquote)) =
       let raw : Bytes = DQUOTE s ∷ (bs ++ (DQUOTE s ∷ [])) in
       let e : contentOf (CsvPlus s) raw ≡ ts = quoted-content (bs ++ (DQUOTE s ∷ [])) ∙ doubled-content (DQUOTE s) (quote-ascii (CsvPlus s)) (inner-doubled i) in
       ap (cell raw Text) (sym e)
   field-content (a-non-escaped {bs} m) = ap (cell bs Text) (sym (plain-content m))
 
   quoted-field : {bs : Bytes} → Closing (DQUOTE s) bs → DerivedFrom (Field s) (DQUOTE s ∷ bs)
-  quoted-field (closing m) = derived-from (an-escaped (escaped (doubled-inner m)))
+  quoted-field (closing m) = derived-from (an-escaped (escaped dquote (doubled-inner m) dquote))
 
   first-field : (b : ℕ) (bs : Bytes) {e : Cell} → cellStep (CsvPlus s) Fresh b ≡ More e → Spells (CsvPlus s) e bs → DerivedFrom (Field s) (b ∷ bs)
   unfolding cellStep firstByte if_then_else_
@@ -200,7 +207,7 @@ module _ (s : Settings) where
           derived-from (a-non-escaped (plain-char (y .char) b p q (y .step) (spells-plain m (y .char) (y .cell))))
 
   pub spells-field : {raw : Bytes} → Spells (CsvPlus s) Fresh raw → DerivedFrom (Field s) raw
-  spells-field (whole w) = derived-from (a-non-escaped nothing)
+  spells-field (whole w) = derived-from (a-non-escaped no-textdata)
   spells-field (byte {b} {bs} k m) = first-field b bs k m
 
 -- ---- what RFC 4180 calls TEXTDATA is TEXTDATA of dialect 3

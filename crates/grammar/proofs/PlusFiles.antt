@@ -18,7 +18,8 @@ use Rattle.model.proofs.CellContent.{d-plus}
 use Rattle.grammar.specs.Rfc5234.{LF, CR}
 use Rattle.grammar.specs.Derived.{Derived, rawOf, Line, line, spelling}
 use Rattle.grammar.specs.Reading.{Reads, ends-clean, ends-final, of-cell, tail-closing, ends, ends-closing, decoded, decodedLine}
-use Rattle.grammar.specs.CsvPlus.{BeginsWithMark, mark, COMMA, Record, field, fields, Ending, lf, crlf, Records, unended, last, next, File, file}
+use Rattle.grammar.specs.CsvPlus.{BeginsWithMark, mark, File, file, Table, header-unended, header-alone, header-then, Records, unended, last, next, Header, a-name, names, Record, field, fields, name, comma, CRLF, lf, crlf}
+use Rattle.grammar.proofs.PlusCells.{COMMA}
 use Rattle.grammar.proofs.Spelling.{whole}
 use Rattle.grammar.proofs.CellGrammar.{derived-spells, spells-derived}
 use Rattle.grammar.proofs.Separators.{by-cr, by-lf}
@@ -61,11 +62,31 @@ module _ (s : Settings) where
 
   record-cells : {text : Bytes} {cells : List Derived} → Record s text cells → Cells (CsvPlus s) text (map rawOf cells)
   record-cells (field v) = one-cell (derived-spells (CsvPlus s) _ v)
-  record-cells (fields v f) = more-cells (derived-spells (CsvPlus s) _ v) (record-cells f)
+  record-cells (fields v comma f) = more-cells (derived-spells (CsvPlus s) _ v) (record-cells f)
 
   cells-record : {text : Bytes} {cells : List Bytes} → Cells (CsvPlus s) text cells → Record s text (map (decoded (CsvPlus s)) cells)
   cells-record (one-cell {raw} m) = field (spells-derived (CsvPlus s) raw m)
-  cells-record (more-cells {raw} m n) = fields (spells-derived (CsvPlus s) raw m) (cells-record n)
+  cells-record (more-cells {raw} m n) = fields (spells-derived (CsvPlus s) raw m) comma (cells-record n)
+
+  -- ---- a header is a record, so a table is records
+
+  header-record : {text : Bytes} {cells : List Derived} → Header s text cells → Record s text cells
+  header-record (a-name (name v)) = field v
+  header-record (names (name v) c h) = fields v c (header-record h)
+
+  record-header : {text : Bytes} {cells : List Derived} → Record s text cells → Header s text cells
+  record-header (field v) = a-name (name v)
+  record-header (fields v c r) = names (name v) c (record-header r)
+
+  pub table-records : {xs : Bytes} {ls : List (Line Derived)} → Table s xs ls → Records s xs ls
+  table-records (header-unended h) = unended (header-record h)
+  table-records (header-alone h e) = last (header-record h) e
+  table-records (header-then h e k) = next (header-record h) e k
+
+  records-table : {xs : Bytes} {ls : List (Line Derived)} → Records s xs ls → Table s xs ls
+  records-table (unended r) = header-unended (record-header r)
+  records-table (last r e) = header-alone (record-header r) e
+  records-table (next r e k) = header-then (record-header r) e k
 
   -- ---- what is derived is read
 
@@ -77,7 +98,7 @@ module _ (s : Settings) where
   unfolding afterCell if_then_else_
   after-cr = rw (separate s .1)
 
-  ending-follows : {es zs : Bytes} {ls : List (Line Bytes)} → Ending s es → Reads (CsvPlus s) Begin zs ls → Follows (CsvPlus s) (es ++ zs) [] [] ls
+  ending-follows : {es zs : Bytes} {ls : List (Line Bytes)} → CRLF s es → Reads (CsvPlus s) Begin zs ls → Follows (CsvPlus s) (es ++ zs) [] [] ls
   unfolding formStep if_then_else_
   ending-follows lf k c r w = ends-closing (after-whole (CsvPlus s) c LF r w by-lf ∙ after-lf) k
   ending-follows crlf k c r w = tail-closing (after-whole (CsvPlus s) c CR r w by-cr ∙ after-cr) (ends refl k)
@@ -90,7 +111,7 @@ module _ (s : Settings) where
   unfolding formStep beginRecord
   begin-reads some r = from-state refl r
 
-  ending-some : {es : Bytes} (text zs : Bytes) → Ending s es → NonEmpty (text ++ (es ++ zs))
+  ending-some : {es : Bytes} (text zs : Bytes) → CRLF s es → NonEmpty (text ++ (es ++ zs))
   ending-some [] zs lf = some
   ending-some [] zs crlf = some
   ending-some (b ∷ text) zs e = some
@@ -190,7 +211,7 @@ module _ (s : Settings) where
       go false p = from-state (rw p) r
 
   pub file-reads : {xs : Bytes} {ls : List (Line Derived)} → File s xs ls → Reads (CsvPlus s) Top xs (map spelling ls)
-  file-reads (file n k) = top-reads n (records-read k)
+  file-reads (file n k) = top-reads n (records-read (table-records k))
 
   -- ---- what is read is derived
 
@@ -202,7 +223,7 @@ module _ (s : Settings) where
   -- after a record's text
   data TailThen : Bytes → List (Line Bytes) → Type 0 where
     at-file-end : TailThen [] []
-    ending-then : {es zs : Bytes} {ls : List (Line Bytes)} → Ending s es → Rows zs ls → TailThen (es ++ zs) ls
+    ending-then : {es zs : Bytes} {ls : List (Line Bytes)} → CRLF s es → Rows zs ls → TailThen (es ++ zs) ls
 
   data AfterCr : Bytes → List (Line Bytes) → Type 0 where
     then-lf : {zs : Bytes} {ls : List (Line Bytes)} → Rows zs ls → AfterCr (LF ∷ zs) (line [] [] ∷ ls)
@@ -339,4 +360,4 @@ module _ (s : Settings) where
   reads-file {xs} {l} {ls} r = let k = reads-rows xs Top (l ∷ ls) r in go (k .0) (k .1)
     where
       go : {xs : Bytes} {l : Line Bytes} {ls : List (Line Bytes)} → ¬ BeginsWithMark xs → Rows xs (l ∷ ls) → File s xs (map (decodedLine (CsvPlus s)) (l ∷ ls))
-      go n (rows k) = file n k
+      go n (rows k) = file n (records-table k)

@@ -18,7 +18,7 @@ use Rattle.model.proofs.Tests.{split, split-on, impossible, and-true}
 use Rattle.model.proofs.Utf8.{inner-high}
 use Rattle.grammar.specs.Rfc5234.{_from_to_, HEXDIG, decimal, upper, lower}
 use Rattle.grammar.specs.Rfc3629.{Octets, one-octet, two-octets, three-octets, four-octets}
-use Rattle.grammar.specs.Rfc8259.{below-quote, below-backslash, above-backslash, above-ascii, Item, octets, unit, unescaped, quotation-mark, reverse-solidus, solidus, backspace, form-feed, line-feed, carriage-return, tab, uXXXX, Chars, no-char, char, Pair, halves, Content, nothing, as-they-stand, paired, single, String, string}
+use Rattle.grammar.specs.Rfc8259.{below-quote, below-backslash, above-backslash, above-ascii, Item, octets, unit, unescaped, quotation-mark, reverse-solidus, solidus, backspace, form-feed, line-feed, carriage-return, tab, uXXXX, escape, a-quotation-mark, Chars, no-char, char, Pair, halves, Content, nothing, as-they-stand, paired, single, String, string}
 use Rattle.grammar.specs.Rfc8259 as json
 use Rattle.grammar.proofs.Ranges.{range, within-range, range-within}
 use Rattle.grammar.proofs.Chars.{Finishes, finished, finishing, Long, long, data-long, first-high}
@@ -66,15 +66,15 @@ char-units xs (unescaped (below-backslash {b} r)) =
     let h : 0x23 ≤ b = r .low in let k : b ≤ 0x5B = r .high in byte-units b xs (λ z. omega arith) (λ z. omega arith)
 char-units xs (unescaped (above-backslash {b} r)) = let h : 0x5D ≤ b = r .low in byte-units b xs (λ z. omega arith) (λ z. omega arith)
 char-units xs (unescaped (above-ascii u)) = long-units xs (data-long u)
-char-units xs quotation-mark = refl
-char-units xs reverse-solidus = refl
-char-units xs solidus = refl
-char-units xs backspace = refl
-char-units xs form-feed = refl
-char-units xs line-feed = refl
-char-units xs carriage-return = refl
-char-units xs tab = refl
-char-units xs (uXXXX {a} {b} {c} {d} {w} {x} {y} {z} p q r s) = escape-units a b c d xs ∙ ap (λ n. decode.unit n ∷ units between xs) value
+char-units xs (quotation-mark escape) = refl
+char-units xs (reverse-solidus escape) = refl
+char-units xs (solidus escape) = refl
+char-units xs (backspace escape) = refl
+char-units xs (form-feed escape) = refl
+char-units xs (line-feed escape) = refl
+char-units xs (carriage-return escape) = refl
+char-units xs (tab escape) = refl
+char-units xs (uXXXX {a} {b} {c} {d} {w} {x} {y} {z} escape p q r s) = escape-units a b c d xs ∙ ap (λ n. decode.unit n ∷ units between xs) value
   where
     value : (((0 * 0x10 + hexOf a) * 0x10 + hexOf b) * 0x10 + hexOf c) * 0x10 + hexOf d ≡ ((w * 0x10 + x) * 0x10 + y) * 0x10 + z
     value =
@@ -146,15 +146,15 @@ char-items (unescaped (below-quote r)) k = some-octets k
 char-items (unescaped (below-backslash r)) k = some-octets k
 char-items (unescaped (above-backslash r)) k = some-octets k
 char-items (unescaped (above-ascii u)) k = long-items (data-long u) k
-char-items quotation-mark k = some-octets k
-char-items reverse-solidus k = some-octets k
-char-items solidus k = some-octets k
-char-items backspace k = some-octets k
-char-items form-feed k = some-octets k
-char-items line-feed k = some-octets k
-char-items carriage-return k = some-octets k
-char-items tab k = some-octets k
-char-items (uXXXX {w} {x} {y} {z} p q r s) k =
+char-items (quotation-mark escape) k = some-octets k
+char-items (reverse-solidus escape) k = some-octets k
+char-items (solidus escape) k = some-octets k
+char-items (backspace escape) k = some-octets k
+char-items (form-feed escape) k = some-octets k
+char-items (line-feed escape) k = some-octets k
+char-items (carriage-return escape) k = some-octets k
+char-items (tab escape) k = some-octets k
+char-items (uXXXX {w} {x} {y} {z} escape p q r s) k =
     let a : w ≤ 0xF = hex-bound p in
     let b : x ≤ 0xF = hex-bound q in
     let c : y ≤ 0xF = hex-bound r in
@@ -252,11 +252,11 @@ has-content (a-unit {u} h (a-unit {u = l} j k)) = unit-content u l h (has-conten
 
 pub string-content : {raw ts : Bytes} → String raw ts → contentOf Csvj raw ≡ ts
 unfolding contentOf if_then_else_
-string-content (string c k) = ap textOf (chars-units c) ∙ content-text k (chars-items c)
+string-content (string a-quotation-mark c a-quotation-mark k) = ap textOf (chars-units c) ∙ content-text k (chars-items c)
 
 pub string-kind : {raw ts : Bytes} → String raw ts → kindOf Csvj raw ≡ Text
 unfolding kindOf if_then_else_
-string-kind (string c k) = refl
+string-kind (string a-quotation-mark c a-quotation-mark k) = refl
 
 -- a string of these bytes
 pub data StringOf (raw : Bytes) : Type 0 where
@@ -266,4 +266,4 @@ pub closing-string : {xs : Bytes} → Closing xs → StringOf (QUOTE ∷ xs)
 closing-string (closing {bs} {us} c) = go (has-content (chars-items c))
   where
     go : HasContent us → StringOf (QUOTE ∷ (bs ++ (QUOTE ∷ [])))
-    go (has-content-of k) = string-of (string c k)
+    go (has-content-of k) = string-of (string a-quotation-mark c a-quotation-mark k)

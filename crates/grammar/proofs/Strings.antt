@@ -16,7 +16,7 @@ use Rattle.model.proofs.Tests.{split, split-on, impossible, is→eq}
 use Rattle.model.proofs.Utf8.{ascii-whole}
 use Rattle.model.proofs.CellContent.{no-more, no-stop, same-more, char-on}
 use Rattle.grammar.specs.Rfc5234.{HEXDIG, decimal, upper, lower}
-use Rattle.grammar.specs.Rfc8259.{Unescaped, below-quote, below-backslash, above-backslash, above-ascii, Item, unescaped, quotation-mark, reverse-solidus, solidus, backspace, form-feed, line-feed, carriage-return, tab, uXXXX, Chars, no-char, char}
+use Rattle.grammar.specs.Rfc8259.{Unescaped, below-quote, below-backslash, above-backslash, above-ascii, Item, unescaped, quotation-mark, reverse-solidus, solidus, backspace, form-feed, line-feed, carriage-return, tab, uXXXX, escape, Chars, no-char, char}
 use Rattle.grammar.specs.Rfc8259 as json
 use Rattle.grammar.proofs.Ranges.{range, within-range, range-within, above-within}
 use Rattle.grammar.proofs.Chars.{Finishes, finished, finishing, long, data-long, long-data, whole-ascii}
@@ -53,15 +53,15 @@ char-spells (unescaped (above-backslash {b} r)) k =
     let h : 0x5D ≤ b = r .low in byte (ascii-step b (omega arith) (r .high) (λ e. omega arith) (λ e. omega arith)) k
 char-spells (unescaped (above-ascii u)) k =
     long-spells (quoted-state Csvj) (λ b h. text-step b (omega arith) (λ e. omega arith) (λ e. omega arith)) (data-long u) k
-char-spells quotation-mark k = byte refl (byte refl k)
-char-spells reverse-solidus k = byte refl (byte refl k)
-char-spells solidus k = byte refl (byte refl k)
-char-spells backspace k = byte refl (byte refl k)
-char-spells form-feed k = byte refl (byte refl k)
-char-spells line-feed k = byte refl (byte refl k)
-char-spells carriage-return k = byte refl (byte refl k)
-char-spells tab k = byte refl (byte refl k)
-char-spells (uXXXX w x y z) k = byte refl (byte refl (byte (hex-step Four w) (byte (hex-step Three x) (byte (hex-step Two y) (byte (hex-step One z) k)))))
+char-spells (quotation-mark escape) k = byte refl (byte refl k)
+char-spells (reverse-solidus escape) k = byte refl (byte refl k)
+char-spells (solidus escape) k = byte refl (byte refl k)
+char-spells (backspace escape) k = byte refl (byte refl k)
+char-spells (form-feed escape) k = byte refl (byte refl k)
+char-spells (line-feed escape) k = byte refl (byte refl k)
+char-spells (carriage-return escape) k = byte refl (byte refl k)
+char-spells (tab escape) k = byte refl (byte refl k)
+char-spells (uXXXX escape w x y z) k = byte refl (byte refl (byte (hex-step Four w) (byte (hex-step Three x) (byte (hex-step Two y) (byte (hex-step One z) k)))))
 
 pub chars-spell : {bs : Bytes} {us : List Item} → Chars bs us → Spells Csvj (Quoted Whole) (bs ++ (QUOTE ∷ []))
 unfolding cellStep quotedByte isWhole if_then_else_
@@ -122,7 +122,7 @@ short-char : {b : ℕ} {i : Item} {bs : Bytes} → json.Char (BACKSLASH ∷ b �
 short-char c (in-quoted finished k) = in-escape c k
 
 hex-char : {bs : Bytes} → StringRest (Hex Four) bs → StringRest Escape (0x75 ∷ bs)
-hex-char (in-hex (four-left w (three-left x (two-left y (one-left z)))) k) = in-escape (uXXXX w x y z) k
+hex-char (in-hex (four-left w (three-left x (two-left y (one-left z)))) k) = in-escape (uXXXX escape w x y z) k
 
 hex-digit : (n : HexLeft) {b v : ℕ} {bs : Bytes} → HEXDIG b v → StringRest (afterHex n) bs → StringRest (Hex n) (b ∷ bs)
 hex-digit Four x (in-hex h k) = in-hex (four-left x h) k
@@ -142,14 +142,14 @@ hex-value b t =
 
 short-value : (b : ℕ) {bs : Bytes} → isShort b ≡ true → StringRest (Quoted Whole) bs → StringRest Escape (b ∷ bs)
 short-value b t k =
-    split-on (b is QUOTE) (λ p. rw (is→eq b QUOTE p) (short-char quotation-mark k)) λ p1.
-    split-on (b is BACKSLASH) (λ p. rw (is→eq b BACKSLASH p) (short-char reverse-solidus k)) λ p2.
-    split-on (b is 0x2F) (λ p. rw (is→eq b 0x2F p) (short-char solidus k)) λ p3.
-    split-on (b is 0x62) (λ p. rw (is→eq b 0x62 p) (short-char backspace k)) λ p4.
-    split-on (b is 0x66) (λ p. rw (is→eq b 0x66 p) (short-char form-feed k)) λ p5.
-    split-on (b is 0x6E) (λ p. rw (is→eq b 0x6E p) (short-char line-feed k)) λ p6.
-    split-on (b is 0x72) (λ p. rw (is→eq b 0x72 p) (short-char carriage-return k)) λ p7.
-    rw (is→eq b 0x74 (rw (p1, p2, p3, p4, p5, p6, p7) at t)) (short-char tab k)
+    split-on (b is QUOTE) (λ p. rw (is→eq b QUOTE p) (short-char (quotation-mark escape) k)) λ p1.
+    split-on (b is BACKSLASH) (λ p. rw (is→eq b BACKSLASH p) (short-char (reverse-solidus escape) k)) λ p2.
+    split-on (b is 0x2F) (λ p. rw (is→eq b 0x2F p) (short-char (solidus escape) k)) λ p3.
+    split-on (b is 0x62) (λ p. rw (is→eq b 0x62 p) (short-char (backspace escape) k)) λ p4.
+    split-on (b is 0x66) (λ p. rw (is→eq b 0x66 p) (short-char (form-feed escape) k)) λ p5.
+    split-on (b is 0x6E) (λ p. rw (is→eq b 0x6E p) (short-char (line-feed escape) k)) λ p6.
+    split-on (b is 0x72) (λ p. rw (is→eq b 0x72 p) (short-char (carriage-return escape) k)) λ p7.
+    rw (is→eq b 0x74 (rw (p1, p2, p3, p4, p5, p6, p7) at t)) (short-char (tab escape) k)
 
 string-none : {c : Cell} → InString c → isWhole Csvj c ≡ true → StringRest c []
 unfolding isWhole

@@ -16,7 +16,7 @@ use Rattle.model.proofs.CellContent.{no-more, same-more, d-tdif}
 use Rattle.grammar.specs.Rfc5234.{DQUOTE}
 use Rattle.grammar.specs.Derived.{Derived, cell, rawOf}
 use Rattle.grammar.specs.Reading.{decoded}
-use Rattle.grammar.specs.Tdif.{Textdata, below-quote, above-quote, utf8-data, Inner, nothing, textdata, two-quotes, value, null, Field, a-null, a-value, Value}
+use Rattle.grammar.specs.Tdif.{Textdata, below-quote, above-quote, text-beyond, Inner, nothing, textdata, two-quotes, value, null, Field, a-null, a-value, Value}
 use Rattle.grammar.proofs.Ranges.{range}
 use Rattle.grammar.proofs.Chars.{data-long, long-data}
 use Rattle.grammar.proofs.Spelling.{Spells, whole, byte, DerivedFrom, derived-from, last-letter}
@@ -28,7 +28,7 @@ inner-doubled : {bs ts : Bytes} → Inner bs ts → Doubled QUOTE bs ts
 inner-doubled nothing = no-char
 inner-doubled (textdata (below-quote {b} r) i) = let h : b ≤ 0x21 = r .high in ascii-char {b = b} (omega arith) (λ e. omega arith) (inner-doubled i)
 inner-doubled (textdata (above-quote {b} r) i) = let h : 0x23 ≤ b = r .low in ascii-char {b = b} (r .high) (λ e. omega arith) (inner-doubled i)
-inner-doubled (textdata (utf8-data u) i) = long-char (data-long u) (inner-doubled i)
+inner-doubled (textdata (text-beyond u) i) = long-char (data-long u) (inner-doubled i)
 inner-doubled (two-quotes i) = doubled-quotes (inner-doubled i)
 
 ascii-textdata : (b : ℕ) → b ≤ 0x7F → b ≢ QUOTE → Textdata (b ∷ [])
@@ -39,7 +39,7 @@ ascii-textdata b h n =
 doubled-inner : {bs ts : Bytes} → Doubled QUOTE bs ts → Inner bs ts
 doubled-inner no-char = nothing
 doubled-inner (ascii-char {b} h n m) = textdata (ascii-textdata b h n) (doubled-inner m)
-doubled-inner (long-char l m) = textdata (utf8-data (long-data l)) (doubled-inner m)
+doubled-inner (long-char l m) = textdata (text-beyond (long-data l)) (doubled-inner m)
 doubled-inner (doubled-quotes m) = two-quotes (doubled-inner m)
 
 -- ---- fields

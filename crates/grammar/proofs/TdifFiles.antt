@@ -21,7 +21,7 @@ use Rattle.model.proofs.CellContent.{d-tdif}
 use Rattle.grammar.specs.Rfc5234.{LF, CR}
 use Rattle.grammar.specs.Derived.{Derived, rawOf, Line, line, spelling}
 use Rattle.grammar.specs.Reading.{Reads, ends-clean, outside, passed, ends-closing, decoded, decodedLine}
-use Rattle.grammar.specs.Tdif.{Linebreak, cr, lf, crlf, Fields, field, fields, ended, below-lf, below-cr, above-cr, Commentdata, Remark, commentdata, no-line, a-record}
+use Rattle.grammar.specs.Tdif.{comment-first, header-first, no-line, a-comment, a-record, header, ended, Fields, field, fields, comment, Remark, no-remark, commentdata, Commentdata, below-lf, below-cr, above-cr, comment-beyond, comma, hash, Linebreak, cr, lf, crlf}
 use Rattle.grammar.specs.Tdif as tdif
 use Rattle.grammar.proofs.Ranges.{range}
 use Rattle.grammar.proofs.Chars.{Finishes, finished, finishing, Long, long, data-long, long-data, whole-ascii, first-high}
@@ -36,11 +36,11 @@ use Rattle.grammar.proofs.Delimited.{Cells, one-cell, more-cells, cells
 
 fields-cells : {text : Bytes} {cells : List Derived} → Fields text cells → Cells Tdif text (map rawOf cells)
 fields-cells (field v) = one-cell (derived-spells Tdif _ v)
-fields-cells (fields v f) = more-cells (derived-spells Tdif _ v) (fields-cells f)
+fields-cells (fields v comma f) = more-cells (derived-spells Tdif _ v) (fields-cells f)
 
 cells-fields : {text : Bytes} {cells : List Bytes} → Cells Tdif text cells → Fields text (map (decoded Tdif) cells)
 cells-fields (one-cell {raw} m) = field (spells-derived Tdif raw m)
-cells-fields (more-cells {raw} m n) = fields (spells-derived Tdif raw m) (cells-fields n)
+cells-fields (more-cells {raw} m n) = fields (spells-derived Tdif raw m) comma (cells-fields n)
 
 -- ---- what is derived is read
 
@@ -101,12 +101,12 @@ long-reads (long {i} {b} e m) k =
     outside (comment-step b (λ z. omega arith) (λ z. omega arith) ∙ ap commented e) (finish-reads m k)
 
 remark-reads : {bs ys : Bytes} {ls : List (Line Bytes)} → Remark bs → Reads Tdif (Comment Whole) ys ls → Reads Tdif (Comment Whole) (bs ++ ys) ls
-remark-reads tdif.Remark.nothing k = k
+remark-reads no-remark k = k
 remark-reads (commentdata (below-lf {b} r) m) k = let h : b ≤ 0x09 = r .high in ascii-reads b (omega arith) (λ e. omega arith) (λ e. omega arith) (remark-reads m k)
 remark-reads (commentdata (below-cr {b} r) m) k =
     let h : 0x0B ≤ b = r .low in let j : b ≤ 0x0C = r .high in ascii-reads b (omega arith) (λ e. omega arith) (λ e. omega arith) (remark-reads m k)
 remark-reads (commentdata (above-cr {b} r) m) k = let h : 0x0E ≤ b = r .low in ascii-reads b (r .high) (λ e. omega arith) (λ e. omega arith) (remark-reads m k)
-remark-reads {ys} (commentdata {cs} {bs} (tdif.Commentdata.utf8-data u) m) k = rw (append-assoc cs bs ys) (long-reads (data-long u) (remark-reads m k))
+remark-reads {ys} (commentdata {cs} {bs} (comment-beyond u) m) k = rw (append-assoc cs bs ys) (long-reads (data-long u) (remark-reads m k))
 
 hash-step : {f : Form} → Opening f → formStep Tdif f 0x23 ≡ To (Comment Whole) Outside
 unfolding formStep beginFile beginRecord if_then_else_
@@ -115,7 +115,7 @@ hash-step at-begin = refl
 hash-step at-ended = refl
 
 comment-reads : {cs xs : Bytes} {ls : List (Line Bytes)} → tdif.Comment cs → FromLine xs ls → FromLine (cs ++ xs) ls
-comment-reads {xs} (tdif.Comment.comment {bs} {es} m b) k f o =
+comment-reads {xs} (comment {bs} {es} hash m b) k f o =
     rw (append-assoc bs es xs) (outside (hash-step o) (remark-reads m (break-reads b k)))
 
 record-reads : {bs xs : Bytes} {l : Line Derived} {ls : List (Line Bytes)} → tdif.Record bs l → FromLine xs ls → FromLine (bs ++ xs) (spelling l ∷ ls)
@@ -132,15 +132,15 @@ none-reads Ended at-ended = ends-clean refl
 
 lines-read : {xs : Bytes} {ls : List (Line Derived)} → tdif.Lines xs ls → FromLine xs (map spelling ls)
 lines-read no-line = none-reads
-lines-read (tdif.Lines.comment c k) = comment-reads c (lines-read k)
+lines-read (a-comment c k) = comment-reads c (lines-read k)
 lines-read (a-record r k) = record-reads r (lines-read k)
 
 pub file-reads : {xs : Bytes} {ls : List (Line Derived)} → tdif.File xs ls → Reads Tdif Top xs (map spelling ls)
 file-reads k = go k Top at-top
   where
     go : {xs : Bytes} {ls : List (Line Derived)} → tdif.File xs ls → FromLine xs (map spelling ls)
-    go (tdif.File.comment c k) = comment-reads c (go k)
-    go (tdif.File.header r k) = record-reads r (lines-read k)
+    go (comment-first c k) = comment-reads c (go k)
+    go (header-first (header r) k) = record-reads r (lines-read k)
 
 -- ---- what is read is derived
 
@@ -189,7 +189,7 @@ field-line : {xs : Bytes} {ls : List (Line Bytes)} → InField Fresh xs ls → D
 field-line (cell-then m a) = record-line (record-of Tdif BreakThen (cell-then m a))
 
 comment-line : {xs : Bytes} {ls : List (Line Bytes)} → InComment Whole xs ls → DerivedLines (0x23 ∷ xs) ls
-comment-line (in-comment {bs} finished m (break-then {es} {zs} b k)) = rw (← (append-assoc bs es zs)) (tdif.Lines.comment (tdif.Comment.comment m b) k)
+comment-line (in-comment {bs} finished m (break-then {es} {zs} b k)) = rw (← (append-assoc bs es zs)) (a-comment (comment hash m b) k)
 
 ascii-commentdata : (b : ℕ) → b ≤ 0x7F → b ≢ LF → b ≢ CR → Commentdata (b ∷ [])
 ascii-commentdata b h n m =
@@ -201,7 +201,7 @@ ascii-commentdata b h n m =
 more-remark : (c : Char) (b : ℕ) {xs : Bytes} {ls : List (Line Bytes)} → b ≢ LF → b ≢ CR → charStep Whole b ≡ On c → InComment c xs ls → InComment Whole (b ∷ xs) ls
 more-remark Whole b n m e (in-comment finished k t) = in-comment finished (commentdata (ascii-commentdata b (whole-ascii b e) n m) k) t
 more-remark (Within i) b n m e (in-comment {cs} {bs} {ys} f k t) =
-    rw (← (append-assoc cs bs ys)) (in-comment finished (commentdata (tdif.Commentdata.utf8-data (long-data (long e f))) k) t)
+    rw (← (append-assoc cs bs ys)) (in-comment finished (commentdata (comment-beyond (long-data (long e f))) k) t)
 
 inner-remark : {i : Inner} {c : Char} {b : ℕ} {xs : Bytes} {ls : List (Line Bytes)} → charStep (Within i) b ≡ On c → InComment c xs ls → InComment (Within i) (b ∷ xs) ls
 inner-remark e (in-comment f k t) = in-comment (finishing e f) k t
@@ -243,10 +243,10 @@ module _ (bs : Bytes) where
   skip-taken (steps.passed k) = skips k
 
   comment-lf : {b : ℕ} {ls : List (Line Bytes)} → Takes K b (To Begin Passed) ls → InComment Whole (LF ∷ bs) ls
-  comment-lf (steps.passed k) = in-comment finished tdif.Remark.nothing (break-then lf k)
+  comment-lf (steps.passed k) = in-comment finished no-remark (break-then lf k)
 
   comment-cr : {b : ℕ} {ls : List (Line Bytes)} → Takes K b (To Ended Passed) ls → InComment Whole (CR ∷ bs) ls
-  comment-cr (steps.passed k) = in-comment finished tdif.Remark.nothing (break-cr k)
+  comment-cr (steps.passed k) = in-comment finished no-remark (break-cr k)
 
   char-taken : {b : ℕ} {c : Char} {ls : List (Line Bytes)} → Takes K b (To (Comment c) Outside) ls → InComment c bs ls
   char-taken (steps.outside k) = k
@@ -311,5 +311,5 @@ pub reads-file : {xs : Bytes} {l : Line Bytes} {ls : List (Line Bytes)} → Read
 reads-file {xs} {l} {ls} r = go (reads-lines xs Top (l ∷ ls) r)
   where
     go : {xs : Bytes} {l : Line Derived} {ls : List (Line Derived)} → tdif.Lines xs (l ∷ ls) → tdif.File xs (l ∷ ls)
-    go (tdif.Lines.comment c k) = tdif.File.comment c (go k)
-    go (a-record r k) = tdif.File.header r k
+    go (a-comment c k) = comment-first c (go k)
+    go (a-record r k) = header-first (header r) k

@@ -10,7 +10,7 @@ use Rattle.model.specs.Base.{Bytes}
 use Rattle.model.specs.Utf8.{charStep, textFrom}
 use Rattle.model.proofs.Tests.{impossible}
 use Rattle.model.proofs.Utf8.{ascii-whole, TextStep, text-step, text-on, text-more}
-use Rattle.grammar.specs.Rfc3629.{one, in-ascii, beyond, UTF8-octets, no-octets, octets}
+use Rattle.grammar.specs.Rfc3629.{UTF8-octets, no-octets, octets, UTF8-char, char-1, char-2, char-3, char-4, one, UTF8-data, of-two, of-three, of-four}
 use Rattle.grammar.proofs.Ranges.{range}
 use Rattle.grammar.proofs.Chars.{Finishes, finished, finishing, Long, long, data-long, long-data, whole-ascii}
 
@@ -24,8 +24,15 @@ long-text xs (long {i} {b} {bs} e f) = text-more Whole (Within i) b (bs ++ xs) e
 octets-text : {bs : Bytes} → UTF8-octets bs → textFrom Whole bs ≡ true
 unfolding textFrom
 octets-text no-octets = refl
-octets-text (octets {bs} (in-ascii (one {a} r)) k) = text-more Whole Whole a bs (ascii-whole a (r .high)) ∙ octets-text k
-octets-text (octets {bs} (beyond u) k) = long-text bs (data-long u) ∙ octets-text k
+octets-text (octets {bs} (char-1 (one {a} r)) k) = text-more Whole Whole a bs (ascii-whole a (r .high)) ∙ octets-text k
+octets-text (octets {bs} (char-2 u) k) = long-text bs (data-long (of-two u)) ∙ octets-text k
+octets-text (octets {bs} (char-3 u) k) = long-text bs (data-long (of-three u)) ∙ octets-text k
+octets-text (octets {bs} (char-4 u) k) = long-text bs (data-long (of-four u)) ∙ octets-text k
+
+data-char : {cs : Bytes} → UTF8-data cs → UTF8-char cs
+data-char (of-two u) = char-2 u
+data-char (of-three u) = char-3 u
+data-char (of-four u) = char-4 u
 
 -- what is still to come of a text
 data TextRest (c : Char) : Bytes → Type 0 where
@@ -37,8 +44,8 @@ text-none Whole e = text-rest finished no-octets
 text-none (Within i) e = impossible e
 
 text-first : (c c′ : Char) (b : ℕ) {bs : Bytes} → charStep c b ≡ On c′ → TextRest c′ bs → TextRest c (b ∷ bs)
-text-first Whole Whole b e (text-rest finished k) = text-rest finished (octets (in-ascii (one (range (omega arith) (whole-ascii b e)))) k)
-text-first Whole (Within i) b e (text-rest f k) = text-rest finished (octets (beyond (long-data (long e f))) k)
+text-first Whole Whole b e (text-rest finished k) = text-rest finished (octets (char-1 (one (range (omega arith) (whole-ascii b e)))) k)
+text-first Whole (Within i) b e (text-rest f k) = text-rest finished (octets (data-char (long-data (long e f))) k)
 text-first (Within i) c′ b e (text-rest f k) = text-rest (finishing e f) k
 
 text-octets : (bs : Bytes) (c : Char) → textFrom c bs ≡ true → TextRest c bs

@@ -22,7 +22,10 @@ use Rattle.grammar.specs.Accepted.{Acceptable, cellCount, ShowsRecord}
 use Rattle.grammar.proofs.Texts.{text-exact}
 use Rattle.grammar.proofs.CellGrammar.{cell-exact, derived-content}
 use Rattle.grammar.proofs.FileGrammar.{grammar-exact, unambiguous}
+use Rattle.grammar.specs.Exact.{Exact}
+use Rattle.grammar.specs.Mistakes.{Mistakes}
 use Rattle.grammar.proofs.Acceptance.{acceptance, accepted-records, reader-acceptance}
+use Rattle.grammar.proofs.Refused.{refused}
 
 -- a text of document 01's table is UTF8-octets of RFC 3629
 pub texts : (bs : Bytes) → UTF8-octets bs ↔ (textFrom Whole bs ≡ true)
@@ -57,3 +60,10 @@ pub reader-exactly :
     (n : ℕ) (d : Dialect) (xs : Bytes) (room : ℕ) → dialectOf n ≡ some d →
     (reader n xs room .report ≡ accepted) ↔ ((ls : List (Line Derived)) × Acceptable d xs ls × (cellCount ls ≤ room))
 reader-exactly = reader-acceptance
+
+-- so the grammars are exact, and make none of the mistakes
+pub exact : Exact
+exact = record { files = files; contents = contents; acceptance = accepted-exactly }
+
+pub mistakes : Mistakes
+mistakes = refused exact

@@ -9,3 +9,5 @@ pub mod CsvPlus
 pub mod Derives
 pub mod Reading
 pub mod Accepted
+pub mod Exact
+pub mod Mistakes

@@ -1,50 +1,53 @@
--- UTF-8 by RFC 3629: the productions of its section 4, what they use first, and the octets of a code point by the table of its section 3.
+-- UTF-8 by RFC 3629: the productions of its section 4 in its order, and the octets of a code point by the table of its section 3.
 use Prim.Native.Nat.{ℕ, _+_, _*_, _≤_}
 use mathlib.Core.Path.{_≡_}
 use mathlib.Core.List.{[], _∷_, _++_}
 use Rattle.model.specs.Base.{Bytes}
 use Rattle.grammar.specs.Rfc5234.{_from_to_}
 
--- UTF8-tail = %x80-BF
-abbrev pub UTF8-tail : ℕ → Type 0
-UTF8-tail b = b from 0x80 to 0xBF
+mutual
+  -- UTF8-octets = *( UTF8-char )
+  pub data UTF8-octets : Bytes → Type 0 where
+    no-octets : UTF8-octets []
+    octets : {cs bs : Bytes} → UTF8-char cs → UTF8-octets bs → UTF8-octets (cs ++ bs)
 
--- UTF8-1 = %x00-7F
-pub data UTF8-1 : Bytes → Type 0 where
-  one : {a : ℕ} → a from 0x00 to 0x7F → UTF8-1 (a ∷ [])
+  -- UTF8-char = UTF8-1 / UTF8-2 / UTF8-3 / UTF8-4
+  pub data UTF8-char : Bytes → Type 0 where
+    char-1 : {cs : Bytes} → UTF8-1 cs → UTF8-char cs
+    char-2 : {cs : Bytes} → UTF8-2 cs → UTF8-char cs
+    char-3 : {cs : Bytes} → UTF8-3 cs → UTF8-char cs
+    char-4 : {cs : Bytes} → UTF8-4 cs → UTF8-char cs
 
--- UTF8-2 = %xC2-DF UTF8-tail
-pub data UTF8-2 : Bytes → Type 0 where
-  c2-df : {a b : ℕ} → a from 0xC2 to 0xDF → UTF8-tail b → UTF8-2 (a ∷ b ∷ [])
+  -- UTF8-1 = %x00-7F
+  pub data UTF8-1 : Bytes → Type 0 where
+    one : {a : ℕ} → a from 0x00 to 0x7F → UTF8-1 (a ∷ [])
 
--- UTF8-3 = %xE0 %xA0-BF UTF8-tail / %xE1-EC 2( UTF8-tail ) / %xED %x80-9F UTF8-tail / %xEE-EF 2( UTF8-tail )
-pub data UTF8-3 : Bytes → Type 0 where
-  e0 : {b c : ℕ} → b from 0xA0 to 0xBF → UTF8-tail c → UTF8-3 (0xE0 ∷ b ∷ c ∷ [])
-  e1-ec : {a b c : ℕ} → a from 0xE1 to 0xEC → UTF8-tail b → UTF8-tail c → UTF8-3 (a ∷ b ∷ c ∷ [])
-  ed : {b c : ℕ} → b from 0x80 to 0x9F → UTF8-tail c → UTF8-3 (0xED ∷ b ∷ c ∷ [])
-  ee-ef : {a b c : ℕ} → a from 0xEE to 0xEF → UTF8-tail b → UTF8-tail c → UTF8-3 (a ∷ b ∷ c ∷ [])
+  -- UTF8-2 = %xC2-DF UTF8-tail
+  pub data UTF8-2 : Bytes → Type 0 where
+    c2-df : {a b : ℕ} → a from 0xC2 to 0xDF → UTF8-tail b → UTF8-2 (a ∷ b ∷ [])
 
--- UTF8-4 = %xF0 %x90-BF 2( UTF8-tail ) / %xF1-F3 3( UTF8-tail ) / %xF4 %x80-8F 2( UTF8-tail )
-pub data UTF8-4 : Bytes → Type 0 where
-  f0 : {b c d : ℕ} → b from 0x90 to 0xBF → UTF8-tail c → UTF8-tail d → UTF8-4 (0xF0 ∷ b ∷ c ∷ d ∷ [])
-  f1-f3 : {a b c d : ℕ} → a from 0xF1 to 0xF3 → UTF8-tail b → UTF8-tail c → UTF8-tail d → UTF8-4 (a ∷ b ∷ c ∷ d ∷ [])
-  f4 : {b c d : ℕ} → b from 0x80 to 0x8F → UTF8-tail c → UTF8-tail d → UTF8-4 (0xF4 ∷ b ∷ c ∷ d ∷ [])
+  -- UTF8-3 = %xE0 %xA0-BF UTF8-tail / %xE1-EC 2( UTF8-tail ) / %xED %x80-9F UTF8-tail / %xEE-EF 2( UTF8-tail )
+  pub data UTF8-3 : Bytes → Type 0 where
+    e0 : {b c : ℕ} → b from 0xA0 to 0xBF → UTF8-tail c → UTF8-3 (0xE0 ∷ b ∷ c ∷ [])
+    e1-ec : {a b c : ℕ} → a from 0xE1 to 0xEC → UTF8-tail b → UTF8-tail c → UTF8-3 (a ∷ b ∷ c ∷ [])
+    ed : {b c : ℕ} → b from 0x80 to 0x9F → UTF8-tail c → UTF8-3 (0xED ∷ b ∷ c ∷ [])
+    ee-ef : {a b c : ℕ} → a from 0xEE to 0xEF → UTF8-tail b → UTF8-tail c → UTF8-3 (a ∷ b ∷ c ∷ [])
 
--- UTF8-2 / UTF8-3 / UTF8-4, the characters beyond 7F: TDIF's UTF8-data
+  -- UTF8-4 = %xF0 %x90-BF 2( UTF8-tail ) / %xF1-F3 3( UTF8-tail ) / %xF4 %x80-8F 2( UTF8-tail )
+  pub data UTF8-4 : Bytes → Type 0 where
+    f0 : {b c d : ℕ} → b from 0x90 to 0xBF → UTF8-tail c → UTF8-tail d → UTF8-4 (0xF0 ∷ b ∷ c ∷ d ∷ [])
+    f1-f3 : {a b c d : ℕ} → a from 0xF1 to 0xF3 → UTF8-tail b → UTF8-tail c → UTF8-tail d → UTF8-4 (a ∷ b ∷ c ∷ d ∷ [])
+    f4 : {b c d : ℕ} → b from 0x80 to 0x8F → UTF8-tail c → UTF8-tail d → UTF8-4 (0xF4 ∷ b ∷ c ∷ d ∷ [])
+
+  -- UTF8-tail = %x80-BF
+  pub data UTF8-tail : ℕ → Type 0 where
+    tail : {b : ℕ} → b from 0x80 to 0xBF → UTF8-tail b
+
+-- UTF8-2 / UTF8-3 / UTF8-4, the characters beyond 7F. TDIF calls it so: UTF8-data = UTF8-2 / UTF8-3 / UTF8-4
 pub data UTF8-data : Bytes → Type 0 where
   of-two : {cs : Bytes} → UTF8-2 cs → UTF8-data cs
   of-three : {cs : Bytes} → UTF8-3 cs → UTF8-data cs
   of-four : {cs : Bytes} → UTF8-4 cs → UTF8-data cs
-
--- UTF8-char = UTF8-1 / UTF8-2 / UTF8-3 / UTF8-4
-pub data UTF8-char : Bytes → Type 0 where
-  in-ascii : {cs : Bytes} → UTF8-1 cs → UTF8-char cs
-  beyond : {cs : Bytes} → UTF8-data cs → UTF8-char cs
-
--- UTF8-octets = *( UTF8-char )
-pub data UTF8-octets : Bytes → Type 0 where
-  no-octets : UTF8-octets []
-  octets : {cs bs : Bytes} → UTF8-char cs → UTF8-octets bs → UTF8-octets (cs ++ bs)
 
 -- Char. number range  | UTF-8 octet sequence
 -- 0000 0000-0000 007F | 0xxxxxxx

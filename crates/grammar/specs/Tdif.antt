@@ -1,83 +1,94 @@
--- The ABNF of TDIF (source document 004), each production under its own name, from the source's last to its first since a name is
--- declared before it is used. By form alone: equal counts and distinct names are left to faults 5 and 6.
+-- The ABNF of TDIF (source document 004), production by production in its order. Its last five, LF, CR, CRLF, DQUOTE and UTF8-data, are
+-- those of Rfc5234 and Rfc3629. By form alone: equal counts and distinct names are left to faults 5 and 6.
 use Prim.Native.Nat.{ℕ}
 use mathlib.Core.List.{List, [], _∷_, _++_}
 use Rattle.grammar.specs.Types as types
 use Rattle.model.specs.Base.{Bytes}
-use Rattle.grammar.specs.Rfc5234.{_from_to_, LF, CR, DQUOTE}
+use Rattle.grammar.specs.Rfc5234.{_from_to_, CR, CRLF, DQUOTE, LF}
 use Rattle.grammar.specs.Rfc3629.{UTF8-data}
 use Rattle.grammar.specs.Derived.{Derived, cell, Line, line}
 
--- linebreak = CR / LF / CRLF
-pub data Linebreak : Bytes → Type 0 where
-  cr : Linebreak (CR ∷ [])
-  lf : Linebreak (LF ∷ [])
-  crlf : Linebreak (CR ∷ LF ∷ [])
+mutual
+  -- file = *comment header *(comment / record)
+  pub data File : Bytes → List (Line Derived) → Type 0 where
+    comment-first : {cs xs : Bytes} {ls : List (Line Derived)} → Comment cs → File xs ls → File (cs ++ xs) ls
+    header-first : {bs xs : Bytes} {l : Line Derived} {ls : List (Line Derived)} → Header bs l → Lines xs ls → File (bs ++ xs) (l ∷ ls)
 
--- null = %x5C.4E
-pub data Null : Bytes → Type 0 where
-  null : Null (0x5C ∷ 0x4E ∷ [])
+  -- *(comment / record)
+  pub data Lines : Bytes → List (Line Derived) → Type 0 where
+    no-line : Lines [] []
+    a-comment : {cs xs : Bytes} {ls : List (Line Derived)} → Comment cs → Lines xs ls → Lines (cs ++ xs) ls
+    a-record : {bs xs : Bytes} {l : Line Derived} {ls : List (Line Derived)} → Record bs l → Lines xs ls → Lines (bs ++ xs) (l ∷ ls)
 
--- commentdata = %x00-09 / %x0B-0C / %x0E-7F / UTF8-data
-pub data Commentdata : Bytes → Type 0 where
-  below-lf : {b : ℕ} → b from 0x00 to 0x09 → Commentdata (b ∷ [])
-  below-cr : {b : ℕ} → b from 0x0B to 0x0C → Commentdata (b ∷ [])
-  above-cr : {b : ℕ} → b from 0x0E to 0x7F → Commentdata (b ∷ [])
-  utf8-data : {cs : Bytes} → UTF8-data cs → Commentdata cs
+  -- header = value *(comma value) linebreak. Document 01 departs, and a header is a record: "by form alone: counts, names, kinds (`\N`
+  -- in a TDIF header) and limits are left to 5 to 8"
+  pub data Header : Bytes → Line Derived → Type 0 where
+    header : {bs : Bytes} {l : Line Derived} → Record bs l → Header bs l
 
--- *commentdata
-pub data Remark : Bytes → Type 0 where
-  nothing : Remark []
-  commentdata : {cs bs : Bytes} → Commentdata cs → Remark bs → Remark (cs ++ bs)
+  -- record = field *(comma field) linebreak
+  pub data Record : Bytes → Line Derived → Type 0 where
+    ended : {text es : Bytes} {cells : List Derived} → Fields text cells → Linebreak es → Record (text ++ es) (line text cells)
 
--- comment = hash *commentdata linebreak, and hash = %x23
-pub data Comment : Bytes → Type 0 where
-  comment : {bs es : Bytes} → Remark bs → Linebreak es → Comment (0x23 ∷ (bs ++ es))
+  -- field *(comma field)
+  pub data Fields : Bytes → List Derived → Type 0 where
+    field : {raw content : Bytes} {kind : types.Kind} → Field (cell raw kind content) → Fields raw (cell raw kind content ∷ [])
+    fields :
+        {raw content text : Bytes} {kind : types.Kind} {b : ℕ} {cells : List Derived} → Field (cell raw kind content) → Comma b →
+        Fields text cells → Fields (raw ++ (b ∷ text)) (cell raw kind content ∷ cells)
 
--- textdata = %x00-21 / %x23-7F / UTF8-data
-pub data Textdata : Bytes → Type 0 where
-  below-quote : {b : ℕ} → b from 0x00 to 0x21 → Textdata (b ∷ [])
-  above-quote : {b : ℕ} → b from 0x23 to 0x7F → Textdata (b ∷ [])
-  utf8-data : {cs : Bytes} → UTF8-data cs → Textdata cs
+  -- field = null / value
+  pub data Field : Derived → Type 0 where
+    a-null : {bs : Bytes} → Null bs → Field (cell bs types.Null [])
+    a-value : {bs ts : Bytes} → Value bs ts → Field (cell bs types.Text ts)
 
--- *(textdata / 2DQUOTE), and what it stands for: "a quote inside doubled"
-pub data Inner : (raw content : Bytes) → Type 0 where
-  nothing : Inner [] []
-  textdata : {cs bs ts : Bytes} → Textdata cs → Inner bs ts → Inner (cs ++ bs) (cs ++ ts)
-  two-quotes : {bs ts : Bytes} → Inner bs ts → Inner (DQUOTE ∷ DQUOTE ∷ bs) (DQUOTE ∷ ts)
+  -- value = DQUOTE *(textdata / 2DQUOTE) DQUOTE
+  pub data Value : (raw content : Bytes) → Type 0 where
+    value : {bs ts : Bytes} → Inner bs ts → Value (DQUOTE ∷ (bs ++ (DQUOTE ∷ []))) ts
 
--- value = DQUOTE *(textdata / 2DQUOTE) DQUOTE
-pub data Value : (raw content : Bytes) → Type 0 where
-  value : {bs ts : Bytes} → Inner bs ts → Value (DQUOTE ∷ (bs ++ (DQUOTE ∷ []))) ts
+  -- *(textdata / 2DQUOTE), and what it stands for: "a quote inside doubled"
+  pub data Inner : (raw content : Bytes) → Type 0 where
+    nothing : Inner [] []
+    textdata : {cs bs ts : Bytes} → Textdata cs → Inner bs ts → Inner (cs ++ bs) (cs ++ ts)
+    two-quotes : {bs ts : Bytes} → Inner bs ts → Inner (DQUOTE ∷ DQUOTE ∷ bs) (DQUOTE ∷ ts)
 
--- field = null / value
-pub data Field : Derived → Type 0 where
-  a-null : {bs : Bytes} → Null bs → Field (cell bs types.Null [])
-  a-value : {bs ts : Bytes} → Value bs ts → Field (cell bs types.Text ts)
+  -- textdata = %x00-21 / %x23-7F / UTF8-data
+  pub data Textdata : Bytes → Type 0 where
+    below-quote : {b : ℕ} → b from 0x00 to 0x21 → Textdata (b ∷ [])
+    above-quote : {b : ℕ} → b from 0x23 to 0x7F → Textdata (b ∷ [])
+    text-beyond : {cs : Bytes} → UTF8-data cs → Textdata cs
 
--- field *(comma field), and comma = %x2C
-pub data Fields : Bytes → List Derived → Type 0 where
-  field : {raw content : Bytes} {kind : types.Kind} → Field (cell raw kind content) → Fields raw (cell raw kind content ∷ [])
-  fields :
-      {raw content text : Bytes} {kind : types.Kind} {cells : List Derived} → Field (cell raw kind content) → Fields text cells →
-      Fields (raw ++ (0x2C ∷ text)) (cell raw kind content ∷ cells)
+  -- comment = hash *commentdata linebreak
+  pub data Comment : Bytes → Type 0 where
+    comment : {b : ℕ} {bs es : Bytes} → Hash b → Remark bs → Linebreak es → Comment (b ∷ (bs ++ es))
 
--- record = field *(comma field) linebreak
-pub data Record : Bytes → Line Derived → Type 0 where
-  ended : {text es : Bytes} {cells : List Derived} → Fields text cells → Linebreak es → Record (text ++ es) (line text cells)
+  -- *commentdata
+  pub data Remark : Bytes → Type 0 where
+    no-remark : Remark []
+    commentdata : {cs bs : Bytes} → Commentdata cs → Remark bs → Remark (cs ++ bs)
 
--- header = value *(comma value) linebreak. Here it is a record. Document 01 departs: "by form alone: counts, names, kinds (`\N` in a
--- TDIF header) and limits are left to 5 to 8"
-abbrev pub Header : Bytes → Line Derived → Type 0
-Header = Record
+  -- commentdata = %x00-09 / %x0B-0C / %x0E-7F / UTF8-data
+  pub data Commentdata : Bytes → Type 0 where
+    below-lf : {b : ℕ} → b from 0x00 to 0x09 → Commentdata (b ∷ [])
+    below-cr : {b : ℕ} → b from 0x0B to 0x0C → Commentdata (b ∷ [])
+    above-cr : {b : ℕ} → b from 0x0E to 0x7F → Commentdata (b ∷ [])
+    comment-beyond : {cs : Bytes} → UTF8-data cs → Commentdata cs
 
--- *(comment / record)
-pub data Lines : Bytes → List (Line Derived) → Type 0 where
-  no-line : Lines [] []
-  comment : {cs xs : Bytes} {ls : List (Line Derived)} → Comment cs → Lines xs ls → Lines (cs ++ xs) ls
-  a-record : {bs xs : Bytes} {l : Line Derived} {ls : List (Line Derived)} → Record bs l → Lines xs ls → Lines (bs ++ xs) (l ∷ ls)
+  -- null = %x5C.4E
+  pub data Null : Bytes → Type 0 where
+    null : Null (0x5C ∷ 0x4E ∷ [])
 
--- file = *comment header *(comment / record)
-pub data File : Bytes → List (Line Derived) → Type 0 where
-  comment : {cs xs : Bytes} {ls : List (Line Derived)} → Comment cs → File xs ls → File (cs ++ xs) ls
-  header : {bs xs : Bytes} {l : Line Derived} {ls : List (Line Derived)} → Header bs l → Lines xs ls → File (bs ++ xs) (l ∷ ls)
+  -- comma = %x2C
+  pub data Comma : ℕ → Type 0 where
+    comma : Comma 0x2C
+
+  -- hash = %x23
+  pub data Hash : ℕ → Type 0 where
+    hash : Hash 0x23
+
+  -- linebreak = CR / LF / CRLF
+  pub data Linebreak : Bytes → Type 0 where
+    cr : Linebreak (CR ∷ [])
+    lf : Linebreak (LF ∷ [])
+    crlf : Linebreak CRLF
+
+-- LF = %x0A, CR = %x0D, CRLF = CR LF, DQUOTE = %x22, UTF8-data = UTF8-2 / UTF8-3 / UTF8-4

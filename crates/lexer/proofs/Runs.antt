@@ -135,7 +135,7 @@ plain-runs d b e =
     rw (k .not-first, k .not-second, ne-eqb b CR (omega arith), ne-eqb b LF (omega arith), ascii b (omega arith))
 
 -- in a cell with a run stop every ordinary byte leaves the cell as it is
-run-step : (d : Dialect) (c : Cell) (q b : ℕ) → runStop d c ≡ At q → ordinary (quoteOf d) q b ≡ true → cellStep d c b ≡ More c
+pub run-step : (d : Dialect) (c : Cell) (q b : ℕ) → runStop d c ≡ At q → ordinary (quoteOf d) q b ≡ true → cellStep d c b ≡ More c
 unfolding runStop textStop
 run-step d Fresh q b e h = no-run e
 run-step d (Quoted Whole) q b e h = let k : 0x5C ≡ q = cc in quoted-runs d b (rw k h)

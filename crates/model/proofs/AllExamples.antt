@@ -37,4 +37,7 @@ mistakes =
       limit-first = (refl, refl);
       mark-in-quotes = refl;
       crlf-ends-once = refl;
+      cr-before-cut = (refl, refl);
+      lf-after-cut = refl;
+      halves-cut = refl;
     }

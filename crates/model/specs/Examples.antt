@@ -1,13 +1,14 @@
 -- "Sixteen rows for the table of examples", as one statement; and what rules out the "Errors people make here".
 use Prim.Native.Nat.{ℕ}
 use mathlib.Core.Path.{_≡_}
-use mathlib.Core.List.{[], _∷_, _++_}
+use mathlib.Core.List.{List, [], _∷_, _++_}
 use lib.ListN.{replicate}
 use Rattle.model.specs.Types.{Report}
 use Rattle.model.specs.Base.{Bytes}
 use Rattle.model.specs.Ascii.{ascii}
 use Rattle.model.specs.Report.{report, accepted}
-use Rattle.model.specs.Api.{reader, decoder, Decoded, converter, Written}
+use Rattle.model.specs.Api.{reader, decoder, Decoded, converter, Written, unwritten}
+use Rattle.model.specs.Ledger.{piece, finish, ledger}
 
 -- the report of the reader, with lists of 64 places
 abbrev pub read : (dialect : ℕ) → Bytes → Report
@@ -56,6 +57,14 @@ decodes k bs = record { report = accepted; kind = k; content = bs }
 abbrev pub longCell : (n b : ℕ) → Bytes
 longCell n b = replicate n 0x61 ++ (b ∷ [])
 
+-- the ledger's answers to a file that is cut in two: a call for each piece, and the end call, all with room enough
+abbrev pub cutInTwo : (source target : ℕ) → (before after : Bytes) → List Written
+cutInTwo d t before after = ledger d t (piece before 49152 ∷ piece after 49152 ∷ finish 49152 ∷ [])
+
+-- the answers of calls that are all accepted: what each writes
+abbrev pub writes : (first second end : Bytes) → List Written
+writes a b c = makes a ∷ makes b ∷ makes c ∷ []
+
 -- What rules out "Errors people make here" and others like them, each by the answer that it would change.
 pub record Mistakes : Type 0 where
   -- a CR at the end of a CSVJ file is no ending
@@ -74,3 +83,11 @@ pub record Mistakes : Type 0 where
   pub mark-in-quotes : convert 3 3 (0x22 ∷ 0xEF ∷ 0xBB ∷ 0xBF ∷ 0x22 ∷ []) ≡ makes (0x22 ∷ 0xEF ∷ 0xBB ∷ 0xBF ∷ 0x22 ∷ 0x0D ∷ 0x0A ∷ [])
   -- an LF after a CR that ended a TDIF record is no empty line
   pub crlf-ends-once : extent 2 (ascii "\"a\"\r\n\"b\"\r\n") ≡ (1, 1)
+  -- a CR at the end of a CSVJ piece completes nothing: its LF in the next piece does, and any other byte is 3
+  pub cr-before-cut :
+      (cutInTwo 1 1 (ascii "\"a\"\r") (ascii "\n\"b\"\n") ≡ writes [] (ascii "\"a\"\n\"b\"\n") [])
+      × (cutInTwo 1 1 (ascii "\"a\"\r") (ascii "\"b\"\n") ≡ makes [] ∷ unwritten (report 3 1 0 4) ∷ unwritten (report 3 1 0 4) ∷ [])
+  -- a CR at the end of a TDIF piece completes a record at once, and the LF that opens the next piece is no empty line
+  pub lf-after-cut : cutInTwo 2 1 (ascii "\"a\"\r") (ascii "\n\\N\r") ≡ writes (ascii "\"a\"\n") (ascii "null\n") []
+  -- two escape halves with a cut between them are one code point
+  pub halves-cut : cutInTwo 1 2 (ascii "\"a\"\n\"\\ud83d") (ascii "\\ude00\"\n") ≡ writes (ascii "\"a\"\n") (0x22 ∷ 0xF0 ∷ 0x9F ∷ 0x98 ∷ 0x80 ∷ 0x22 ∷ 0x0A ∷ []) []

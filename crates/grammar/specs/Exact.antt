@@ -1,0 +1,21 @@
+-- What the theorems say of the grammars, as one statement.
+use mathlib.Core.Path.{_≡_}
+use mathlib.Core.Logic.{_↔_}
+use mathlib.Core.Option.{none}
+use mathlib.Core.List.{List}
+use Rattle.grammar.specs.Types.{Dialect}
+use Rattle.model.specs.Base.{Bytes}
+use Rattle.model.specs.Report.{accepted}
+use Rattle.model.specs.Records.{readFile, reportOf}
+use Rattle.grammar.specs.Derived.{Derived, rawOf, Line}
+use Rattle.grammar.specs.Derives.{DerivesCell, Derives}
+use Rattle.grammar.specs.Reading.{decoded, ReadByForm}
+use Rattle.grammar.specs.Accepted.{Acceptable}
+
+pub record Exact : Type 0 where
+  -- a file is derived with these records exactly when it is read by form with them
+  pub files : (d : Dialect) (xs : Bytes) (ls : List (Line Derived)) → Derives d xs ls ↔ ReadByForm d xs ls
+  -- a derivation's kind and content are the decoder's
+  pub contents : (d : Dialect) (c : Derived) → DerivesCell d c → c ≡ decoded d (rawOf c)
+  -- a file is accepted exactly when it is derived and the limits and the record checks hold
+  pub acceptance : (d : Dialect) (xs : Bytes) → (reportOf (readFile d none xs) ≡ accepted) ↔ ((ls : List (Line Derived)) × Acceptable d xs ls)

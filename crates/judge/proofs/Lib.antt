@@ -1,0 +1,5 @@
+pub mod Tests
+pub mod Cells
+pub mod Keys
+pub mod Decoding
+pub mod Records
