@@ -1,30 +1,31 @@
 -- What holds at each turn of the scanner's loop, and how each way through a turn keeps it.
-use Prim.Native.Nat.{ℕ, zero, suc, _+_, _-_, _≤_, _<_}
+use Prim.Native.Nat.{ℕ, zero, suc, _+_, _-_, _^_, _≤_, _<_}
 use native.Mathlib.Numerals.{add-one}
 use native.Mathlib.Omega.{arith}
 use mathlib.Core.Path.{_≡_, refl, sym, ap, subst, _∙_}
-use mathlib.Core.Bool.{Bool, true, false}
+use mathlib.Core.Bool.{Bool, true, false, _&&_}
 use mathlib.Core.List.{List, [], _∷_, _++_, map}
 use lib.ListN.{length, drop, getD, length-append}
 use lib.Seq.{drop-cons}
+use lib.Dec.{leb}
 use borrow.Author.Tests.{le-leb, lt-leb}
 use Rattle.model.specs.Base.{if_then_else_, Bytes}
 use Rattle.model.specs.Decode.{kindNumber, kindOf}
 use Rattle.model.specs.Text.{Value}
-use Rattle.model.specs.Report.{MAXFILE}
-use Rattle.model.specs.Form.{formEnd}
+use Rattle.model.specs.Report.{MAXFILE, MAXRECORD}
+use Rattle.model.specs.Form.{formEnd, afterCell, counts}
 use Rattle.model.specs.Records.{Read, between-records, closing, cellNow, fileFull, recordFull}
 use Rattle.model.specs.Api.{startsOf, endsOf, kindsOf}
 use Rattle.model.proofs.Tests.{impossible}
 use Rattle.lexer.specs.Run.{part}
 use Rattle.lexer.proofs.Runs.{part-end}
-use Rattle.scanner.specs.Types.{Dialect, Cell, Form, Inside, Part, Outside, Passed, OfCell, Between, Tail, Ends, To, Reject, Ending, Clean, Final, Cut, ByteFault, Byte, CutShort, FileTooLong, RecordTooLong, InHand, Event, Completed, LastRecord, Failed, Finished}
-use Rattle.scanner.specs.Next.{Next, closesCell, endsRecord, oneMore, handAfter, grown, cellsAfter, failed, completed, ended, stepped, nextRecord}
-use Rattle.scanner.specs.Ahead.{readAt, steppedAt, outer}
+use Rattle.scanner.specs.Types.{Dialect, Cell, Form, Inside, Part, Outside, Passed, OfCell, Between, Tail, Ends, Step, To, Reject, Ending, Clean, Final, Cut, ByteFault, Byte, CutShort, FileTooLong, RecordTooLong, InHand, Met, Is, Skipped, AfterCell, Refused, Open, Event, Completed, LastRecord, Failed, Finished}
+use Rattle.scanner.specs.Next.{Next, closesCell, endsRecord, oneMore, handAfter, grown, cellsAfter, failed, completed, ended, stepped, nextRecord, Fits}
+use Rattle.scanner.specs.Ahead.{readAt, steppedAt, metNext, outer, Lies, Comes}
 use Rattle.scanner.specs.Placed.{putAt, putIf, placed}
-use Rattle.scanner.proofs.Placing.{placed-snoc}
+use Rattle.scanner.proofs.Placing.{placed-snoc, length-placed}
 use Rattle.scanner.proofs.Coming.{carried-at}
-use Rattle.scanner.proofs.Calm.{Calm, leaves, passes, grows, blanks, parts, tails, finishes}
+use Rattle.scanner.proofs.Calm.{Calm, step-calm, after-calm, leaves, passes, grows, blanks, parts, tails, finishes}
 
 -- ---- lists
 
@@ -83,6 +84,7 @@ module _ (d : Dialect) (file : Bytes) (first : Form) (from room base : ℕ) (sta
 
   -- the file lies on before i, where these are in hand; nothing else is asked of i
   pub record Reached (f : Form) (i : ℕ) (h : InHand) (vs : List Value) : Type 0 where
+    pub onward : from ≤ i
     pub inside : i ≤ length file
     pub under : i ≤ MAXFILE
     pub counted : length vs ≡ h .cells
@@ -103,7 +105,7 @@ module _ (d : Dialect) (file : Bytes) (first : Form) (from room base : ℕ) (sta
       record {
         vs = [];
         same = ap (λ (raw : Bytes). nextRecord d (record { done = []; form = first; offset = from; start = from; size = 0; opened = from; raw = raw; cells = [] }) (drop from file)) (sym (part-end file from));
-        reached = record { inside = l; under = m; counted = refl; few = omega arith; sized = omega arith; opened = omega arith; rest = λ _. refl };
+        reached = record { onward = omega arith; inside = l; under = m; counted = refl; few = omega arith; sized = omega arith; opened = omega arith; rest = λ _. refl };
         lists = record { at-starts = refl; at-ends = refl; at-kinds = refl };
       }
 
@@ -150,27 +152,33 @@ module _ (d : Dialect) (file : Bytes) (first : Form) (from room base : ℕ) (sta
       pub on : (p : Part) → Calm f (To g p) → endsRecord p ≡ false → Whole ≡ steppedAt d file f i h vs (To g p) → {starts ends kinds : List ℕ} → Holds vs starts ends kinds → Scanning g (i + 1) (handAfter p i h) (PutStarts p starts) (PutEnds p ends) (PutKinds p kinds)
       on Outside (leaves o) e w y =
           let b : base + h .cells ≤ i = q .few in
-          record { vs = []; same = goes-on Outside e w; reached = record { inside = omega arith; under = omega arith; counted = refl; few = omega arith; sized = omega arith; opened = omega arith; rest = λ _. refl }; lists = put-none (q .rest o) y }
+          let w′ : from ≤ i = q .onward in
+          record { vs = []; same = goes-on Outside e w; reached = record { onward = omega arith; inside = omega arith; under = omega arith; counted = refl; few = omega arith; sized = omega arith; opened = omega arith; rest = λ _. refl }; lists = put-none (q .rest o) y }
       on Passed (passes o) e w y =
           let b : base + h .cells ≤ i = q .few in
-          record { vs = []; same = goes-on Passed e w; reached = record { inside = omega arith; under = omega arith; counted = refl; few = omega arith; sized = omega arith; opened = omega arith; rest = λ _. refl }; lists = put-none (q .rest o) y }
+          let w′ : from ≤ i = q .onward in
+          record { vs = []; same = goes-on Passed e w; reached = record { onward = omega arith; inside = omega arith; under = omega arith; counted = refl; few = omega arith; sized = omega arith; opened = omega arith; rest = λ _. refl }; lists = put-none (q .rest o) y }
       on OfCell (grows o) e w y =
           let b : base + h .cells ≤ i = q .few in
+          let w′ : from ≤ i = q .onward in
           let s : h .size ≤ i = q .sized in
           let n : h .opened ≤ i = q .opened in
-          record { vs = vs; same = goes-on OfCell e w; reached = record { inside = omega arith; under = omega arith; counted = q .counted; few = omega arith; sized = omega arith; opened = omega arith; rest = λ t. impossible (sym o ∙ t) }; lists = put-same y }
+          record { vs = vs; same = goes-on OfCell e w; reached = record { onward = omega arith; inside = omega arith; under = omega arith; counted = q .counted; few = omega arith; sized = omega arith; opened = omega arith; rest = λ t. impossible (sym o ∙ t) }; lists = put-same y }
       on (Between k) (blanks o) e w y =
           let b : base + h .cells ≤ i = q .few in
+          let w′ : from ≤ i = q .onward in
           let s : h .size ≤ i = q .sized in
-          record { vs = closing d false Here; same = goes-on (Between false) e w; reached = record { inside = omega arith; under = omega arith; counted = closing-counts d false Here (h .cells) (q .counted); few = one-more-few false base (h .cells) i b; sized = omega arith; opened = omega arith; rest = λ _. q .rest o }; lists = put-closing false y }
+          record { vs = closing d false Here; same = goes-on (Between false) e w; reached = record { onward = omega arith; inside = omega arith; under = omega arith; counted = closing-counts d false Here (h .cells) (q .counted); few = one-more-few false base (h .cells) i b; sized = omega arith; opened = omega arith; rest = λ _. q .rest o }; lists = put-closing false y }
       on (Between k) (parts o) e w y =
           let b : base + h .cells ≤ i = q .few in
+          let w′ : from ≤ i = q .onward in
           let s : h .size ≤ i = q .sized in
-          record { vs = closing d k Here; same = goes-on (Between k) e w; reached = record { inside = omega arith; under = omega arith; counted = closing-counts d k Here (h .cells) (q .counted); few = one-more-few k base (h .cells) i b; sized = omega arith; opened = omega arith; rest = λ t. impossible (sym o ∙ t) }; lists = put-closing k y }
+          record { vs = closing d k Here; same = goes-on (Between k) e w; reached = record { onward = omega arith; inside = omega arith; under = omega arith; counted = closing-counts d k Here (h .cells) (q .counted); few = one-more-few k base (h .cells) i b; sized = omega arith; opened = omega arith; rest = λ t. impossible (sym o ∙ t) }; lists = put-closing k y }
       on (Tail k) (tails o) e w y =
           let b : base + h .cells ≤ i = q .few in
+          let w′ : from ≤ i = q .onward in
           let s : h .size ≤ i = q .sized in
-          record { vs = closing d k Here; same = goes-on (Tail k) e w; reached = record { inside = omega arith; under = omega arith; counted = closing-counts d k Here (h .cells) (q .counted); few = one-more-few k base (h .cells) i b; sized = omega arith; opened = omega arith; rest = λ t. impossible (sym o ∙ t) }; lists = put-closing k y }
+          record { vs = closing d k Here; same = goes-on (Tail k) e w; reached = record { onward = omega arith; inside = omega arith; under = omega arith; counted = closing-counts d k Here (h .cells) (q .counted); few = one-more-few k base (h .cells) i b; sized = omega arith; opened = omega arith; rest = λ t. impossible (sym o ∙ t) }; lists = put-closing k y }
       on (Ends k) finishes e w y = impossible (sym e)
 
   -- ---- the ways out of the loop
@@ -255,18 +263,169 @@ module _ (d : Dialect) (file : Bytes) (first : Form) (from room base : ℕ) (sta
   pub grows-to : (f : Form) (i j : ℕ) (h : InHand) (vs : List Value) → i ≤ j → j ≤ length file → j ≤ MAXFILE → Reached f i h vs → Reached f j (grown h (j - i)) vs
   grows-to f i j h vs l m n q =
       let b : base + h .cells ≤ i = q .few in
+      let w′ : from ≤ i = q .onward in
       let s : h .size ≤ i = q .sized in
       let o : h .opened ≤ i = q .opened in
-      record { inside = m; under = n; counted = q .counted; few = omega arith; sized = omega arith; opened = omega arith; rest = q .rest }
+      record { onward = omega arith; inside = m; under = n; counted = q .counted; few = omega arith; sized = omega arith; opened = omega arith; rest = q .rest }
 
   pub still-open : (f : Form) (c : Cell) (i j : ℕ) (h : InHand) {starts ends kinds : List ℕ} (y : Scanning f i h starts ends kinds) → i < j → j ≤ length file → j ≤ MAXFILE → Whole ≡ nextRecord d (readAt file (Inside c) j (grown h (j - i)) (y .vs)) (drop j file) → Scanning (Inside c) j (grown h (j - i)) starts ends kinds
   still-open f c i j h y l m n w =
       let b : base + h .cells ≤ i = y .reached .few in
+      let w′ : from ≤ i = y .reached .onward in
       let s : h .size ≤ i = y .reached .sized in
       let o : h .opened ≤ i = y .reached .opened in
-      record { vs = y .vs; same = w; reached = record { inside = m; under = n; counted = y .reached .counted; few = omega arith; sized = omega arith; opened = omega arith; rest = λ t. impossible t }; lists = y .lists }
+      record { vs = y .vs; same = w; reached = record { onward = omega arith; inside = m; under = n; counted = y .reached .counted; few = omega arith; sized = omega arith; opened = omega arith; rest = λ t. impossible t }; lists = y .lists }
 
   pub skipped : (f : Form) (i j : ℕ) (h : InHand) {starts ends kinds : List ℕ} (y : Scanning f i h starts ends kinds) → outer f ≡ true → i < j → j ≤ length file → j ≤ MAXFILE → Whole ≡ nextRecord d (readAt file f j (handAfter Outside (j - 1) h) []) (drop j file) → Scanning f j (handAfter Outside (j - 1) h) starts ends kinds
   skipped f i j h {starts = ss} {ends = es} {kinds = ks} y o l m n w =
       let b : base + h .cells ≤ i = y .reached .few in
-      record { vs = []; same = w; reached = record { inside = m; under = n; counted = refl; few = omega arith; sized = omega arith; opened = omega arith; rest = λ _. refl }; lists = subst (λ (ws : List Value). Holds ws ss es ks) (y .reached .rest o) (y .lists) }
+      let w′ : from ≤ i = y .reached .onward in
+      record { vs = []; same = w; reached = record { onward = omega arith; inside = m; under = n; counted = refl; few = omega arith; sized = omega arith; opened = omega arith; rest = λ _. refl }; lists = subst (λ (ws : List Value). Holds ws ss es ks) (y .reached .rest o) (y .lists) }
+
+  -- ---- lengths
+
+  pub lengths : {vs : List Value} {starts ends kinds : List ℕ} → Holds vs starts ends kinds → (length starts ≡ length starts₀) × (length ends ≡ length ends₀) × (length kinds ≡ length kinds₀)
+  lengths {vs = vs} y = (
+    ap length (y .at-starts) ∙ length-placed room base (map fromOf vs) starts₀,
+    ap length (y .at-ends) ∙ length-placed room base (map uptoOf vs) ends₀,
+    ap length (y .at-kinds) ∙ length-placed room base (map numberOf vs) kinds₀,
+  )
+
+  pub out-lengths : {e : Event} {starts ends kinds : List ℕ} → Out e starts ends kinds → (length starts ≡ length starts₀) × (length ends ≡ length ends₀) × (length kinds ≡ length kinds₀)
+  out-lengths y = (
+    ap length (y .at-starts) ∙ length-placed room base (startsOf (Whole .cells)) starts₀,
+    ap length (y .at-ends) ∙ length-placed room base (endsOf (Whole .cells)) ends₀,
+    ap length (y .at-kinds) ∙ length-placed room base (kindsOf (Whole .cells)) kinds₀,
+  )
+
+  -- ---- the step of one byte, as the code takes it
+
+  pub record Stepping (f : Form) (i : ℕ) (h : InHand) (s : Step) (starts ends kinds : List ℕ) : Type 0 where
+    pub vs : List Value
+    pub whole : Whole ≡ steppedAt d file f i h vs s
+    pub reached : Reached f i h vs
+    pub lists : Holds vs starts ends kinds
+    pub calm : Calm f s
+    pub inside : i < length file
+    pub under : i < MAXFILE
+
+  module _ (f : Form) (i : ℕ) (h : InHand) (starts ends kinds : List ℕ) (y : Scanning f i h starts ends kinds) (l : i < length file) (m : i < MAXFILE) (full : Bool) (e : full ≡ (leb MAXRECORD (h .size) && counts f (getD file i 0))) (z : full ≡ false) (met : Met) (a : Lies d file f i met × Comes d file f i (h .size) met) where
+    comes-to : Whole ≡ metNext d file f i h (y .vs) met
+    unfolding recordFull
+    comes-to = y .same ∙ a .1 .comes h (y .vs) refl (y .reached .opened) (sym e ∙ z)
+
+    pub by-byte : (s : Step) → met ≡ Is s → Stepping f i h s starts ends kinds
+    unfolding metNext
+    by-byte s q =
+        let n : Lies d file f i (Is s) = subst (λ (x : Met). Lies d file f i x) q (a .0) in
+        let w : Whole ≡ metNext d file f i h (y .vs) (Is s) = comes-to ∙ ap (λ (x : Met). metNext d file f i h (y .vs) x) q in
+        record { vs = y .vs; whole = w; reached = y .reached; lists = y .lists; calm = subst (λ (x : Step). Calm f x) (sym n) (step-calm d f (getD file i 0)); inside = l; under = m }
+
+    pub by-cell : (closes : Bool) (j : ℕ) → met ≡ AfterCell closes j → (g : InHand) → g ≡ grown h (j - i) → (s : Step) → s ≡ afterCell d closes (getD file j 0) → Stepping f j g s starts ends kinds
+    unfolding metNext
+    by-cell closes j q g eg s es =
+        let n : Lies d file f i (AfterCell closes j) = subst (λ (x : Met). Lies d file f i x) q (a .0) in
+        let w : Whole ≡ metNext d file f i h (y .vs) (AfterCell closes j) = comes-to ∙ ap (λ (x : Met). metNext d file f i h (y .vs) x) q in
+        let k : j < length file = n .1 in
+        let u : j < MAXFILE = n .2 in
+        subst (λ (x : InHand). Stepping f j x s starts ends kinds) (sym eg)
+        (subst (λ (x : Step). Stepping f j (grown h (j - i)) x starts ends kinds) (sym es)
+        (record { vs = y .vs; whole = w; reached = grows-to f i j h (y .vs) (n .0) (omega arith) (omega arith) (y .reached); lists = y .lists; calm = after-calm f d closes (getD file j 0); inside = k; under = u }))
+
+    pub by-skip : (j : ℕ) → met ≡ Skipped j → (g : InHand) → g ≡ handAfter Outside (j - 1) h → Scanning f j g starts ends kinds
+    unfolding metNext
+    by-skip j q g eg =
+        let n : Lies d file f i (Skipped j) = subst (λ (x : Met). Lies d file f i x) q (a .0) in
+        let w : Whole ≡ metNext d file f i h (y .vs) (Skipped j) = comes-to ∙ ap (λ (x : Met). metNext d file f i h (y .vs) x) q in
+        subst (λ (x : InHand). Scanning f j x starts ends kinds) (sym eg) (skipped f i j h y (n .0) (n .1) (n .2) (n .3) w)
+
+    pub by-open : (c : Cell) (j : ℕ) → met ≡ Open c j → (g : InHand) → g ≡ grown h (j - i) → Scanning (Inside c) j g starts ends kinds
+    unfolding metNext
+    by-open c j q g eg =
+        let n : Lies d file f i (Open c j) = subst (λ (x : Met). Lies d file f i x) q (a .0) in
+        let w : Whole ≡ metNext d file f i h (y .vs) (Open c j) = comes-to ∙ ap (λ (x : Met). metNext d file f i h (y .vs) x) q in
+        subst (λ (x : InHand). Scanning (Inside c) j x starts ends kinds) (sym eg) (still-open f c i j h y (n .0) (n .1) (n .2) w)
+
+    pub by-refusal : (x : ByteFault) (j : ℕ) → met ≡ Refused x j → Out (Failed (Byte x) j) starts ends kinds
+    unfolding metNext
+    by-refusal x j q = gives (record { event = Failed (Byte x) j; cells = y .vs }) (comes-to ∙ ap (λ (t : Met). metNext d file f i h (y .vs) t) q) (y .lists)
+
+    -- where it lies
+    pub lies-cell : (closes : Bool) (j : ℕ) → met ≡ AfterCell closes j → (i ≤ j) × (j < length file) × (j < MAXFILE)
+    lies-cell closes j q = subst (λ (x : Met). Lies d file f i x) q (a .0)
+
+    pub lies-skip : (j : ℕ) → met ≡ Skipped j → (i < j) × (j ≤ length file) × (j ≤ MAXFILE)
+    lies-skip j q = let n : Lies d file f i (Skipped j) = subst (λ (x : Met). Lies d file f i x) q (a .0) in (n .1, n .2, n .3)
+
+    pub lies-open : (c : Cell) (j : ℕ) → met ≡ Open c j → (i < j) × (j ≤ length file) × (j ≤ MAXFILE)
+    lies-open c j q = subst (λ (x : Met). Lies d file f i x) q (a .0)
+
+  -- what the code's calls say of a step
+  module _ (f : Form) (i : ℕ) (h : InHand) (starts ends kinds : List ℕ) (s : Step) (y : Stepping f i h s starts ends kinds) where
+    pub step-refused : (x : ByteFault) → s ≡ Reject x → Out (Failed (Byte x) i) starts ends kinds
+    step-refused x q = refused f i h (y .vs) (y .reached) (y .lists) x (y .whole ∙ ap (λ (t : Step). steppedAt d file f i h (y .vs) t) q)
+
+    module _ (g : Form) (p : Part) (q : s ≡ To g p) (closes : Bool) (c : closes ≡ closesCell p) (starts′ ends′ kinds′ : List ℕ) (put : (starts′ ≡ putIf closes room (base + h .cells) (h .opened) starts) × ((ends′ ≡ putIf closes room (base + h .cells) i ends) × (kinds′ ≡ putIf closes room (base + h .cells) (kindNumber (kindOf d (part file (h .opened) i))) kinds))) (h′ : InHand) (eh : h′ ≡ handAfter p i h) (over : Bool) (eo : over ≡ endsRecord p) where
+      stepped-to : Whole ≡ steppedAt d file f i h (y .vs) (To g p)
+      stepped-to = y .whole ∙ ap (λ (t : Step). steppedAt d file f i h (y .vs) t) q
+
+      put-starts : starts′ ≡ putIf (closesCell p) room (base + h .cells) (h .opened) starts
+      put-starts = put .0 ∙ ap (λ (k : Bool). putIf k room (base + h .cells) (h .opened) starts) c
+
+      put-ends : ends′ ≡ putIf (closesCell p) room (base + h .cells) i ends
+      put-ends = put .1 .0 ∙ ap (λ (k : Bool). putIf k room (base + h .cells) i ends) c
+
+      put-kinds : kinds′ ≡ putIf (closesCell p) room (base + h .cells) (kindNumber (kindOf d (part file (h .opened) i))) kinds
+      put-kinds = put .1 .1 ∙ ap (λ (k : Bool). putIf k room (base + h .cells) (kindNumber (kindOf d (part file (h .opened) i))) kinds) c
+
+      pub step-on : over ≡ false → Scanning g (i + 1) h′ starts′ ends′ kinds′
+      step-on z =
+          rw (eh, put-starts, put-ends, put-kinds)
+          (on f i h (y .vs) (y .reached) g (y .inside) (y .under) p (subst (λ (t : Step). Calm f t) q (y .calm)) (sym eo ∙ z) stepped-to (y .lists))
+
+      pub step-over : over ≡ true → Out (Completed (h′ .start) (h′ .cells) g (i + 1)) starts′ ends′ kinds′
+      step-over z =
+          rw (eh, put-starts, put-ends, put-kinds)
+          (completes f i h (y .vs) (y .reached) (y .lists) g p (sym eo ∙ z) stepped-to)
+
+      pub step-fits : over ≡ true → Fits (length file) from base (Completed (h′ .start) (h′ .cells) g (i + 1))
+      step-fits z =
+          let b : base + h .cells ≤ i = y .reached .few in
+          let w : from ≤ i = y .reached .onward in
+          let l : i < length file = y .inside in
+          let m : i < MAXFILE = y .under in
+          let n : base + h′ .cells ≤ i + 1 = rw eh (few-after p (sym eo ∙ z)) in
+          (omega arith, omega arith, omega arith, n)
+        where
+          few-after : (t : Part) → endsRecord t ≡ true → base + handAfter t i h .cells ≤ i + 1
+          few-after Outside k = impossible k
+          few-after Passed k = impossible k
+          few-after OfCell k = impossible k
+          few-after (Between k) u = impossible u
+          few-after (Tail k) u = impossible u
+          few-after (Ends k) u = one-more-few k base (h .cells) i (y .reached .few)
+
+  -- ---- the last record, and numbers that stay small
+
+  pub last-put : (f : Form) (i : ℕ) (h : InHand) (starts ends kinds : List ℕ) → Scanning f i h starts ends kinds → length file ≤ i → formEnd d f ≡ Final → (starts′ ends′ kinds′ : List ℕ) → (starts′ ≡ putIf true room (base + h .cells) (h .opened) starts) × ((ends′ ≡ putIf true room (base + h .cells) i ends) × (kinds′ ≡ putIf true room (base + h .cells) (kindNumber (kindOf d (part file (h .opened) i))) kinds)) → Out (LastRecord (h .start) (h .cells + 1)) starts′ ends′ kinds′
+  last-put f i h starts ends kinds y l e starts′ ends′ kinds′ put = rw (put .0, put .1 .0, put .1 .1) (last-record f i h y l e)
+
+  pub last-fits : (f : Form) (i : ℕ) (h : InHand) {starts ends kinds : List ℕ} → Scanning f i h starts ends kinds → length file ≤ i → Fits (length file) from base (LastRecord (h .start) (h .cells + 1))
+  last-fits f i h y l =
+      let b : base + h .cells ≤ i = y .reached .few in
+      let u : i ≤ MAXFILE = y .reached .under in
+      let n : i ≤ length file = y .reached .inside in
+      (omega arith, omega arith)
+
+  pub small-sum : {f : Form} {i : ℕ} {h : InHand} {s : Step} {starts ends kinds : List ℕ} → Stepping f i h s starts ends kinds → base + h .cells < 2 ^ 64
+  small-sum {i = i} {h = h} y =
+      let b : base + h .cells ≤ i = y .reached .few in
+      let u : i < MAXFILE = y .under in
+      omega arith
+
+  pub small-step : {f : Form} {i : ℕ} {h : InHand} {s : Step} {starts ends kinds : List ℕ} → Stepping f i h s starts ends kinds → (i + 1 < 2 ^ 64) × (h .size + 1 < 2 ^ 64) × (h .cells + 1 < 2 ^ 64)
+  small-step {i = i} {h = h} y =
+      let b : base + h .cells ≤ i = y .reached .few in
+      let z : h .size ≤ i = y .reached .sized in
+      let u : i < MAXFILE = y .under in
+      (omega arith, omega arith, omega arith)

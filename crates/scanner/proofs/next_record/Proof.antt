@@ -1,374 +1,558 @@
+-- The invariant: what reading from `from` comes to is what it comes to from here, with the cells found so far, which the lists hold.
+use Prim.Native.Nat.{ℕ, _+_, _-_, _^_, _≤_, _<_}
+use native.Mathlib.Omega.{arith}
+use mathlib.Core.Path.{_≡_, sym, _∙_}
+use mathlib.Core.Bool.{Bool, true}
+use lib.ListN.{length, getD}
+use borrow.Author.Needs.{needs}
+use Rattle.model.specs.Form.{afterCell}
+use Rattle.model.specs.Report.{MAXFILE}
+use Rattle.model.specs.Records.{recordFull}
+use Rattle.scanner.specs.Types.{Cell, ByteFault, Inside, Outside, Step, Byte, InHand, Is, Skipped, AfterCell, Refused, Open, Failed}
+use Rattle.scanner.specs.Next.{handAfter, grown}
+use Rattle.scanner.specs.Ahead.{readAt}
+use Rattle.scanner.proofs.Scanning.{Scanning, Stepping, Out, begins, too-long-file, too-long-record, by-byte, by-cell, by-skip, by-open, by-refusal, lies-cell, lies-skip, lies-open, step-refused, step-on, step-over, step-fits, clean-end, cut-short, last-put, last-fits, lengths, out-lengths, small-sum, small-step}
 use Rattle.scanner.proofs.next_record.Statement.{statement}
 use Rattle.scanner.proofs.next_record.Tie as tie
-use Rattle.scanner.proofs.next_record.Reads as reads
-use Rattle.scanner.proofs.next_record.Lts as lts
-use Rattle.lexer.proofs.form.after_cell.Reads as after-cell-reads
-use Rattle.scanner.proofs.ahead.ahead.Reads as ahead-reads
-use Rattle.scanner.proofs.hand.closes_cell.Reads as closes-cell-reads
-use Rattle.scanner.proofs.hand.ends_record.Reads as ends-record-reads
-use Rattle.scanner.proofs.hand.grown_by.Reads as grown-by-reads
-use Rattle.scanner.proofs.hand.moved.Reads as moved-reads
-use Rattle.scanner.proofs.limits.file_end.Reads as file-end-reads
-use Rattle.scanner.proofs.limits.is_full.Reads as is-full-reads
-use Rattle.scanner.proofs.place.put.Reads as put-reads
 
 abbrev Inv-loop : tie.InvT-loop
-Inv-loop d file from room base starts₀ ends₀ kinds₀ form₀ i₀ h₀ starts ends kinds form i h = ?
+Inv-loop d file from room base starts₀ ends₀ kinds₀ form₀ i₀ h₀ starts ends kinds form i h =
+    Scanning d file form₀ from room base starts₀ ends₀ kinds₀ form i h starts ends kinds
 
 abbrev μ-loop : tie.MeasureT-loop
-μ-loop d file from room base starts₀ ends₀ kinds₀ form₀ i₀ h₀ starts ends kinds form i h = ?
+μ-loop d file from room base starts₀ ends₀ kinds₀ form₀ i₀ h₀ starts ends kinds form i h = length file - i
 
--- src/lib.rt:83:5
+-- what the code knows once it has asked what stands ahead
+
+full-record : (v : tie.Then2 Inv-loop μ-loop) → let a = v .before .before .before .before .before .before .before .before .before .before .args in let l = v .before .before .before .before .before .loop in recordFull (readAt (a .file .now) (l .form) (l .i) (l .h) (l .inv .vs)) (getD (a .file .now) (l .i) 0) ≡ true
+unfolding recordFull
+full-record v = sym (v .before .is-full .ensures) ∙ v .if2 .taken
+
+byte-step : (u : tie.After-ahead Inv-loop μ-loop) (s : Step) → u .ahead .result ≡ Is s → let a = u .before .before .before .before .before .before .before .before .before .before .before .args in let l = u .before .before .before .before .before .before .loop in Stepping (a .d) (a .file .now) (a .first) (a .from) (a .room) (a .base) (a .starts .now) (a .ends .now) (a .kinds .now) (l .form) (l .i) (l .h) s (l .starts) (l .ends) (l .kinds)
+byte-step u s e =
+    let a = u .before .before .before .before .before .before .before .before .before .before .before .args in
+    let l = u .before .before .before .before .before .before .loop in
+    by-byte (a .d) (a .file .now) (a .first) (a .from) (a .room) (a .base) (a .starts .now) (a .ends .now) (a .kinds .now) (l .form) (l .i) (l .h) (l .starts) (l .ends) (l .kinds) (l .inv) (u .before .before .before .before .before .loop-test .taken) (u .before .before .before .before .if1 .left) _ (u .before .before .is-full .ensures) (u .before .if2 .left) _ (u .ahead .ensures) s e
+
+cell-step : (u : tie.After-ahead Inv-loop μ-loop) (closes : Bool) (j : ℕ) → u .ahead .result ≡ AfterCell closes j → let a = u .before .before .before .before .before .before .before .before .before .before .before .args in let l = u .before .before .before .before .before .before .loop in (g : InHand) → g ≡ grown (l .h) (j - l .i) → (s : Step) → s ≡ afterCell (a .d) closes (getD (a .file .now) j 0) → Stepping (a .d) (a .file .now) (a .first) (a .from) (a .room) (a .base) (a .starts .now) (a .ends .now) (a .kinds .now) (l .form) j g s (l .starts) (l .ends) (l .kinds)
+cell-step u closes j e g eg s es =
+    let a = u .before .before .before .before .before .before .before .before .before .before .before .args in
+    let l = u .before .before .before .before .before .before .loop in
+    by-cell (a .d) (a .file .now) (a .first) (a .from) (a .room) (a .base) (a .starts .now) (a .ends .now) (a .kinds .now) (l .form) (l .i) (l .h) (l .starts) (l .ends) (l .kinds) (l .inv) (u .before .before .before .before .before .loop-test .taken) (u .before .before .before .before .if1 .left) _ (u .before .before .is-full .ensures) (u .before .if2 .left) _ (u .ahead .ensures) closes j e g eg s es
+
+skip-turn : (u : tie.After-ahead Inv-loop μ-loop) (j : ℕ) → u .ahead .result ≡ Skipped j → let a = u .before .before .before .before .before .before .before .before .before .before .before .args in let l = u .before .before .before .before .before .before .loop in (g : InHand) → g ≡ handAfter Outside (j - 1) (l .h) → Scanning (a .d) (a .file .now) (a .first) (a .from) (a .room) (a .base) (a .starts .now) (a .ends .now) (a .kinds .now) (l .form) j g (l .starts) (l .ends) (l .kinds)
+skip-turn u j e g eg =
+    let a = u .before .before .before .before .before .before .before .before .before .before .before .args in
+    let l = u .before .before .before .before .before .before .loop in
+    by-skip (a .d) (a .file .now) (a .first) (a .from) (a .room) (a .base) (a .starts .now) (a .ends .now) (a .kinds .now) (l .form) (l .i) (l .h) (l .starts) (l .ends) (l .kinds) (l .inv) (u .before .before .before .before .before .loop-test .taken) (u .before .before .before .before .if1 .left) _ (u .before .before .is-full .ensures) (u .before .if2 .left) _ (u .ahead .ensures) j e g eg
+
+open-turn : (u : tie.After-ahead Inv-loop μ-loop) (c : Cell) (j : ℕ) → u .ahead .result ≡ Open c j → let a = u .before .before .before .before .before .before .before .before .before .before .before .args in let l = u .before .before .before .before .before .before .loop in (g : InHand) → g ≡ grown (l .h) (j - l .i) → Scanning (a .d) (a .file .now) (a .first) (a .from) (a .room) (a .base) (a .starts .now) (a .ends .now) (a .kinds .now) (Inside c) j g (l .starts) (l .ends) (l .kinds)
+open-turn u c j e g eg =
+    let a = u .before .before .before .before .before .before .before .before .before .before .before .args in
+    let l = u .before .before .before .before .before .before .loop in
+    by-open (a .d) (a .file .now) (a .first) (a .from) (a .room) (a .base) (a .starts .now) (a .ends .now) (a .kinds .now) (l .form) (l .i) (l .h) (l .starts) (l .ends) (l .kinds) (l .inv) (u .before .before .before .before .before .loop-test .taken) (u .before .before .before .before .if1 .left) _ (u .before .before .is-full .ensures) (u .before .if2 .left) _ (u .ahead .ensures) c j e g eg
+
+refusal : (u : tie.After-ahead Inv-loop μ-loop) (x : ByteFault) (j : ℕ) → u .ahead .result ≡ Refused x j → let a = u .before .before .before .before .before .before .before .before .before .before .before .args in let l = u .before .before .before .before .before .before .loop in Out (a .d) (a .file .now) (a .first) (a .from) (a .room) (a .base) (a .starts .now) (a .ends .now) (a .kinds .now) (Failed (Byte x) j) (l .starts) (l .ends) (l .kinds)
+refusal u x j e =
+    let a = u .before .before .before .before .before .before .before .before .before .before .before .args in
+    let l = u .before .before .before .before .before .before .loop in
+    by-refusal (a .d) (a .file .now) (a .first) (a .from) (a .room) (a .base) (a .starts .now) (a .ends .now) (a .kinds .now) (l .form) (l .i) (l .h) (l .starts) (l .ends) (l .kinds) (l .inv) (u .before .before .before .before .before .loop-test .taken) (u .before .before .before .before .if1 .left) _ (u .before .before .is-full .ensures) (u .before .if2 .left) _ (u .ahead .ensures) x j e
+
+lies-cell-at : (u : tie.After-ahead Inv-loop μ-loop) (closes : Bool) (j : ℕ) → u .ahead .result ≡ AfterCell closes j → let a = u .before .before .before .before .before .before .before .before .before .before .before .args in let l = u .before .before .before .before .before .before .loop in (l .i ≤ j) × (j < length (a .file .now)) × (j < MAXFILE)
+lies-cell-at u closes j e =
+    let a = u .before .before .before .before .before .before .before .before .before .before .before .args in
+    let l = u .before .before .before .before .before .before .loop in
+    lies-cell (a .d) (a .file .now) (a .first) (a .from) (a .room) (a .base) (a .starts .now) (a .ends .now) (a .kinds .now) (l .form) (l .i) (l .h) (l .starts) (l .ends) (l .kinds) (l .inv) (u .before .before .before .before .before .loop-test .taken) (u .before .before .before .before .if1 .left) _ (u .before .before .is-full .ensures) (u .before .if2 .left) _ (u .ahead .ensures) closes j e
+
+lies-skip-at : (u : tie.After-ahead Inv-loop μ-loop) (j : ℕ) → u .ahead .result ≡ Skipped j → let a = u .before .before .before .before .before .before .before .before .before .before .before .args in let l = u .before .before .before .before .before .before .loop in (l .i < j) × (j ≤ length (a .file .now)) × (j ≤ MAXFILE)
+lies-skip-at u j e =
+    let a = u .before .before .before .before .before .before .before .before .before .before .before .args in
+    let l = u .before .before .before .before .before .before .loop in
+    lies-skip (a .d) (a .file .now) (a .first) (a .from) (a .room) (a .base) (a .starts .now) (a .ends .now) (a .kinds .now) (l .form) (l .i) (l .h) (l .starts) (l .ends) (l .kinds) (l .inv) (u .before .before .before .before .before .loop-test .taken) (u .before .before .before .before .if1 .left) _ (u .before .before .is-full .ensures) (u .before .if2 .left) _ (u .ahead .ensures) j e
+
+lies-open-at : (u : tie.After-ahead Inv-loop μ-loop) (c : Cell) (j : ℕ) → u .ahead .result ≡ Open c j → let a = u .before .before .before .before .before .before .before .before .before .before .before .args in let l = u .before .before .before .before .before .before .loop in (l .i < j) × (j ≤ length (a .file .now)) × (j ≤ MAXFILE)
+lies-open-at u c j e =
+    let a = u .before .before .before .before .before .before .before .before .before .before .before .args in
+    let l = u .before .before .before .before .before .before .loop in
+    lies-open (a .d) (a .file .now) (a .first) (a .from) (a .room) (a .base) (a .starts .now) (a .ends .now) (a .kinds .now) (l .form) (l .i) (l .h) (l .starts) (l .ends) (l .kinds) (l .inv) (u .before .before .before .before .before .loop-test .taken) (u .before .before .before .before .if1 .left) _ (u .before .before .is-full .ensures) (u .before .if2 .left) _ (u .ahead .ensures) c j e
+
 loop-holds : tie.Need-loop-holds Inv-loop μ-loop
-loop-holds c = ?
+loop-holds c =
+    let a = c .before .before .before .before .args in let q = c .before .before .before .before .pre .0 in begins (a .d) (a .file .now) (a .first) (a .from) (a .room) (a .base) (a .starts .now) (a .ends .now) (a .kinds .now) (q .0) (q .1) (q .2)
 
--- src/lib.rt:85:13
 same-length : tie.Need-same-length Inv-loop μ-loop
-same-length c = ?
+same-length c =
+    let a = c .before .before .before .before .before .before .before .args in
+    let l = c .before .before .loop in
+    out-lengths (a .d) (a .file .now) (a .first) (a .from) (a .room) (a .base) (a .starts .now) (a .ends .now) (a .kinds .now) (too-long-file (a .d) (a .file .now) (a .first) (a .from) (a .room) (a .base) (a .starts .now) (a .ends .now) (a .kinds .now) (l .form) (l .i) (l .h) (l .inv) (c .before .loop-test .taken) (c .if1 .taken)) .0
 
--- src/lib.rt:85:13
 same-length-2 : tie.Need-same-length-2 Inv-loop μ-loop
-same-length-2 c = ?
+same-length-2 c =
+    let a = c .before .before .before .before .before .before .before .args in
+    let l = c .before .before .loop in
+    out-lengths (a .d) (a .file .now) (a .first) (a .from) (a .room) (a .base) (a .starts .now) (a .ends .now) (a .kinds .now) (too-long-file (a .d) (a .file .now) (a .first) (a .from) (a .room) (a .base) (a .starts .now) (a .ends .now) (a .kinds .now) (l .form) (l .i) (l .h) (l .inv) (c .before .loop-test .taken) (c .if1 .taken)) .1
 
--- src/lib.rt:85:13
 same-length-3 : tie.Need-same-length-3 Inv-loop μ-loop
-same-length-3 c = ?
+same-length-3 c =
+    let a = c .before .before .before .before .before .before .before .args in
+    let l = c .before .before .loop in
+    out-lengths (a .d) (a .file .now) (a .first) (a .from) (a .room) (a .base) (a .starts .now) (a .ends .now) (a .kinds .now) (too-long-file (a .d) (a .file .now) (a .first) (a .from) (a .room) (a .base) (a .starts .now) (a .ends .now) (a .kinds .now) (l .form) (l .i) (l .h) (l .inv) (c .before .loop-test .taken) (c .if1 .taken)) .2
 
--- src/lib.rt:85:13
 returns : tie.Need-returns Inv-loop μ-loop
-returns c = ?
+returns c =
+    let a = c .before .before .before .before .before .before .before .args in
+    let l = c .before .before .loop in
+    let o = too-long-file (a .d) (a .file .now) (a .first) (a .from) (a .room) (a .base) (a .starts .now) (a .ends .now) (a .kinds .now) (l .form) (l .i) (l .h) (l .inv) (c .before .loop-test .taken) (c .if1 .taken) in
+    (o .event, (o .at-starts, (o .at-ends, (o .at-kinds, tt))))
 
--- src/lib.rt:90:42
 shared-slice-read-is-full : tie.Need-shared-slice-read-is-full Inv-loop μ-loop
-shared-slice-read-is-full c = ?
+shared-slice-read-is-full c = omega arith
 
--- src/lib.rt:90:12
 is-full-requires : tie.Need-is-full-requires Inv-loop μ-loop
-is-full-requires c κs = ?
+is-full-requires c κs = search needs
 
--- src/lib.rt:91:13
 same-length-4 : tie.Need-same-length-4 Inv-loop μ-loop
-same-length-4 c = ?
+same-length-4 c =
+    let a = c .before .before .before .before .before .before .before .before .before .before .args in
+    let l = c .before .before .before .before .before .loop in
+    out-lengths (a .d) (a .file .now) (a .first) (a .from) (a .room) (a .base) (a .starts .now) (a .ends .now) (a .kinds .now) (too-long-record (a .d) (a .file .now) (a .first) (a .from) (a .room) (a .base) (a .starts .now) (a .ends .now) (a .kinds .now) (l .form) (l .i) (l .h) (l .inv) (c .before .before .before .before .loop-test .taken) (c .before .before .before .if1 .left) (full-record (c))) .0
 
--- src/lib.rt:91:13
 same-length-5 : tie.Need-same-length-5 Inv-loop μ-loop
-same-length-5 c = ?
+same-length-5 c =
+    let a = c .before .before .before .before .before .before .before .before .before .before .args in
+    let l = c .before .before .before .before .before .loop in
+    out-lengths (a .d) (a .file .now) (a .first) (a .from) (a .room) (a .base) (a .starts .now) (a .ends .now) (a .kinds .now) (too-long-record (a .d) (a .file .now) (a .first) (a .from) (a .room) (a .base) (a .starts .now) (a .ends .now) (a .kinds .now) (l .form) (l .i) (l .h) (l .inv) (c .before .before .before .before .loop-test .taken) (c .before .before .before .if1 .left) (full-record (c))) .1
 
--- src/lib.rt:91:13
 same-length-6 : tie.Need-same-length-6 Inv-loop μ-loop
-same-length-6 c = ?
+same-length-6 c =
+    let a = c .before .before .before .before .before .before .before .before .before .before .args in
+    let l = c .before .before .before .before .before .loop in
+    out-lengths (a .d) (a .file .now) (a .first) (a .from) (a .room) (a .base) (a .starts .now) (a .ends .now) (a .kinds .now) (too-long-record (a .d) (a .file .now) (a .first) (a .from) (a .room) (a .base) (a .starts .now) (a .ends .now) (a .kinds .now) (l .form) (l .i) (l .h) (l .inv) (c .before .before .before .before .loop-test .taken) (c .before .before .before .if1 .left) (full-record (c))) .2
 
--- src/lib.rt:91:13
 returns-2 : tie.Need-returns-2 Inv-loop μ-loop
-returns-2 c = ?
+returns-2 c =
+    let a = c .before .before .before .before .before .before .before .before .before .before .args in
+    let l = c .before .before .before .before .before .loop in
+    let o = too-long-record (a .d) (a .file .now) (a .first) (a .from) (a .room) (a .base) (a .starts .now) (a .ends .now) (a .kinds .now) (l .form) (l .i) (l .h) (l .inv) (c .before .before .before .before .loop-test .taken) (c .before .before .before .if1 .left) (full-record (c)) in
+    (o .event, (o .at-starts, (o .at-ends, (o .at-kinds, tt))))
 
--- src/lib.rt:96:15
 ahead-requires : tie.Need-ahead-requires Inv-loop μ-loop
-ahead-requires c κs = ?
+ahead-requires c κs = (c .before .before .before .before .loop-test .taken, c .before .before .before .if1 .left)
 
--- src/lib.rt:97:21
 enum-known-s : tie.Need-enum-known-s Inv-loop μ-loop
-enum-known-s c = ?
+enum-known-s c = search needs
 
--- src/lib.rt:98:30
 enum-known-s-2 : tie.Need-enum-known-s-2 Inv-loop μ-loop
-enum-known-s-2 c = ?
+enum-known-s-2 c = search needs
 
--- src/lib.rt:99:21
 same-length-7 : tie.Need-same-length-7 Inv-loop μ-loop
-same-length-7 c = ?
+same-length-7 c =
+    let a = c .before .before .before .before .before .before .before .before .before .before .before .before .before .before .before .before .before .args in
+    let l = c .before .before .before .before .before .before .before .before .before .before .before .before .loop in
+    out-lengths (a .d) (a .file .now) (a .first) (a .from) (a .room) (a .base) (a .starts .now) (a .ends .now) (a .kinds .now) (step-refused (a .d) (a .file .now) (a .first) (a .from) (a .room) (a .base) (a .starts .now) (a .ends .now) (a .kinds .now) (l .form) (l .i) (l .h) (l .starts) (l .ends) (l .kinds) _ (byte-step (c .before .before .before .before .before .before) _ (c .before .before .before .before .s .given .1)) _ (c .before .s2 .given .1)) .0
 
--- src/lib.rt:99:21
 same-length-8 : tie.Need-same-length-8 Inv-loop μ-loop
-same-length-8 c = ?
+same-length-8 c =
+    let a = c .before .before .before .before .before .before .before .before .before .before .before .before .before .before .before .before .before .args in
+    let l = c .before .before .before .before .before .before .before .before .before .before .before .before .loop in
+    out-lengths (a .d) (a .file .now) (a .first) (a .from) (a .room) (a .base) (a .starts .now) (a .ends .now) (a .kinds .now) (step-refused (a .d) (a .file .now) (a .first) (a .from) (a .room) (a .base) (a .starts .now) (a .ends .now) (a .kinds .now) (l .form) (l .i) (l .h) (l .starts) (l .ends) (l .kinds) _ (byte-step (c .before .before .before .before .before .before) _ (c .before .before .before .before .s .given .1)) _ (c .before .s2 .given .1)) .1
 
--- src/lib.rt:99:21
 same-length-9 : tie.Need-same-length-9 Inv-loop μ-loop
-same-length-9 c = ?
+same-length-9 c =
+    let a = c .before .before .before .before .before .before .before .before .before .before .before .before .before .before .before .before .before .args in
+    let l = c .before .before .before .before .before .before .before .before .before .before .before .before .loop in
+    out-lengths (a .d) (a .file .now) (a .first) (a .from) (a .room) (a .base) (a .starts .now) (a .ends .now) (a .kinds .now) (step-refused (a .d) (a .file .now) (a .first) (a .from) (a .room) (a .base) (a .starts .now) (a .ends .now) (a .kinds .now) (l .form) (l .i) (l .h) (l .starts) (l .ends) (l .kinds) _ (byte-step (c .before .before .before .before .before .before) _ (c .before .before .before .before .s .given .1)) _ (c .before .s2 .given .1)) .2
 
--- src/lib.rt:99:21
 returns-3 : tie.Need-returns-3 Inv-loop μ-loop
-returns-3 c = ?
+returns-3 c =
+    let a = c .before .before .before .before .before .before .before .before .before .before .before .before .before .before .before .before .before .args in
+    let l = c .before .before .before .before .before .before .before .before .before .before .before .before .loop in
+    let o = step-refused (a .d) (a .file .now) (a .first) (a .from) (a .room) (a .base) (a .starts .now) (a .ends .now) (a .kinds .now) (l .form) (l .i) (l .h) (l .starts) (l .ends) (l .kinds) _ (byte-step (c .before .before .before .before .before .before) _ (c .before .before .before .before .s .given .1)) _ (c .before .s2 .given .1) in
+    (o .event, (o .at-starts, (o .at-ends, (o .at-kinds, tt))))
 
--- src/lib.rt:104:26
 enum-known-s-3 : tie.Need-enum-known-s-3 Inv-loop μ-loop
-enum-known-s-3 c = ?
+enum-known-s-3 c = search needs
 
--- src/lib.rt:106:25
 closes-cell-requires : tie.Need-closes-cell-requires Inv-loop μ-loop
-closes-cell-requires c κs = ?
+closes-cell-requires c κs = search needs
 
--- src/lib.rt:112:25
 add-put : tie.Need-add-put Inv-loop μ-loop
-add-put c = ?
+add-put c =
+    let a = c .before .before .before .before .before .before .before .before .before .before .before .before .before .before .before .before .before .before .before .args in
+    let l = c .before .before .before .before .before .before .before .before .before .before .before .before .before .before .loop in
+    let few : a .base + l .h .cells ≤ l .i = l .inv .reached .few in
+    let sized : l .h .size ≤ l .i = l .inv .reached .sized in
+    omega arith
 
--- src/lib.rt:105:21
 put-requires : tie.Need-put-requires Inv-loop μ-loop
-put-requires c κs = ?
+put-requires c κs =
+    let a = c .before .before .before .before .before .before .before .before .before .before .before .before .before .before .before .before .before .before .before .before .before .before .args in
+    let l = c .before .before .before .before .before .before .before .before .before .before .before .before .before .before .before .before .before .loop in
+    let n = lengths (a .d) (a .file .now) (a .first) (a .from) (a .room) (a .base) (a .starts .now) (a .ends .now) (a .kinds .now) (l .inv .lists) in
+    let q = c .before .before .before .before .before .before .before .before .before .before .before .before .before .before .before .before .before .before .before .before .before .before .pre .1 in
+    ((l .inv .reached .opened, l .inv .reached .inside), (rw (n .0) (q .0), rw (n .1) (q .1), rw (n .2) (q .2)))
 
--- src/lib.rt:117:21
 moved-requires : tie.Need-moved-requires Inv-loop μ-loop
-moved-requires c κs = ?
+moved-requires c κs =
+    let a = c .before .before .before .before .before .before .before .before .before .before .before .before .before .before .before .before .before .before .before .before .before .before .before .before .before .before .before .before .before .args in
+    let l = c .before .before .before .before .before .before .before .before .before .before .before .before .before .before .before .before .before .before .before .before .before .before .before .before .loop in
+    let few : a .base + l .h .cells ≤ l .i = l .inv .reached .few in
+    let sized : l .h .size ≤ l .i = l .inv .reached .sized in
+    (omega arith, omega arith, omega arith)
 
--- src/lib.rt:118:21
 add-i : tie.Need-add-i Inv-loop μ-loop
-add-i c = ?
+add-i c =
+    let a = c .before .before .before .before .before .before .before .before .before .before .before .before .before .before .before .before .before .before .before .before .before .before .before .before .before .before .before .before .before .before .args in
+    let l = c .before .before .before .before .before .before .before .before .before .before .before .before .before .before .before .before .before .before .before .before .before .before .before .before .before .loop in
+    let m : l .i < MAXFILE = c .before .before .before .before .before .before .before .before .before .before .before .before .before .before .before .before .before .before .before .before .before .before .before .if1 .left in let x : l .i + 1 < 2 ^ 64 = omega arith in record { fits = x }
 
--- src/lib.rt:119:24
 ends-record-requires : tie.Need-ends-record-requires Inv-loop μ-loop
-ends-record-requires c κs = ?
+ends-record-requires c κs = search needs
 
--- src/lib.rt:120:25
 same-length-10 : tie.Need-same-length-10 Inv-loop μ-loop
-same-length-10 c = ?
+same-length-10 c =
+    let a = c .before .before .before .before .before .before .before .before .before .before .before .before .before .before .before .before .before .before .before .before .before .before .before .before .before .before .before .before .before .before .before .before .args in
+    let l = c .before .before .before .before .before .before .before .before .before .before .before .before .before .before .before .before .before .before .before .before .before .before .before .before .before .before .before .loop in
+    out-lengths (a .d) (a .file .now) (a .first) (a .from) (a .room) (a .base) (a .starts .now) (a .ends .now) (a .kinds .now) (step-over (a .d) (a .file .now) (a .first) (a .from) (a .room) (a .base) (a .starts .now) (a .ends .now) (a .kinds .now) (l .form) (l .i) (l .h) (l .starts) (l .ends) (l .kinds) _ (byte-step (c .before .before .before .before .before .before .before .before .before .before .before .before .before .before .before .before .before .before .before .before .before) _ (c .before .before .before .before .before .before .before .before .before .before .before .before .before .before .before .before .before .before .before .s .given .1)) _ _ (c .before .before .before .before .before .before .before .before .before .before .before .before .before .before .before .before .s3 .given .1) _ (c .before .before .before .before .before .before .before .before .before .before .before .before .before .before .closes-cell .ensures) _ _ _ (c .before .before .before .before .before .before .before .before .before .put .ensures) _ (c .before .before .moved .ensures) _ (c .before .ends-record .ensures) (c .if3 .taken)) .0
 
--- src/lib.rt:120:25
 same-length-11 : tie.Need-same-length-11 Inv-loop μ-loop
-same-length-11 c = ?
+same-length-11 c =
+    let a = c .before .before .before .before .before .before .before .before .before .before .before .before .before .before .before .before .before .before .before .before .before .before .before .before .before .before .before .before .before .before .before .before .args in
+    let l = c .before .before .before .before .before .before .before .before .before .before .before .before .before .before .before .before .before .before .before .before .before .before .before .before .before .before .before .loop in
+    out-lengths (a .d) (a .file .now) (a .first) (a .from) (a .room) (a .base) (a .starts .now) (a .ends .now) (a .kinds .now) (step-over (a .d) (a .file .now) (a .first) (a .from) (a .room) (a .base) (a .starts .now) (a .ends .now) (a .kinds .now) (l .form) (l .i) (l .h) (l .starts) (l .ends) (l .kinds) _ (byte-step (c .before .before .before .before .before .before .before .before .before .before .before .before .before .before .before .before .before .before .before .before .before) _ (c .before .before .before .before .before .before .before .before .before .before .before .before .before .before .before .before .before .before .before .s .given .1)) _ _ (c .before .before .before .before .before .before .before .before .before .before .before .before .before .before .before .before .s3 .given .1) _ (c .before .before .before .before .before .before .before .before .before .before .before .before .before .before .closes-cell .ensures) _ _ _ (c .before .before .before .before .before .before .before .before .before .put .ensures) _ (c .before .before .moved .ensures) _ (c .before .ends-record .ensures) (c .if3 .taken)) .1
 
--- src/lib.rt:120:25
 same-length-12 : tie.Need-same-length-12 Inv-loop μ-loop
-same-length-12 c = ?
+same-length-12 c =
+    let a = c .before .before .before .before .before .before .before .before .before .before .before .before .before .before .before .before .before .before .before .before .before .before .before .before .before .before .before .before .before .before .before .before .args in
+    let l = c .before .before .before .before .before .before .before .before .before .before .before .before .before .before .before .before .before .before .before .before .before .before .before .before .before .before .before .loop in
+    out-lengths (a .d) (a .file .now) (a .first) (a .from) (a .room) (a .base) (a .starts .now) (a .ends .now) (a .kinds .now) (step-over (a .d) (a .file .now) (a .first) (a .from) (a .room) (a .base) (a .starts .now) (a .ends .now) (a .kinds .now) (l .form) (l .i) (l .h) (l .starts) (l .ends) (l .kinds) _ (byte-step (c .before .before .before .before .before .before .before .before .before .before .before .before .before .before .before .before .before .before .before .before .before) _ (c .before .before .before .before .before .before .before .before .before .before .before .before .before .before .before .before .before .before .before .s .given .1)) _ _ (c .before .before .before .before .before .before .before .before .before .before .before .before .before .before .before .before .s3 .given .1) _ (c .before .before .before .before .before .before .before .before .before .before .before .before .before .before .closes-cell .ensures) _ _ _ (c .before .before .before .before .before .before .before .before .before .put .ensures) _ (c .before .before .moved .ensures) _ (c .before .ends-record .ensures) (c .if3 .taken)) .2
 
--- src/lib.rt:120:25
 returns-4 : tie.Need-returns-4 Inv-loop μ-loop
-returns-4 c = ?
+returns-4 c =
+    let a = c .before .before .before .before .before .before .before .before .before .before .before .before .before .before .before .before .before .before .before .before .before .before .before .before .before .before .before .before .before .before .before .before .args in
+    let l = c .before .before .before .before .before .before .before .before .before .before .before .before .before .before .before .before .before .before .before .before .before .before .before .before .before .before .before .loop in
+    let o = step-over (a .d) (a .file .now) (a .first) (a .from) (a .room) (a .base) (a .starts .now) (a .ends .now) (a .kinds .now) (l .form) (l .i) (l .h) (l .starts) (l .ends) (l .kinds) _ (byte-step (c .before .before .before .before .before .before .before .before .before .before .before .before .before .before .before .before .before .before .before .before .before) _ (c .before .before .before .before .before .before .before .before .before .before .before .before .before .before .before .before .before .before .before .s .given .1)) _ _ (c .before .before .before .before .before .before .before .before .before .before .before .before .before .before .before .before .s3 .given .1) _ (c .before .before .before .before .before .before .before .before .before .before .before .before .before .before .closes-cell .ensures) _ _ _ (c .before .before .before .before .before .before .before .before .before .put .ensures) _ (c .before .before .moved .ensures) _ (c .before .ends-record .ensures) (c .if3 .taken) in
+    (o .event, (o .at-starts, (o .at-ends, (o .at-kinds, step-fits (a .d) (a .file .now) (a .first) (a .from) (a .room) (a .base) (a .starts .now) (a .ends .now) (a .kinds .now) (l .form) (l .i) (l .h) (l .starts) (l .ends) (l .kinds) _ (byte-step (c .before .before .before .before .before .before .before .before .before .before .before .before .before .before .before .before .before .before .before .before .before) _ (c .before .before .before .before .before .before .before .before .before .before .before .before .before .before .before .before .before .before .before .s .given .1)) _ _ (c .before .before .before .before .before .before .before .before .before .before .before .before .before .before .before .before .s3 .given .1) _ (c .before .before .before .before .before .before .before .before .before .before .before .before .before .before .closes-cell .ensures) _ _ _ (c .before .before .before .before .before .before .before .before .before .put .ensures) _ (c .before .before .moved .ensures) _ (c .before .ends-record .ensures) (c .if3 .taken)))))
 
--- src/lib.rt:83:5
 loop-less : tie.Need-loop-less Inv-loop μ-loop
-loop-less c = ?
+loop-less c =
+    let a = c .before .before .before .before .before .before .before .before .before .before .before .before .before .before .before .before .before .before .before .before .before .before .before .before .before .before .before .before .before .before .before .before .args in
+    let l = c .before .before .before .before .before .before .before .before .before .before .before .before .before .before .before .before .before .before .before .before .before .before .before .before .before .before .before .loop in
+    let m : l .i < length (a .file .now) = c .before .before .before .before .before .before .before .before .before .before .before .before .before .before .before .before .before .before .before .before .before .before .before .before .before .before .loop-test .taken in let x : length (a .file .now) - (l .i + 1) < length (a .file .now) - l .i = omega arith in x
 
--- src/lib.rt:83:5
 loop-again : tie.Need-loop-again Inv-loop μ-loop
-loop-again c = ?
+loop-again c =
+    let a = c .before .before .before .before .before .before .before .before .before .before .before .before .before .before .before .before .before .before .before .before .before .before .before .before .before .before .before .before .before .before .before .before .args in
+    let l = c .before .before .before .before .before .before .before .before .before .before .before .before .before .before .before .before .before .before .before .before .before .before .before .before .before .before .before .loop in
+    step-on (a .d) (a .file .now) (a .first) (a .from) (a .room) (a .base) (a .starts .now) (a .ends .now) (a .kinds .now) (l .form) (l .i) (l .h) (l .starts) (l .ends) (l .kinds) _ (byte-step (c .before .before .before .before .before .before .before .before .before .before .before .before .before .before .before .before .before .before .before .before .before) _ (c .before .before .before .before .before .before .before .before .before .before .before .before .before .before .before .before .before .before .before .s .given .1)) _ _ (c .before .before .before .before .before .before .before .before .before .before .before .before .before .before .before .before .s3 .given .1) _ (c .before .before .before .before .before .before .before .before .before .before .before .before .before .before .closes-cell .ensures) _ _ _ (c .before .before .before .before .before .before .before .before .before .put .ensures) _ (c .before .before .moved .ensures) _ (c .before .ends-record .ensures) (c .if3 .left)
 
--- src/lib.rt:131:26
 enum-known-j : tie.Need-enum-known-j Inv-loop μ-loop
-enum-known-j c = ?
+enum-known-j c = search needs
 
--- src/lib.rt:132:48
 sub-moved : tie.Need-sub-moved Inv-loop μ-loop
-sub-moved c = ?
+sub-moved c =
+    let n = lies-skip-at (c .before .before .before) _ (c .before .j .given .1) in let j1 = n .0 in omega arith
 
--- src/lib.rt:132:17
 moved-requires-2 : tie.Need-moved-requires-2 Inv-loop μ-loop
-moved-requires-2 c κs = ?
+moved-requires-2 c κs =
+    let a = c .before .before .before .before .before .before .before .before .before .before .before .before .before .before .args in
+    let l = c .before .before .before .before .before .before .before .before .before .loop in
+    let n = lies-skip-at (c .before .before .before) _ (c .before .j .given .1) in
+    let few : a .base + l .h .cells ≤ l .i = l .inv .reached .few in
+    let sized : l .h .size ≤ l .i = l .inv .reached .sized in
+    let j1 = n .0 in let j2 = n .2 in (omega arith, omega arith, omega arith)
 
--- src/lib.rt:83:5
 loop-less-2 : tie.Need-loop-less-2 Inv-loop μ-loop
-loop-less-2 c = ?
+loop-less-2 c =
+    let n = lies-skip-at (c .before .before .before .before) _ (c .before .before .j .given .1) in let j1 = n .0 in let j2 = n .1 in omega arith
 
--- src/lib.rt:83:5
 loop-again-2 : tie.Need-loop-again-2 Inv-loop μ-loop
-loop-again-2 c = ?
+loop-again-2 c =
+    skip-turn (c .before .before .before .before) _ (c .before .before .j .given .1) _ (c .moved2 .ensures)
 
--- src/lib.rt:136:30
 enum-known-closes : tie.Need-enum-known-closes Inv-loop μ-loop
-enum-known-closes c = ?
+enum-known-closes c = search needs
 
--- src/lib.rt:137:39
 sub-grown-by : tie.Need-sub-grown-by Inv-loop μ-loop
-sub-grown-by c = ?
+sub-grown-by c = lies-cell-at (c .before .before .before) _ _ (c .before .closes .given .1) .0
 
--- src/lib.rt:137:17
 grown-by-requires : tie.Need-grown-by-requires Inv-loop μ-loop
-grown-by-requires c κs = ?
+grown-by-requires c κs =
+    let a = c .before .before .before .before .before .before .before .before .before .before .before .before .before .before .args in
+    let l = c .before .before .before .before .before .before .before .before .before .loop in
+    let few : a .base + l .h .cells ≤ l .i = l .inv .reached .few in
+    let sized : l .h .size ≤ l .i = l .inv .reached .sized in
+    let n = lies-cell-at (c .before .before .before) _ _ (c .before .closes .given .1) in let j1 = n .0 in let j2 = n .2 in omega arith
 
--- src/lib.rt:139:58
 shared-slice-read-after-cell : tie.Need-shared-slice-read-after-cell Inv-loop μ-loop
-shared-slice-read-after-cell c = ?
+shared-slice-read-after-cell c =
+    lies-cell-at (c .before .before .before .before .before) _ _ (c .before .before .before .closes .given .1) .1
 
--- src/lib.rt:139:23
 after-cell-requires : tie.Need-after-cell-requires Inv-loop μ-loop
-after-cell-requires c κs = ?
+after-cell-requires c κs = search needs
 
--- src/lib.rt:140:34
 enum-known-e : tie.Need-enum-known-e Inv-loop μ-loop
-enum-known-e c = ?
+enum-known-e c = search needs
 
--- src/lib.rt:141:25
 same-length-13 : tie.Need-same-length-13 Inv-loop μ-loop
-same-length-13 c = ?
+same-length-13 c =
+    let a = c .before .before .before .before .before .before .before .before .before .before .before .before .before .before .before .before .before .before .before .before .args in
+    let l = c .before .before .before .before .before .before .before .before .before .before .before .before .before .before .before .loop in
+    out-lengths (a .d) (a .file .now) (a .first) (a .from) (a .room) (a .base) (a .starts .now) (a .ends .now) (a .kinds .now) (step-refused (a .d) (a .file .now) (a .first) (a .from) (a .room) (a .base) (a .starts .now) (a .ends .now) (a .kinds .now) (l .form) _ _ (l .starts) (l .ends) (l .kinds) _ (cell-step (c .before .before .before .before .before .before .before .before .before) _ _ (c .before .before .before .before .before .before .before .closes .given .1) _ (c .before .before .before .before .before .grown-by .ensures) _ (c .before .before .before .after-cell .ensures)) _ (c .before .e .given .1)) .0
 
--- src/lib.rt:141:25
 same-length-14 : tie.Need-same-length-14 Inv-loop μ-loop
-same-length-14 c = ?
+same-length-14 c =
+    let a = c .before .before .before .before .before .before .before .before .before .before .before .before .before .before .before .before .before .before .before .before .args in
+    let l = c .before .before .before .before .before .before .before .before .before .before .before .before .before .before .before .loop in
+    out-lengths (a .d) (a .file .now) (a .first) (a .from) (a .room) (a .base) (a .starts .now) (a .ends .now) (a .kinds .now) (step-refused (a .d) (a .file .now) (a .first) (a .from) (a .room) (a .base) (a .starts .now) (a .ends .now) (a .kinds .now) (l .form) _ _ (l .starts) (l .ends) (l .kinds) _ (cell-step (c .before .before .before .before .before .before .before .before .before) _ _ (c .before .before .before .before .before .before .before .closes .given .1) _ (c .before .before .before .before .before .grown-by .ensures) _ (c .before .before .before .after-cell .ensures)) _ (c .before .e .given .1)) .1
 
--- src/lib.rt:141:25
 same-length-15 : tie.Need-same-length-15 Inv-loop μ-loop
-same-length-15 c = ?
+same-length-15 c =
+    let a = c .before .before .before .before .before .before .before .before .before .before .before .before .before .before .before .before .before .before .before .before .args in
+    let l = c .before .before .before .before .before .before .before .before .before .before .before .before .before .before .before .loop in
+    out-lengths (a .d) (a .file .now) (a .first) (a .from) (a .room) (a .base) (a .starts .now) (a .ends .now) (a .kinds .now) (step-refused (a .d) (a .file .now) (a .first) (a .from) (a .room) (a .base) (a .starts .now) (a .ends .now) (a .kinds .now) (l .form) _ _ (l .starts) (l .ends) (l .kinds) _ (cell-step (c .before .before .before .before .before .before .before .before .before) _ _ (c .before .before .before .before .before .before .before .closes .given .1) _ (c .before .before .before .before .before .grown-by .ensures) _ (c .before .before .before .after-cell .ensures)) _ (c .before .e .given .1)) .2
 
--- src/lib.rt:141:25
 returns-5 : tie.Need-returns-5 Inv-loop μ-loop
-returns-5 c = ?
+returns-5 c =
+    let a = c .before .before .before .before .before .before .before .before .before .before .before .before .before .before .before .before .before .before .before .before .args in
+    let l = c .before .before .before .before .before .before .before .before .before .before .before .before .before .before .before .loop in
+    let o = step-refused (a .d) (a .file .now) (a .first) (a .from) (a .room) (a .base) (a .starts .now) (a .ends .now) (a .kinds .now) (l .form) _ _ (l .starts) (l .ends) (l .kinds) _ (cell-step (c .before .before .before .before .before .before .before .before .before) _ _ (c .before .before .before .before .before .before .before .closes .given .1) _ (c .before .before .before .before .before .grown-by .ensures) _ (c .before .before .before .after-cell .ensures)) _ (c .before .e .given .1) in
+    (o .event, (o .at-starts, (o .at-ends, (o .at-kinds, tt))))
 
--- src/lib.rt:146:30
 enum-known-f : tie.Need-enum-known-f Inv-loop μ-loop
-enum-known-f c = ?
+enum-known-f c = search needs
 
--- src/lib.rt:148:29
 closes-cell-requires-2 : tie.Need-closes-cell-requires-2 Inv-loop μ-loop
-closes-cell-requires-2 c κs = ?
+closes-cell-requires-2 c κs = search needs
 
--- src/lib.rt:154:29
 add-put-2 : tie.Need-add-put-2 Inv-loop μ-loop
-add-put-2 c = ?
+add-put-2 c =
+    let a = c .before .before .before .before .before .before .before .before .before .before .before .before .before .before .before .before .before .before .before .before .before .before .args in
+    let l = c .before .before .before .before .before .before .before .before .before .before .before .before .before .before .before .before .before .loop in
+    let g = cell-step (c .before .before .before .before .before .before .before .before .before .before .before) _ _ (c .before .before .before .before .before .before .before .before .before .closes .given .1) _ (c .before .before .before .before .before .before .before .grown-by .ensures) _ (c .before .before .before .before .before .after-cell .ensures) in
+    let x = small-sum (a .d) (a .file .now) (a .first) (a .from) (a .room) (a .base) (a .starts .now) (a .ends .now) (a .kinds .now) g in record { fits = x }
 
--- src/lib.rt:147:25
 put-requires-2 : tie.Need-put-requires-2 Inv-loop μ-loop
-put-requires-2 c κs = ?
+put-requires-2 c κs =
+    let a = c .before .before .before .before .before .before .before .before .before .before .before .before .before .before .before .before .before .before .before .before .before .before .before .before .before .args in
+    let l = c .before .before .before .before .before .before .before .before .before .before .before .before .before .before .before .before .before .before .before .before .loop in
+    let g = cell-step (c .before .before .before .before .before .before .before .before .before .before .before .before .before .before) _ _ (c .before .before .before .before .before .before .before .before .before .before .before .before .closes .given .1) _ (c .before .before .before .before .before .before .before .before .before .before .grown-by .ensures) _ (c .before .before .before .before .before .before .before .before .after-cell .ensures) in
+    let n = lengths (a .d) (a .file .now) (a .first) (a .from) (a .room) (a .base) (a .starts .now) (a .ends .now) (a .kinds .now) (l .inv .lists) in
+    let q = c .before .before .before .before .before .before .before .before .before .before .before .before .before .before .before .before .before .before .before .before .before .before .before .before .before .pre .1 in
+    ((g .reached .opened, g .reached .inside), (rw (n .0) (q .0), rw (n .1) (q .1), rw (n .2) (q .2)))
 
--- src/lib.rt:159:25
 moved-requires-3 : tie.Need-moved-requires-3 Inv-loop μ-loop
-moved-requires-3 c κs = ?
+moved-requires-3 c κs =
+    let a = c .before .before .before .before .before .before .before .before .before .before .before .before .before .before .before .before .before .before .before .before .before .before .before .before .before .before .before .before .before .before .before .before .args in
+    let l = c .before .before .before .before .before .before .before .before .before .before .before .before .before .before .before .before .before .before .before .before .before .before .before .before .before .before .before .loop in
+    let g = cell-step (c .before .before .before .before .before .before .before .before .before .before .before .before .before .before .before .before .before .before .before .before .before) _ _ (c .before .before .before .before .before .before .before .before .before .before .before .before .before .before .before .before .before .before .before .closes .given .1) _ (c .before .before .before .before .before .before .before .before .before .before .before .before .before .before .before .before .before .grown-by .ensures) _ (c .before .before .before .before .before .before .before .before .before .before .before .before .before .before .before .after-cell .ensures) in
+    small-step (a .d) (a .file .now) (a .first) (a .from) (a .room) (a .base) (a .starts .now) (a .ends .now) (a .kinds .now) g
 
--- src/lib.rt:160:25
 add-i-2 : tie.Need-add-i-2 Inv-loop μ-loop
-add-i-2 c = ?
+add-i-2 c =
+    let a = c .before .before .before .before .before .before .before .before .before .before .before .before .before .before .before .before .before .before .before .before .before .before .before .before .before .before .before .before .before .before .before .before .before .args in
+    let l = c .before .before .before .before .before .before .before .before .before .before .before .before .before .before .before .before .before .before .before .before .before .before .before .before .before .before .before .before .loop in
+    let n = lies-cell-at (c .before .before .before .before .before .before .before .before .before .before .before .before .before .before .before .before .before .before .before .before .before .before) _ _ (c .before .before .before .before .before .before .before .before .before .before .before .before .before .before .before .before .before .before .before .before .closes .given .1) in let j2 = n .2 in omega arith
 
--- src/lib.rt:161:28
 ends-record-requires-2 : tie.Need-ends-record-requires-2 Inv-loop μ-loop
-ends-record-requires-2 c κs = ?
+ends-record-requires-2 c κs = search needs
 
--- src/lib.rt:162:29
 same-length-16 : tie.Need-same-length-16 Inv-loop μ-loop
-same-length-16 c = ?
+same-length-16 c =
+    let a = c .before .before .before .before .before .before .before .before .before .before .before .before .before .before .before .before .before .before .before .before .before .before .before .before .before .before .before .before .before .before .before .before .before .before .before .args in
+    let l = c .before .before .before .before .before .before .before .before .before .before .before .before .before .before .before .before .before .before .before .before .before .before .before .before .before .before .before .before .before .before .loop in
+    out-lengths (a .d) (a .file .now) (a .first) (a .from) (a .room) (a .base) (a .starts .now) (a .ends .now) (a .kinds .now) (step-over (a .d) (a .file .now) (a .first) (a .from) (a .room) (a .base) (a .starts .now) (a .ends .now) (a .kinds .now) (l .form) _ _ (l .starts) (l .ends) (l .kinds) _ (cell-step (c .before .before .before .before .before .before .before .before .before .before .before .before .before .before .before .before .before .before .before .before .before .before .before .before) _ _ (c .before .before .before .before .before .before .before .before .before .before .before .before .before .before .before .before .before .before .before .before .before .before .closes .given .1) _ (c .before .before .before .before .before .before .before .before .before .before .before .before .before .before .before .before .before .before .before .before .grown-by .ensures) _ (c .before .before .before .before .before .before .before .before .before .before .before .before .before .before .before .before .before .before .after-cell .ensures)) _ _ (c .before .before .before .before .before .before .before .before .before .before .before .before .before .before .before .before .f .given .1) _ (c .before .before .before .before .before .before .before .before .before .before .before .before .before .before .closes-cell2 .ensures) _ _ _ (c .before .before .before .before .before .before .before .before .before .put2 .ensures) _ (c .before .before .moved3 .ensures) _ (c .before .ends-record2 .ensures) (c .if4 .taken)) .0
 
--- src/lib.rt:162:29
 same-length-17 : tie.Need-same-length-17 Inv-loop μ-loop
-same-length-17 c = ?
+same-length-17 c =
+    let a = c .before .before .before .before .before .before .before .before .before .before .before .before .before .before .before .before .before .before .before .before .before .before .before .before .before .before .before .before .before .before .before .before .before .before .before .args in
+    let l = c .before .before .before .before .before .before .before .before .before .before .before .before .before .before .before .before .before .before .before .before .before .before .before .before .before .before .before .before .before .before .loop in
+    out-lengths (a .d) (a .file .now) (a .first) (a .from) (a .room) (a .base) (a .starts .now) (a .ends .now) (a .kinds .now) (step-over (a .d) (a .file .now) (a .first) (a .from) (a .room) (a .base) (a .starts .now) (a .ends .now) (a .kinds .now) (l .form) _ _ (l .starts) (l .ends) (l .kinds) _ (cell-step (c .before .before .before .before .before .before .before .before .before .before .before .before .before .before .before .before .before .before .before .before .before .before .before .before) _ _ (c .before .before .before .before .before .before .before .before .before .before .before .before .before .before .before .before .before .before .before .before .before .before .closes .given .1) _ (c .before .before .before .before .before .before .before .before .before .before .before .before .before .before .before .before .before .before .before .before .grown-by .ensures) _ (c .before .before .before .before .before .before .before .before .before .before .before .before .before .before .before .before .before .before .after-cell .ensures)) _ _ (c .before .before .before .before .before .before .before .before .before .before .before .before .before .before .before .before .f .given .1) _ (c .before .before .before .before .before .before .before .before .before .before .before .before .before .before .closes-cell2 .ensures) _ _ _ (c .before .before .before .before .before .before .before .before .before .put2 .ensures) _ (c .before .before .moved3 .ensures) _ (c .before .ends-record2 .ensures) (c .if4 .taken)) .1
 
--- src/lib.rt:162:29
 same-length-18 : tie.Need-same-length-18 Inv-loop μ-loop
-same-length-18 c = ?
+same-length-18 c =
+    let a = c .before .before .before .before .before .before .before .before .before .before .before .before .before .before .before .before .before .before .before .before .before .before .before .before .before .before .before .before .before .before .before .before .before .before .before .args in
+    let l = c .before .before .before .before .before .before .before .before .before .before .before .before .before .before .before .before .before .before .before .before .before .before .before .before .before .before .before .before .before .before .loop in
+    out-lengths (a .d) (a .file .now) (a .first) (a .from) (a .room) (a .base) (a .starts .now) (a .ends .now) (a .kinds .now) (step-over (a .d) (a .file .now) (a .first) (a .from) (a .room) (a .base) (a .starts .now) (a .ends .now) (a .kinds .now) (l .form) _ _ (l .starts) (l .ends) (l .kinds) _ (cell-step (c .before .before .before .before .before .before .before .before .before .before .before .before .before .before .before .before .before .before .before .before .before .before .before .before) _ _ (c .before .before .before .before .before .before .before .before .before .before .before .before .before .before .before .before .before .before .before .before .before .before .closes .given .1) _ (c .before .before .before .before .before .before .before .before .before .before .before .before .before .before .before .before .before .before .before .before .grown-by .ensures) _ (c .before .before .before .before .before .before .before .before .before .before .before .before .before .before .before .before .before .before .after-cell .ensures)) _ _ (c .before .before .before .before .before .before .before .before .before .before .before .before .before .before .before .before .f .given .1) _ (c .before .before .before .before .before .before .before .before .before .before .before .before .before .before .closes-cell2 .ensures) _ _ _ (c .before .before .before .before .before .before .before .before .before .put2 .ensures) _ (c .before .before .moved3 .ensures) _ (c .before .ends-record2 .ensures) (c .if4 .taken)) .2
 
--- src/lib.rt:162:29
 returns-6 : tie.Need-returns-6 Inv-loop μ-loop
-returns-6 c = ?
+returns-6 c =
+    let a = c .before .before .before .before .before .before .before .before .before .before .before .before .before .before .before .before .before .before .before .before .before .before .before .before .before .before .before .before .before .before .before .before .before .before .before .args in
+    let l = c .before .before .before .before .before .before .before .before .before .before .before .before .before .before .before .before .before .before .before .before .before .before .before .before .before .before .before .before .before .before .loop in
+    let o = step-over (a .d) (a .file .now) (a .first) (a .from) (a .room) (a .base) (a .starts .now) (a .ends .now) (a .kinds .now) (l .form) _ _ (l .starts) (l .ends) (l .kinds) _ (cell-step (c .before .before .before .before .before .before .before .before .before .before .before .before .before .before .before .before .before .before .before .before .before .before .before .before) _ _ (c .before .before .before .before .before .before .before .before .before .before .before .before .before .before .before .before .before .before .before .before .before .before .closes .given .1) _ (c .before .before .before .before .before .before .before .before .before .before .before .before .before .before .before .before .before .before .before .before .grown-by .ensures) _ (c .before .before .before .before .before .before .before .before .before .before .before .before .before .before .before .before .before .before .after-cell .ensures)) _ _ (c .before .before .before .before .before .before .before .before .before .before .before .before .before .before .before .before .f .given .1) _ (c .before .before .before .before .before .before .before .before .before .before .before .before .before .before .closes-cell2 .ensures) _ _ _ (c .before .before .before .before .before .before .before .before .before .put2 .ensures) _ (c .before .before .moved3 .ensures) _ (c .before .ends-record2 .ensures) (c .if4 .taken) in
+    (o .event, (o .at-starts, (o .at-ends, (o .at-kinds, step-fits (a .d) (a .file .now) (a .first) (a .from) (a .room) (a .base) (a .starts .now) (a .ends .now) (a .kinds .now) (l .form) _ _ (l .starts) (l .ends) (l .kinds) _ (cell-step (c .before .before .before .before .before .before .before .before .before .before .before .before .before .before .before .before .before .before .before .before .before .before .before .before) _ _ (c .before .before .before .before .before .before .before .before .before .before .before .before .before .before .before .before .before .before .before .before .before .before .closes .given .1) _ (c .before .before .before .before .before .before .before .before .before .before .before .before .before .before .before .before .before .before .before .before .grown-by .ensures) _ (c .before .before .before .before .before .before .before .before .before .before .before .before .before .before .before .before .before .before .after-cell .ensures)) _ _ (c .before .before .before .before .before .before .before .before .before .before .before .before .before .before .before .before .f .given .1) _ (c .before .before .before .before .before .before .before .before .before .before .before .before .before .before .closes-cell2 .ensures) _ _ _ (c .before .before .before .before .before .before .before .before .before .put2 .ensures) _ (c .before .before .moved3 .ensures) _ (c .before .ends-record2 .ensures) (c .if4 .taken)))))
 
--- src/lib.rt:83:5
 loop-less-3 : tie.Need-loop-less-3 Inv-loop μ-loop
-loop-less-3 c = ?
+loop-less-3 c =
+    let n = lies-cell-at (c .before .before .before .before .before .before .before .before .before .before .before .before .before .before .before .before .before .before .before .before .before .before .before .before) _ _ (c .before .before .before .before .before .before .before .before .before .before .before .before .before .before .before .before .before .before .before .before .before .before .closes .given .1) in let j1 = n .0 in let j2 = n .1 in omega arith
 
--- src/lib.rt:83:5
 loop-again-3 : tie.Need-loop-again-3 Inv-loop μ-loop
-loop-again-3 c = ?
+loop-again-3 c =
+    let a = c .before .before .before .before .before .before .before .before .before .before .before .before .before .before .before .before .before .before .before .before .before .before .before .before .before .before .before .before .before .before .before .before .before .before .before .args in
+    let l = c .before .before .before .before .before .before .before .before .before .before .before .before .before .before .before .before .before .before .before .before .before .before .before .before .before .before .before .before .before .before .loop in
+    step-on (a .d) (a .file .now) (a .first) (a .from) (a .room) (a .base) (a .starts .now) (a .ends .now) (a .kinds .now) (l .form) _ _ (l .starts) (l .ends) (l .kinds) _ (cell-step (c .before .before .before .before .before .before .before .before .before .before .before .before .before .before .before .before .before .before .before .before .before .before .before .before) _ _ (c .before .before .before .before .before .before .before .before .before .before .before .before .before .before .before .before .before .before .before .before .before .before .closes .given .1) _ (c .before .before .before .before .before .before .before .before .before .before .before .before .before .before .before .before .before .before .before .before .grown-by .ensures) _ (c .before .before .before .before .before .before .before .before .before .before .before .before .before .before .before .before .before .before .after-cell .ensures)) _ _ (c .before .before .before .before .before .before .before .before .before .before .before .before .before .before .before .before .f .given .1) _ (c .before .before .before .before .before .before .before .before .before .before .before .before .before .before .closes-cell2 .ensures) _ _ _ (c .before .before .before .before .before .before .before .before .before .put2 .ensures) _ (c .before .before .moved3 .ensures) _ (c .before .ends-record2 .ensures) (c .if4 .left)
 
--- src/lib.rt:174:26
 enum-known-e-2 : tie.Need-enum-known-e-2 Inv-loop μ-loop
-enum-known-e-2 c = ?
+enum-known-e-2 c = search needs
 
--- src/lib.rt:175:17
 same-length-19 : tie.Need-same-length-19 Inv-loop μ-loop
-same-length-19 c = ?
+same-length-19 c =
+    let a = c .before .before .before .before .before .before .before .before .before .before .before .before .before .before .args in
+    let l = c .before .before .before .before .before .before .before .before .before .loop in
+    out-lengths (a .d) (a .file .now) (a .first) (a .from) (a .room) (a .base) (a .starts .now) (a .ends .now) (a .kinds .now) (refusal (c .before .before .before) _ _ (c .before .e2 .given .1)) .0
 
--- src/lib.rt:175:17
 same-length-20 : tie.Need-same-length-20 Inv-loop μ-loop
-same-length-20 c = ?
+same-length-20 c =
+    let a = c .before .before .before .before .before .before .before .before .before .before .before .before .before .before .args in
+    let l = c .before .before .before .before .before .before .before .before .before .loop in
+    out-lengths (a .d) (a .file .now) (a .first) (a .from) (a .room) (a .base) (a .starts .now) (a .ends .now) (a .kinds .now) (refusal (c .before .before .before) _ _ (c .before .e2 .given .1)) .1
 
--- src/lib.rt:175:17
 same-length-21 : tie.Need-same-length-21 Inv-loop μ-loop
-same-length-21 c = ?
+same-length-21 c =
+    let a = c .before .before .before .before .before .before .before .before .before .before .before .before .before .before .args in
+    let l = c .before .before .before .before .before .before .before .before .before .loop in
+    out-lengths (a .d) (a .file .now) (a .first) (a .from) (a .room) (a .base) (a .starts .now) (a .ends .now) (a .kinds .now) (refusal (c .before .before .before) _ _ (c .before .e2 .given .1)) .2
 
--- src/lib.rt:175:17
 returns-7 : tie.Need-returns-7 Inv-loop μ-loop
-returns-7 c = ?
+returns-7 c =
+    let a = c .before .before .before .before .before .before .before .before .before .before .before .before .before .before .args in
+    let l = c .before .before .before .before .before .before .before .before .before .loop in
+    let o = refusal (c .before .before .before) _ _ (c .before .e2 .given .1) in
+    (o .event, (o .at-starts, (o .at-ends, (o .at-kinds, tt))))
 
--- src/lib.rt:180:23
 enum-known-c : tie.Need-enum-known-c Inv-loop μ-loop
-enum-known-c c = ?
+enum-known-c c = search needs
 
--- src/lib.rt:181:39
 sub-grown-by-2 : tie.Need-sub-grown-by-2 Inv-loop μ-loop
-sub-grown-by-2 c = ?
+sub-grown-by-2 c =
+    let n = lies-open-at (c .before .before .before) _ _ (c .before .c .given .1) in let j1 = n .0 in omega arith
 
--- src/lib.rt:181:17
 grown-by-requires-2 : tie.Need-grown-by-requires-2 Inv-loop μ-loop
-grown-by-requires-2 c κs = ?
+grown-by-requires-2 c κs =
+    let a = c .before .before .before .before .before .before .before .before .before .before .before .before .before .before .args in
+    let l = c .before .before .before .before .before .before .before .before .before .loop in
+    let few : a .base + l .h .cells ≤ l .i = l .inv .reached .few in
+    let sized : l .h .size ≤ l .i = l .inv .reached .sized in
+    let n = lies-open-at (c .before .before .before) _ _ (c .before .c .given .1) in let j1 = n .0 in let j2 = n .2 in omega arith
 
--- src/lib.rt:83:5
 loop-less-4 : tie.Need-loop-less-4 Inv-loop μ-loop
-loop-less-4 c = ?
+loop-less-4 c =
+    let n = lies-open-at (c .before .before .before .before) _ _ (c .before .before .c .given .1) in let j1 = n .0 in let j2 = n .1 in omega arith
 
--- src/lib.rt:83:5
 loop-again-4 : tie.Need-loop-again-4 Inv-loop μ-loop
-loop-again-4 c = ?
+loop-again-4 c =
+    open-turn (c .before .before .before .before) _ _ (c .before .before .c .given .1) _ (c .grown-by2 .ensures)
 
--- src/lib.rt:188:11
 file-end-requires : tie.Need-file-end-requires Inv-loop μ-loop
-file-end-requires c κs = ?
+file-end-requires c κs = search needs
 
--- src/lib.rt:189:26
 enum-told : tie.Need-enum-told Inv-loop μ-loop
-enum-told c = ?
+enum-told c = search needs
 
--- src/lib.rt:198:17
 enum-told-2 : tie.Need-enum-told-2 Inv-loop μ-loop
-enum-told-2 c = ?
+enum-told-2 c = search needs
 
--- src/lib.rt:198:17
 add-put-3 : tie.Need-add-put-3 Inv-loop μ-loop
-add-put-3 c = ?
+add-put-3 c =
+    let a = c .before .before .before .before .before .before .before .before .before .before .args in
+    let l = c .before .before .before .before .before .loop in
+    let few : a .base + l .h .cells ≤ l .i = l .inv .reached .few in
+    let sized : l .h .size ≤ l .i = l .inv .reached .sized in
+    let under : l .i ≤ MAXFILE = l .inv .reached .under in omega arith
 
--- src/lib.rt:191:13
 put-requires-3 : tie.Need-put-requires-3 Inv-loop μ-loop
-put-requires-3 c κs = ?
+put-requires-3 c κs =
+    let a = c .before .before .before .before .before .before .before .before .before .before .before .before .before .args in
+    let l = c .before .before .before .before .before .before .before .before .loop in
+    let n = lengths (a .d) (a .file .now) (a .first) (a .from) (a .room) (a .base) (a .starts .now) (a .ends .now) (a .kinds .now) (l .inv .lists) in
+    let q = c .before .before .before .before .before .before .before .before .before .before .before .before .before .pre .1 in
+    ((l .inv .reached .opened, l .inv .reached .inside), (rw (n .0) (q .0), rw (n .1) (q .1), rw (n .2) (q .2)))
 
--- src/lib.rt:205:24
 add-t68 : tie.Need-add-t68 Inv-loop μ-loop
-add-t68 c = ?
+add-t68 c =
+    let a = c .before .before .before .before .before .before .before .before .before .before .before .before .before .before .before .before .before .before .before .before .before .args in
+    let l = c .before .before .before .before .before .before .before .before .before .before .before .before .before .before .before .before .loop in
+    let few : a .base + l .h .cells ≤ l .i = l .inv .reached .few in
+    let sized : l .h .size ≤ l .i = l .inv .reached .sized in
+    let under : l .i ≤ MAXFILE = l .inv .reached .under in omega arith
 
--- src/lib.rt:209:20
 enum-told-3 : tie.Need-enum-told-3 Inv-loop μ-loop
-enum-told-3 c = ?
+enum-told-3 c = search needs
 
--- src/lib.rt:56:1
 same-length-22 : tie.Need-same-length-22 Inv-loop μ-loop
-same-length-22 c = ?
+same-length-22 c =
+    let a = c .before .before .before .before .before .before .before .before .before .args in
+    let l = c .before .before .before .before .loop in
+    out-lengths (a .d) (a .file .now) (a .first) (a .from) (a .room) (a .base) (a .starts .now) (a .ends .now) (a .kinds .now) (clean-end (a .d) (a .file .now) (a .first) (a .from) (a .room) (a .base) (a .starts .now) (a .ends .now) (a .kinds .now) (l .form) (l .i) (l .h) (l .inv) (c .before .before .before .loop-test .left) (sym (c .before .before .file-end .ensures) ∙ c .enum-told .given .1)) .0
 
--- src/lib.rt:56:1
 same-length-23 : tie.Need-same-length-23 Inv-loop μ-loop
-same-length-23 c = ?
+same-length-23 c =
+    let a = c .before .before .before .before .before .before .before .before .before .args in
+    let l = c .before .before .before .before .loop in
+    out-lengths (a .d) (a .file .now) (a .first) (a .from) (a .room) (a .base) (a .starts .now) (a .ends .now) (a .kinds .now) (clean-end (a .d) (a .file .now) (a .first) (a .from) (a .room) (a .base) (a .starts .now) (a .ends .now) (a .kinds .now) (l .form) (l .i) (l .h) (l .inv) (c .before .before .before .loop-test .left) (sym (c .before .before .file-end .ensures) ∙ c .enum-told .given .1)) .1
 
--- src/lib.rt:56:1
 same-length-24 : tie.Need-same-length-24 Inv-loop μ-loop
-same-length-24 c = ?
+same-length-24 c =
+    let a = c .before .before .before .before .before .before .before .before .before .args in
+    let l = c .before .before .before .before .loop in
+    out-lengths (a .d) (a .file .now) (a .first) (a .from) (a .room) (a .base) (a .starts .now) (a .ends .now) (a .kinds .now) (clean-end (a .d) (a .file .now) (a .first) (a .from) (a .room) (a .base) (a .starts .now) (a .ends .now) (a .kinds .now) (l .form) (l .i) (l .h) (l .inv) (c .before .before .before .loop-test .left) (sym (c .before .before .file-end .ensures) ∙ c .enum-told .given .1)) .2
 
--- src/lib.rt:56:1
 returns-8 : tie.Need-returns-8 Inv-loop μ-loop
-returns-8 c = ?
+returns-8 c =
+    let a = c .before .before .before .before .before .before .before .before .before .args in
+    let l = c .before .before .before .before .loop in
+    let o = clean-end (a .d) (a .file .now) (a .first) (a .from) (a .room) (a .base) (a .starts .now) (a .ends .now) (a .kinds .now) (l .form) (l .i) (l .h) (l .inv) (c .before .before .before .loop-test .left) (sym (c .before .before .file-end .ensures) ∙ c .enum-told .given .1) in
+    (o .event, (o .at-starts, (o .at-ends, (o .at-kinds, tt))))
 
--- src/lib.rt:56:1
 same-length-25 : tie.Need-same-length-25 Inv-loop μ-loop
-same-length-25 c = ?
+same-length-25 c =
+    let a = c .before .before .before .before .before .before .before .before .before .before .before .before .before .before .before .before .before .before .before .before .before .args in
+    let l = c .before .before .before .before .before .before .before .before .before .before .before .before .before .before .before .before .loop in
+    out-lengths (a .d) (a .file .now) (a .first) (a .from) (a .room) (a .base) (a .starts .now) (a .ends .now) (a .kinds .now) (last-put (a .d) (a .file .now) (a .first) (a .from) (a .room) (a .base) (a .starts .now) (a .ends .now) (a .kinds .now) (l .form) (l .i) (l .h) (l .starts) (l .ends) (l .kinds) (l .inv) (c .before .before .before .before .before .before .before .before .before .before .before .before .before .before .before .loop-test .left) (sym (c .before .before .before .before .before .before .before .before .before .before .before .before .before .before .file-end .ensures) ∙ c .before .before .before .before .before .before .before .before .before .before .before .before .enum-told2 .given .1) _ _ _ (c .before .before .before .before .before .before .before .put3 .ensures)) .0
 
--- src/lib.rt:56:1
 same-length-26 : tie.Need-same-length-26 Inv-loop μ-loop
-same-length-26 c = ?
+same-length-26 c =
+    let a = c .before .before .before .before .before .before .before .before .before .before .before .before .before .before .before .before .before .before .before .before .before .args in
+    let l = c .before .before .before .before .before .before .before .before .before .before .before .before .before .before .before .before .loop in
+    out-lengths (a .d) (a .file .now) (a .first) (a .from) (a .room) (a .base) (a .starts .now) (a .ends .now) (a .kinds .now) (last-put (a .d) (a .file .now) (a .first) (a .from) (a .room) (a .base) (a .starts .now) (a .ends .now) (a .kinds .now) (l .form) (l .i) (l .h) (l .starts) (l .ends) (l .kinds) (l .inv) (c .before .before .before .before .before .before .before .before .before .before .before .before .before .before .before .loop-test .left) (sym (c .before .before .before .before .before .before .before .before .before .before .before .before .before .before .file-end .ensures) ∙ c .before .before .before .before .before .before .before .before .before .before .before .before .enum-told2 .given .1) _ _ _ (c .before .before .before .before .before .before .before .put3 .ensures)) .1
 
--- src/lib.rt:56:1
 same-length-27 : tie.Need-same-length-27 Inv-loop μ-loop
-same-length-27 c = ?
+same-length-27 c =
+    let a = c .before .before .before .before .before .before .before .before .before .before .before .before .before .before .before .before .before .before .before .before .before .args in
+    let l = c .before .before .before .before .before .before .before .before .before .before .before .before .before .before .before .before .loop in
+    out-lengths (a .d) (a .file .now) (a .first) (a .from) (a .room) (a .base) (a .starts .now) (a .ends .now) (a .kinds .now) (last-put (a .d) (a .file .now) (a .first) (a .from) (a .room) (a .base) (a .starts .now) (a .ends .now) (a .kinds .now) (l .form) (l .i) (l .h) (l .starts) (l .ends) (l .kinds) (l .inv) (c .before .before .before .before .before .before .before .before .before .before .before .before .before .before .before .loop-test .left) (sym (c .before .before .before .before .before .before .before .before .before .before .before .before .before .before .file-end .ensures) ∙ c .before .before .before .before .before .before .before .before .before .before .before .before .enum-told2 .given .1) _ _ _ (c .before .before .before .before .before .before .before .put3 .ensures)) .2
 
--- src/lib.rt:56:1
 returns-9 : tie.Need-returns-9 Inv-loop μ-loop
-returns-9 c = ?
+returns-9 c =
+    let a = c .before .before .before .before .before .before .before .before .before .before .before .before .before .before .before .before .before .before .before .before .before .args in
+    let l = c .before .before .before .before .before .before .before .before .before .before .before .before .before .before .before .before .loop in
+    let o = last-put (a .d) (a .file .now) (a .first) (a .from) (a .room) (a .base) (a .starts .now) (a .ends .now) (a .kinds .now) (l .form) (l .i) (l .h) (l .starts) (l .ends) (l .kinds) (l .inv) (c .before .before .before .before .before .before .before .before .before .before .before .before .before .before .before .loop-test .left) (sym (c .before .before .before .before .before .before .before .before .before .before .before .before .before .before .file-end .ensures) ∙ c .before .before .before .before .before .before .before .before .before .before .before .before .enum-told2 .given .1) _ _ _ (c .before .before .before .before .before .before .before .put3 .ensures) in
+    (o .event, (o .at-starts, (o .at-ends, (o .at-kinds, last-fits (a .d) (a .file .now) (a .first) (a .from) (a .room) (a .base) (a .starts .now) (a .ends .now) (a .kinds .now) (l .form) (l .i) (l .h) (l .inv) (c .before .before .before .before .before .before .before .before .before .before .before .before .before .before .before .loop-test .left)))))
 
--- src/lib.rt:56:1
 same-length-28 : tie.Need-same-length-28 Inv-loop μ-loop
-same-length-28 c = ?
+same-length-28 c =
+    let a = c .before .before .before .before .before .before .before .before .before .args in
+    let l = c .before .before .before .before .loop in
+    out-lengths (a .d) (a .file .now) (a .first) (a .from) (a .room) (a .base) (a .starts .now) (a .ends .now) (a .kinds .now) (cut-short (a .d) (a .file .now) (a .first) (a .from) (a .room) (a .base) (a .starts .now) (a .ends .now) (a .kinds .now) (l .form) (l .i) (l .h) (l .inv) (c .before .before .before .loop-test .left) (sym (c .before .before .file-end .ensures) ∙ c .enum-told3 .given .1)) .0
 
--- src/lib.rt:56:1
 same-length-29 : tie.Need-same-length-29 Inv-loop μ-loop
-same-length-29 c = ?
+same-length-29 c =
+    let a = c .before .before .before .before .before .before .before .before .before .args in
+    let l = c .before .before .before .before .loop in
+    out-lengths (a .d) (a .file .now) (a .first) (a .from) (a .room) (a .base) (a .starts .now) (a .ends .now) (a .kinds .now) (cut-short (a .d) (a .file .now) (a .first) (a .from) (a .room) (a .base) (a .starts .now) (a .ends .now) (a .kinds .now) (l .form) (l .i) (l .h) (l .inv) (c .before .before .before .loop-test .left) (sym (c .before .before .file-end .ensures) ∙ c .enum-told3 .given .1)) .1
 
--- src/lib.rt:56:1
 same-length-30 : tie.Need-same-length-30 Inv-loop μ-loop
-same-length-30 c = ?
+same-length-30 c =
+    let a = c .before .before .before .before .before .before .before .before .before .args in
+    let l = c .before .before .before .before .loop in
+    out-lengths (a .d) (a .file .now) (a .first) (a .from) (a .room) (a .base) (a .starts .now) (a .ends .now) (a .kinds .now) (cut-short (a .d) (a .file .now) (a .first) (a .from) (a .room) (a .base) (a .starts .now) (a .ends .now) (a .kinds .now) (l .form) (l .i) (l .h) (l .inv) (c .before .before .before .loop-test .left) (sym (c .before .before .file-end .ensures) ∙ c .enum-told3 .given .1)) .2
 
--- src/lib.rt:56:1
 returns-10 : tie.Need-returns-10 Inv-loop μ-loop
-returns-10 c = ?
+returns-10 c =
+    let a = c .before .before .before .before .before .before .before .before .before .args in
+    let l = c .before .before .before .before .loop in
+    let o = cut-short (a .d) (a .file .now) (a .first) (a .from) (a .room) (a .base) (a .starts .now) (a .ends .now) (a .kinds .now) (l .form) (l .i) (l .h) (l .inv) (c .before .before .before .loop-test .left) (sym (c .before .before .file-end .ensures) ∙ c .enum-told3 .given .1) in
+    (o .event, (o .at-starts, (o .at-ends, (o .at-kinds, tt))))
 
 pub next-record-spec : {M : Type 1} → statement M
 next-record-spec =
