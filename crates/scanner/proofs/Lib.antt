@@ -3,3 +3,4 @@ pub mod Placing
 pub mod Coming
 pub mod Calm
 pub mod Scanning
+pub mod Reading

@@ -2,3 +2,4 @@ pub mod Types
 pub mod Next
 pub mod Ahead
 pub mod Placed
+pub mod Reading

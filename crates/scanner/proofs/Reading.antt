@@ -1,0 +1,88 @@
+-- Reading a file goes from record to record.
+use Prim.Native.Nat.{ℕ, zero, suc, _+_}
+use native.Mathlib.Numerals.{add-one}
+use mathlib.Core.Path.{_≡_, refl, sym, ap, subst, _∙_}
+use mathlib.Core.Bool.{Bool, true, false, _&&_}
+use mathlib.Core.Option.{none}
+use mathlib.Core.List.{List, [], _∷_}
+use lib.ListN.{drop}
+use lib.Seq.{drop-drop}
+use lib.Dec.{leb}
+use Rattle.model.specs.Base.{if_then_else_, Bytes}
+use Rattle.model.specs.Form.{formStep, formEnd, counts}
+use Rattle.model.specs.Report.{MAXFILE, MAXRECORD, isAtByte}
+use Rattle.model.specs.Records.{Rec, Read, Progress, going, stopped, closing, complete, move, fileFull, recordFull, readByte, readFrom, readEnd, endAt}
+use Rattle.model.proofs.Tests.{impossible}
+use Rattle.scanner.specs.Types.{Dialect, ByteFault, Encoding, Syntax, Fault, Byte, Form, Part, Outside, Passed, OfCell, Between, Tail, Ends, Step, To, Reject, Ending, Clean, Final, Cut, CutShort, FileTooLong, RecordTooLong}
+use Rattle.scanner.specs.Next.{Next, endsRecord, carried, failed, ended, stepped, nextRecord}
+use Rattle.scanner.specs.Reading.{redone, Follows, after-record, after-last, after-fault, after-all}
+
+-- what is left after one more byte
+next-drop : (xs : Bytes) (n b : ℕ) (bs : Bytes) → b ∷ bs ≡ drop n xs → bs ≡ drop (n + 1) xs
+next-drop xs n b bs e = ap (drop 1) e ∙ drop-drop 1 n xs
+
+-- a fault stays
+stays : (d : Dialect) (e : Fault) (r : Read) (bs : Bytes) → stopped e r ≡ readEnd d none (readFrom d none (stopped e r) bs)
+unfolding readFrom readEnd
+stays d e r [] = refl
+stays d e r (b ∷ bs) = refl
+
+module _ (d : Dialect) (file : Bytes) (rs : List Rec) where
+  abbrev Rest : Progress → Bytes → Progress
+  Rest p bs = readEnd d none (readFrom d none p bs)
+
+  -- the end of the file
+  at-end : (r : Read) (x : Ending) → Follows d file rs (ended d r x) (endAt d none (redone rs r) x)
+  unfolding isAtByte
+  at-end r Clean = after-all (redone rs r) (r .cells) refl
+  at-end r Final = after-last (redone rs r) (closing d true r) refl
+  at-end r Cut = after-fault CutShort (redone rs r) (r .cells) refl refl
+
+  faulty : (e : Fault) (r : Read) (bs : Bytes) → isAtByte e ≡ true → Follows d file rs (failed e r) (Rest (stopped e (redone rs r)) bs)
+  faulty e r bs q = subst (λ (p : Progress). Follows d file rs (failed e r) p) (stays d e (redone rs r) bs) (after-fault e (redone rs r) (r .cells) refl q)
+
+  -- a byte within its record
+  within-record : (r : Read) (b : ℕ) (f : Form) (p : Part) → endsRecord p ≡ false → move d none (redone rs r) b (To f p) ≡ going (redone rs (carried d r b f p))
+  unfolding move
+  within-record r b f Outside e = rw (add-one (r .offset))
+  within-record r b f Passed e = rw (add-one (r .offset))
+  within-record r b f OfCell e = rw (add-one (r .offset), add-one (r .size))
+  within-record r b f (Between true) e = rw (add-one (r .offset), add-one (r .size))
+  within-record r b f (Between false) e = rw (add-one (r .offset), add-one (r .size))
+  within-record r b f (Tail true) e = rw (add-one (r .offset))
+  within-record r b f (Tail false) e = rw (add-one (r .offset))
+  within-record r b f (Ends k) e = impossible (sym e)
+
+  -- the byte that ends its record
+  at-ending : (r : Read) (b : ℕ) (f : Form) (k : Bool) (bs : Bytes) → bs ≡ drop (r .offset + 1) file → Follows d file rs (stepped d r b (λ r′. nextRecord d r′ bs) (To f (Ends k))) (Rest (move d none (redone rs r) b (To f (Ends k))) bs)
+  unfolding stepped move if_then_else_
+  at-ending r b f true bs e =
+      rw (e, ← add-one (r .offset)) (after-record (redone rs r) (closing d true r) f (r .offset + 1) refl)
+  at-ending r b f false bs e =
+      rw (e, ← add-one (r .offset)) (after-record (redone rs r) (closing d false r) f (r .offset + 1) refl)
+
+  abbrev Ih : Bytes → Type 0
+  Ih bs = (r : Read) → bs ≡ drop (r .offset) file → Follows d file rs (nextRecord d r bs) (Rest (going (redone rs r)) bs)
+
+  on-byte : (r : Read) (b : ℕ) (bs : Bytes) → bs ≡ drop (r .offset + 1) file → Ih bs → (s : Step) → Follows d file rs (stepped d r b (λ r′. nextRecord d r′ bs) s) (Rest (move d none (redone rs r) b s) bs)
+  unfolding stepped if_then_else_ isAtByte move
+  on-byte r b bs e ih (Reject x) = faulty (Byte x) r bs refl
+  on-byte r b bs e ih (To f Outside) = rw (within-record r b f Outside refl) (ih (carried d r b f Outside) e)
+  on-byte r b bs e ih (To f Passed) = rw (within-record r b f Passed refl) (ih (carried d r b f Passed) e)
+  on-byte r b bs e ih (To f OfCell) = rw (within-record r b f OfCell refl) (ih (carried d r b f OfCell) e)
+  on-byte r b bs e ih (To f (Between k)) = rw (within-record r b f (Between k) refl) (ih (carried d r b f (Between k)) e)
+  on-byte r b bs e ih (To f (Tail k)) = rw (within-record r b f (Tail k) refl) (ih (carried d r b f (Tail k)) e)
+  on-byte r b bs e ih (To f (Ends k)) = at-ending r b f k bs e
+
+  choose : (r : Read) (b : ℕ) (bs : Bytes) → bs ≡ drop (r .offset + 1) file → Ih bs → (x y : Bool) (s : Step) → Follows d file rs (if x then failed FileTooLong r else if y then failed RecordTooLong r else stepped d r b (λ r′. nextRecord d r′ bs) s) (Rest (if x then stopped FileTooLong (redone rs r) else if y then stopped RecordTooLong (redone rs r) else move d none (redone rs r) b s) bs)
+  unfolding if_then_else_ isAtByte
+  choose r b bs e ih true y s = faulty FileTooLong r bs refl
+  choose r b bs e ih false true s = faulty RecordTooLong r bs refl
+  choose r b bs e ih false false s = on-byte r b bs e ih s
+
+  -- after the records rs, what reading comes to next, and in the end
+  pub follows : (bs : Bytes) → Ih bs
+  unfolding nextRecord readFrom readEnd readByte fileFull recordFull
+  follows [] r e = at-end r (formEnd d (r .form))
+  follows (b ∷ bs) r e =
+      choose r b bs (next-drop file (r .offset) b bs e) (follows bs) (leb MAXFILE (r .offset)) (leb MAXRECORD (r .size) && counts (r .form) b) (formStep d (r .form) b)

@@ -1,0 +1,43 @@
+-- What reading a whole file comes to, given its next record.
+use Prim.Native.Nat.{ℕ}
+use mathlib.Core.Path.{_≡_}
+use mathlib.Core.Bool.{true}
+use mathlib.Core.Option.{none}
+use mathlib.Core.List.{List}
+use lib.ListN.{length, drop}
+use Rattle.model.specs.Base.{Bytes}
+use Rattle.model.specs.Text.{Value}
+use Rattle.model.specs.Report.{isAtByte}
+use Rattle.model.specs.Records.{Rec, Read, Progress, stopped, complete, readFrom, readEnd, endBetween}
+use Rattle.scanner.specs.Types.{Dialect, Form, Begin, Fault, Completed, LastRecord, Failed, Finished}
+use Rattle.scanner.specs.Next.{Next}
+
+-- the same place of reading, after these records
+abbrev pub redone : List Rec → Read → Read
+redone rs r =
+    record {
+      done = rs;
+      form = r .form;
+      offset = r .offset;
+      start = r .start;
+      size = r .size;
+      opened = r .opened;
+      raw = r .raw;
+      cells = r .cells;
+    }
+
+-- after the records rs, reading comes to this next, and in the end to that
+pub data Follows (d : Dialect) (file : Bytes) (rs : List Rec) : Next → Progress → Type 0 where
+  after-record :
+      (r : Read) (vs : List Value) (f : Form) (o : ℕ) → r .done ≡ rs →
+      Follows d file rs (record { event = Completed (r .start) (length vs) f o; cells = vs })
+      (readEnd d none (readFrom d none (complete d none r vs f o) (drop o file)))
+  after-last :
+      (r : Read) (vs : List Value) → r .done ≡ rs →
+      Follows d file rs (record { event = LastRecord (r .start) (length vs); cells = vs }) (complete d none r vs Begin (r .offset))
+  after-fault :
+      (e : Fault) (r : Read) (vs : List Value) → r .done ≡ rs → isAtByte e ≡ true →
+      Follows d file rs (record { event = Failed e (r .offset); cells = vs }) (stopped e r)
+  after-all :
+      (r : Read) (vs : List Value) → r .done ≡ rs →
+      Follows d file rs (record { event = Finished (r .offset); cells = vs }) (endBetween r rs)
