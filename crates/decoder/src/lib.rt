@@ -5,7 +5,7 @@
 // are model's specs/Decode.antt, and `decoder` and `decoderLeaves` of its specs/Api.antt; specs/Answer.antt says what an answer
 // stands for in document 01's numbers.
 //
-// judge.rt asks how the automaton of a cell ends, first.rt tells kind and spelling by the first byte, escape.rt reads an escape
+// single.rt asks how the automaton of a cell ends, first.rt tells kind and spelling by the first byte, escape.rt reads an escape
 // of CSVJ, and content.rt measures and writes. Each loop has one invariant over what is left of the cell: a rule that changes in
 // `undouble`, `units` or `textOf` changes a law of proofs/Doubled.antt or proofs/Strings.antt, and no loop.
 ghost use mathlib.Core.Path.{_≡_};
@@ -26,8 +26,8 @@ use model::Settings;
 mod content;
 mod escape;
 mod first;
-pub mod judge;
-mod report;
+pub mod report;
+pub mod single;
 
 // What the decoder answers.
 pub enum Decoded {
@@ -83,7 +83,7 @@ pub fn decode_cell(d: Dialect, raw: &[u8], room: &mut [u8]) -> Decoded
     ensures { λ r. ⌜ answerOf r ≡ shown (anyCell d (now (raw .entry)) (length (now (room .entry)))) ⌝ }
     ensures { λ r. ⌜ now (room .exit) ≡ over (anyCell d (now (raw .entry)) (length (now (room .entry))) .content) (now (room .entry)) ⌝ }
 {
-    match judge::judge_cell(d, raw) {
+    match single::judge_cell(d, raw) {
         Judged::WholeCell => decode_sound(d, raw, room),
         Judged::Unsound { fault, offset } => {
             Decoded::Refused(report::on_cell(report::number_of(fault), offset))

@@ -12,6 +12,7 @@ use Rattle.model.specs.Utf8.{charStep}
 use Rattle.model.specs.Cell.{textByte, isDigit, afterHex, afterLetter, numeralStep, firstByte, quotedByte, plainByte, cellStep, isNumeral, isWhole}
 use Rattle.model.proofs.Tests.{split, impossible, same-byte}
 use Rattle.model.proofs.CellContent.{no-more, no-stop, same-more}
+use Rattle.model.proofs.Counted.{break-quote, cr-separates, lf-separates}
 
 -- the bytes that may follow a cell
 pub data Separates : Dialect → ℕ → Type 0 where
@@ -38,15 +39,6 @@ plus-delimiter Tab Double = record { quote = refl; digit = refl; point = refl; e
 plus-delimiter Tab Single = record { quote = refl; digit = refl; point = refl; e = refl }
 plus-delimiter Bar Double = record { quote = refl; digit = refl; point = refl; e = refl }
 plus-delimiter Bar Single = record { quote = refl; digit = refl; point = refl; e = refl }
-
-no-break : (b : ℕ) (q : Quote) → (b is 0x22) ≡ false → (b is 0x27) ≡ false → (b is quoteByte q) ≡ false
-no-break b Double h k = h
-no-break b Single h k = k
-
-pub break-quote : (d : Dialect) (b : ℕ) → (b is 0x22) ≡ false → (b is 0x27) ≡ false → (b is quoteOf d) ≡ false
-break-quote Csvj b h k = h
-break-quote Tdif b h k = h
-break-quote (CsvPlus s) b h k = no-break b (s .quote) h k
 
 not-in-cell : {d : Dialect} {b : ℕ} → Separates d b → NotInCell d b
 not-in-cell (by-delimiter {d = Csvj}) = record { quote = refl; digit = refl; point = refl; e = refl }
@@ -151,16 +143,6 @@ numeral-stops d Fraction b w k = rw (k .digit, k .e)
 numeral-stops d E b w k = impossible w
 numeral-stops d ESign b w k = impossible w
 numeral-stops d Exponent b w k = rw (k .digit)
-
-or-true : (t : Bool) → (t || true) ≡ true
-or-true true = refl
-or-true false = refl
-
-pub cr-separates : (d : Dialect) → (CR is delimiterOf d || CR is CR || CR is LF) ≡ true
-cr-separates d = rw (or-true (CR is delimiterOf d))
-
-pub lf-separates : (d : Dialect) → (LF is delimiterOf d || LF is CR || LF is LF) ≡ true
-lf-separates d = or-true (LF is delimiterOf d || LF is CR)
 
 -- where a cell may be plain, blanks separate nothing
 separator-test : {d : Dialect} {b : ℕ} → Reached d (Plain Whole) → Separates d b → (b is delimiterOf d || b is CR || b is LF) ≡ true

@@ -8,6 +8,7 @@ pub mod Encoding
 pub mod RecordFaults
 pub mod ViableFile
 pub mod CellContent
+pub mod Counted
 pub mod JsonContent
 pub mod ContentForm
 pub mod Lengths

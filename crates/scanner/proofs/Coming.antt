@@ -31,7 +31,7 @@ use Rattle.scanner.specs.Ahead.{readAt, steppedAt, metNext, Free, Comes,
 
 -- ---- one byte
 
-part-one : (s : Bytes) (i j : ℕ) → i ≤ j → j < length s → part s i (j + 1) ≡ part s i j ++ (getD s j 0 ∷ [])
+pub part-one : (s : Bytes) (i j : ℕ) → i ≤ j → j < length s → part s i (j + 1) ≡ part s i j ++ (getD s j 0 ∷ [])
 part-one s i j h k =
     let n : j + 1 - i ≡ suc (j - i) = omega arith in
     let l : length (drop i s) ≡ length s - i = length-drop i s in

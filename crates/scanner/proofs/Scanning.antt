@@ -149,7 +149,7 @@ module _ (d : Dialect) (file : Bytes) (first : Form) (from room base : ℕ) (sta
       goes-on p e w =
           w ∙ rw e (ap (λ (r : Read). nextRecord d r (drop (i + 1) file)) (carried-at d file p f g i h vs (q .opened) l))
 
-      pub on : (p : Part) → Calm f (To g p) → endsRecord p ≡ false → Whole ≡ steppedAt d file f i h vs (To g p) → {starts ends kinds : List ℕ} → Holds vs starts ends kinds → Scanning g (i + 1) (handAfter p i h) (PutStarts p starts) (PutEnds p ends) (PutKinds p kinds)
+      pub on : (p : Part) → Calm f (getD file i 0) (To g p) → endsRecord p ≡ false → Whole ≡ steppedAt d file f i h vs (To g p) → {starts ends kinds : List ℕ} → Holds vs starts ends kinds → Scanning g (i + 1) (handAfter p i h) (PutStarts p starts) (PutEnds p ends) (PutKinds p kinds)
       on Outside (leaves o) e w y =
           let b : base + h .cells ≤ i = q .few in
           let w′ : from ≤ i = q .onward in
@@ -158,18 +158,18 @@ module _ (d : Dialect) (file : Bytes) (first : Form) (from room base : ℕ) (sta
           let b : base + h .cells ≤ i = q .few in
           let w′ : from ≤ i = q .onward in
           record { vs = []; same = goes-on Passed e w; reached = record { onward = omega arith; inside = omega arith; under = omega arith; counted = refl; few = omega arith; sized = omega arith; opened = omega arith; rest = λ _. refl }; lists = put-none (q .rest o) y }
-      on OfCell (grows o) e w y =
+      on OfCell (grows n′ o) e w y =
           let b : base + h .cells ≤ i = q .few in
           let w′ : from ≤ i = q .onward in
           let s : h .size ≤ i = q .sized in
           let n : h .opened ≤ i = q .opened in
           record { vs = vs; same = goes-on OfCell e w; reached = record { onward = omega arith; inside = omega arith; under = omega arith; counted = q .counted; few = omega arith; sized = omega arith; opened = omega arith; rest = λ t. impossible (sym o ∙ t) }; lists = put-same y }
-      on (Between k) (blanks o) e w y =
+      on (Between k) (blanks n′ o) e w y =
           let b : base + h .cells ≤ i = q .few in
           let w′ : from ≤ i = q .onward in
           let s : h .size ≤ i = q .sized in
           record { vs = closing d false Here; same = goes-on (Between false) e w; reached = record { onward = omega arith; inside = omega arith; under = omega arith; counted = closing-counts d false Here (h .cells) (q .counted); few = one-more-few false base (h .cells) i b; sized = omega arith; opened = omega arith; rest = λ _. q .rest o }; lists = put-closing false y }
-      on (Between k) (parts o) e w y =
+      on (Between k) (parts n′ o) e w y =
           let b : base + h .cells ≤ i = q .few in
           let w′ : from ≤ i = q .onward in
           let s : h .size ≤ i = q .sized in
@@ -305,7 +305,7 @@ module _ (d : Dialect) (file : Bytes) (first : Form) (from room base : ℕ) (sta
     pub whole : Whole ≡ steppedAt d file f i h vs s
     pub reached : Reached f i h vs
     pub lists : Holds vs starts ends kinds
-    pub calm : Calm f s
+    pub calm : Calm f (getD file i 0) s
     pub inside : i < length file
     pub under : i < MAXFILE
 
@@ -319,7 +319,7 @@ module _ (d : Dialect) (file : Bytes) (first : Form) (from room base : ℕ) (sta
     by-byte s q =
         let n : Lies d file f i (Is s) = subst (λ (x : Met). Lies d file f i x) q (a .0) in
         let w : Whole ≡ metNext d file f i h (y .vs) (Is s) = comes-to ∙ ap (λ (x : Met). metNext d file f i h (y .vs) x) q in
-        record { vs = y .vs; whole = w; reached = y .reached; lists = y .lists; calm = subst (λ (x : Step). Calm f x) (sym n) (step-calm d f (getD file i 0)); inside = l; under = m }
+        record { vs = y .vs; whole = w; reached = y .reached; lists = y .lists; calm = subst (λ (x : Step). Calm f (getD file i 0) x) (sym n) (step-calm d f (getD file i 0)); inside = l; under = m }
 
     pub by-cell : (closes : Bool) (j : ℕ) → met ≡ AfterCell closes j → (g : InHand) → g ≡ grown h (j - i) → (s : Step) → s ≡ afterCell d closes (getD file j 0) → Stepping f j g s starts ends kinds
     unfolding metNext
@@ -330,7 +330,7 @@ module _ (d : Dialect) (file : Bytes) (first : Form) (from room base : ℕ) (sta
         let u : j < MAXFILE = n .2 in
         subst (λ (x : InHand). Stepping f j x s starts ends kinds) (sym eg)
         (subst (λ (x : Step). Stepping f j (grown h (j - i)) x starts ends kinds) (sym es)
-        (record { vs = y .vs; whole = w; reached = grows-to f i j h (y .vs) (n .0) (omega arith) (omega arith) (y .reached); lists = y .lists; calm = after-calm f d closes (getD file j 0); inside = k; under = u }))
+        (record { vs = y .vs; whole = w; reached = grows-to f i j h (y .vs) (n .0) (omega arith) (omega arith) (y .reached); lists = y .lists; calm = after-calm f (getD file j 0) d closes; inside = k; under = u }))
 
     pub by-skip : (j : ℕ) → met ≡ Skipped j → (g : InHand) → g ≡ handAfter Outside (j - 1) h → Scanning f j g starts ends kinds
     unfolding metNext
@@ -381,7 +381,7 @@ module _ (d : Dialect) (file : Bytes) (first : Form) (from room base : ℕ) (sta
       pub step-on : over ≡ false → Scanning g (i + 1) h′ starts′ ends′ kinds′
       step-on z =
           rw (eh, put-starts, put-ends, put-kinds)
-          (on f i h (y .vs) (y .reached) g (y .inside) (y .under) p (subst (λ (t : Step). Calm f t) q (y .calm)) (sym eo ∙ z) stepped-to (y .lists))
+          (on f i h (y .vs) (y .reached) g (y .inside) (y .under) p (subst (λ (t : Step). Calm f (getD file i 0) t) q (y .calm)) (sym eo ∙ z) stepped-to (y .lists))
 
       pub step-over : over ≡ true → Out (Completed (h′ .start) (h′ .cells) g (i + 1)) starts′ ends′ kinds′
       step-over z =

@@ -1,10 +1,10 @@
--- `decoder::judge::is_whole` meets its contract: each arm answers what the definition does for its state.
+-- `decoder::single::is_whole` meets its contract: each arm answers what the definition does for its state.
 -- Assumes nothing.
 use borrow.Author.Needs.{needs}
 use Rattle.model.specs.Cell.{isWhole}
 use Rattle.decoder.proofs.Tests.{tests}
-use Rattle.decoder.proofs.judge.is_whole.Statement.{statement}
-use Rattle.decoder.proofs.judge.is_whole.Tie as tie
+use Rattle.decoder.proofs.single.is_whole.Statement.{statement}
+use Rattle.decoder.proofs.single.is_whole.Tie as tie
 
 enum-told : tie.Need-enum-told
 enum-told c = search needs

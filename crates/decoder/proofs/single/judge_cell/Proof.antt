@@ -1,12 +1,12 @@
--- `decoder::judge::judge_cell` meets its contract: what the end of the run says is the definition's judgement.
+-- `decoder::single::judge_cell` meets its contract: what the end of the run says is the definition's judgement.
 -- Assumes nothing.
 use mathlib.Core.Path.{sym, ap, _∙_}
 use lib.ListN.{length}
 use borrow.Author.Needs.{needs}
 use Rattle.model.specs.Base.{if_then_else_}
 use Rattle.decoder.proofs.Judging.{judgedBy, judged}
-use Rattle.decoder.proofs.judge.judge_cell.Statement.{statement}
-use Rattle.decoder.proofs.judge.judge_cell.Tie as tie
+use Rattle.decoder.proofs.single.judge_cell.Statement.{statement}
+use Rattle.decoder.proofs.single.judge_cell.Tie as tie
 
 cell-end-requires : tie.Need-cell-end-requires
 cell-end-requires c κs = search needs
