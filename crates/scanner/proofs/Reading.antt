@@ -18,7 +18,7 @@ use Rattle.scanner.specs.Next.{Next, endsRecord, carried, failed, ended,
 use Rattle.scanner.specs.Reading.{redone, Follows, after-record, after-last, after-fault, after-all}
 
 -- what is left after one more byte
-next-drop : (xs : Bytes) (n b : ℕ) (bs : Bytes) → b ∷ bs ≡ drop n xs → bs ≡ drop (n + 1) xs
+pub next-drop : (xs : Bytes) (n b : ℕ) (bs : Bytes) → b ∷ bs ≡ drop n xs → bs ≡ drop (n + 1) xs
 next-drop xs n b bs e = ap (drop 1) e ∙ drop-drop 1 n xs
 
 -- a fault stays

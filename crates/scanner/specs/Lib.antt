@@ -3,3 +3,4 @@ pub mod Next
 pub mod Ahead
 pub mod Placed
 pub mod Reading
+pub mod Stretches
