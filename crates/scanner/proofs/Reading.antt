@@ -34,7 +34,7 @@ module _ (d : Dialect) (file : Bytes) (rs : List Rec) where
   -- the end of the file
   at-end : (r : Read) (x : Ending) → Follows d file rs (ended d r x) (endAt d none (redone rs r) x)
   unfolding isAtByte
-  at-end r Clean = after-all (redone rs r) (r .cells) refl
+  at-end r Clean = after-all (redone rs r) refl
   at-end r Final = after-last (redone rs r) (closing d true r) refl
   at-end r Cut = after-fault CutShort (redone rs r) (r .cells) refl refl
 

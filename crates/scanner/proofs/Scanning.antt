@@ -13,13 +13,14 @@ use Rattle.model.specs.Base.{if_then_else_, Bytes}
 use Rattle.model.specs.Decode.{kindNumber, kindOf}
 use Rattle.model.specs.Text.{Value}
 use Rattle.model.specs.Report.{MAXFILE, MAXRECORD}
-use Rattle.model.specs.Form.{formEnd, afterCell, counts}
+use Rattle.model.specs.Form.{formEnd, lastCell, afterCell, counts}
+use Rattle.model.specs.Cell.{isWhole}
 use Rattle.model.specs.Records.{Read, between-records, closing, cellNow, fileFull, recordFull}
 use Rattle.model.specs.Api.{startsOf, endsOf, kindsOf}
 use Rattle.model.proofs.Tests.{impossible}
 use Rattle.lexer.specs.Run.{part}
 use Rattle.lexer.proofs.Runs.{part-end}
-use Rattle.scanner.specs.Types.{Dialect, Cell, Form, Inside, Part, Outside, Passed, OfCell, Between, Tail, Ends, Step, To, Reject, Ending, Clean, Final, Cut, ByteFault, Byte, CutShort, FileTooLong, RecordTooLong, InHand, Met, Is, Skipped, AfterCell, Refused, Open, Event, Completed, LastRecord, Failed, Finished}
+use Rattle.scanner.specs.Types.{Dialect, Csvj, Tdif, CsvPlus, Cell, Form, Top, Begin, Ended, Mark1, Mark2, PlainMark1, PlainMark2, Comment, Blanks, Wanting, Inside, After, Cr, Part, Outside, Passed, OfCell, Between, Tail, Ends, Step, To, Reject, Ending, Clean, Final, Cut, ByteFault, Byte, CutShort, FileTooLong, RecordTooLong, InHand, Met, Is, Skipped, AfterCell, Refused, Open, Event, Completed, LastRecord, Failed, Finished}
 use Rattle.scanner.specs.Next.{Next, closesCell, endsRecord, oneMore, handAfter, grown, cellsAfter, failed, completed, ended, stepped, nextRecord, Fits}
 use Rattle.scanner.specs.Ahead.{readAt, steppedAt, metNext, outer, Lies, Comes}
 use Rattle.scanner.specs.Placed.{putAt, putIf, placed}
@@ -69,6 +70,35 @@ one-more-few : (k : Bool) (a n i : ℕ) → a + n ≤ i → a + oneMore k n ≤ 
 unfolding oneMore if_then_else_
 one-more-few true a n i h = omega arith
 one-more-few false a n i h = omega arith
+
+-- a file ends between records where no cell is in hand
+last-unclean : {A : Type 0} (d : Dialect) (c : Cell) → lastCell d c ≡ Clean → A
+last-unclean Csvj c e = let z : _≡_ {A = ℕ} 0 1 = cc in absurd (omega arith)
+last-unclean Tdif c e = let z : _≡_ {A = ℕ} 0 1 = cc in absurd (omega arith)
+last-unclean (CsvPlus s) c e = go (isWhole (CsvPlus s) c) e
+  where
+    go : {A : Type 0} (t : Bool) → (if t then Final else Cut) ≡ Clean → A
+    go true q = let k : Final ≡ Clean = unfold if_then_else_ in q in let z : _≡_ {A = ℕ} 0 1 = cc in absurd (omega arith)
+    go false q = let k : Cut ≡ Clean = unfold if_then_else_ in q in let z : _≡_ {A = ℕ} 0 1 = cc in absurd (omega arith)
+
+cut-unclean : {A : Type 0} → Cut ≡ Clean → A
+cut-unclean e = let z : _≡_ {A = ℕ} 0 1 = cc in absurd (omega arith)
+
+clean-outer : (d : Dialect) (f : Form) → formEnd d f ≡ Clean → outer f ≡ true
+unfolding formEnd
+clean-outer d Top e = refl
+clean-outer d Begin e = refl
+clean-outer d Ended e = refl
+clean-outer d Mark1 e = refl
+clean-outer d Mark2 e = refl
+clean-outer d PlainMark1 e = cut-unclean e
+clean-outer d PlainMark2 e = cut-unclean e
+clean-outer d (Comment c) e = refl
+clean-outer d Blanks e = refl
+clean-outer d Wanting e = cut-unclean e
+clean-outer d (Inside c) e = last-unclean d c e
+clean-outer d After e = cut-unclean e
+clean-outer d Cr e = cut-unclean e
 
 -- ---- the invariant
 
@@ -225,7 +255,9 @@ module _ (d : Dialect) (file : Bytes) (first : Form) (from room base : ℕ) (sta
     cut-short l e = gives (failed CutShort There) (at-end l ∙ ap (λ (x : Ending). ended d There x) e) (y .lists)
 
     pub clean-end : length file ≤ i → formEnd d f ≡ Clean → Out (Finished i) starts ends kinds
-    clean-end l e = gives (ended d There Clean) (at-end l ∙ ap (λ (x : Ending). ended d There x) e) (y .lists)
+    clean-end l e =
+        let n : y .vs ≡ [] = y .reached .rest (clean-outer d f e) in
+        gives (ended d There Clean) (at-end l ∙ ap (λ (x : Ending). ended d There x) e) (subst (λ (ws : List Value). Holds ws starts ends kinds) n (y .lists))
 
     pub last-record : length file ≤ i → formEnd d f ≡ Final → Out (LastRecord (h .start) (h .cells + 1)) (putIf true room (base + h .cells) (h .opened) starts) (putIf true room (base + h .cells) i ends) (putIf true room (base + h .cells) (kindNumber (kindOf d (part file (h .opened) i))) kinds)
     last-record l e =

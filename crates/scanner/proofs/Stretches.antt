@@ -60,7 +60,7 @@ module _ (d : Dialect) (file : Bytes) where
   Ih bs = (r : Read) → bs ≡ drop (r .offset) file → Standing r → All (StandsIn d file) (nextRecord d r bs .cells)
 
   at-end : (r : Read) → Standing r → (x : Ending) → All (StandsIn d file) (ended d r x .cells)
-  at-end r s Clean = s .cells
+  at-end r s Clean = all-none
   at-end r s Final = closed r true s
   at-end r s Cut = s .cells
 

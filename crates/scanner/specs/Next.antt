@@ -105,9 +105,9 @@ stepped d r b rest (Reject e) = failed (Byte e) r
 stepped d r b rest (To f p) =
     if endsRecord p then completed r (closing d (closesCell p) r) f (r .offset + 1) else rest (carried d r b f p)
 
--- the file ends here
+-- the file ends here; between records no cell is in hand
 abbrev pub ended : Dialect → Read → Ending → Next
-ended d r Clean = record { event = Finished (r .offset); cells = r .cells }
+ended d r Clean = record { event = Finished (r .offset); cells = [] }
 ended d r Final = record { event = LastRecord (r .start) (length (closing d true r)); cells = closing d true r }
 ended d r Cut = failed CutShort r
 

@@ -3,7 +3,7 @@ use Prim.Native.Nat.{ℕ}
 use mathlib.Core.Path.{_≡_}
 use mathlib.Core.Bool.{true}
 use mathlib.Core.Option.{none}
-use mathlib.Core.List.{List}
+use mathlib.Core.List.{List, []}
 use lib.ListN.{length, drop}
 use Rattle.model.specs.Base.{Bytes}
 use Rattle.model.specs.Text.{Value}
@@ -38,6 +38,4 @@ pub data Follows (d : Dialect) (file : Bytes) (rs : List Rec) : Next → Progres
   after-fault :
       (e : Fault) (r : Read) (vs : List Value) → r .done ≡ rs → isAtByte e ≡ true →
       Follows d file rs (record { event = Failed e (r .offset); cells = vs }) (stopped e r)
-  after-all :
-      (r : Read) (vs : List Value) → r .done ≡ rs →
-      Follows d file rs (record { event = Finished (r .offset); cells = vs }) (endBetween r rs)
+  after-all : (r : Read) → r .done ≡ rs → Follows d file rs (record { event = Finished (r .offset); cells = [] }) (endBetween r rs)

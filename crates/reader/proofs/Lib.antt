@@ -1,0 +1,7 @@
+pub mod Tests
+pub mod Filling
+pub mod Judging
+pub mod Events
+pub mod Passing
+pub mod Headers
+pub mod Answering

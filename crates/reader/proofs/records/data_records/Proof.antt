@@ -1,0 +1,357 @@
+-- The invariant: after the header and so many data records, with the cells that the lists hold, reading stands at i.
+use Prim.Native.Nat.{_+_, _-_, _^_, _≤_, _<_}
+use native.Mathlib.Omega.{arith}
+use lib.ListN.{length}
+use borrow.Author.Needs.{needs}
+use Rattle.model.specs.Report.{MAXFILE}
+use Rattle.reader.proofs.Passing.{Going, goes, now-held, held-lengths, fits-here, record-on, record-refused, last-fits, last-accepted, last-refused, fault-refused, finish-accepted}
+use Rattle.reader.proofs.records.data_records.Statement.{statement}
+use Rattle.reader.proofs.records.data_records.Tie as tie
+
+abbrev Inv-loop : tie.InvT-loop
+Inv-loop d file from columns room base starts₀ ends₀ kinds₀ form₀ i₀ cells₀ records₀ starts ends kinds form i cells records =
+    Going d file from form₀ columns room base starts₀ ends₀ kinds₀ form i cells records starts ends kinds
+
+abbrev μ-loop : tie.MeasureT-loop
+μ-loop d file from columns room base starts₀ ends₀ kinds₀ form₀ i₀ cells₀ records₀ starts ends kinds form i cells records =
+    length file - i
+
+loop-holds : tie.Need-loop-holds Inv-loop μ-loop
+loop-holds c =
+    let a = c .before .before .before .before .args in
+    let q = c .before .before .before .before .pre .0 in
+    goes (a .d) (a .file .now) (a .from) (a .first) (a .columns) (a .room) (a .base) (a .starts .now) (a .ends .now) (a .kinds .now) (q .0) (q .1) (q .2)
+
+add-next-record : tie.Need-add-next-record Inv-loop μ-loop
+add-next-record c =
+    let a = c .before .before .before .before .before .args in
+    let l = c .loop in
+    let few : a .base + l .cells ≤ l .i = l .inv .few in
+    let under : l .i ≤ MAXFILE = l .inv .under in
+    let many : l .records ≤ l .i = l .inv .many in
+    let x : a .base + l .cells < 2 ^ 64 = omega arith in record { fits = x }
+
+next-record-requires : tie.Need-next-record-requires Inv-loop μ-loop
+next-record-requires c κs =
+    let a = c .before .before .before .before .before .before .before .before .args in
+    let l = c .before .before .before .loop in
+    let few : a .base + l .cells ≤ l .i = l .inv .few in
+    let under : l .i ≤ MAXFILE = l .inv .under in
+    let many : l .records ≤ l .i = l .inv .many in
+    let n = held-lengths (l .inv .lists) in
+    let q = c .before .before .before .before .before .before .before .before .pre .1 in
+    ((l .inv .inside, under, few), (rw (n .0) (q .0), rw (n .1) (q .1), rw (n .2) (q .2)))
+
+enum-known-start : tie.Need-enum-known-start Inv-loop μ-loop
+enum-known-start c = search needs
+
+data-requires : tie.Need-data-requires Inv-loop μ-loop
+data-requires c κs = search needs
+
+enum-told : tie.Need-enum-told Inv-loop μ-loop
+enum-told c = search needs
+
+add-cells : tie.Need-add-cells Inv-loop μ-loop
+add-cells c =
+    let a = c .before .before .before .before .before .before .before .before .before .before .before .before .before .before .before .before .before .before .before .before .before .args in
+    let l = c .before .before .before .before .before .before .before .before .before .before .before .before .before .before .before .before .loop in
+    let n = c .before .before .before .before .before .before .before .before .before .before .before .before .next-record .ensures in
+    let few : a .base + l .cells ≤ l .i = l .inv .few in
+    let under : l .i ≤ MAXFILE = l .inv .under in
+    let m = fits-here (a .d) (a .file .now) (a .from) (a .first) (a .columns) (a .room) (a .base) (a .starts .now) (a .ends .now) (a .kinds .now) (l .form) (l .i) (l .cells) (l .records) (l .starts) (l .ends) (l .kinds) (l .inv) _ (n .0) _ _ _ (n .1 .0) (n .1 .1 .0) (n .1 .1 .1 .0) _ _ _ _ (c .before .before .before .before .start .given .1) (n .1 .1 .1 .1) _ (c .before .before .«data» .ensures) in
+    let m0 = m .0 in let m1 = m .1 in let m2 = m .2 in let m3 = m .3 in
+    omega arith
+
+add-records : tie.Need-add-records Inv-loop μ-loop
+add-records c =
+    let a = c .before .before .before .before .before .before .before .before .before .before .before .before .before .before .before .before .before .before .before .before .before .args in
+    let l = c .before .before .before .before .before .before .before .before .before .before .before .before .before .before .before .before .loop in
+    let few : a .base + l .cells ≤ l .i = l .inv .few in
+    let under : l .i ≤ MAXFILE = l .inv .under in
+    let many : l .records ≤ l .i = l .inv .many in
+    omega arith
+
+loop-less : tie.Need-loop-less Inv-loop μ-loop
+loop-less c =
+    let a = c .before .before .before .before .before .before .before .before .before .before .before .before .before .before .before .before .before .before .before .before .before .args in
+    let l = c .before .before .before .before .before .before .before .before .before .before .before .before .before .before .before .before .loop in
+    let n = c .before .before .before .before .before .before .before .before .before .before .before .before .next-record .ensures in
+    let few : a .base + l .cells ≤ l .i = l .inv .few in
+    let under : l .i ≤ MAXFILE = l .inv .under in
+    let m = fits-here (a .d) (a .file .now) (a .from) (a .first) (a .columns) (a .room) (a .base) (a .starts .now) (a .ends .now) (a .kinds .now) (l .form) (l .i) (l .cells) (l .records) (l .starts) (l .ends) (l .kinds) (l .inv) _ (n .0) _ _ _ (n .1 .0) (n .1 .1 .0) (n .1 .1 .1 .0) _ _ _ _ (c .before .before .before .before .start .given .1) (n .1 .1 .1 .1) _ (c .before .before .«data» .ensures) in
+    let m0 = m .0 in let m1 = m .1 in let m2 = m .2 in let m3 = m .3 in
+    omega arith
+
+loop-again : tie.Need-loop-again Inv-loop μ-loop
+loop-again c =
+    let a = c .before .before .before .before .before .before .before .before .before .before .before .before .before .before .before .before .before .before .before .before .before .args in
+    let l = c .before .before .before .before .before .before .before .before .before .before .before .before .before .before .before .before .loop in
+    let n = c .before .before .before .before .before .before .before .before .before .before .before .before .next-record .ensures in
+    record-on (a .d) (a .file .now) (a .from) (a .first) (a .columns) (a .room) (a .base) (a .starts .now) (a .ends .now) (a .kinds .now) (l .form) (l .i) (l .cells) (l .records) (l .starts) (l .ends) (l .kinds) (l .inv) _ (n .0) _ _ _ (n .1 .0) (n .1 .1 .0) (n .1 .1 .1 .0) _ _ _ _ (c .before .before .before .before .start .given .1) (n .1 .1 .1 .1) _ (c .before .before .«data» .ensures) (c .enum-told .given .1)
+
+enum-known-e : tie.Need-enum-known-e Inv-loop μ-loop
+enum-known-e c = search needs
+
+add-on-record : tie.Need-add-on-record Inv-loop μ-loop
+add-on-record c =
+    let a = c .before .before .before .before .before .before .before .before .before .before .before .before .before .before .before .before .before .before .before .before .before .before .args in
+    let l = c .before .before .before .before .before .before .before .before .before .before .before .before .before .before .before .before .before .loop in
+    let few : a .base + l .cells ≤ l .i = l .inv .few in
+    let under : l .i ≤ MAXFILE = l .inv .under in
+    let many : l .records ≤ l .i = l .inv .many in
+    omega arith
+
+on-record-requires : tie.Need-on-record-requires Inv-loop μ-loop
+on-record-requires c κs = search needs
+
+same-length : tie.Need-same-length Inv-loop μ-loop
+same-length c =
+    let a = c .before .before .before .before .before .before .before .before .before .before .before .before .before .before .before .before .before .before .before .before .before .before .before .args in
+    let l = c .before .before .before .before .before .before .before .before .before .before .before .before .before .before .before .before .before .before .loop in
+    let n = c .before .before .before .before .before .before .before .before .before .before .before .before .before .before .next-record .ensures in
+    held-lengths (now-held (a .d) (a .file .now) (a .from) (a .first) (a .columns) (a .room) (a .base) (a .starts .now) (a .ends .now) (a .kinds .now) (l .form) (l .i) (l .cells) (l .records) (l .starts) (l .ends) (l .kinds) (l .inv) _ (n .0) _ _ _ (n .1 .0) (n .1 .1 .0) (n .1 .1 .1 .0)) .0
+
+same-length-2 : tie.Need-same-length-2 Inv-loop μ-loop
+same-length-2 c =
+    let a = c .before .before .before .before .before .before .before .before .before .before .before .before .before .before .before .before .before .before .before .before .before .before .before .args in
+    let l = c .before .before .before .before .before .before .before .before .before .before .before .before .before .before .before .before .before .before .loop in
+    let n = c .before .before .before .before .before .before .before .before .before .before .before .before .before .before .next-record .ensures in
+    held-lengths (now-held (a .d) (a .file .now) (a .from) (a .first) (a .columns) (a .room) (a .base) (a .starts .now) (a .ends .now) (a .kinds .now) (l .form) (l .i) (l .cells) (l .records) (l .starts) (l .ends) (l .kinds) (l .inv) _ (n .0) _ _ _ (n .1 .0) (n .1 .1 .0) (n .1 .1 .1 .0)) .1
+
+same-length-3 : tie.Need-same-length-3 Inv-loop μ-loop
+same-length-3 c =
+    let a = c .before .before .before .before .before .before .before .before .before .before .before .before .before .before .before .before .before .before .before .before .before .before .before .args in
+    let l = c .before .before .before .before .before .before .before .before .before .before .before .before .before .before .before .before .before .before .loop in
+    let n = c .before .before .before .before .before .before .before .before .before .before .before .before .before .before .next-record .ensures in
+    held-lengths (now-held (a .d) (a .file .now) (a .from) (a .first) (a .columns) (a .room) (a .base) (a .starts .now) (a .ends .now) (a .kinds .now) (l .form) (l .i) (l .cells) (l .records) (l .starts) (l .ends) (l .kinds) (l .inv) _ (n .0) _ _ _ (n .1 .0) (n .1 .1 .0) (n .1 .1 .1 .0)) .2
+
+returns : tie.Need-returns Inv-loop μ-loop
+returns c =
+    let a = c .before .before .before .before .before .before .before .before .before .before .before .before .before .before .before .before .before .before .before .before .before .before .before .args in
+    let l = c .before .before .before .before .before .before .before .before .before .before .before .before .before .before .before .before .before .before .loop in
+    let n = c .before .before .before .before .before .before .before .before .before .before .before .before .before .before .next-record .ensures in
+    record-refused (a .d) (a .file .now) (a .from) (a .first) (a .columns) (a .room) (a .base) (a .starts .now) (a .ends .now) (a .kinds .now) (l .form) (l .i) (l .cells) (l .records) (l .starts) (l .ends) (l .kinds) (l .inv) _ (n .0) _ _ _ (n .1 .0) (n .1 .1 .0) (n .1 .1 .1 .0) _ _ _ _ (c .before .before .before .before .before .before .start .given .1) (n .1 .1 .1 .1) _ (c .before .before .before .before .«data» .ensures) _ (c .before .before .e .given .1) _ (c .on-record .ensures)
+
+enum-known-start-2 : tie.Need-enum-known-start-2 Inv-loop μ-loop
+enum-known-start-2 c = search needs
+
+data-requires-2 : tie.Need-data-requires-2 Inv-loop μ-loop
+data-requires-2 c κs = search needs
+
+enum-told-2 : tie.Need-enum-told-2 Inv-loop μ-loop
+enum-told-2 c = search needs
+
+add-t37 : tie.Need-add-t37 Inv-loop μ-loop
+add-t37 c =
+    let a = c .before .before .before .before .before .before .before .before .before .before .before .before .before .before .before .before .before .before .before .before .before .args in
+    let l = c .before .before .before .before .before .before .before .before .before .before .before .before .before .before .before .before .loop in
+    let few : a .base + l .cells ≤ l .i = l .inv .few in
+    let under : l .i ≤ MAXFILE = l .inv .under in
+    let many : l .records ≤ l .i = l .inv .many in
+    omega arith
+
+add-t38 : tie.Need-add-t38 Inv-loop μ-loop
+add-t38 c =
+    let a = c .before .before .before .before .before .before .before .before .before .before .before .before .before .before .before .before .before .before .before .before .before .args in
+    let l = c .before .before .before .before .before .before .before .before .before .before .before .before .before .before .before .before .loop in
+    let n = c .before .before .before .before .before .before .before .before .before .before .before .before .next-record .ensures in
+    let m = last-fits (a .d) (a .file .now) (a .from) (a .first) (a .columns) (a .room) (a .base) (a .starts .now) (a .ends .now) (a .kinds .now) (l .form) (l .i) (l .cells) (l .records) (l .starts) (l .ends) (l .kinds) (l .inv) _ (n .0) _ _ _ (n .1 .0) (n .1 .1 .0) (n .1 .1 .1 .0) _ _ (c .before .before .before .before .start2 .given .1) (n .1 .1 .1 .1) _ (c .before .before .data2 .ensures) in
+    let m0 = m .0 in let m1 = m .1 in
+    omega arith
+
+same-length-4 : tie.Need-same-length-4 Inv-loop μ-loop
+same-length-4 c =
+    let a = c .before .before .before .before .before .before .before .before .before .before .before .before .before .before .before .before .before .before .before .before .before .args in
+    let l = c .before .before .before .before .before .before .before .before .before .before .before .before .before .before .before .before .loop in
+    let n = c .before .before .before .before .before .before .before .before .before .before .before .before .next-record .ensures in
+    held-lengths (now-held (a .d) (a .file .now) (a .from) (a .first) (a .columns) (a .room) (a .base) (a .starts .now) (a .ends .now) (a .kinds .now) (l .form) (l .i) (l .cells) (l .records) (l .starts) (l .ends) (l .kinds) (l .inv) _ (n .0) _ _ _ (n .1 .0) (n .1 .1 .0) (n .1 .1 .1 .0)) .0
+
+same-length-5 : tie.Need-same-length-5 Inv-loop μ-loop
+same-length-5 c =
+    let a = c .before .before .before .before .before .before .before .before .before .before .before .before .before .before .before .before .before .before .before .before .before .args in
+    let l = c .before .before .before .before .before .before .before .before .before .before .before .before .before .before .before .before .loop in
+    let n = c .before .before .before .before .before .before .before .before .before .before .before .before .next-record .ensures in
+    held-lengths (now-held (a .d) (a .file .now) (a .from) (a .first) (a .columns) (a .room) (a .base) (a .starts .now) (a .ends .now) (a .kinds .now) (l .form) (l .i) (l .cells) (l .records) (l .starts) (l .ends) (l .kinds) (l .inv) _ (n .0) _ _ _ (n .1 .0) (n .1 .1 .0) (n .1 .1 .1 .0)) .1
+
+same-length-6 : tie.Need-same-length-6 Inv-loop μ-loop
+same-length-6 c =
+    let a = c .before .before .before .before .before .before .before .before .before .before .before .before .before .before .before .before .before .before .before .before .before .args in
+    let l = c .before .before .before .before .before .before .before .before .before .before .before .before .before .before .before .before .loop in
+    let n = c .before .before .before .before .before .before .before .before .before .before .before .before .next-record .ensures in
+    held-lengths (now-held (a .d) (a .file .now) (a .from) (a .first) (a .columns) (a .room) (a .base) (a .starts .now) (a .ends .now) (a .kinds .now) (l .form) (l .i) (l .cells) (l .records) (l .starts) (l .ends) (l .kinds) (l .inv) _ (n .0) _ _ _ (n .1 .0) (n .1 .1 .0) (n .1 .1 .1 .0)) .2
+
+returns-2 : tie.Need-returns-2 Inv-loop μ-loop
+returns-2 c =
+    let a = c .before .before .before .before .before .before .before .before .before .before .before .before .before .before .before .before .before .before .before .before .before .args in
+    let l = c .before .before .before .before .before .before .before .before .before .before .before .before .before .before .before .before .loop in
+    let n = c .before .before .before .before .before .before .before .before .before .before .before .before .next-record .ensures in
+    last-accepted (a .d) (a .file .now) (a .from) (a .first) (a .columns) (a .room) (a .base) (a .starts .now) (a .ends .now) (a .kinds .now) (l .form) (l .i) (l .cells) (l .records) (l .starts) (l .ends) (l .kinds) (l .inv) _ (n .0) _ _ _ (n .1 .0) (n .1 .1 .0) (n .1 .1 .1 .0) _ _ (c .before .before .before .before .start2 .given .1) (n .1 .1 .1 .1) _ (c .before .before .data2 .ensures) (c .enum-told2 .given .1)
+
+enum-known-e-2 : tie.Need-enum-known-e-2 Inv-loop μ-loop
+enum-known-e-2 c = search needs
+
+add-on-record-2 : tie.Need-add-on-record-2 Inv-loop μ-loop
+add-on-record-2 c =
+    let a = c .before .before .before .before .before .before .before .before .before .before .before .before .before .before .before .before .before .before .before .before .before .before .args in
+    let l = c .before .before .before .before .before .before .before .before .before .before .before .before .before .before .before .before .before .loop in
+    let few : a .base + l .cells ≤ l .i = l .inv .few in
+    let under : l .i ≤ MAXFILE = l .inv .under in
+    let many : l .records ≤ l .i = l .inv .many in
+    omega arith
+
+on-record-requires-2 : tie.Need-on-record-requires-2 Inv-loop μ-loop
+on-record-requires-2 c κs = search needs
+
+same-length-7 : tie.Need-same-length-7 Inv-loop μ-loop
+same-length-7 c =
+    let a = c .before .before .before .before .before .before .before .before .before .before .before .before .before .before .before .before .before .before .before .before .before .before .before .args in
+    let l = c .before .before .before .before .before .before .before .before .before .before .before .before .before .before .before .before .before .before .loop in
+    let n = c .before .before .before .before .before .before .before .before .before .before .before .before .before .before .next-record .ensures in
+    held-lengths (now-held (a .d) (a .file .now) (a .from) (a .first) (a .columns) (a .room) (a .base) (a .starts .now) (a .ends .now) (a .kinds .now) (l .form) (l .i) (l .cells) (l .records) (l .starts) (l .ends) (l .kinds) (l .inv) _ (n .0) _ _ _ (n .1 .0) (n .1 .1 .0) (n .1 .1 .1 .0)) .0
+
+same-length-8 : tie.Need-same-length-8 Inv-loop μ-loop
+same-length-8 c =
+    let a = c .before .before .before .before .before .before .before .before .before .before .before .before .before .before .before .before .before .before .before .before .before .before .before .args in
+    let l = c .before .before .before .before .before .before .before .before .before .before .before .before .before .before .before .before .before .before .loop in
+    let n = c .before .before .before .before .before .before .before .before .before .before .before .before .before .before .next-record .ensures in
+    held-lengths (now-held (a .d) (a .file .now) (a .from) (a .first) (a .columns) (a .room) (a .base) (a .starts .now) (a .ends .now) (a .kinds .now) (l .form) (l .i) (l .cells) (l .records) (l .starts) (l .ends) (l .kinds) (l .inv) _ (n .0) _ _ _ (n .1 .0) (n .1 .1 .0) (n .1 .1 .1 .0)) .1
+
+same-length-9 : tie.Need-same-length-9 Inv-loop μ-loop
+same-length-9 c =
+    let a = c .before .before .before .before .before .before .before .before .before .before .before .before .before .before .before .before .before .before .before .before .before .before .before .args in
+    let l = c .before .before .before .before .before .before .before .before .before .before .before .before .before .before .before .before .before .before .loop in
+    let n = c .before .before .before .before .before .before .before .before .before .before .before .before .before .before .next-record .ensures in
+    held-lengths (now-held (a .d) (a .file .now) (a .from) (a .first) (a .columns) (a .room) (a .base) (a .starts .now) (a .ends .now) (a .kinds .now) (l .form) (l .i) (l .cells) (l .records) (l .starts) (l .ends) (l .kinds) (l .inv) _ (n .0) _ _ _ (n .1 .0) (n .1 .1 .0) (n .1 .1 .1 .0)) .2
+
+returns-3 : tie.Need-returns-3 Inv-loop μ-loop
+returns-3 c =
+    let a = c .before .before .before .before .before .before .before .before .before .before .before .before .before .before .before .before .before .before .before .before .before .before .before .args in
+    let l = c .before .before .before .before .before .before .before .before .before .before .before .before .before .before .before .before .before .before .loop in
+    let n = c .before .before .before .before .before .before .before .before .before .before .before .before .before .before .next-record .ensures in
+    last-refused (a .d) (a .file .now) (a .from) (a .first) (a .columns) (a .room) (a .base) (a .starts .now) (a .ends .now) (a .kinds .now) (l .form) (l .i) (l .cells) (l .records) (l .starts) (l .ends) (l .kinds) (l .inv) _ (n .0) _ _ _ (n .1 .0) (n .1 .1 .0) (n .1 .1 .1 .0) _ _ (c .before .before .before .before .before .before .start2 .given .1) (n .1 .1 .1 .1) _ (c .before .before .before .before .data2 .ensures) _ (c .before .before .e2 .given .1) _ (c .on-record2 .ensures)
+
+enum-known-fault : tie.Need-enum-known-fault Inv-loop μ-loop
+enum-known-fault c = search needs
+
+add-on-record-3 : tie.Need-add-on-record-3 Inv-loop μ-loop
+add-on-record-3 c =
+    let a = c .before .before .before .before .before .before .before .before .before .before .before .before .before .before .before .before .before .before .args in
+    let l = c .before .before .before .before .before .before .before .before .before .before .before .before .before .loop in
+    let few : a .base + l .cells ≤ l .i = l .inv .few in
+    let under : l .i ≤ MAXFILE = l .inv .under in
+    let many : l .records ≤ l .i = l .inv .many in
+    omega arith
+
+on-record-requires-3 : tie.Need-on-record-requires-3 Inv-loop μ-loop
+on-record-requires-3 c κs = search needs
+
+same-length-10 : tie.Need-same-length-10 Inv-loop μ-loop
+same-length-10 c =
+    let a = c .before .before .before .before .before .before .before .before .before .before .before .before .before .before .before .before .before .before .before .args in
+    let l = c .before .before .before .before .before .before .before .before .before .before .before .before .before .before .loop in
+    let n = c .before .before .before .before .before .before .before .before .before .before .next-record .ensures in
+    held-lengths (now-held (a .d) (a .file .now) (a .from) (a .first) (a .columns) (a .room) (a .base) (a .starts .now) (a .ends .now) (a .kinds .now) (l .form) (l .i) (l .cells) (l .records) (l .starts) (l .ends) (l .kinds) (l .inv) _ (n .0) _ _ _ (n .1 .0) (n .1 .1 .0) (n .1 .1 .1 .0)) .0
+
+same-length-11 : tie.Need-same-length-11 Inv-loop μ-loop
+same-length-11 c =
+    let a = c .before .before .before .before .before .before .before .before .before .before .before .before .before .before .before .before .before .before .before .args in
+    let l = c .before .before .before .before .before .before .before .before .before .before .before .before .before .before .loop in
+    let n = c .before .before .before .before .before .before .before .before .before .before .next-record .ensures in
+    held-lengths (now-held (a .d) (a .file .now) (a .from) (a .first) (a .columns) (a .room) (a .base) (a .starts .now) (a .ends .now) (a .kinds .now) (l .form) (l .i) (l .cells) (l .records) (l .starts) (l .ends) (l .kinds) (l .inv) _ (n .0) _ _ _ (n .1 .0) (n .1 .1 .0) (n .1 .1 .1 .0)) .1
+
+same-length-12 : tie.Need-same-length-12 Inv-loop μ-loop
+same-length-12 c =
+    let a = c .before .before .before .before .before .before .before .before .before .before .before .before .before .before .before .before .before .before .before .args in
+    let l = c .before .before .before .before .before .before .before .before .before .before .before .before .before .before .loop in
+    let n = c .before .before .before .before .before .before .before .before .before .before .next-record .ensures in
+    held-lengths (now-held (a .d) (a .file .now) (a .from) (a .first) (a .columns) (a .room) (a .base) (a .starts .now) (a .ends .now) (a .kinds .now) (l .form) (l .i) (l .cells) (l .records) (l .starts) (l .ends) (l .kinds) (l .inv) _ (n .0) _ _ _ (n .1 .0) (n .1 .1 .0) (n .1 .1 .1 .0)) .2
+
+returns-4 : tie.Need-returns-4 Inv-loop μ-loop
+returns-4 c =
+    let a = c .before .before .before .before .before .before .before .before .before .before .before .before .before .before .before .before .before .before .before .args in
+    let l = c .before .before .before .before .before .before .before .before .before .before .before .before .before .before .loop in
+    let n = c .before .before .before .before .before .before .before .before .before .before .next-record .ensures in
+    fault-refused (a .d) (a .file .now) (a .from) (a .first) (a .columns) (a .room) (a .base) (a .starts .now) (a .ends .now) (a .kinds .now) (l .form) (l .i) (l .cells) (l .records) (l .starts) (l .ends) (l .kinds) (l .inv) _ (n .0) _ _ _ (n .1 .0) (n .1 .1 .0) (n .1 .1 .1 .0) _ _ (c .before .before .fault .given .1) _ (c .on-record3 .ensures)
+
+enum-told-3 : tie.Need-enum-told-3 Inv-loop μ-loop
+enum-told-3 c = search needs
+
+same-length-13 : tie.Need-same-length-13 Inv-loop μ-loop
+same-length-13 c =
+    let a = c .before .before .before .before .before .before .before .before .before .before .before .before .before .before .before .before .before .args in
+    let l = c .before .before .before .before .before .before .before .before .before .before .before .before .loop in
+    let n = c .before .before .before .before .before .before .before .before .next-record .ensures in
+    held-lengths (now-held (a .d) (a .file .now) (a .from) (a .first) (a .columns) (a .room) (a .base) (a .starts .now) (a .ends .now) (a .kinds .now) (l .form) (l .i) (l .cells) (l .records) (l .starts) (l .ends) (l .kinds) (l .inv) _ (n .0) _ _ _ (n .1 .0) (n .1 .1 .0) (n .1 .1 .1 .0)) .0
+
+same-length-14 : tie.Need-same-length-14 Inv-loop μ-loop
+same-length-14 c =
+    let a = c .before .before .before .before .before .before .before .before .before .before .before .before .before .before .before .before .before .args in
+    let l = c .before .before .before .before .before .before .before .before .before .before .before .before .loop in
+    let n = c .before .before .before .before .before .before .before .before .next-record .ensures in
+    held-lengths (now-held (a .d) (a .file .now) (a .from) (a .first) (a .columns) (a .room) (a .base) (a .starts .now) (a .ends .now) (a .kinds .now) (l .form) (l .i) (l .cells) (l .records) (l .starts) (l .ends) (l .kinds) (l .inv) _ (n .0) _ _ _ (n .1 .0) (n .1 .1 .0) (n .1 .1 .1 .0)) .1
+
+same-length-15 : tie.Need-same-length-15 Inv-loop μ-loop
+same-length-15 c =
+    let a = c .before .before .before .before .before .before .before .before .before .before .before .before .before .before .before .before .before .args in
+    let l = c .before .before .before .before .before .before .before .before .before .before .before .before .loop in
+    let n = c .before .before .before .before .before .before .before .before .next-record .ensures in
+    held-lengths (now-held (a .d) (a .file .now) (a .from) (a .first) (a .columns) (a .room) (a .base) (a .starts .now) (a .ends .now) (a .kinds .now) (l .form) (l .i) (l .cells) (l .records) (l .starts) (l .ends) (l .kinds) (l .inv) _ (n .0) _ _ _ (n .1 .0) (n .1 .1 .0) (n .1 .1 .1 .0)) .2
+
+returns-5 : tie.Need-returns-5 Inv-loop μ-loop
+returns-5 c =
+    let a = c .before .before .before .before .before .before .before .before .before .before .before .before .before .before .before .before .before .args in
+    let l = c .before .before .before .before .before .before .before .before .before .before .before .before .loop in
+    let n = c .before .before .before .before .before .before .before .before .next-record .ensures in
+    finish-accepted (a .d) (a .file .now) (a .from) (a .first) (a .columns) (a .room) (a .base) (a .starts .now) (a .ends .now) (a .kinds .now) (l .form) (l .i) (l .cells) (l .records) (l .starts) (l .ends) (l .kinds) (l .inv) _ (n .0) _ _ _ (n .1 .0) (n .1 .1 .0) (n .1 .1 .1 .0) _ (c .enum-told3 .given .1)
+
+pub data-records-spec : {M : Type 1} → statement M
+data-records-spec =
+    tie.close
+    (tie.spec
+    Inv-loop
+    μ-loop
+    loop-holds
+    add-next-record
+    next-record-requires
+    enum-known-start
+    data-requires
+    enum-told
+    add-cells
+    add-records
+    loop-less
+    loop-again
+    enum-known-e
+    add-on-record
+    on-record-requires
+    same-length
+    same-length-2
+    same-length-3
+    returns
+    enum-known-start-2
+    data-requires-2
+    enum-told-2
+    add-t37
+    add-t38
+    same-length-4
+    same-length-5
+    same-length-6
+    returns-2
+    enum-known-e-2
+    add-on-record-2
+    on-record-requires-2
+    same-length-7
+    same-length-8
+    same-length-9
+    returns-3
+    enum-known-fault
+    add-on-record-3
+    on-record-requires-3
+    same-length-10
+    same-length-11
+    same-length-12
+    returns-4
+    enum-told-3
+    same-length-13
+    same-length-14
+    same-length-15
+    returns-5)

@@ -1,0 +1,149 @@
+use native.Mathlib.Omega.{arith}
+use mathlib.Core.Path.{refl}
+use borrow.Author.Needs.{needs}
+use Rattle.model.specs.declared.Form.the-variants.{Top}
+use Rattle.scanner.proofs.Stretches.{cells-stand}
+use Rattle.reader.proofs.Headers.{first-counts, only-counts, shows, header-sound, header-faulty, only-sound, only-faulty, byte-faulty, nothing-there}
+use Rattle.reader.proofs.records.first_record.Statement.{statement}
+use Rattle.reader.proofs.records.first_record.Tie as tie
+
+slice-aggregate-next-record : tie.Need-slice-aggregate-next-record
+slice-aggregate-next-record c = search needs
+
+slice-aggregate-next-record-2 : tie.Need-slice-aggregate-next-record-2
+slice-aggregate-next-record-2 c = search needs
+
+slice-aggregate-next-record-3 : tie.Need-slice-aggregate-next-record-3
+slice-aggregate-next-record-3 c = search needs
+
+next-record-requires : tie.Need-next-record-requires
+next-record-requires c κs = search needs
+
+enum-known-start : tie.Need-enum-known-start
+enum-known-start c = search needs
+
+slice-aggregate-judged : tie.Need-slice-aggregate-judged
+slice-aggregate-judged c = search needs
+
+slice-aggregate-judged-2 : tie.Need-slice-aggregate-judged-2
+slice-aggregate-judged-2 c = search needs
+
+judged-requires : tie.Need-judged-requires
+judged-requires c κs =
+    let a = c .before .before .before .before .before .before .before .before .before .before .before .before .before .args in
+    let n = c .before .before .before .before .before .before .before .before .next-record .ensures in
+    (first-counts (a .d) (a .file .now) _ (n .0) _ _ _ _ (c .before .before .before .start .given .1), (shows _ _ _ _ _ refl refl (n .1 .0) (n .1 .1 .0), cells-stand (a .d) (a .file .now) Top 0 (omega arith)))
+
+enum-told : tie.Need-enum-told
+enum-told c = search needs
+
+enum-known-e : tie.Need-enum-known-e
+enum-known-e c = search needs
+
+on-record-requires : tie.Need-on-record-requires
+on-record-requires c κs = search needs
+
+enum-known-start-2 : tie.Need-enum-known-start-2
+enum-known-start-2 c = search needs
+
+slice-aggregate-judged-3 : tie.Need-slice-aggregate-judged-3
+slice-aggregate-judged-3 c = search needs
+
+slice-aggregate-judged-4 : tie.Need-slice-aggregate-judged-4
+slice-aggregate-judged-4 c = search needs
+
+judged-requires-2 : tie.Need-judged-requires-2
+judged-requires-2 c κs =
+    let a = c .before .before .before .before .before .before .before .before .before .before .before .before .before .args in
+    let n = c .before .before .before .before .before .before .before .before .next-record .ensures in
+    (only-counts (a .d) (a .file .now) _ (n .0) _ _ (c .before .before .before .start2 .given .1), (shows _ _ _ _ _ refl refl (n .1 .0) (n .1 .1 .0), cells-stand (a .d) (a .file .now) Top 0 (omega arith)))
+
+enum-told-2 : tie.Need-enum-told-2
+enum-told-2 c = search needs
+
+enum-known-e-2 : tie.Need-enum-known-e-2
+enum-known-e-2 c = search needs
+
+on-record-requires-2 : tie.Need-on-record-requires-2
+on-record-requires-2 c κs = search needs
+
+enum-known-fault : tie.Need-enum-known-fault
+enum-known-fault c = search needs
+
+on-record-requires-3 : tie.Need-on-record-requires-3
+on-record-requires-3 c κs = search needs
+
+enum-known-offset : tie.Need-enum-known-offset
+enum-known-offset c = search needs
+
+on-record-requires-4 : tie.Need-on-record-requires-4
+on-record-requires-4 c κs = search needs
+
+returns : tie.Need-returns
+returns c =
+    let a = c .before .before .before .before .before .before .before .before .before .before .before .before .before .before .before .before .args in
+    let n = c .before .before .before .before .before .before .before .before .before .before .before .next-record .ensures in
+    header-sound (a .d) (a .file .now) _ (n .0) _ (c .before .before .judged .ensures) _ _ _ _ (c .before .before .before .before .before .before .start .given .1) (n .1 .1 .1 .1) (c .enum-told .given .1)
+
+returns-2 : tie.Need-returns-2
+returns-2 c =
+    let a = c .before .before .before .before .before .before .before .before .before .before .before .before .before .before .before .before .before .before .args in
+    let n = c .before .before .before .before .before .before .before .before .before .before .before .before .before .next-record .ensures in
+    header-faulty (a .d) (a .file .now) _ (n .0) _ (c .before .before .before .before .judged .ensures) _ _ _ _ (c .before .before .before .before .before .before .before .before .start .given .1) _ (c .before .before .e .given .1) _ (c .on-record .ensures)
+
+returns-3 : tie.Need-returns-3
+returns-3 c =
+    let a = c .before .before .before .before .before .before .before .before .before .before .before .before .before .before .before .before .args in
+    let n = c .before .before .before .before .before .before .before .before .before .before .before .next-record .ensures in
+    only-sound (a .d) (a .file .now) _ (n .0) _ (c .before .before .judged2 .ensures) _ _ (c .before .before .before .before .before .before .start2 .given .1) (c .enum-told2 .given .1)
+
+returns-4 : tie.Need-returns-4
+returns-4 c =
+    let a = c .before .before .before .before .before .before .before .before .before .before .before .before .before .before .before .before .before .before .args in
+    let n = c .before .before .before .before .before .before .before .before .before .before .before .before .before .next-record .ensures in
+    only-faulty (a .d) (a .file .now) _ (n .0) _ (c .before .before .before .before .judged2 .ensures) _ _ (c .before .before .before .before .before .before .before .before .start2 .given .1) _ (c .before .before .e2 .given .1) _ (c .on-record2 .ensures)
+
+returns-5 : tie.Need-returns-5
+returns-5 c =
+    let a = c .before .before .before .before .before .before .before .before .before .before .before .before .args in
+    let n = c .before .before .before .before .before .before .before .next-record .ensures in
+    byte-faulty (a .d) (a .file .now) _ (n .0) _ _ (c .before .before .fault .given .1) _ (c .on-record3 .ensures)
+
+returns-6 : tie.Need-returns-6
+returns-6 c =
+    let a = c .before .before .before .before .before .before .before .before .before .before .before .before .args in
+    let n = c .before .before .before .before .before .before .before .next-record .ensures in
+    nothing-there (a .d) (a .file .now) _ (n .0) _ (c .before .before .offset .given .1) _ (c .on-record4 .ensures)
+
+pub first-record-spec : {M : Type 1} → statement M
+first-record-spec =
+    tie.close
+    (tie.spec
+    slice-aggregate-next-record
+    slice-aggregate-next-record-2
+    slice-aggregate-next-record-3
+    next-record-requires
+    enum-known-start
+    slice-aggregate-judged
+    slice-aggregate-judged-2
+    judged-requires
+    enum-told
+    enum-known-e
+    on-record-requires
+    enum-known-start-2
+    slice-aggregate-judged-3
+    slice-aggregate-judged-4
+    judged-requires-2
+    enum-told-2
+    enum-known-e-2
+    on-record-requires-2
+    enum-known-fault
+    on-record-requires-3
+    enum-known-offset
+    on-record-requires-4
+    returns
+    returns-2
+    returns-3
+    returns-4
+    returns-5
+    returns-6)

@@ -1,0 +1,48 @@
+use Prim.Native.Nat.{_≤_}
+use native.Mathlib.Omega.{arith}
+use mathlib.Core.Path.{sym, ap, _∙_}
+use lib.ListN.{length}
+use lib.Seq.{length-take-le}
+use Rattle.model.specs.Records.{headerFault}
+use Rattle.reader.proofs.Headers.{too-many, judged-inside, judged-values}
+use Rattle.reader.proofs.records.judged.Statement.{statement}
+use Rattle.reader.proofs.records.judged.Tie as tie
+
+returns : tie.Need-returns
+returns c =
+    let a = c .before .before .before .before .args in
+    let q = c .before .before .before .before .pre in
+    too-many (a .d) _ _ (q .0) (c .if1 .taken)
+
+slice-aggregate-header : tie.Need-slice-aggregate-header
+slice-aggregate-header c =
+    let a = c .before .before .before .before .before .args in
+    let q = c .before .before .before .before .before .pre in
+    let m : a .cells ≤ 64 = c .before .if1 .left in
+    let k : 64 ≤ length (a .starts .now) = q .1 .0 .long-starts in
+    sym (length-take-le (a .cells) (a .starts .now) (omega arith))
+
+slice-aggregate-header-2 : tie.Need-slice-aggregate-header-2
+slice-aggregate-header-2 c =
+    let a = c .before .before .before .before .before .before .args in
+    let q = c .before .before .before .before .before .before .pre in
+    let m : a .cells ≤ 64 = c .before .before .if1 .left in
+    let k : 64 ≤ length (a .ends .now) = q .1 .0 .long-ends in
+    sym (length-take-le (a .cells) (a .ends .now) (omega arith))
+
+header-requires : tie.Need-header-requires
+header-requires c κs =
+    let a = c .before .before .before .before .before .before .args in
+    let q = c .before .before .before .before .before .before .pre in
+    judged-inside (a .d) (a .file .now) _ (a .cells) (a .starts .now) (a .ends .now) (q .0) (q .1 .0) (q .1 .1) (c .before .before .if1 .left)
+
+returns-2 : tie.Need-returns-2
+returns-2 c =
+    let a = c .before .before .before .before .before .before .before .args in
+    let q = c .before .before .before .before .before .before .before .pre in
+    c .header .ensures ∙ ap (headerFault (a .d)) (judged-values (a .d) (a .file .now) _ (a .cells) (a .starts .now) (a .ends .now) (q .0) (q .1 .0) (q .1 .1) (c .before .before .before .if1 .left))
+
+pub judged-spec : {M : Type 1} → statement M
+judged-spec =
+    tie.close
+    (tie.spec returns slice-aggregate-header slice-aggregate-header-2 header-requires returns-2)

@@ -1,0 +1,147 @@
+// The records of a file: its header, and then its data records, each judged when it is complete.
+ghost use mathlib.Core.Path.{_≡_};
+ghost use Prim.Native.Nat.{_+_, _≤_};
+ghost use lib.ListN.{length};
+ghost use Rattle.model.specs.Laws.{All};
+ghost use Rattle.model.specs.Records.{headerFault};
+ghost use Rattle.model.specs.Report.{MAXFILE};
+ghost use Rattle.scanner.specs.Stretches.{StandsIn};
+ghost use Rattle.reader.specs.Passes.{firstOf, Shows, Heads, Passes};
+use crate::report;
+use model::Dialect;
+use model::Fault;
+use model::Form;
+use model::Report;
+use model::Verdict;
+use scanner::Event;
+
+// What a file begins with.
+pub enum Head {
+    // A header with so many cells. Where the file stands after it, and the next offset.
+    Header {
+        cells: usize,
+        form: Form,
+        next: usize,
+    },
+    // A header with so many cells, and nothing else.
+    HeaderOnly {
+        cells: usize,
+    },
+    NoHeader(Report),
+}
+
+// The first record, whose cells stand in these lists as far as there is room.
+fn judged(d: Dialect, file: &[u8], cells: usize, starts: &[usize], ends: &[usize]) -> Verdict
+    requires { ⌜ cells ≡ length (firstOf d (now file) .cells) ⌝ }
+    requires { ⌜ Shows (firstOf d (now file) .cells) (now starts) (now ends) ⌝ }
+    requires { ⌜ All (StandsIn d (now file)) (firstOf d (now file) .cells) ⌝ }
+    ensures { λ r. ⌜ r ≡ headerFault d (firstOf d (now (file .entry)) .cells) ⌝ }
+{
+    if 64 < cells {
+        return Verdict::Faulty(Fault::TooManyColumns);
+    }
+    judge::header(d, file, &starts[..cells], &ends[..cells])
+}
+
+// The first record of a file, judged.
+pub fn first_record(d: Dialect, file: &[u8]) -> Head
+    ensures { λ r. ⌜ Heads d (now (file .entry)) r ⌝ }
+{
+    let mut starts = [0usize; 64];
+    let mut ends = [0usize; 64];
+    let mut kinds = [0u8; 64];
+    match scanner::next_record(
+        d,
+        file,
+        0,
+        Form::Top,
+        64,
+        0,
+        &mut starts,
+        &mut ends,
+        &mut kinds,
+    ) {
+        Event::Completed {
+            start,
+            cells,
+            form,
+            next,
+        } => match judged(d, file, cells, &starts, &ends) {
+            Verdict::Sound => Head::Header { cells, form, next },
+            Verdict::Faulty(e) => Head::NoHeader(report::on_record(e, 1, start)),
+        },
+        Event::LastRecord { start, cells } => match judged(d, file, cells, &starts, &ends) {
+            Verdict::Sound => Head::HeaderOnly { cells },
+            Verdict::Faulty(e) => Head::NoHeader(report::on_record(e, 1, start)),
+        },
+        Event::Failed { fault, offset } => Head::NoHeader(report::on_record(fault, 1, offset)),
+        Event::Finished { offset } => Head::NoHeader(report::on_record(Fault::NoRecord, 1, offset)),
+    }
+}
+
+// What the data records come to.
+pub enum Pass {
+    // So many records and cells, to the end of the file.
+    Accepted { records: usize, cells: usize },
+    Refused(Report),
+}
+
+// The data records from `from` on. `base`: how many cells come before them.
+pub fn data_records(
+    d: Dialect,
+    file: &[u8],
+    from: usize,
+    first: Form,
+    columns: usize,
+    room: usize,
+    base: usize,
+    starts: &mut [usize],
+    ends: &mut [usize],
+    kinds: &mut [u8],
+) -> Pass
+    requires { ⌜ (from ≤ length (now file)) × (from ≤ MAXFILE) × (base ≤ from) ⌝ }
+    requires { ⌜ (room ≤ length (now starts)) × (room ≤ length (now ends)) × (room ≤ length (now kinds)) ⌝ }
+    ensures { λ r. ⌜ Passes d (now (file .entry)) from first columns room base (now (starts .entry)) (now (ends .entry)) (now (kinds .entry)) r (now (starts .exit)) (now (ends .exit)) (now (kinds .exit)) ⌝ }
+{
+    let mut form = first;
+    let mut i = from;
+    let mut cells: usize = 0;
+    let mut records: usize = 0;
+    loop {
+        match scanner::next_record(d, file, i, form, room, base + cells, starts, ends, kinds) {
+            Event::Completed {
+                start,
+                cells: n,
+                form: f,
+                next,
+            } => match judge::data(columns, n) {
+                Verdict::Sound => {
+                    form = f;
+                    i = next;
+                    cells += n;
+                    records += 1;
+                }
+                Verdict::Faulty(e) => {
+                    return Pass::Refused(report::on_record(e, records + 2, start));
+                }
+            },
+            Event::LastRecord { start, cells: n } => match judge::data(columns, n) {
+                Verdict::Sound => {
+                    return Pass::Accepted {
+                        records: records + 1,
+                        cells: cells + n,
+                    };
+                }
+                Verdict::Faulty(e) => {
+                    return Pass::Refused(report::on_record(e, records + 2, start));
+                }
+            },
+            Event::Failed { fault, offset } => {
+                return Pass::Refused(report::on_record(fault, records + 2, offset));
+            }
+            Event::Finished { offset: _ } => {
+                return Pass::Accepted { records, cells };
+            }
+        }
+    }
+}
