@@ -82,6 +82,21 @@ pub fn mutate(rng: &mut Rng, file: &mut Vec<u8>) {
     }
 }
 
+/// A header, a data record again and again, and filler in a last record, `length` bytes in all,
+/// with the number of its records.
+pub fn file_of(header: &str, record: &str, last: (&str, &str), length: usize) -> (Vec<u8>, usize) {
+    let fixed = header.len() + last.0.len() + last.1.len();
+    let times = (length - fixed) / record.len();
+    let filler = length - fixed - times * record.len();
+    let mut file = header.as_bytes().to_vec();
+    file.extend(record.repeat(times).bytes());
+    file.extend(last.0.bytes());
+    file.extend("x".repeat(filler).bytes());
+    file.extend(last.1.bytes());
+    assert_eq!(file.len(), length);
+    (file, times + 2)
+}
+
 fn no_records(rng: &mut Rng, dialect: Dialect) -> Sample {
     let mut file = Vec::new();
     match dialect {

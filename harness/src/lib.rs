@@ -2,9 +2,11 @@
 
 pub mod antt;
 pub mod conformance;
+pub mod counts;
 pub mod generate;
 pub mod json;
 pub mod ledger;
+pub mod lists;
 pub mod rng;
 pub mod runner;
 pub mod sampled;
