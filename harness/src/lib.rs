@@ -23,6 +23,9 @@ pub const DIALECTS: [(u32, Dialect); 3] = [
     (3, Dialect::CsvPlus),
 ];
 
+/// Numbers of no dialect; one of them has the low byte of a dialect's.
+pub const UNKNOWN: [u32; 4] = [0, 4, 257, u32::MAX];
+
 /// The folder of the vectors.
 pub fn vectors_folder() -> PathBuf {
     Path::new(env!("CARGO_MANIFEST_DIR")).join("../vectors")

@@ -5,7 +5,7 @@ use harness::generate::{mutate, sample};
 use harness::ledger::{check_calls, Call};
 use harness::rng::Rng;
 use harness::whole::{cells_of, convert_whole, decode_whole, read_whole, write_whole, Cell};
-use harness::DIALECTS;
+use harness::{DIALECTS, UNKNOWN};
 use reference::limits::{PIECE_BYTES, PIECE_ROOM, RECORD_BYTES};
 use reference::Report;
 use std::collections::BTreeSet;
@@ -211,7 +211,7 @@ fn pieces_follow_the_ledger() {
         let (source, dialect) = DIALECTS[round % 3];
         let file = sample(&mut rng, dialect).file;
         let target = if rng.percent(2) {
-            rng.pick(&[0, 4, u32::MAX])
+            rng.pick(&UNKNOWN)
         } else {
             rng.pick(&[1, 2, 3])
         };
