@@ -1,82 +1,16 @@
-//! The proved calls against the reference's, answer by answer and byte by byte of what was lent.
+//! The proved calls against the reference's, answer by answer and place by place of what was lent.
 
-use crate::{decode, DecodeAnswer};
-use harness::generate::{mutate, sample};
-use harness::rng::Rng;
-use harness::whole::read_whole;
-use harness::DIALECTS;
-use reference::{Decoded, Report};
+mod decode;
+mod read;
 
-fn refused(report: Report) -> DecodeAnswer {
-    DecodeAnswer {
-        number: report.number,
-        record_number: report.record,
-        column: report.column,
-        offset: report.offset,
-        length: 0,
-        kind: 0,
-    }
-}
+pub use decode::{decode_agrees, decode_random};
+pub use read::{proved_reader, read_agrees, read_in_rooms, read_random};
 
-/// The reference's answer in the proved call's terms.
-fn expected(dialect: u32, raw: &[u8], room: &mut [u8]) -> DecodeAnswer {
-    match reference::decode(dialect, raw, room) {
-        Decoded::Refused(report) => refused(report),
-        Decoded::Content { length, kind } => DecodeAnswer {
-            length,
-            kind: kind.number().into(),
-            ..refused(Report::ACCEPTED)
-        },
-    }
-}
-
-/// Decodes a raw cell with both and compares the answers and the whole room.
-pub fn decode_agrees(dialect: u32, raw: &[u8], room: usize) -> Result<DecodeAnswer, String> {
-    let (mut ours, mut theirs) = (vec![0xA5; room], vec![0xA5; room]);
-    let answer = decode(dialect, raw, &mut ours);
-    let wanted = expected(dialect, raw, &mut theirs);
-    if answer != wanted || ours != theirs {
-        return Err(format!(
-            "decode {dialect} {raw:?} with {room} bytes of room answered {answer:?} and left {ours:?}, but the reference \
-             says {wanted:?} and leaves {theirs:?}"
-        ));
-    }
-    Ok(answer)
-}
-
-/// How often each report number came up.
-pub type Counts = [usize; 13];
-
-/// Compares the decoders on raw cells of random files, some of them changed, and on parts of files.
-pub fn decode_random(seed: u64, count: usize) -> Result<Counts, String> {
-    let mut rng = Rng::new(seed);
-    let mut counts = [0; 13];
-    let mut done = 0;
-    while done < count {
-        let (number, dialect) = rng.pick(&DIALECTS);
-        let file = sample(&mut rng, dialect).file;
-        for mut raw in raw_cells(&mut rng, number, &file) {
-            if rng.percent(40) {
-                mutate(&mut rng, &mut raw);
-            }
-            let dialect = if rng.percent(2) { 4 } else { number };
-            let room = rng.between(0, raw.len() + 2);
-            counts[decode_agrees(dialect, &raw, room)?.number] += 1;
-            counts[decode_agrees(dialect, &raw, raw.len() + 1)?.number] += 1;
-            done += 2;
-        }
-    }
-    Ok(counts)
-}
-
-fn raw_cells(rng: &mut Rng, dialect: u32, file: &[u8]) -> Vec<Vec<u8>> {
-    match read_whole(dialect, file) {
-        Ok(table) => {
-            let stretches = table.starts.iter().zip(&table.ends);
-            stretches
-                .map(|(start, end)| file[*start..*end].to_vec())
-                .collect()
-        }
-        Err(_) => vec![file[rng.below(file.len() + 1)..].to_vec()],
-    }
+/// Bytes in hexadecimal, of very many only the first.
+fn hex(bytes: &[u8]) -> String {
+    const MOST: usize = 100_000;
+    let shown = &bytes[..bytes.len().min(MOST)];
+    let digits: String = shown.iter().map(|byte| format!("{byte:02x}")).collect();
+    let more = if bytes.len() > MOST { "..." } else { "" };
+    format!("{digits}{more} ({} bytes)", bytes.len())
 }

@@ -22,6 +22,26 @@ pub struct DecodeAnswer {
     pub kind: usize,
 }
 
+/// What the reader answers, field by field as `include/tables.h` declares it.
+#[repr(C)]
+#[derive(Clone, Copy, Debug, PartialEq, Eq)]
+pub struct ReadAnswer {
+    /// The report's number; 0 is acceptance.
+    pub number: usize,
+    /// The report's record.
+    pub record_number: usize,
+    /// The report's column.
+    pub column: usize,
+    /// The report's offset.
+    pub offset: usize,
+    /// The number of columns.
+    pub columns: usize,
+    /// The number of data records.
+    pub records: usize,
+    /// The number of cells, the header's too.
+    pub cells: usize,
+}
+
 extern "C" {
     fn tables_decode(
         dialect: u32,
@@ -30,6 +50,18 @@ extern "C" {
         room: *mut u8,
         room_length: usize,
     ) -> DecodeAnswer;
+
+    fn tables_read(
+        dialect: u32,
+        file: *const u8,
+        file_length: usize,
+        starts: *mut usize,
+        starts_length: usize,
+        ends: *mut usize,
+        ends_length: usize,
+        kinds: *mut u8,
+        kinds_length: usize,
+    ) -> ReadAnswer;
 }
 
 /// The raw bytes of one cell to its content, in `room`.
@@ -42,6 +74,30 @@ pub fn decode(dialect: u32, raw: &[u8], room: &mut [u8]) -> DecodeAnswer {
             raw.len(),
             room.as_mut_ptr(),
             room.len(),
+        )
+    }
+}
+
+/// The cells of a whole file: stretch `i` is `starts[i]` up to `ends[i]`, its kind `kinds[i]`.
+pub fn read(
+    dialect: u32,
+    file: &[u8],
+    starts: &mut [usize],
+    ends: &mut [usize],
+    kinds: &mut [u8],
+) -> ReadAnswer {
+    // SAFETY: the slices are alive for the call and do not overlap, and the call is proved to stay inside them.
+    unsafe {
+        tables_read(
+            dialect,
+            file.as_ptr(),
+            file.len(),
+            starts.as_mut_ptr(),
+            starts.len(),
+            ends.as_mut_ptr(),
+            ends.len(),
+            kinds.as_mut_ptr(),
+            kinds.len(),
         )
     }
 }

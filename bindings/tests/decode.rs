@@ -60,11 +60,6 @@ fn every_vector_is_decoded_as_it_says() {
 #[test]
 fn random_cells_are_decoded_as_the_reference_does() {
     let counts = decode_random(1, 400_000).unwrap();
-    eprintln!("the proved decoder: random cells by report number {counts:?}");
-    for number in [0, 2, 3, 4, 10, 11] {
-        assert!(
-            counts[number] >= 1_000,
-            "too few reports {number}: {counts:?}"
-        );
-    }
+    counts.print("the proved decoder on random cells");
+    counts.require([0, 2, 3, 4, 10, 11], 1_000).unwrap();
 }

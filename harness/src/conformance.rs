@@ -49,7 +49,7 @@ pub fn run(folder: &Path) -> Result<Tally, String> {
 }
 
 /// The files of a folder by their names without the extension, which all have to have.
-fn files(folder: &Path, extension: &str) -> Result<BTreeMap<String, PathBuf>, String> {
+pub fn files(folder: &Path, extension: &str) -> Result<BTreeMap<String, PathBuf>, String> {
     let mut files = BTreeMap::new();
     let entries = fs::read_dir(folder).map_err(|error| in_file(folder, error))?;
     for entry in entries {

@@ -6,6 +6,7 @@ use crate::rng::Rng;
 use crate::whole::Cell;
 use reference::limits::{COLUMNS, RECORD_BYTES};
 use reference::Dialect;
+use std::iter::repeat_n;
 
 /// A random file.
 #[derive(Clone, Debug)]
@@ -59,6 +60,10 @@ pub fn sample(rng: &mut Rng, dialect: Dialect) -> Sample {
         4..=24 => faulty_table(rng, dialect),
         _ => sound_table(rng, dialect),
     };
+    if rng.percent(3) {
+        stretch(rng, &mut sample.file);
+        sample.records = None;
+    }
     if rng.percent(40) {
         for _ in 0..rng.between(1, 3) {
             mutate(rng, &mut sample.file);
@@ -68,18 +73,50 @@ pub fn sample(rng: &mut Rng, dialect: Dialect) -> Sample {
     sample
 }
 
-/// Changes, adds or takes away a byte, puts a mark in front, or cuts the bytes off.
+/// Fills up a line until it has about as many bytes as a record may have.
+fn stretch(rng: &mut Rng, file: &mut Vec<u8>) {
+    let place = rng.below(file.len() + 1);
+    let is_inside = |byte: &&u8| !matches!(byte, b'\r' | b'\n');
+    let before = file[..place].iter().rev().take_while(is_inside).count();
+    let after = file[place..].iter().take_while(is_inside).count();
+    let length = rng.between(RECORD_BYTES - 2, RECORD_BYTES + 2);
+    let filler = rng.pick(b"xxx 1");
+    let missing = length.saturating_sub(before + after);
+    drop(file.splice(place..place, repeat_n(filler, missing)));
+}
+
+/// Changes, adds or takes away a byte, puts a mark in front, repeats a part, or cuts the bytes off.
 pub fn mutate(rng: &mut Rng, file: &mut Vec<u8>) {
     let place = rng.below(file.len() + 1);
     match rng.below(20) {
         0 => drop(file.splice(..0, *MARK)),
-        1..=3 => file.truncate(place),
+        1..=2 => file.truncate(place),
+        3 => {
+            let end = rng.between(place, file.len().min(place + 20));
+            file.extend_from_within(place..end);
+            file[place..].rotate_right(end - place);
+        }
         4..=8 => file.insert(place, rng.pick(BYTES)),
         _ if place == file.len() => file.push(rng.pick(BYTES)),
         9..=12 => drop(file.remove(place)),
         13..=16 => file[place] = rng.pick(BYTES),
         _ => file[place] ^= 1 << rng.below(8),
     }
+}
+
+/// A header, a data record again and again, and filler in a last record, `length` bytes in all,
+/// with the number of its records.
+pub fn file_of(header: &str, record: &str, last: (&str, &str), length: usize) -> (Vec<u8>, usize) {
+    let fixed = header.len() + last.0.len() + last.1.len();
+    let times = (length - fixed) / record.len();
+    let filler = length - fixed - times * record.len();
+    let mut file = header.as_bytes().to_vec();
+    file.extend(record.repeat(times).bytes());
+    file.extend(last.0.bytes());
+    file.extend("x".repeat(filler).bytes());
+    file.extend(last.1.bytes());
+    assert_eq!(file.len(), length);
+    (file, times + 2)
 }
 
 fn no_records(rng: &mut Rng, dialect: Dialect) -> Sample {
@@ -102,7 +139,7 @@ fn sound_table(rng: &mut Rng, dialect: Dialect) -> Sample {
 
 fn table(rng: &mut Rng, dialect: Dialect) -> Vec<Vec<Value>> {
     let columns = match rng.below(100) {
-        0..=3 if dialect == Dialect::Csvj => 0,
+        0..=1 if dialect == Dialect::Csvj => 0,
         0..=3 => COLUMNS,
         4..=39 => 1,
         _ => rng.between(2, 5),
@@ -122,16 +159,12 @@ fn faulty_table(rng: &mut Rng, dialect: Dialect) -> Sample {
     let mut records = table(rng, dialect);
     let columns = records[0].len();
     match rng.below(4) {
-        0 => {
-            let name = records[0].first().cloned();
-            records[0].push(name.unwrap_or(Value::Text(Vec::new())));
-            if columns == 0 {
-                records[0].push(Value::Text(Vec::new()));
-            }
-        }
+        0 => repeat_name(rng, &mut records[0]),
         1 if dialect != Dialect::CsvPlus => {
             let place = rng.below(columns + 1);
-            records[0].insert(place, Value::Null);
+            let replaced = usize::from(place < columns && rng.percent(50));
+            let other = other_value(rng, dialect);
+            drop(records[0].splice(place..place + replaced, [other]));
         }
         2 => {
             let wide = vec![Value::Text(Vec::new()); rng.between(COLUMNS, COLUMNS + 2)];
@@ -151,6 +184,23 @@ fn faulty_table(rng: &mut Rng, dialect: Dialect) -> Sample {
         records: None,
         ..spell(rng, dialect, &records)
     }
+}
+
+/// Gives a column the name of another, or that name with its letters in the other case.
+fn repeat_name(rng: &mut Rng, header: &mut Vec<Value>) {
+    while header.len() < 2 {
+        header.push(Value::Text(Vec::new()));
+    }
+    let from = rng.below(header.len());
+    let to = (from + rng.between(1, header.len() - 1)) % header.len();
+    let mut name = header[from].clone();
+    if let (Value::Text(points), true) = (&mut name, rng.percent(30)) {
+        let letters = points.iter_mut();
+        letters
+            .filter(|point| matches!(point, 0x41..=0x5A | 0x61..=0x7A))
+            .for_each(|letter| *letter ^= 0x20);
+    }
+    header[to] = name;
 }
 
 /// Names that are distinct by the dialect's rule, though often close.
@@ -176,17 +226,25 @@ fn header(rng: &mut Rng, dialect: Dialect, columns: usize) -> Vec<Value> {
 }
 
 fn value(rng: &mut Rng, dialect: Dialect) -> Value {
-    let kind = match dialect {
-        Dialect::Csvj => rng.below(9),
-        Dialect::Tdif => rng.pick(&[3, 5]),
-        Dialect::CsvPlus => 5,
+    let text_chance = match dialect {
+        Dialect::Csvj => 56,
+        Dialect::Tdif => 50,
+        Dialect::CsvPlus => 100,
     };
-    match kind {
-        0 => Value::Number(rng.pick(&NUMBERS)),
-        1 => Value::True,
-        2 => Value::False,
-        3 => Value::Null,
-        _ => Value::Text(text(rng, dialect)),
+    if rng.percent(text_chance) {
+        Value::Text(text(rng, dialect))
+    } else {
+        other_value(rng, dialect)
+    }
+}
+
+/// A value that is not text, of which CSV+ has none.
+fn other_value(rng: &mut Rng, dialect: Dialect) -> Value {
+    match rng.below(4) {
+        0 if dialect == Dialect::Csvj => Value::Number(rng.pick(&NUMBERS)),
+        1 if dialect == Dialect::Csvj => Value::True,
+        2 if dialect == Dialect::Csvj => Value::False,
+        _ => Value::Null,
     }
 }
 
@@ -283,6 +341,13 @@ fn spell_comment(rng: &mut Rng, file: &mut Vec<u8>) {
         if !matches!(point, 0x0A | 0x0D) {
             file.extend(packed(point));
         }
+    }
+    // The record limit is not a comment's.
+    if rng.percent(1) {
+        file.extend(repeat_n(
+            b'x',
+            rng.between(RECORD_BYTES - 2, RECORD_BYTES + 100),
+        ));
     }
     spell_ending(rng, Dialect::Tdif, file);
 }

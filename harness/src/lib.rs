@@ -2,9 +2,11 @@
 
 pub mod antt;
 pub mod conformance;
+pub mod counts;
 pub mod generate;
 pub mod json;
 pub mod ledger;
+pub mod lists;
 pub mod rng;
 pub mod runner;
 pub mod sampled;
@@ -20,6 +22,9 @@ pub const DIALECTS: [(u32, Dialect); 3] = [
     (2, Dialect::Tdif),
     (3, Dialect::CsvPlus),
 ];
+
+/// Numbers of no dialect; one of them has the low byte of a dialect's.
+pub const UNKNOWN: [u32; 4] = [0, 4, 257, u32::MAX];
 
 /// The folder of the vectors.
 pub fn vectors_folder() -> PathBuf {

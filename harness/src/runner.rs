@@ -3,6 +3,7 @@
 //! for each file that a case reads or converts.
 
 use crate::ledger::{check_calls, completed_text, Answer, Call as LedgerCall, Session};
+use crate::lists::{lengths, Lists, Reader, SHORT_FILE};
 use crate::vectors::{Bytes, Call, Case, Fault, PieceCall, TableArguments, TableShape};
 use crate::whole::convert_whole;
 use reference::limits::{FILE_BYTES, PIECE_BYTES, PIECE_ROOM};
@@ -24,9 +25,6 @@ pub const LEAST_PIECES: usize = 40;
 
 /// Files up to this length are cut at every place.
 const CUT_EVERYWHERE: usize = 200;
-/// Files up to this length are also handed over byte by byte. Longer ones take long, so that
-/// fewer lengths of the lent buffers are tried.
-const SHORT_FILE: usize = 20_000;
 
 /// How many cases ran.
 #[derive(Clone, Copy, Debug, Default)]
@@ -118,7 +116,7 @@ fn check(call: &Call) -> Result<(), String> {
             expected,
         } => {
             let file = file.to_vec();
-            check_read(*dialect, &file, *room, expected)?;
+            check_read(read, *dialect, &file, *room, expected)?;
             check_cuts(*dialect, *dialect, &file)
         }
         Call::Decode {
@@ -170,87 +168,33 @@ const ROOM: Report = Report {
     ..Report::ACCEPTED
 };
 
-/// The lent lists of a read call, filled so that every write shows.
-struct Lists {
-    starts: Vec<usize>,
-    ends: Vec<usize>,
-    kinds: Vec<u8>,
-}
-
-impl Lists {
-    const PLACE: usize = usize::MAX;
-    const KIND: u8 = 0xA5;
-
-    /// Reads into fresh lists of these lengths.
-    fn read(dialect: u32, file: &[u8], lengths: [usize; 3]) -> (Self, ReadAnswer) {
-        let mut lists = Self {
-            starts: vec![Self::PLACE; lengths[0]],
-            ends: vec![Self::PLACE; lengths[1]],
-            kinds: vec![Self::KIND; lengths[2]],
-        };
-        let answer = read(
-            dialect,
-            file,
-            &mut lists.starts,
-            &mut lists.ends,
-            &mut lists.kinds,
-        );
-        (lists, answer)
-    }
-
-    fn untouched_from(&self, count: usize) -> bool {
-        self.starts[count..]
-            .iter()
-            .all(|&start| start == Self::PLACE)
-            && self.ends[count..].iter().all(|&end| end == Self::PLACE)
-            && self.kinds[count..].iter().all(|&kind| kind == Self::KIND)
-    }
-
-    fn cells(&self, count: usize) -> Vec<(usize, usize, u8)> {
-        let cell = |index| (self.starts[index], self.ends[index], self.kinds[index]);
-        (0..count).map(cell).collect()
-    }
-}
-
-/// Lengths for the three lists, of which each in turn is the shortest.
-fn lengths(shortest: usize, file: &[u8]) -> Vec<[usize; 3]> {
-    let longer = shortest + 2;
-    let mut lengths = vec![
-        [shortest, longer, longer],
-        [longer, shortest, longer],
-        [longer, longer, shortest],
-        [shortest; 3],
-    ];
-    if file.len() > SHORT_FILE {
-        lengths.truncate(1);
-    }
-    lengths
-}
-
-fn check_read(
+/// Reads a case's file with a reader; the answer and the lists have to be the expected ones.
+pub fn check_read(
+    reader: Reader,
     dialect: u32,
     file: &[u8],
     room: Option<usize>,
     expected: &Result<TableShape, Fault>,
 ) -> Result<(), String> {
     match expected {
-        Ok(shape) => check_accepted_read(dialect, file, room, shape),
+        Ok(shape) => check_accepted_read(reader, dialect, file, room, shape),
         Err(fault) if fault.number == 10 => {
             let room = room.ok_or("fault 10 needs a room")?;
-            check_refused_read(dialect, file, room, ROOM)?;
-            let (_, answer) = Lists::read(dialect, file, [file.len() + 1; 3]);
+            check_refused_read(reader, dialect, file, room, ROOM)?;
+            let (_, answer) = Lists::read(reader, dialect, file, [file.len() + 1; 3]);
             ensure(answer.report.is_accepted() && answer.cells > room, || {
                 format!("10 is wrong, as the answer with enough room is {answer:?}")
             })
         }
         Err(fault) => {
             let room = room.unwrap_or(0);
-            check_refused_read(dialect, file, room, report(*fault))
+            check_refused_read(reader, dialect, file, room, report(*fault))
         }
     }
 }
 
 fn check_accepted_read(
+    reader: Reader,
     dialect: u32,
     file: &[u8],
     room: Option<usize>,
@@ -265,7 +209,7 @@ fn check_accepted_read(
     };
     for room in [Some(count), room].into_iter().flatten() {
         for lengths in lengths(room, file) {
-            let (lists, answer) = Lists::read(dialect, file, lengths);
+            let (lists, answer) = Lists::read(reader, dialect, file, lengths);
             ensure(answer == expected, || {
                 format!("read with room {room}: {answer:?}, expected {expected:?}")
             })?;
@@ -280,12 +224,13 @@ fn check_accepted_read(
         }
     }
     match count.checked_sub(1) {
-        Some(too_short) => check_refused_read(dialect, file, too_short, ROOM),
+        Some(too_short) => check_refused_read(reader, dialect, file, too_short, ROOM),
         None => Ok(()),
     }
 }
 
 fn check_refused_read(
+    reader: Reader,
     dialect: u32,
     file: &[u8],
     room: usize,
@@ -298,7 +243,7 @@ fn check_refused_read(
         cells: 0,
     };
     for lengths in lengths(room, file) {
-        let (lists, answer) = Lists::read(dialect, file, lengths);
+        let (lists, answer) = Lists::read(reader, dialect, file, lengths);
         ensure(answer == expected, || {
             format!("read with room {room}: {answer:?}, expected {expected:?}")
         })?;

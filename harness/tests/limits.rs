@@ -1,5 +1,6 @@
 //! The file limit, read and written.
 
+use harness::generate::file_of;
 use harness::ledger::{Call, Session};
 use reference::limits::{FILE_BYTES, PIECE_BYTES, PIECE_ROOM};
 use reference::{convert, read, Report};
@@ -27,20 +28,6 @@ fn by_pieces(source: u32, target: u32, file: &[u8]) -> (Report, usize) {
         }
     }
     (Report::ACCEPTED, written)
-}
-
-/// A header, a data record again and again, and filler in a last record, `length` bytes in all.
-fn file_of(header: &str, record: &str, last: (&str, &str), length: usize) -> (Vec<u8>, usize) {
-    let fixed = header.len() + last.0.len() + last.1.len();
-    let times = (length - fixed) / record.len();
-    let filler = length - fixed - times * record.len();
-    let mut file = header.as_bytes().to_vec();
-    file.extend(record.repeat(times).bytes());
-    file.extend(last.0.bytes());
-    file.extend("x".repeat(filler).bytes());
-    file.extend(last.1.bytes());
-    assert_eq!(file.len(), length);
-    (file, times + 2)
 }
 
 #[test]

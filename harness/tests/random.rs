@@ -1,43 +1,14 @@
 //! Random files, from fixed seeds.
 
+use harness::counts::Counts;
 use harness::generate::{mutate, sample};
 use harness::ledger::{check_calls, Call};
 use harness::rng::Rng;
 use harness::whole::{cells_of, convert_whole, decode_whole, read_whole, write_whole, Cell};
-use harness::DIALECTS;
+use harness::{DIALECTS, UNKNOWN};
 use reference::limits::{PIECE_BYTES, PIECE_ROOM, RECORD_BYTES};
 use reference::Report;
 use std::collections::BTreeSet;
-
-/// How often each report number came up in each dialect.
-#[derive(Default)]
-struct Counts([[usize; 13]; 3]);
-
-impl Counts {
-    fn add(&mut self, dialect: u32, number: usize) {
-        self.0[dialect as usize - 1][number] += 1;
-    }
-
-    fn print(&self, what: &str) {
-        for ((dialect, _), counts) in DIALECTS.iter().zip(&self.0) {
-            eprintln!("{what}, dialect {dialect}: reports by number {counts:?}");
-        }
-    }
-
-    /// Fails unless each of these numbers came up often enough in each dialect.
-    fn require(&self, numbers: impl IntoIterator<Item = usize>, least: usize) {
-        for number in numbers {
-            for ((dialect, _), counts) in DIALECTS.iter().zip(&self.0) {
-                // CSV+ has text only, so that no header cell can be of another kind.
-                let can_arise = (*dialect, number) != (3, 7);
-                assert!(
-                    counts[number] >= least || !can_arise,
-                    "dialect {dialect} has too few reports {number}"
-                );
-            }
-        }
-    }
-}
 
 #[test]
 fn files_are_read_as_they_were_made() {
@@ -63,8 +34,8 @@ fn files_are_read_as_they_were_made() {
         }
     }
     counts.print("reading");
-    counts.require([0], 20_000);
-    counts.require(1..=8, 1_000);
+    counts.require([0], 20_000).unwrap();
+    counts.require(1..=8, 1_000).unwrap();
 }
 
 /// Nothing after a fault has a part in it, and nothing before it is at fault.
@@ -104,8 +75,8 @@ fn cells_are_decoded_as_they_are_read() {
         }
     }
     counts.print("decoding");
-    counts.require([0], 20_000);
-    counts.require(2..=4, 2_000);
+    counts.require([0], 20_000).unwrap();
+    counts.require(2..=4, 2_000).unwrap();
 }
 
 /// Compares the decoder with the reader of a file in which the cell is the only data, and gives
@@ -184,8 +155,8 @@ fn files_are_converted_as_they_are_read_and_written() {
         }
     }
     counts.print("converting");
-    counts.require([0], 15_000);
-    counts.require(1..=9, 700);
+    counts.require([0], 15_000).unwrap();
+    counts.require(1..=9, 700).unwrap();
 }
 
 /// The converter and the writer agree, save that 6 stands for the clash in the writer.
@@ -240,7 +211,7 @@ fn pieces_follow_the_ledger() {
         let (source, dialect) = DIALECTS[round % 3];
         let file = sample(&mut rng, dialect).file;
         let target = if rng.percent(2) {
-            rng.pick(&[0, 4, u32::MAX])
+            rng.pick(&UNKNOWN)
         } else {
             rng.pick(&[1, 2, 3])
         };
@@ -253,8 +224,8 @@ fn pieces_follow_the_ledger() {
         }
     }
     counts.print("calling");
-    counts.require([0], 15_000);
-    counts.require(1..=11, 150);
+    counts.require([0], 15_000).unwrap();
+    counts.require(1..=11, 150).unwrap();
 }
 
 /// The file in pieces and its end, with calls among and after them that have to be refused.

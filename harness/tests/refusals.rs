@@ -1,9 +1,9 @@
 //! Refusals that concern the call and not the file.
 
 use harness::ledger::{Call, Session};
+use harness::UNKNOWN;
 use reference::{convert, decode, read, write, Decoded, Report, Table};
 
-const UNKNOWN: [u32; 4] = [0, 4, 256, u32::MAX];
 const KNOWN: [u32; 3] = [1, 2, 3];
 
 fn refusal(number: usize) -> Report {

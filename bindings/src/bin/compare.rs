@@ -1,7 +1,10 @@
-//! Compares the proved calls with the reference on random inputs until it is stopped: `compare SEED`.
+//! Compares the proved calls with the reference on random inputs until they differ or it is stopped: `compare SEED`.
 
 use std::process::ExitCode;
-use tables::compare::decode_random;
+use tables::compare::{decode_random, proved_reader, read_random};
+
+/// How many cells and how many files are compared with each seed.
+const COUNT: usize = 200_000;
 
 fn main() -> ExitCode {
     let Some(Ok(first)) = std::env::args().nth(1).map(|seed| seed.parse::<u64>()) else {
@@ -9,15 +12,18 @@ fn main() -> ExitCode {
         return ExitCode::from(2);
     };
     for seed in first.. {
-        match decode_random(seed, 1_000_000) {
-            Ok(counts) => {
-                println!("seed {seed}: 1,000,000 raw cells agree; by report number {counts:?}")
-            }
-            Err(difference) => {
-                eprintln!("seed {seed}: {difference}");
-                return ExitCode::FAILURE;
-            }
+        if let Err(difference) = compare(seed) {
+            eprintln!("seed {seed}: {difference}");
+            return ExitCode::FAILURE;
         }
     }
     ExitCode::SUCCESS
+}
+
+fn compare(seed: u64) -> Result<(), String> {
+    let cells = decode_random(seed, COUNT)?;
+    cells.print(&format!("seed {seed}: {COUNT} raw cells agree"));
+    let files = read_random(proved_reader, seed, COUNT)?;
+    files.print(&format!("seed {seed}: {COUNT} files agree"));
+    Ok(())
 }

@@ -1,0 +1,32 @@
+#!/usr/bin/env bash
+# Measures the proved reader against memcpy, the second program and, where Debian's packages librust-csv-core-dev and
+# librust-serde-json-dev are installed, csv-core and serde_json. Without a folder it makes its own tables.
+#
+#   ./benchmark.sh [FOLDER [ROUNDS]]
+set -euo pipefail
+arguments=("${@:2}")
+if [[ $# -gt 0 ]]; then
+  arguments=("$(realpath "$1")" "${arguments[@]}")
+fi
+cd "$(dirname "$0")"
+
+rt staticlib tables >&2
+
+registry=/usr/share/cargo/registry
+if compgen -G "$registry/csv-core-*" >/dev/null && compgen -G "$registry/serde_json-*" >/dev/null; then
+  cargo build --release --offline --quiet --manifest-path benchmark/peers/Cargo.toml --target-dir target/peers \
+    --config 'source.crates-io.replace-with="system"' --config "source.system.directory=\"$registry\""
+  program=target/peers/release/peers
+  (cd "$registry" && echo 'with' csv-core-* serde_json-*)
+else
+  cargo build --release --offline --quiet --package benchmark
+  program=target/release/benchmark
+  echo 'without csv-core and serde_json, which are not installed'
+fi
+
+# On one processor, the last that this process may use.
+pinned=()
+if command -v taskset >/dev/null; then
+  pinned=(taskset --cpu-list "$(taskset --cpu-list --pid $$ | sed 's/.*[ ,-]//')")
+fi
+"${pinned[@]}" "$program" "${arguments[@]}"

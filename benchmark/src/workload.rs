@@ -1,0 +1,296 @@
+//! The tables that are read: three of the benchmark's own making in each dialect, or those of a folder.
+//!
+//! *fares* has short plain cells and numbers, *settlements* quoted cells with doubled quotes, line breaks and text beyond
+//! ASCII, *notes* long quoted ASCII text. Each is the same at every run and as long as a file may be.
+
+use harness::rng::Rng;
+use harness::DIALECTS;
+use reference::limits::FILE_BYTES;
+use reference::Dialect;
+use std::fs;
+use std::path::{Path, PathBuf};
+
+/// A table as a file of a dialect.
+pub struct Table {
+    /// The table's name.
+    pub name: String,
+    /// The number of the file's dialect.
+    pub number: u32,
+    /// The file's dialect.
+    pub dialect: Dialect,
+    /// The file.
+    pub file: Vec<u8>,
+}
+
+impl Table {
+    /// The dialect's name.
+    pub fn dialect_name(&self) -> &'static str {
+        match self.dialect {
+            Dialect::Csvj => "CSVJ",
+            Dialect::Tdif => "TDIF",
+            Dialect::CsvPlus => "CSV+",
+        }
+    }
+
+    /// The table's name and its dialect's.
+    pub fn title(&self) -> String {
+        format!("{} in {}", self.name, self.dialect_name())
+    }
+}
+
+/// The files of a folder whose endings name a dialect.
+pub fn files(folder: &Path) -> Result<Vec<PathBuf>, String> {
+    let in_folder = |error| format!("{}: {error}", folder.display());
+    let entries = fs::read_dir(folder).map_err(in_folder)?;
+    let mut paths = entries
+        .map(|entry| entry.map(|entry| entry.path()))
+        .collect::<Result<Vec<_>, _>>()
+        .map_err(in_folder)?;
+    paths.retain(|path| dialect_of(path).is_some());
+    paths.sort();
+    if paths.is_empty() {
+        return Err(format!(
+            "{}: no .csvj, .tdif or .csv files",
+            folder.display()
+        ));
+    }
+    Ok(paths)
+}
+
+/// The dialect that a file's ending names, with its number.
+fn dialect_of(path: &Path) -> Option<(u32, Dialect)> {
+    let [csvj, tdif, csv_plus] = DIALECTS;
+    match path.extension()?.to_str()? {
+        "csvj" => Some(csvj),
+        "tdif" => Some(tdif),
+        "csv" => Some(csv_plus),
+        _ => None,
+    }
+}
+
+/// The table in a file.
+pub fn load(path: &Path) -> Result<Table, String> {
+    let in_file = |error: String| format!("{}: {error}", path.display());
+    let dialect = dialect_of(path).ok_or_else(|| in_file("of no dialect".to_string()))?;
+    let name = path.file_stem().unwrap_or_default();
+    Ok(Table {
+        name: name.to_string_lossy().into_owned(),
+        number: dialect.0,
+        dialect: dialect.1,
+        file: fs::read(path).map_err(|error| in_file(error.to_string()))?,
+    })
+}
+
+/// The three tables in the three dialects, each made when it is asked for.
+pub fn tables() -> impl Iterator<Item = Table> {
+    let shapes = [&FARES, &SETTLEMENTS, &NOTES];
+    shapes.into_iter().flat_map(|shape| {
+        DIALECTS.into_iter().map(|(number, dialect)| Table {
+            name: shape.name.to_string(),
+            number,
+            dialect,
+            file: shape.file(dialect),
+        })
+    })
+}
+
+/// A cell before it is spelt.
+enum Value {
+    Text(String),
+    Number(String),
+    Truth(bool),
+    Null,
+}
+
+/// A kind of table.
+struct Shape {
+    name: &'static str,
+    columns: &'static [&'static str],
+    /// The cells of a data record, given its number.
+    record: fn(&mut Rng, usize) -> Vec<Value>,
+    /// Whether a CSV+ cell that needs no quotes has them.
+    all_quoted: bool,
+    /// The ending of a CSV+ record.
+    ending: &'static str,
+}
+
+const FARES: Shape = Shape {
+    name: "fares",
+    columns: &[
+        "trip_id",
+        "route",
+        "from_zone",
+        "to_zone",
+        "price",
+        "currency",
+        "seats",
+        "active",
+    ],
+    record: fare,
+    all_quoted: false,
+    ending: "\n",
+};
+
+const SETTLEMENTS: Shape = Shape {
+    name: "settlements",
+    columns: &["ref", "payer", "payee", "city", "memo", "amount", "status"],
+    record: settlement,
+    all_quoted: true,
+    ending: "\r\n",
+};
+
+const NOTES: Shape = Shape {
+    name: "notes",
+    columns: &["id", "title", "body"],
+    record: note,
+    all_quoted: true,
+    ending: "\n",
+};
+
+/// The first sixteen are short.
+const WORDS: [&str; 27] = [
+    "tram", "bus", "ferry", "zone", "adult", "child", "return", "single", "monthly", "permit",
+    "depot", "north", "south", "east", "west", "night", "harbour", "market", "bridge", "station",
+    "valley", "transfer", "refund", "pending", "ledger", "batch", "clerk",
+];
+const CITIES: [&str; 11] = [
+    "Zürich",
+    "São Paulo",
+    "Łódź",
+    "Kraków",
+    "Malmö",
+    "Αθήνα",
+    "Київ",
+    "東京",
+    "北京",
+    "🚋 line",
+    "Québec",
+];
+const CURRENCIES: [&str; 4] = ["EUR", "CHF", "SEK", "GBP"];
+
+fn short_word(rng: &mut Rng) -> &'static str {
+    rng.pick(&WORDS[..16])
+}
+
+fn fare(rng: &mut Rng, number: usize) -> Vec<Value> {
+    let price = rng.below(16_384) as f64 / 100.0;
+    vec![
+        Value::Number((100_000 + 5 * number).to_string()),
+        Value::Text(format!("R{}", rng.below(512))),
+        Value::Text(short_word(rng).to_string()),
+        Value::Text(short_word(rng).to_string()),
+        Value::Number(format!("{price:?}")),
+        Value::Text(rng.pick(&CURRENCIES).to_string()),
+        match rng.below(32) {
+            0 => Value::Null,
+            _ => Value::Number(rng.below(64).to_string()),
+        },
+        Value::Truth(rng.percent(50)),
+    ]
+}
+
+fn settlement(rng: &mut Rng, number: usize) -> Vec<Value> {
+    let count = rng.between(2, 9);
+    let words: Vec<&str> = (0..count).map(|_| rng.pick(&WORDS)).collect();
+    let memo = match (rng.below(8), words.join(" ")) {
+        (0, memo) => memo.replacen(' ', "\n", 1),
+        (1, memo) => format!("the \"{}\" case, {memo}", short_word(rng)),
+        (_, memo) => memo,
+    };
+    let company = if rng.below(16) == 0 { " \"co\"" } else { "" };
+    let city = match rng.below(4) {
+        0 => rng.pick(&CITIES).to_string(),
+        _ => {
+            let (first, rest) = short_word(rng).split_at(1);
+            first.to_uppercase() + rest
+        }
+    };
+    vec![
+        Value::Text(format!("S-{number:07}")),
+        Value::Text(format!("{} ltd", short_word(rng))),
+        Value::Text(format!("{}{company}", short_word(rng))),
+        Value::Text(city),
+        Value::Text(memo),
+        Value::Text(format!("{}.{:02}", rng.below(65_536), rng.below(100))),
+        match rng.below(16) {
+            0 => Value::Null,
+            _ => Value::Text(rng.pick(&["open", "paid"]).to_string()),
+        },
+    ]
+}
+
+fn note(rng: &mut Rng, number: usize) -> Vec<Value> {
+    let length = rng.between(200, 2_000);
+    let mut body = String::new();
+    while body.len() < length {
+        let mark = match rng.below(64) {
+            0 => ",",
+            1 => ".",
+            _ => "",
+        };
+        let quote = if rng.below(512) == 0 { "\"" } else { "" };
+        let word = rng.pick(&WORDS);
+        body += &format!("{quote}{word}{mark}{quote} ");
+    }
+    body.truncate(length);
+    vec![
+        Value::Text(format!("N{number:06}")),
+        Value::Text(format!("{} note", short_word(rng))),
+        Value::Text(body),
+    ]
+}
+
+impl Shape {
+    /// As many records as a file may hold.
+    fn file(&self, dialect: Dialect) -> Vec<u8> {
+        let mut rng = Rng::new(1);
+        let names = self.columns.iter();
+        let header = names.map(|name| Value::Text(name.to_string())).collect();
+        let mut file = Vec::with_capacity(FILE_BYTES);
+        let mut line = self.line(dialect, header);
+        let mut number = 0;
+        while file.len() + line.len() <= FILE_BYTES {
+            file.extend(line.bytes());
+            number += 1;
+            line = self.line(dialect, (self.record)(&mut rng, number));
+        }
+        file
+    }
+
+    fn line(&self, dialect: Dialect, record: Vec<Value>) -> String {
+        let cells = record.into_iter().map(|value| self.cell(dialect, value));
+        let ending = match dialect {
+            Dialect::Csvj | Dialect::Tdif => "\n",
+            Dialect::CsvPlus => self.ending,
+        };
+        cells.collect::<Vec<_>>().join(",") + ending
+    }
+
+    fn cell(&self, dialect: Dialect, value: Value) -> String {
+        let (is_text, content) = match value {
+            Value::Text(text) => (true, text),
+            Value::Number(spelling) => (false, spelling),
+            Value::Truth(truth) => (false, truth.to_string()),
+            Value::Null => {
+                let null = match dialect {
+                    Dialect::Csvj => "null",
+                    Dialect::Tdif => "\\N",
+                    Dialect::CsvPlus if self.all_quoted => "\"\"",
+                    Dialect::CsvPlus => "",
+                };
+                return null.to_string();
+            }
+        };
+        match dialect {
+            Dialect::Csvj if is_text => {
+                let escaped = content.replace('"', "\\\"").replace('\n', "\\n");
+                format!("\"{escaped}\"")
+            }
+            Dialect::Csvj => content,
+            Dialect::CsvPlus if !self.all_quoted && !content.contains(['"', ',', '\r', '\n']) => {
+                content
+            }
+            Dialect::Tdif | Dialect::CsvPlus => format!("\"{}\"", content.replace('"', "\"\"")),
+        }
+    }
+}
