@@ -11,6 +11,7 @@ fi
 cd "$(dirname "$0")"
 
 rt staticlib tables >&2
+rt staticlib cells >&2
 
 registry=/usr/share/cargo/registry
 if compgen -G "$registry/csv-core-*" >/dev/null && compgen -G "$registry/serde_json-*" >/dev/null; then

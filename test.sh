@@ -1,5 +1,5 @@
 #!/usr/bin/env bash
-# Passes the tests: the proved library built for Rust to call, the Rust tests, the layout of the Rattle files, the vectors
+# Passes the tests: the proved libraries built for Rust to call, the Rust tests, the layout of the Rattle files, the vectors
 # computed by the definitions, and the proofs.
 # Stops at the first failure. The last line is the verdict of `rt ci`.
 set -euo pipefail
@@ -13,8 +13,9 @@ part() {
   printf '== %s: %d s\n' "$name" $((SECONDS - began))
 }
 
-library() {
+libraries() {
   rt staticlib tables
+  rt staticlib cells
 }
 
 rust_tests() {
@@ -37,7 +38,7 @@ proofs() {
   rt ci 2>&1 | tee "$verdict"
 }
 
-part 'library' library
+part 'libraries' libraries
 part 'Rust tests' rust_tests
 part 'layout' layout
 part 'vectors computed by the definitions' vectors_by_definitions

@@ -1,4 +1,5 @@
-/* The proved library, as C sees it. Link target/staticlib/libtables.a, which `rt staticlib tables` makes. */
+/* The proved library, as C sees it. Whole files are read by target/staticlib/libtables.a, which `rt staticlib tables` makes, and single
+   cells by target/staticlib/libcells.a, which `rt staticlib cells` makes. */
 #ifndef TABLES_H
 #define TABLES_H
 

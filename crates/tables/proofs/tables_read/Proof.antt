@@ -7,8 +7,8 @@ use Rattle.tables.proofs.tables_read.Tie as tie
 read-requires : tie.Need-read-requires
 read-requires c κs = search needs
 
-read-answer-of-requires : tie.Need-read-answer-of-requires
-read-answer-of-requires c κs = search needs
+answer-of-requires : tie.Need-answer-of-requires
+answer-of-requires c κs = search needs
 
 same-length : tie.Need-same-length
 same-length c = search needs
@@ -22,14 +22,14 @@ same-length-3 c = search needs
 returns : tie.Need-returns
 returns c =
     let read = c .before .before .before .before .before .before .before .read .ensures in
-    (c .read-answer-of .ensures ∙ read .0, read .1)
+    (c .answer-of .ensures ∙ read .0, read .1)
 
 pub tables-read-spec : {M : Type 1} → statement M
 tables-read-spec =
     tie.close
     (tie.spec
     read-requires
-    read-answer-of-requires
+    answer-of-requires
     same-length
     same-length-2
     same-length-3

@@ -1,6 +1,6 @@
 use borrow.Author.Needs.{needs}
-use Rattle.tables.proofs.answer_of.Statement.{statement}
-use Rattle.tables.proofs.answer_of.Tie as tie
+use Rattle.cells.proofs.answer_of.Statement.{statement}
+use Rattle.cells.proofs.answer_of.Tie as tie
 
 enum-known-d : tie.Need-enum-known-d
 enum-known-d c = search needs

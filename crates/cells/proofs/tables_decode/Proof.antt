@@ -1,7 +1,7 @@
 use mathlib.Core.Path.{_∙_}
 use borrow.Author.Needs.{needs}
-use Rattle.tables.proofs.tables_decode.Statement.{statement}
-use Rattle.tables.proofs.tables_decode.Tie as tie
+use Rattle.cells.proofs.tables_decode.Statement.{statement}
+use Rattle.cells.proofs.tables_decode.Tie as tie
 
 decode-requires : tie.Need-decode-requires
 decode-requires c κs = search needs
