@@ -5,12 +5,10 @@
 // the reader's loop would have to call it too, instead of holding it, and would lose a third of its speed.
 ghost use mathlib.Core.Path.{_≡_};
 ghost use lib.ListN.{length};
-ghost use Rattle.model.specs.Decode.{kindNumber};
 ghost use Rattle.model.specs.Api.{decoder, decoderLeaves};
 ghost use Rattle.decoder.specs.Answer.{shown, answerOf};
 ghost use Rattle.cells.specs.Shown.{shownBy};
 use decoder::Decoded;
-use model::Kind;
 
 // What the decoder answers: a report, and the content's length and kind, which are 0 on refusal.
 #[repr(C)]
@@ -23,18 +21,6 @@ pub struct DecodeAnswer {
     pub kind: usize,
 }
 
-fn kind_number(k: Kind) -> usize
-    ensures { λ r. ⌜ r ≡ kindNumber k ⌝ }
-{
-    match k {
-        Kind::Text => 1,
-        Kind::Number => 2,
-        Kind::True => 3,
-        Kind::False => 4,
-        Kind::Null => 5,
-    }
-}
-
 fn answer_of(d: Decoded) -> DecodeAnswer
     ensures { λ r. ⌜ shownBy r ≡ answerOf d ⌝ }
 {
@@ -45,7 +31,7 @@ fn answer_of(d: Decoded) -> DecodeAnswer
             column: 0,
             offset: 0,
             length,
-            kind: kind_number(kind),
+            kind: decoder::kind_number(kind) as usize,
         },
         Decoded::Refused(e) => DecodeAnswer {
             number: e.number,

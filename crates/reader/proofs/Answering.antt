@@ -23,6 +23,7 @@ use Rattle.model.specs.Api as api
 use Rattle.model.specs.Api.{startsOf, endsOf, kindsOf}
 use Rattle.scanner.specs.Placed.{placed}
 use Rattle.scanner.proofs.Coming.{least-first, least-second}
+use Rattle.scanner.proofs.Scanning.{length-map}
 use Rattle.reader.specs.declared.Answer.{Answer}
 use Rattle.reader.specs.declared.records.Head.{Head}
 use Rattle.reader.specs.declared.records.Head.the-variants.{Header, HeaderOnly, NoHeader}
@@ -32,7 +33,7 @@ use Rattle.reader.specs.Answers.{answerOf, told, answerIn}
 use Rattle.reader.specs.Passes as passes
 use Rattle.reader.specs.Passes.{firstOf, restOf, Heads, with-data, alone, faulty, Holds, Outcome, Passes}
 use Rattle.reader.proofs.Filling.{placed-append, placed-none, placed-over}
-use Rattle.reader.proofs.Passing.{length-map, map-append}
+use Rattle.reader.proofs.Passing.{map-append}
 
 -- the answer, and the lists after it
 pub record Answered (a : api.Answer) (r : Answer) (s₀ e₀ k₀ s e k : List ℕ) : Type 0 where

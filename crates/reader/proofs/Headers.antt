@@ -29,7 +29,8 @@ use Rattle.scanner.specs.Reading.{Follows}
 use Rattle.scanner.specs.declared.Event.{Event}
 use Rattle.scanner.specs.declared.Event.the-variants.{Completed, LastRecord, Failed, Finished}
 use Rattle.scanner.proofs.Placing.{length-placed}
-use Rattle.scanner.proofs.Reading.{follows}
+use Rattle.scanner.proofs.Reading.{stays, follows}
+use Rattle.scanner.proofs.Scanning.{length-map}
 use Rattle.judge.specs.Cells.{valueAt, valuesOf, Stretch, Inside}
 use Rattle.reader.specs.declared.records.Head.{Head}
 use Rattle.reader.specs.declared.records.Head.the-variants.{Header, HeaderOnly, NoHeader}
@@ -37,7 +38,6 @@ use Rattle.reader.specs.Passes.{firstOf, restOf, Shows, Heads, with-data
 use Rattle.reader.proofs.Filling.{placed-shown}
 use Rattle.reader.proofs.Judging.{AtStart, header-starts, starts-of, report-start, report-byte, header-fault, recOf, complete-sound, complete-faulty}
 use Rattle.reader.proofs.Events.{on-record, on-last, on-fault, on-finish}
-use Rattle.reader.proofs.Passing.{stays, length-map}
 
 -- ---- the cells by their stretches
 

@@ -25,7 +25,8 @@ use Rattle.scanner.specs.Reading.{Follows}
 use Rattle.scanner.specs.declared.Event.{Event}
 use Rattle.scanner.specs.declared.Event.the-variants.{Completed, LastRecord, Failed, Finished}
 use Rattle.scanner.proofs.Placing.{length-placed}
-use Rattle.scanner.proofs.Reading.{follows}
+use Rattle.scanner.proofs.Reading.{stays, follows}
+use Rattle.scanner.proofs.Scanning.{length-map}
 use Rattle.reader.specs.declared.records.Pass.{Pass}
 use Rattle.reader.specs.declared.records.Pass.the-variants.{Accepted, Refused}
 use Rattle.reader.specs.Passes.{restOf, Holds, Outcome, accepted, refused, Few, Passes}
@@ -33,17 +34,7 @@ use Rattle.reader.proofs.Filling.{placed-append}
 use Rattle.reader.proofs.Judging.{AtStart, data-starts, starts-of, report-start, report-byte, data-fault, recOf, complete-sound, complete-faulty}
 use Rattle.reader.proofs.Events.{on-record, on-last, on-fault, on-finish}
 
--- a fault stays
-pub stays : (d : Dialect) (e : Fault) (r : Read) (bs : Bytes) → stopped e r ≡ readEnd d none (readFrom d none (stopped e r) bs)
-unfolding readFrom readEnd
-stays d e r [] = refl
-stays d e r (b ∷ bs) = refl
-
 -- ---- lists
-
-pub length-map : (φ : Value → ℕ) (vs : List Value) → length (map φ vs) ≡ length vs
-length-map φ [] = refl
-length-map φ (v ∷ vs) = ap suc (length-map φ vs)
 
 pub map-append : (φ : Value → ℕ) (vs ws : List Value) → map φ (vs ++ ws) ≡ map φ vs ++ map φ ws
 map-append φ [] ws = refl

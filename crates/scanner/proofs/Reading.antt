@@ -22,7 +22,7 @@ pub next-drop : (xs : Bytes) (n b : ℕ) (bs : Bytes) → b ∷ bs ≡ drop n xs
 next-drop xs n b bs e = ap (drop 1) e ∙ drop-drop 1 n xs
 
 -- a fault stays
-stays : (d : Dialect) (e : Fault) (r : Read) (bs : Bytes) → stopped e r ≡ readEnd d none (readFrom d none (stopped e r) bs)
+pub stays : (d : Dialect) (e : Fault) (r : Read) (bs : Bytes) → stopped e r ≡ readEnd d none (readFrom d none (stopped e r) bs)
 unfolding readFrom readEnd
 stays d e r [] = refl
 stays d e r (b ∷ bs) = refl

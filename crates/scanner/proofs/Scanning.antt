@@ -39,7 +39,7 @@ uptoOf v = v .upto
 abbrev numberOf : Value → ℕ
 numberOf v = kindNumber (v .kind)
 
-length-map : (φ : Value → ℕ) (vs : List Value) → length (map φ vs) ≡ length vs
+pub length-map : (φ : Value → ℕ) (vs : List Value) → length (map φ vs) ≡ length vs
 length-map φ [] = refl
 length-map φ (v ∷ vs) = ap suc (length-map φ vs)
 

@@ -8,6 +8,9 @@ enum-known-d c = search needs
 kind-number-requires : tie.Need-kind-number-requires
 kind-number-requires c κs = search needs
 
+cast-t7 : tie.Need-cast-t7
+cast-t7 c = search needs
+
 enum-known-d-2 : tie.Need-enum-known-d-2
 enum-known-d-2 c = search needs
 
@@ -19,4 +22,4 @@ returns-2 c = rw (c .before .d2 .given .1)
 
 pub answer-of-spec : {M : Type 1} → statement M
 answer-of-spec =
-    tie.close (tie.spec enum-known-d kind-number-requires enum-known-d-2 returns returns-2)
+    tie.close (tie.spec enum-known-d kind-number-requires cast-t7 enum-known-d-2 returns returns-2)

@@ -3,8 +3,6 @@ use Rattle.model.specs.Report.{columnOf}
 use borrow.Author.Needs.{needs}
 use Rattle.reader.proofs.report.column_of.Statement.{statement}
 use Rattle.reader.proofs.report.column_of.Tie as tie
-use Rattle.reader.proofs.report.column_of.Reads as reads
-use Rattle.reader.proofs.report.column_of.Lts as lts
 
 -- src/report.rt:11:28
 enum-told : tie.Need-enum-told

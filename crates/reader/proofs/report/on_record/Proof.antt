@@ -3,10 +3,6 @@ use Rattle.model.specs.Report.{columnOf}
 use borrow.Author.Needs.{needs}
 use Rattle.reader.proofs.report.on_record.Statement.{statement}
 use Rattle.reader.proofs.report.on_record.Tie as tie
-use Rattle.reader.proofs.report.on_record.Reads as reads
-use Rattle.reader.proofs.report.on_record.Lts as lts
-use Rattle.decoder.proofs.report.number_of.Reads as number-of-reads
-use Rattle.reader.proofs.report.column_of.Reads as column-of-reads
 
 -- src/report.rt:34:17
 number-of-requires : tie.Need-number-of-requires

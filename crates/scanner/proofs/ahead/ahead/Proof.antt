@@ -3,12 +3,6 @@ use borrow.Author.Needs.{needs}
 use Rattle.scanner.proofs.Coming.{met-skipped, met-byte, met-after, met-cell}
 use Rattle.scanner.proofs.ahead.ahead.Statement.{statement}
 use Rattle.scanner.proofs.ahead.ahead.Tie as tie
-use Rattle.scanner.proofs.ahead.ahead.Reads as reads
-use Rattle.scanner.proofs.ahead.ahead.Lts as lts
-use Rattle.lexer.proofs.form.hold.Reads as hold-reads
-use Rattle.lexer.proofs.run.cell_end.Reads as cell-end-reads
-use Rattle.scanner.proofs.ahead.comment_end.Reads as comment-end-reads
-use Rattle.scanner.proofs.ahead.free_to.Reads as free-to-reads
 
 -- src/ahead.rt:82:35
 shared-slice-read-hold : tie.Need-shared-slice-read-hold

@@ -7,10 +7,6 @@ use Rattle.model.specs.Api.{least}
 use Rattle.scanner.proofs.Coming.{least-first, least-above}
 use Rattle.scanner.proofs.ahead.comment_end.Statement.{statement}
 use Rattle.scanner.proofs.ahead.comment_end.Tie as tie
-use Rattle.scanner.proofs.ahead.comment_end.Reads as reads
-use Rattle.scanner.proofs.ahead.comment_end.Lts as lts
-use Rattle.lexer.proofs.run.comment_run.Reads as comment-run-reads
-use Rattle.scanner.proofs.ahead.least_of.Reads as least-of-reads
 
 -- src/ahead.rt:63:22
 enum-told : tie.Need-enum-told

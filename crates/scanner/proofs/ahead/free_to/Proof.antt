@@ -2,9 +2,6 @@ use borrow.Author.Needs.{needs}
 use Rattle.scanner.proofs.Coming.{one-free, many-free}
 use Rattle.scanner.proofs.ahead.free_to.Statement.{statement}
 use Rattle.scanner.proofs.ahead.free_to.Tie as tie
-use Rattle.scanner.proofs.ahead.free_to.Reads as reads
-use Rattle.scanner.proofs.ahead.free_to.Lts as lts
-use Rattle.scanner.proofs.ahead.least_of.Reads as least-of-reads
 
 -- src/ahead.rt:52:16
 add-result : tie.Need-add-result

@@ -2,8 +2,6 @@ use Rattle.model.specs.Base.{if_then_else_}
 use Rattle.scanner.proofs.Tests.{tests}
 use Rattle.scanner.proofs.ahead.least_of.Statement.{statement}
 use Rattle.scanner.proofs.ahead.least_of.Tie as tie
-use Rattle.scanner.proofs.ahead.least_of.Reads as reads
-use Rattle.scanner.proofs.ahead.least_of.Lts as lts
 
 -- src/ahead.rt:41:9
 returns : tie.Need-returns

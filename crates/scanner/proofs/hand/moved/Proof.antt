@@ -3,9 +3,6 @@ use Rattle.scanner.proofs.Tests.{tests}
 use Rattle.scanner.specs.Next.{oneMore, handAfter}
 use Rattle.scanner.proofs.hand.moved.Statement.{statement}
 use Rattle.scanner.proofs.hand.moved.Tie as tie
-use Rattle.scanner.proofs.hand.moved.Reads as reads
-use Rattle.scanner.proofs.hand.moved.Lts as lts
-use Rattle.scanner.proofs.hand.one_more.Reads as one-more-reads
 
 -- src/hand.rt:66:21
 enum-told : tie.Need-enum-told

@@ -4,8 +4,6 @@ use Rattle.model.specs.Base.{if_then_else_}
 use Rattle.scanner.specs.Next.{oneMore}
 use Rattle.scanner.proofs.hand.one_more.Statement.{statement}
 use Rattle.scanner.proofs.hand.one_more.Tie as tie
-use Rattle.scanner.proofs.hand.one_more.Reads as reads
-use Rattle.scanner.proofs.hand.one_more.Lts as lts
 
 -- src/hand.rt:52:16
 add-result : tie.Need-add-result

@@ -3,9 +3,6 @@ use Rattle.model.specs.Form.{formEnd}
 use borrow.Author.Needs.{needs}
 use Rattle.scanner.proofs.limits.file_end.Statement.{statement}
 use Rattle.scanner.proofs.limits.file_end.Tie as tie
-use Rattle.scanner.proofs.limits.file_end.Reads as reads
-use Rattle.scanner.proofs.limits.file_end.Lts as lts
-use Rattle.scanner.proofs.limits.last_cell.Reads as last-cell-reads
 
 -- src/limits.rt:47:22
 enum-told : tie.Need-enum-told

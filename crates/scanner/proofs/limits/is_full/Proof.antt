@@ -2,9 +2,6 @@ use Rattle.scanner.proofs.Tests.{tests}
 use borrow.Author.Needs.{needs}
 use Rattle.scanner.proofs.limits.is_full.Statement.{statement}
 use Rattle.scanner.proofs.limits.is_full.Tie as tie
-use Rattle.scanner.proofs.limits.is_full.Reads as reads
-use Rattle.scanner.proofs.limits.is_full.Lts as lts
-use Rattle.lexer.proofs.form.counted.Reads as counted-reads
 
 -- src/limits.rt:18:9
 returns : tie.Need-returns

@@ -2,9 +2,6 @@ use Rattle.scanner.proofs.Tests.{tests}
 use borrow.Author.Needs.{needs}
 use Rattle.scanner.proofs.limits.last_cell.Statement.{statement}
 use Rattle.scanner.proofs.limits.last_cell.Tie as tie
-use Rattle.scanner.proofs.limits.last_cell.Reads as reads
-use Rattle.scanner.proofs.limits.last_cell.Lts as lts
-use Rattle.scanner.proofs.limits.plus_end.Reads as plus-end-reads
 
 -- src/limits.rt:36:26
 enum-told : tie.Need-enum-told

@@ -3,9 +3,6 @@ use Rattle.model.specs.Base.{if_then_else_}
 use borrow.Author.Needs.{needs}
 use Rattle.scanner.proofs.limits.plus_end.Statement.{statement}
 use Rattle.scanner.proofs.limits.plus_end.Tie as tie
-use Rattle.scanner.proofs.limits.plus_end.Reads as reads
-use Rattle.scanner.proofs.limits.plus_end.Lts as lts
-use Rattle.decoder.proofs.single.is_whole.Reads as is-whole-reads
 
 -- src/limits.rt:26:8
 is-whole-requires : tie.Need-is-whole-requires

@@ -2,10 +2,6 @@ use borrow.Author.Needs.{needs}
 use Rattle.scanner.proofs.Placing.{not-put, no-room, put-there}
 use Rattle.scanner.proofs.place.put.Statement.{statement}
 use Rattle.scanner.proofs.place.put.Tie as tie
-use Rattle.scanner.proofs.place.put.Reads as reads
-use Rattle.scanner.proofs.place.put.Lts as lts
-use Rattle.decoder.proofs.kind_of.Reads as kind-of-reads
-use Rattle.scanner.proofs.place.kind_number.Reads as kind-number-reads
 
 -- src/place.rt:44:13
 mul-starts : tie.Need-mul-starts
