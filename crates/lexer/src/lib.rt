@@ -2,7 +2,7 @@
 // the same state (model's specs/Cell.antt and specs/Form.antt), with its tests in the same order.
 //
 // The inner enums keep most functions on the way of a byte at one call site, so that the compiler can put them into the loop that
-// calls them. The speed of this crate has not been measured yet.
+// calls them. `benchmark.sh` measures what comes of it.
 pub mod cell;
 pub mod form;
 pub mod run;
