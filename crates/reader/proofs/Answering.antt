@@ -4,8 +4,8 @@ use native.Mathlib.Omega.{arith}
 use mathlib.Core.Path.{_≡_, refl, sym, ap, subst, _∙_}
 use mathlib.Core.Bool.{Bool, true, false}
 use mathlib.Core.Option.{none, some}
-use mathlib.Core.List.{List, [], _∷_, _++_, map, append-nil}
-use lib.ListN.{length, drop, length-append}
+use mathlib.Core.List.{List, [], _∷_, _++_, map, map-append, append-nil}
+use lib.ListN.{length, drop, length-append, length-map}
 use lib.Dec.{ltb}
 use borrow.Author.Tests.{ne-eqb, lt-ltb, le-ltb}
 use Rattle.model.specs.declared.Dialect.{Dialect}
@@ -23,7 +23,6 @@ use Rattle.model.specs.Api as api
 use Rattle.model.specs.Api.{startsOf, endsOf, kindsOf}
 use Rattle.scanner.specs.Placed.{placed}
 use Rattle.scanner.proofs.Coming.{least-first, least-second}
-use Rattle.scanner.proofs.Scanning.{length-map}
 use Rattle.reader.specs.declared.Answer.{Answer}
 use Rattle.reader.specs.declared.records.Head.{Head}
 use Rattle.reader.specs.declared.records.Head.the-variants.{Header, HeaderOnly, NoHeader}
@@ -33,7 +32,6 @@ use Rattle.reader.specs.Answers.{answerOf, told, answerIn}
 use Rattle.reader.specs.Passes as passes
 use Rattle.reader.specs.Passes.{firstOf, restOf, Heads, with-data, alone, faulty, Holds, Outcome, Passes}
 use Rattle.reader.proofs.Filling.{placed-append, placed-none, placed-over}
-use Rattle.reader.proofs.Passing.{map-append}
 
 -- the answer, and the lists after it
 pub record Answered (a : api.Answer) (r : Answer) (s₀ e₀ k₀ s e k : List ℕ) : Type 0 where
@@ -80,11 +78,11 @@ rows-more h ds = refl
 -- ---- lists that were filled
 
 fills : (φ : Value → ℕ) (room : ℕ) (vs : List Value) (old out : List ℕ) → length vs ≤ room → room ≤ length old → out ≡ placed room 0 (map φ vs) old → out ≡ over (map φ vs) old
-fills φ room vs old out h l e = let m : length (map φ vs) ≡ length vs = length-map φ vs in e ∙ placed-over room (map φ vs) old (omega arith) l
+fills φ room vs old out h l e = let m : length (map φ vs) ≡ length vs = length-map vs φ in e ∙ placed-over room (map φ vs) old (omega arith) l
 
 fills-on : (φ : Value → ℕ) (room : ℕ) (vs ws : List Value) (old mid out : List ℕ) → length (vs ++ ws) ≤ room → room ≤ length old → mid ≡ placed room 0 (map φ vs) old → out ≡ placed room (length vs) (map φ ws) mid → out ≡ over (map φ (vs ++ ws)) old
 fills-on φ room vs ws old mid out h l e f =
-    let m : length (map φ vs) ≡ length vs = length-map φ vs in
+    let m : length (map φ vs) ≡ length vs = length-map vs φ in
     let n : 0 + length (map φ vs) ≡ length vs = omega arith in
     let p : placed room (length vs) (map φ ws) (placed room 0 (map φ vs) old) ≡ placed room 0 (map φ (vs ++ ws)) old = ap (λ (k : ℕ). placed room k (map φ ws) (placed room 0 (map φ vs) old)) (sym n) ∙ sym (placed-append room 0 (map φ vs) (map φ ws) old) ∙ ap (λ (xs : List ℕ). placed room 0 xs old) (sym (map-append φ vs ws)) in
     fills φ room (vs ++ ws) old out h l (f ∙ ap (placed room (length vs) (map φ ws)) e ∙ p)

@@ -5,7 +5,7 @@ use mathlib.Core.Path.{_≡_, refl, sym, ap, subst, _∙_}
 use mathlib.Core.Bool.{Bool, true, false}
 use mathlib.Core.Option.{none}
 use mathlib.Core.List.{List, [], _∷_, _++_, map}
-use lib.ListN.{length, take, drop, getD}
+use lib.ListN.{length, take, drop, getD, length-map}
 use lib.Dec.{ltb}
 use borrow.Author.Tests.{lt-ltb}
 use Rattle.model.specs.declared.Dialect.{Dialect}
@@ -30,7 +30,6 @@ use Rattle.scanner.specs.declared.Event.{Event}
 use Rattle.scanner.specs.declared.Event.the-variants.{Completed, LastRecord, Failed, Finished}
 use Rattle.scanner.proofs.Placing.{length-placed}
 use Rattle.scanner.proofs.Reading.{stays, follows}
-use Rattle.scanner.proofs.Scanning.{length-map}
 use Rattle.judge.specs.Cells.{valueAt, valuesOf, Stretch, Inside}
 use Rattle.reader.specs.declared.records.Head.{Head}
 use Rattle.reader.specs.declared.records.Head.the-variants.{Header, HeaderOnly, NoHeader}
@@ -56,7 +55,7 @@ module _ (d : Dialect) (file : Bytes) where
   each-stands (all-cons s a) (suc k) h = each-stands a k (omega arith)
 
   pub inside-stand : {vs : List Value} → All (StandsIn d file) vs → Inside (length file) (startsOf vs) (endsOf vs)
-  inside-stand {vs} a = record { paired = length-map _ vs ∙ sym (length-map _ vs); each = each-stands a }
+  inside-stand {vs} a = record { paired = length-map vs _ ∙ sym (length-map vs _); each = each-stands a }
 
 -- ---- too many columns
 
@@ -70,8 +69,8 @@ pub shows : (vs : List Value) (s₀ e₀ s e : List ℕ) → length s₀ ≡ MAX
 shows vs s₀ e₀ s e ls le as′ ae =
     let a : length s ≡ length s₀ = ap length as′ ∙ length-placed MAXCOLUMNS 0 (startsOf vs) s₀ in
     let b : length e ≡ length e₀ = ap length ae ∙ length-placed MAXCOLUMNS 0 (endsOf vs) e₀ in
-    let m : length (startsOf vs) ≡ length vs = length-map _ vs in
-    let n : length (endsOf vs) ≡ length vs = length-map _ vs in
+    let m : length (startsOf vs) ≡ length vs = length-map vs _ in
+    let n : length (endsOf vs) ≡ length vs = length-map vs _ in
     record {
       long-starts = omega arith;
       long-ends = omega arith;

@@ -5,8 +5,8 @@ use native.Mathlib.Omega.{arith}
 use mathlib.Core.Path.{_≡_, refl, sym, ap, subst, _∙_}
 use mathlib.Core.Bool.{Bool, true, false}
 use mathlib.Core.Option.{none}
-use mathlib.Core.List.{List, [], _∷_, _++_, map, append-assoc, append-nil}
-use lib.ListN.{length, drop, length-append}
+use mathlib.Core.List.{List, [], _∷_, _++_, map, map-append, append-assoc, append-nil}
+use lib.ListN.{length, drop, length-append, length-map}
 use Rattle.model.specs.declared.Dialect.{Dialect}
 use Rattle.model.specs.declared.Form.{Form}
 use Rattle.model.specs.declared.Form.the-variants.{Begin}
@@ -26,7 +26,6 @@ use Rattle.scanner.specs.declared.Event.{Event}
 use Rattle.scanner.specs.declared.Event.the-variants.{Completed, LastRecord, Failed, Finished}
 use Rattle.scanner.proofs.Placing.{length-placed}
 use Rattle.scanner.proofs.Reading.{stays, follows}
-use Rattle.scanner.proofs.Scanning.{length-map}
 use Rattle.reader.specs.declared.records.Pass.{Pass}
 use Rattle.reader.specs.declared.records.Pass.the-variants.{Accepted, Refused}
 use Rattle.reader.specs.Passes.{restOf, Holds, Outcome, accepted, refused, Few, Passes}
@@ -36,14 +35,10 @@ use Rattle.reader.proofs.Events.{on-record, on-last, on-fault, on-finis
 
 -- ---- lists
 
-pub map-append : (φ : Value → ℕ) (vs ws : List Value) → map φ (vs ++ ws) ≡ map φ vs ++ map φ ws
-map-append φ [] ws = refl
-map-append φ (v ∷ vs) ws = ap (λ (l : List ℕ). φ v ∷ l) (map-append φ vs ws)
-
 -- more cells are put after those that stand there
 put-more : (φ : Value → ℕ) (room k n : ℕ) (vs ws : List Value) (old new out : List ℕ) → length vs ≡ n → new ≡ placed room k (map φ vs) old → out ≡ placed room (k + n) (map φ ws) new → out ≡ placed room k (map φ (vs ++ ws)) old
 put-more φ room k n vs ws old new out l e f =
-    let m : length (map φ vs) ≡ n = length-map φ vs ∙ l in
+    let m : length (map φ vs) ≡ n = length-map vs φ ∙ l in
     f
     ∙ ap (λ (xs : List ℕ). placed room (k + n) (map φ ws) xs) e
     ∙ ap (λ (i : ℕ). placed room (k + i) (map φ ws) (placed room k (map φ vs) old)) (sym m)

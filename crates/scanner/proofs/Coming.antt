@@ -7,7 +7,7 @@ use mathlib.Core.Path.{_≡_, refl, sym, ap, subst, _∙_}
 use mathlib.Core.Bool.{Bool, true, false, _&&_}
 use mathlib.Core.List.{List, [], _∷_, _++_}
 use lib.ListN.{length, take, drop, getD, length-drop}
-use lib.Seq.{drop-cons, take-suc, length-take-le}
+use lib.Seq.{drop-cons, take-suc, length-take-le, getD-drop}
 use lib.Dec.{leb}
 use borrow.Author.Tests.{lt-leb, leb-true, leb-false}
 use Rattle.model.specs.Base.{if_then_else_, Bytes}
@@ -37,12 +37,7 @@ part-one s i j h k =
     let l : length (drop i s) ≡ length s - i = length-drop i s in
     let g : j - i < length (drop i s) = omega arith in
     let m : i + (j - i) ≡ j = omega arith in
-    rw n (take-suc (drop i s) (j - i) 0 g ∙ ap (λ (b : ℕ). part s i j ++ (b ∷ [])) (getD-drop s i (j - i) ∙ ap (λ (k′ : ℕ). getD s k′ 0) m))
-  where
-    getD-drop : (xs : Bytes) (a b : ℕ) → getD (drop a xs) b 0 ≡ getD xs (a + b) 0
-    getD-drop xs zero b = let e : 0 + b ≡ b = omega arith in rw e
-    getD-drop [] (suc a) b = refl
-    getD-drop (x ∷ xs) (suc a) b = let e : suc a + b ≡ suc (a + b) = omega arith in rw e (getD-drop xs a b)
+    rw n (take-suc (drop i s) (j - i) 0 g ∙ ap (λ (b : ℕ). part s i j ++ (b ∷ [])) (getD-drop i s (j - i) 0 ∙ ap (λ (k′ : ℕ). getD s k′ 0) m))
 
 module _ (d : Dialect) (file : Bytes) where
   -- reading after one byte is described by the numbers in hand after it

@@ -1,11 +1,11 @@
 -- What holds at each turn of the scanner's loop, and how each way through a turn keeps it.
-use Prim.Native.Nat.{ℕ, zero, suc, _+_, _-_, _^_, _≤_, _<_}
+use Prim.Native.Nat.{ℕ, _+_, _-_, _^_, _≤_, _<_}
 use native.Mathlib.Numerals.{add-one}
 use native.Mathlib.Omega.{arith}
 use mathlib.Core.Path.{_≡_, refl, sym, ap, subst, _∙_}
 use mathlib.Core.Bool.{Bool, true, false, _&&_}
-use mathlib.Core.List.{List, [], _∷_, _++_, map}
-use lib.ListN.{length, drop, getD, length-append}
+use mathlib.Core.List.{List, [], _∷_, _++_, map, map-append}
+use lib.ListN.{length, drop, getD, length-append, length-map, drop-of-length-le}
 use lib.Seq.{drop-cons}
 use lib.Dec.{leb}
 use borrow.Author.Tests.{le-leb, lt-leb}
@@ -39,26 +39,12 @@ uptoOf v = v .upto
 abbrev numberOf : Value → ℕ
 numberOf v = kindNumber (v .kind)
 
-pub length-map : (φ : Value → ℕ) (vs : List Value) → length (map φ vs) ≡ length vs
-length-map φ [] = refl
-length-map φ (v ∷ vs) = ap suc (length-map φ vs)
-
-map-snoc : (φ : Value → ℕ) (vs : List Value) (v : Value) → map φ (vs ++ (v ∷ [])) ≡ map φ vs ++ (φ v ∷ [])
-map-snoc φ [] v = refl
-map-snoc φ (w ∷ vs) v = ap (λ (l : List ℕ). φ w ∷ l) (map-snoc φ vs v)
-
-drop-past : (i : ℕ) (xs : Bytes) → length xs ≤ i → drop i xs ≡ []
-drop-past zero [] h = refl
-drop-past zero (x ∷ xs) h = absurd (omega arith)
-drop-past (suc i) [] h = refl
-drop-past (suc i) (x ∷ xs) h = drop-past i xs (omega arith)
-
 -- the cell that closes is put after the others
 closing-put : (φ : Value → ℕ) (room base n : ℕ) (old : List ℕ) (d : Dialect) (k : Bool) (r : Read) → length (r .cells) ≡ n → putIf k room (base + n) (φ (cellNow d r)) (placed room base (map φ (r .cells)) old) ≡ placed room base (map φ (closing d k r)) old
 unfolding putIf if_then_else_
 closing-put φ room base n old d true r e =
-    let l : length (map φ (r .cells)) ≡ n = length-map φ (r .cells) ∙ e in
-    rw (map-snoc φ (r .cells) (cellNow d r), placed-snoc room base (map φ (r .cells)) (φ (cellNow d r)) old, l)
+    let l : length (map φ (r .cells)) ≡ n = length-map (r .cells) φ ∙ e in
+    rw (map-append φ (r .cells) (cellNow d r ∷ []), placed-snoc room base (map φ (r .cells)) (φ (cellNow d r)) old, l)
 closing-put φ room base n old d false r e = refl
 
 closing-counts : (d : Dialect) (k : Bool) (r : Read) (n : ℕ) → length (r .cells) ≡ n → length (closing d k r) ≡ oneMore k n
@@ -248,7 +234,7 @@ module _ (d : Dialect) (file : Bytes) (first : Form) (from room base : ℕ) (sta
     at-end : length file ≤ i → Whole ≡ ended d There (formEnd d f)
     unfolding nextRecord
     at-end l =
-        let n : drop i file ≡ [] = drop-past i file l in
+        let n : drop i file ≡ [] = drop-of-length-le file l in
         y .same ∙ rw n
 
     pub cut-short : length file ≤ i → formEnd d f ≡ Cut → Out (Failed CutShort i) starts ends kinds
