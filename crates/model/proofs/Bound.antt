@@ -26,9 +26,9 @@ use Rattle.model.proofs.Lengths.{content-length, body-length, quoted-le
 -- ---- a cell
 
 -- this value was read from these bytes
-record From (d : Dialect) (v : Value) (raw : Bytes) : Type 0 where
-  kind : v .kind ≡ kindOf d raw
-  content : v .content ≡ contentOf d raw
+pub record From (d : Dialect) (v : Value) (raw : Bytes) : Type 0 where
+  pub kind : v .kind ≡ kindOf d raw
+  pub content : v .content ≡ contentOf d raw
 
 -- no empty cell is false, the longest word
 false-long : (d : Dialect) (raw : Bytes) → kindOf d raw ≡ False → 1 ≤ length raw
@@ -66,7 +66,7 @@ cell-bound d (CsvPlus s) only first v raw w =
 -- ---- a record
 
 -- these values were read from cells of at most n bytes, with one more for each
-data Weighs (d : Dialect) : List Value → ℕ → Type 0 where
+pub data Weighs (d : Dialect) : List Value → ℕ → Type 0 where
   weigh-none : {n : ℕ} → Weighs d [] n
   weigh-cell : {v : Value} {vs : List Value} {n m : ℕ} (raw : Bytes) → From d v raw → Weighs d vs n → suc (length raw) + n ≤ m → Weighs d (v ∷ vs) m
 
@@ -108,7 +108,7 @@ weigh-last v raw w (weigh-cell {n} {m} raw′ w′ ws g) =
 -- ---- what reading counts
 
 -- a CR outside quotes closes a cell and is not counted
-abbrev slack : Form → ℕ
+abbrev pub slack : Form → ℕ
 slack Top = 0
 slack Begin = 0
 slack Ended = 0
@@ -139,7 +139,7 @@ slack-one After = omega arith
 slack-one Cr = omega arith
 
 -- after such a CR only the record's end is read
-data Steady (f : Form) : Step → Type 0 where
+pub data Steady (f : Form) : Step → Type 0 where
   y-fault : {e : ByteFault} → Steady f (Reject e)
   y-outside : {g : Form} → Steady f (To g Outside)
   y-passed : {g : Form} → Steady f (To g Passed)
@@ -189,7 +189,7 @@ module _ (f : Form) (z : slack f ≡ 0) where
   commented-steady Broken = y-fault
   commented-steady (On c) = y-outside
 
-step-steady : (d : Dialect) (f : Form) (b : ℕ) → Steady f (formStep d f b)
+pub step-steady : (d : Dialect) (f : Form) (b : ℕ) → Steady f (formStep d f b)
 unfolding formStep
 step-steady d Top b = file-steady Top refl d b
 step-steady d Begin b = begin-steady Begin refl d b
@@ -237,13 +237,13 @@ end-steady d Cr = e-cut
 
 module _ (d : Dialect) (target : Option Dialect) where
   -- the cells in hand weigh no more than the bytes counted, and every complete record is bounded
-  record Counted (r : Read) : Type 0 where
-    sum : ℕ
-    cells : Weighs d (r .cells) sum
-    fits : sum + length (r .raw) ≤ r .size + slack (r .form)
-    done : All BoundedRecord (r .done)
+  pub record Counted (r : Read) : Type 0 where
+    pub sum : ℕ
+    pub cells : Weighs d (r .cells) sum
+    pub fits : sum + length (r .raw) ≤ r .size + slack (r .form)
+    pub done : All BoundedRecord (r .done)
 
-  data CountedTo : Progress → Type 0 where
+  pub data CountedTo : Progress → Type 0 where
     c-going : {r : Read} → Counted r → CountedTo (going r)
     c-stopped : {e : Fault} {r : Read} → All BoundedRecord (r .done) → CountedTo (stopped e r)
 
@@ -263,21 +263,21 @@ module _ (d : Dialect) (target : Option Dialect) where
       judged-counted r _ (recordFault d target (r .done) vs) (i .done) (record { sum = 0; cells = weigh-none; fits = g; done = all-snoc (i .done) b })
 
   -- the record that ends here, with its last cell
-  closed-bound : (r : Read) (k : Bool) (i : Counted r) → slack (r .form) ≡ 0 → Bounded (r .size) (closing d k r)
+  pub closed-bound : (r : Read) (k : Bool) (i : Counted r) → slack (r .form) ≡ 0 → Bounded (r .size) (closing d k r)
   closed-bound r k i z =
       let h = i .fits in
       let g : i .sum + suc (length (r .raw)) ≤ suc (r .size) = omega arith in
       text-bound (weigh-more g (close-weighs r k i))
 
   -- the record that ends after a CR
-  over-bound : (r : Read) (i : Counted r) → Bounded (r .size) (r .cells)
+  pub over-bound : (r : Read) (i : Counted r) → Bounded (r .size) (r .cells)
   over-bound r i =
       let h = i .fits in
       let o : slack (r .form) ≤ 1 = slack-one (r .form) in
       let g : i .sum ≤ suc (r .size) = omega arith in
       text-bound (weigh-more g (i .cells))
 
-  move-counted : (r : Read) (b : ℕ) (s : Step) → Counted r → Steady (r .form) s → CountedTo (move d target r b s)
+  pub move-counted : (r : Read) (b : ℕ) (s : Step) → Counted r → Steady (r .form) s → CountedTo (move d target r b s)
   unfolding move
   move-counted r b (Reject e) i y-fault = c-stopped (i .done)
   move-counted r b (To f Outside) i y-outside =

@@ -244,7 +244,7 @@ all-snoc all-none q = all-cons q all-none
 all-snoc (all-cons p ps) q = all-cons p (all-snoc ps q)
 
 -- the end of the file completes a record only after a whole cell
-data EndsAfter (d : Dialect) (c : Cell) : Ending → Type 0 where
+pub data EndsAfter (d : Dialect) (c : Cell) : Ending → Type 0 where
   ends-clean : EndsAfter d c Clean
   ends-final : isWhole d c ≡ true → EndsAfter d c Final
   ends-cut : EndsAfter d c Cut
@@ -254,7 +254,7 @@ last-ends Csvj c = ends-cut
 last-ends Tdif c = ends-cut
 last-ends (CsvPlus s) c = split (EndsAfter (CsvPlus s) c) _ (λ e. ends-final e) λ _. ends-cut
 
-form-ends : (d : Dialect) (f : Form) → EndsAfter d (cellAt f) (formEnd d f)
+pub form-ends : (d : Dialect) (f : Form) → EndsAfter d (cellAt f) (formEnd d f)
 unfolding formEnd cellAt
 form-ends d Top = ends-clean
 form-ends d Begin = ends-clean

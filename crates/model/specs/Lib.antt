@@ -12,6 +12,12 @@ pub mod Api
 pub mod Ledger
 pub mod Viable
 pub mod Laws
+pub mod Trips
+pub mod Demands
+pub mod Scans
+pub mod Targets
+pub mod Places
+pub mod Machine
 pub mod Ascii
 pub mod Computes
 pub mod Examples
