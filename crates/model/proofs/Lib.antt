@@ -15,6 +15,10 @@ pub mod Lengths
 pub mod Bound
 pub mod Laws
 pub mod FormSteps
+pub mod Verdicts
+pub mod TableText
+pub mod TargetLaws
+pub mod RecordWalk
 pub mod JsonBack
 pub mod TextBack
 pub mod JsonRuns
@@ -28,13 +32,11 @@ pub mod TableRows
 pub mod RoundTrip
 pub mod Stretches
 pub mod ReadValid
-pub mod RecordWalk
 pub mod ConvertBack
 pub mod AllTrips
 pub mod CallsMade
-pub mod TableText
 pub mod Histories
-pub mod TargetLaws
+pub mod MachineLaws
 pub mod Room
 pub mod Pieces
 pub mod ScanLaws
@@ -43,4 +45,4 @@ pub mod ScanBound
 pub mod ScanSize
 pub mod ScanExample
 pub mod PlaceLaws
-pub mod MachineLaws
+pub mod AllDemands

@@ -2,14 +2,14 @@
 use Prim.Native.Nat.{ℕ}
 use mathlib.Core.Bool.{Bool, true, false, _&&_, _||_}
 use mathlib.Core.Option.{Option, none, some}
-use mathlib.Core.List.{List, [], _∷_, _++_}
+use mathlib.Core.List.{List, [], _∷_, _++_, map}
 use lib.ListN.{length, drop}
 use lib.Dec.{ltb}
 use Rattle.model.specs.Types.{Report, Dialect}
 use Rattle.model.specs.Base.{if_then_else_, _is_, within, Bytes, over}
 use Rattle.model.specs.Dialect.{dialectOf}
 use Rattle.model.specs.Text.{tableText}
-use Rattle.model.specs.Report.{refusal}
+use Rattle.model.specs.Report.{refusal, MAXPIECE, LEASTOUTPUT}
 use Rattle.model.specs.Records.{rows, Progress, readBytes, readFile, reportOf, recordsOf}
 use Rattle.model.specs.Api.{Written, unwritten}
 
@@ -58,10 +58,20 @@ unfoldable pub endedIn : List Entry → Bool
 endedIn [] = false
 endedIn (x ∷ xs) = isFinish (x .call) && isAccepted (x .answer .report) || endedIn xs
 
--- "the bytes consumed": while there is no fault, those of the accepted calls
+-- the bytes consumed: those of the accepted calls, and of the call that met the fault, up to which the fold goes; the calls after
+-- it repeat its report and consume nothing
 unfoldable pub consumedIn : List Entry → Bytes
 consumedIn [] = []
-consumedIn (x ∷ xs) = (if isAccepted (x .answer .report) then bytesOf (x .call) else []) ++ consumedIn xs
+consumedIn (x ∷ xs) =
+    if isFileFault (x .answer .report) then bytesOf (x .call)
+    else (if isAccepted (x .answer .report) then bytesOf (x .call) else []) ++ consumedIn xs
+
+-- an end call was taken, which the end of the file answered: an accepted one, or one that met the fault
+unfoldable pub closedIn : List Entry → Bool
+closedIn [] = false
+closedIn (x ∷ xs) =
+    if isFileFault (x .answer .report) then isFinish (x .call)
+    else isFinish (x .call) && isAccepted (x .answer .report) || closedIn xs
 
 -- "what was written before"
 unfoldable pub writtenIn : List Entry → Bytes
@@ -72,7 +82,7 @@ writtenIn (x ∷ xs) = x .answer .text ++ writtenIn xs
 
 -- "10, exactly when the piece is over 4,096 bytes or the output (of the end call too) under 49,152"
 abbrev pub tooSmall : Call → Bool
-tooSmall c = ltb 4096 (length (bytesOf c)) || ltb (roomOf c) 49152
+tooSmall c = ltb MAXPIECE (length (bytesOf c)) || ltb (roomOf c) LEASTOUTPUT
 
 -- the file as far as this call shows it. "If these now have a fault at a byte [..] the call reports the first"; "Any other end
 -- call reports what the whole converter, given room, does for the bytes consumed"
@@ -95,24 +105,39 @@ answerTo d t past c =
           else taken t (writtenIn past) (seenBy d t c (consumedIn past ++ bytesOf c))
     ]
 
--- each call in its turn, by the calls before it and "its own earlier reports"
-unfoldable pub answersFrom : Dialect → Dialect → (past : List Entry) → List Call → List Written
-answersFrom d t past [] = []
-answersFrom d t past (c ∷ cs) =
-    answerTo d t past c ∷ answersFrom d t (past ++ (record { call = c; answer = answerTo d t past c } ∷ [])) cs
+-- ---- any dialect numbers
 
--- "a state made with an unknown dialect answers every call with 11"
-unfoldable pub unknown : List Call → List Written
-unknown [] = []
-unknown (c ∷ cs) = unwritten (refusal 11) ∷ unknown cs
+-- one call's answer after these entries: "a state made with an unknown dialect answers every call with 11"
+unfoldable pub answerNow : (source target : ℕ) → (past : List Entry) → Call → Written
+answerNow m n past c =
+    elim (dialectOf m) [
+      | none ↦ unwritten (refusal 11)
+      | some d ↦ elim (dialectOf n) [ none ↦ unwritten (refusal 11) | some t ↦ answerTo d t past c ]
+    ]
+
+-- one of the four checks answers this call after these entries
+unfoldable pub checked : (source target : ℕ) → (past : List Entry) → Call → Bool
+checked m n past c =
+    elim (dialectOf m) [
+      | none ↦ true
+      | some d ↦ elim (dialectOf n) [
+        | none ↦ true
+        | some t ↦ elim (faultIn past) [ some e ↦ true | none ↦ endedIn past || tooSmall c ]
+      ]
+    ]
+
+-- each call in its turn with its answer, by the entries before it
+unfoldable pub historyFrom : (source target : ℕ) → (past : List Entry) → List Call → List Entry
+historyFrom m n past [] = past
+historyFrom m n past (c ∷ cs) = historyFrom m n (past ++ (record { call = c; answer = answerNow m n past c } ∷ [])) cs
+
+-- the calls of a list with their answers, from the first one on
+abbrev pub history : (source target : ℕ) → List Call → List Entry
+history m n cs = historyFrom m n [] cs
 
 -- "a single claim over every list of calls": the answers to a list of calls, of a ledger that "is fed the dialect numbers"
 unfoldable pub ledger : (source target : ℕ) → List Call → List Written
-ledger m n cs =
-    elim (dialectOf m) [
-      | none ↦ unknown cs
-      | some d ↦ elim (dialectOf n) [ none ↦ unknown cs | some t ↦ answersFrom d t [] cs ]
-    ]
+ledger m n cs = map (λ (x : Entry). x .answer) (history m n cs)
 
 -- a call's lent output after it: what it writes, "and nothing else"
 abbrev pub callLeaves : Written → (out : List ℕ) → List ℕ
@@ -120,5 +145,5 @@ callLeaves a out = over (a .text) out
 
 -- `unfolding ledger-computes` opens every definition of this module
 unfoldable pub ledger-computes : Type 0
-unfolding faultIn endedIn consumedIn writtenIn answerTo answersFrom unknown ledger
+unfolding faultIn endedIn consumedIn closedIn writtenIn answerTo answerNow checked historyFrom ledger
 ledger-computes = Unit {0}

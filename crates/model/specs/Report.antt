@@ -28,6 +28,14 @@ MAXRECORD = 4096
 abbrev pub MAXCOLUMNS : ℕ
 MAXCOLUMNS = 64
 
+-- a piece "over 4,096 bytes" is refused
+abbrev pub MAXPIECE : ℕ
+MAXPIECE = 4096
+
+-- an output "under 49,152" is refused
+abbrev pub LEASTOUTPUT : ℕ
+LEASTOUTPUT = 49152
+
 -- ---- the table of faults, column by column
 
 -- the table's "no."

@@ -1,0 +1,18 @@
+-- The demands that the definitions meet.
+use Rattle.model.specs.Trips.{Trips}
+use Rattle.model.specs.Demands.{Demands}
+use Rattle.model.proofs.AllTrips.{trips}
+use Rattle.model.proofs.CallsMade.{keeps-ledger}
+use Rattle.model.proofs.MachineLaws.{joined-outputs}
+use Rattle.model.proofs.Pieces.{fits, whole-and-pieces, fault-of-every-file}
+
+pub demands : Demands
+demands =
+    record {
+      round-trip = trips .round-trip;
+      joined-outputs = joined-outputs;
+      fits = fits;
+      whole-and-pieces = whole-and-pieces;
+      fault-of-every-file = fault-of-every-file;
+      every-list-of-calls = keeps-ledger;
+    }
