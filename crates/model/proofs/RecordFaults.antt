@@ -87,6 +87,6 @@ converting-record (some t) f h = h t
 
 pub fault-record : (d : Dialect) (target : Option Dialect) (done : List Rec) (vs : List Value) → OfRecord (recordFault d target done vs)
 unfolding recordFault
-fault-record d target [] vs = else-record (header-record d vs) (converting-record target _ (λ t. target-record t true 0 vs))
+fault-record d target [] vs = else-record (header-record d vs) (converting-record target _ (λ t. target-record t true _ vs))
 fault-record d target (h ∷ rs) vs =
     else-record (data-record (length (h .cells)) vs) (converting-record target _ (λ t. target-record t false _ vs))

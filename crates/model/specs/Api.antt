@@ -11,9 +11,9 @@ use Rattle.model.specs.Base.{if_then_else_, _is_, Bytes, isEmpty, concat
 use Rattle.model.specs.Dialect.{dialectOf}
 use Rattle.model.specs.Utf8.{isContent}
 use Rattle.model.specs.Decode.{kindNumber, kindOf, contentOf, judgeCell}
-use Rattle.model.specs.Text.{Value, recordText, tableText, ending}
+use Rattle.model.specs.Text.{Value, tableText}
 use Rattle.model.specs.Report.{report, accepted, refusal, numberOf, columnOf}
-use Rattle.model.specs.Records.{Rec, rows, _orElse_, Progress, going, stopped, readFile, faultReport, headerFault, targetFault}
+use Rattle.model.specs.Records.{Rec, rows, _orElse_, Progress, going, stopped, readFile, faultReport, headerFault, targetNext}
 
 -- ---- the reader
 
@@ -237,21 +237,22 @@ abbrev pub orNext : (n : ℕ) → Verdict → Option Report → Option Report
 orNext n Sound next = next
 orNext n (Faulty e) next = some (report (numberOf e) n (columnOf e) 0)
 
--- the first fault of the data records from record n on, after `written` bytes of output: 9 alone, since 8, 7 and 6 are the
--- header's
-unfoldable pub dataRowsFault : Dialect → (n written : ℕ) → List (List Value) → Option Report
-dataRowsFault t n written [] = none
-dataRowsFault t n written (r ∷ rs) =
-    let next : Option Report = dataRowsFault t (suc n) (written + length (recordText t false r ++ ending t)) rs in
-    orNext n (targetFault t false written r) next
+-- the fault of the row that follows the rows `done`: 8, 7 and 6 are the header's. "Its names are compared by the target's rule,
+-- so 6 stands there for 9's clash"
+abbrev pub rowFault : Dialect → (done : List (List Value)) → List Value → Verdict
+rowFault t [] r = headerFault t r orElse targetNext t [] r
+rowFault t (h ∷ rs) r = targetNext t (h ∷ rs) r
 
--- the first fault of the table: "8 for columns, 7, 6, 9" of the header, then of the data records. "Its names are compared by
--- the target's rule, so 6 stands there for 9's clash"
+-- the first fault of the rows that follow `done`
+unfoldable pub rowsFrom : Dialect → (done : List (List Value)) → List (List Value) → Option Report
+rowsFrom t done [] = none
+rowsFrom t done (r ∷ rs) =
+    let next : Option Report = rowsFrom t (done ++ (r ∷ [])) rs in
+    orNext (suc (length done)) (rowFault t done r) next
+
+-- the first fault of the table: "8 for columns, 7, 6, 9" of the header, then 9 of each data record
 unfoldable pub rowsFault : Dialect → List (List Value) → Option Report
-rowsFault t [] = none
-rowsFault t (h ∷ rs) =
-    let next : Option Report = dataRowsFault t 2 (length (recordText t true h ++ ending t)) rs in
-    orNext 1 (headerFault t h orElse targetFault t true 0 h) next
+rowsFault t rs = rowsFrom t [] rs
 
 -- "then 10"
 abbrev pub writtenRows : Dialect → (room : ℕ) → List (List Value) → Option Report → Written
@@ -272,5 +273,5 @@ writerLeaves n table out = over (writer n table (length out) .text) out
 
 -- `unfolding api-computes` opens every definition of this module
 unfoldable pub api-computes : Type 0
-unfolding reader readCall decoder decoderLeaves converter converterLeaves kindNamed tableCell tableCells rowsOf rowsIn dataRowsFault rowsFault writer writerLeaves
+unfolding reader readCall decoder decoderLeaves converter converterLeaves kindNamed tableCell tableCells rowsOf rowsIn rowsFrom rowsFault writer writerLeaves
 api-computes = Unit {0}

@@ -127,6 +127,10 @@ targetFault t header written vs =
     orElse when (ltb MAXRECORD (length text)) TextTooLong
     orElse when (ltb MAXFILE (written + length (text ++ ending t))) OutputTooLong
 
+-- fault 9 of the record that follows the rows `done`, all of which are "the output so far"
+abbrev pub targetNext : Dialect → (done : List (List Value)) → List Value → Verdict
+targetNext t done vs = targetFault t (isEmpty done) (length (tableText t done)) vs
+
 -- "9 if converting": nothing without a target
 abbrev pub converting : Option Dialect → (Dialect → Verdict) → Verdict
 converting none f = Sound
@@ -135,10 +139,10 @@ converting (some t) f = f t
 -- "When a record ends: 8 for columns, 7, 6, 5, then 9 if converting": the fault of the record that follows `done`, read in d
 -- and, where there is a target, written in that
 unfoldable pub recordFault : Dialect → (target : Option Dialect) → (done : List Rec) → List Value → Verdict
-recordFault d target [] vs = headerFault d vs orElse converting target (λ t. targetFault t true 0 vs)
+recordFault d target [] vs = headerFault d vs orElse converting target (λ t. targetNext t [] vs)
 recordFault d target (h ∷ rs) vs =
     dataFault (length (h .cells)) vs
-    orElse converting target (λ t. targetFault t false (length (tableText t (rows (h ∷ rs)))) vs)
+    orElse converting target (λ t. targetNext t (h .cells ∷ rows rs) vs)
 
 -- ---- reading, a byte at a time
 
