@@ -13,7 +13,7 @@ use Rattle.model.specs.Dialect.{delimiterByte}
 use Rattle.model.specs.Cell.{cellStep, isWhole}
 use Rattle.model.specs.Form.{afterCell, inCell, beginRecord, beginFile, formStep, formEnd}
 use Rattle.model.proofs.Tests.{split, is→eq}
-use Rattle.model.proofs.Cells.{mark-cell, mark-rest}
+use Rattle.model.proofs.CellRuns.{mark-cell, mark-rest}
 use Rattle.model.proofs.CellContent.{d-plus}
 use Rattle.grammar.specs.Rfc5234.{LF, CR}
 use Rattle.grammar.specs.Derived.{Derived, rawOf, Line, line, spelling}

@@ -11,7 +11,7 @@ use Rattle.model.specs.Utf8.{charStep}
 use Rattle.model.specs.Cell.{textByte, letterOf, afterLetter, cellStep, isWhole}
 use Rattle.model.specs.Decode.{judgeCell}
 use Rattle.model.proofs.Tests.{impossible, is→eq}
-use Rattle.model.proofs.Cells.{Runs, here, there, WholeRun, runs-sound, sound-runs}
+use Rattle.model.proofs.CellRuns.{Runs, here, there, WholeRun, runs-sound, sound-runs}
 use Rattle.model.proofs.CellContent.{no-more, no-stop, same-more}
 use Rattle.grammar.specs.Derived.{Derived, cell}
 use Rattle.grammar.proofs.Chars.{Finishes, finished, finishing, Long, long, first-high}

@@ -1,5 +1,4 @@
 -- The demands that the definitions meet.
-use Rattle.model.specs.Trips.{Trips}
 use Rattle.model.specs.Demands.{Demands}
 use Rattle.model.proofs.AllTrips.{trips}
 use Rattle.model.proofs.CallsMade.{keeps-ledger}

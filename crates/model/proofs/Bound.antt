@@ -7,20 +7,20 @@ use mathlib.Core.Bool.{Bool, true, false}
 use mathlib.Core.Option.{Option}
 use mathlib.Core.List.{List, [], _∷_, _++_}
 use lib.ListN.{length, length-append}
-use Rattle.model.specs.Types.{Kind, Text, Number, True, False, Null, Dialect, Csvj, Tdif, CsvPlus, EeToEf, Second, Last, Whole, Within, Advance, On, Broken}
-use Rattle.model.specs.Types.{Cell, Fresh, Plain, Added, More, Stop, Refuse, ByteFault, Fault, Verdict, Sound, Faulty}
+use Rattle.model.specs.Types.{Kind, Text, Number, True, False, Null, Dialect, Csvj, Tdif, CsvPlus}
+use Rattle.model.specs.Types.{Cell, ByteFault, Fault, Verdict, Sound, Faulty}
 use Rattle.model.specs.Types.{Form, Top, Begin, Ended, Mark1, Mark2, PlainMark1, PlainMark2, Comment, Blanks, Wanting, Inside, After, Cr, Outside, Passed, OfCell, Between, Tail, Ends, Step, To, Reject, Ending, Clean, Final, Cut}
 use Rattle.model.specs.Base.{Bytes, QUOTE, if_then_else_, isEmpty}
 use Rattle.model.specs.Dialect.{quoteOf}
-use Rattle.model.specs.Utf8.{charStep}
-use Rattle.model.specs.Cell.{cellStep}
-use Rattle.model.specs.Form.{afterCell, grow, inCell, beginRecord, beginFile, commented, formStep, formEnd, lastCell}
+use Rattle.model.specs.Form.{formStep, formEnd, lastCell}
 use Rattle.model.specs.Decode.{kindOf, contentOf}
 use Rattle.model.specs.Text.{Value, jsonBody, jsonCell, quotedText, csvPlusCell, cellText, moreCells, recordText, ending}
 use Rattle.model.specs.Records.{Rec, Read, Progress, going, stopped, nothingRead, readByte, readFrom, readBytes, readEnd, readFile, recordsOf, recordFault, move, complete, judged, closing, cellNow, endBetween, endAt}
 use Rattle.model.specs.Laws.{All, all-none, Bounded, BoundedRecord}
 use Rattle.model.proofs.Tests.{split}
-use Rattle.model.proofs.Cells.{all-snoc}
+use Rattle.model.proofs.CellRuns.{all-snoc}
+use Rattle.model.proofs.FormSteps as steps
+use Rattle.model.proofs.FormSteps.{Holds, Free, Leaves, Goes, step-goes}
 use Rattle.model.proofs.Lengths.{content-length, body-length, quoted-length}
 
 -- ---- a cell
@@ -149,64 +149,41 @@ pub data Steady (f : Form) : Step → Type 0 where
   y-ends : {g : Form} {k : Bool} → slack f ≡ 0 → Steady f (To g (Ends k))
   y-over : {g : Form} → Steady f (To g (Ends false))
 
-module _ (f : Form) (z : slack f ≡ 0) where
-  after-steady : (d : Dialect) (k : Bool) (b : ℕ) → Steady f (afterCell d k b)
-  unfolding afterCell
-  after-steady Csvj k b =
-      let P : Step → Type 0 = Steady f in
-      split P _ (λ _. y-between z) λ _. split P _ (λ _. y-between z) λ _. split P _ (λ _. y-ends z) λ _. split P _ (λ _. y-tail z) λ _. y-fault
-  after-steady Tdif k b =
-      let P : Step → Type 0 = Steady f in
-      split P _ (λ _. y-between z) λ _. split P _ (λ _. y-ends z) λ _. split P _ (λ _. y-ends z) λ _. y-fault
-  after-steady (CsvPlus s) k b =
-      let P : Step → Type 0 = Steady f in
-      split P _ (λ _. y-between z) λ _. split P _ (λ _. y-ends z) λ _. split P _ (λ _. y-tail z) λ _. y-fault
+holds-slack : {f : Form} {c : Cell} → Holds f c → slack f ≡ 0
+holds-slack steps.at-top = refl
+holds-slack steps.at-begin = refl
+holds-slack steps.at-ended = refl
+holds-slack steps.at-blanks = refl
+holds-slack steps.at-wanting = refl
+holds-slack steps.inside = refl
+holds-slack steps.plain1 = refl
+holds-slack steps.plain2 = refl
 
-  grow-steady : (a : Added) {s : Step} → Steady f s → Steady f (grow a s)
-  grow-steady (More c) k = y-cell z
-  grow-steady Stop k = k
-  grow-steady (Refuse e) k = y-fault
+free-slack : {f : Form} → Free f → slack f ≡ 0
+free-slack steps.f-top = refl
+free-slack steps.f-begin = refl
+free-slack steps.f-ended = refl
+free-slack steps.f-blanks = refl
+free-slack steps.f-wanting = refl
+free-slack steps.f-after = refl
 
-  in-cell-steady : (d : Dialect) (c : Cell) (b : ℕ) → Steady f (inCell d c b)
-  unfolding inCell
-  in-cell-steady d c b = grow-steady (cellStep d c b) (after-steady d true b)
+leaves-slack : {d : Dialect} {b : ℕ} {f : Form} {k : Bool} → Leaves d b f k → slack f ≡ 0
+leaves-slack (steps.none e) = free-slack e
+leaves-slack (steps.stops h s) = holds-slack h
 
-  begin-steady : (d : Dialect) (b : ℕ) → Steady f (beginRecord d b)
-  unfolding beginRecord
-  begin-steady Csvj b =
-      let P : Step → Type 0 = Steady f in
-      split P _ (λ _. y-between z) λ _. split P _ (λ _. y-ends z) λ _. split P _ (λ _. y-tail z) λ _. in-cell-steady Csvj Fresh b
-  begin-steady Tdif b = split (Steady f) _ (λ _. y-outside) λ _. in-cell-steady Tdif Fresh b
-  begin-steady (CsvPlus s) b = in-cell-steady (CsvPlus s) Fresh b
-
-  file-steady : (d : Dialect) (b : ℕ) → Steady f (beginFile d b)
-  unfolding beginFile
-  file-steady Csvj b = split (Steady f) _ (λ _. y-outside) λ _. begin-steady Csvj b
-  file-steady Tdif b = begin-steady Tdif b
-  file-steady (CsvPlus s) b = split (Steady f) _ (λ _. y-cell z) λ _. begin-steady (CsvPlus s) b
-
-  commented-steady : (o : Advance) → Steady f (commented o)
-  commented-steady Broken = y-fault
-  commented-steady (On c) = y-outside
+steady : {d : Dialect} {f : Form} {b : ℕ} {s : Step} → Goes d f b s → Steady f s
+steady steps.refuses = y-fault
+steady (steps.outside r g) = y-outside
+steady (steps.passes r g) = y-passed
+steady (steps.adds n h g i s) = y-cell (holds-slack h)
+steady (steps.blanks n e) = y-between (free-slack (steps.starts-free e))
+steady (steps.parts n l o) = y-between (leaves-slack l)
+steady (steps.turns p l) = y-tail (leaves-slack l)
+steady (steps.ends p l g) = y-ends (leaves-slack l)
+steady (steps.ends-cr e p) = y-over
 
 pub step-steady : (d : Dialect) (f : Form) (b : ℕ) → Steady f (formStep d f b)
-unfolding formStep
-step-steady d Top b = file-steady Top refl d b
-step-steady d Begin b = begin-steady Begin refl d b
-step-steady d Ended b = split (Steady Ended) _ (λ _. y-passed) λ _. begin-steady Ended refl d b
-step-steady d Mark1 b = split (Steady Mark1) _ (λ _. y-outside) λ _. y-fault
-step-steady d Mark2 b = split (Steady Mark2) _ (λ _. y-passed) λ _. y-fault
-step-steady d PlainMark1 b = split (Steady PlainMark1) _ (λ _. y-cell refl) λ _. in-cell-steady PlainMark1 refl d (Plain (Within (Second EeToEf))) b
-step-steady d PlainMark2 b = split (Steady PlainMark2) _ (λ _. y-fault) λ _. in-cell-steady PlainMark2 refl d (Plain (Within Last)) b
-step-steady d (Comment Whole) b =
-    let P : Step → Type 0 = Steady (Comment Whole) in
-    split P _ (λ _. y-passed) λ _. split P _ (λ _. y-passed) λ _. commented-steady (Comment Whole) refl (charStep Whole b)
-step-steady d (Comment (Within i)) b = commented-steady (Comment (Within i)) refl (charStep (Within i) b)
-step-steady d Blanks b = begin-steady Blanks refl d b
-step-steady d Wanting b = split (Steady Wanting) _ (λ _. y-between refl) λ _. in-cell-steady Wanting refl d Fresh b
-step-steady d (Inside c) b = in-cell-steady (Inside c) refl d c b
-step-steady d After b = after-steady After refl d false b
-step-steady d Cr b = split (Steady Cr) _ (λ _. y-over) λ _. y-fault
+step-steady d f b = steady (step-goes d f b)
 
 -- where the end of the file completes a record no CR waits
 data EndsSteady (f : Form) : Ending → Type 0 where

@@ -13,7 +13,7 @@ use Rattle.model.specs.Cell.{textByte, isDigit, numeralStep, firstByte, 
 use Rattle.model.specs.Decode.{contentOf, undouble}
 use Rattle.model.proofs.Tests.{split, split-on, impossible, is→eq, within-true}
 use Rattle.model.proofs.Utf8.{ascii-whole, quote-ascii, is-ascii, inner-no-quote, text-more}
-use Rattle.model.proofs.Cells.{Runs, here, there, WholeRun}
+use Rattle.model.proofs.CellRuns.{Runs, here, there, WholeRun}
 
 -- ---- what a byte of a cell shows
 

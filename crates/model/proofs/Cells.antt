@@ -1,91 +1,28 @@
 -- A cell that reading closed is a raw cell that the decoder finds sound, with the same kind and content, in every dialect.
--- A cell stops only where it is whole (`cell-stops`); each byte of a file either goes on with the cell in hand or leaves none
+-- Each byte of a file either goes on with the cell in hand or leaves none
 -- (`step-fits`); so the raw bytes of every closed cell run from a fresh cell to a whole one (`cells-sound`).
 use Prim.Native.Nat.{ℕ, suc}
-use native.Mathlib.Omega.{arith}
 use mathlib.Core.Path.{_≡_, refl}
 use mathlib.Core.Bool.{Bool, true, false}
 use mathlib.Core.Option.{Option}
-use mathlib.Core.List.{List, [], _∷_, _++_}
-use Rattle.model.specs.Types.{Delimiter, Comma, Semicolon, Tab, Bar, Quote, Double, Single, Settings, Dialect, Csvj, Tdif, CsvPlus, EeToEf, Second, Last, Char, Whole, Within, Advance, On, Broken}
-use Rattle.model.specs.Types.{Numeral, Minus, Zero, Integer, Point, Fraction, E, ESign, Exponent, Cell, Fresh, Quoted, Closed, Escape, Hex, InNumber, InWord, Plain, Complete, Added, More, Stop, Refuse, ByteFault}
+use mathlib.Core.List.{List, [], _∷_}
+use Rattle.model.specs.Types.{Dialect, Csvj, Tdif, CsvPlus, EeToEf, Second, Last, Within}
+use Rattle.model.specs.Types.{Cell, Fresh, Plain, More, Stop, ByteFault}
 use Rattle.model.specs.Types.{Form, Top, Begin, Ended, Mark1, Mark2, PlainMark1, PlainMark2, Comment, Blanks, Wanting, Inside, After, Cr, Outside, Passed, OfCell, Between, Tail, Ends, Step, To, Reject, Ending, Clean, Final, Cut}
-use Rattle.model.specs.Types.{Fault, Verdict, Faulty, Judged, WholeCell, Unsound}
+use Rattle.model.specs.Types.{Fault, Verdict, Faulty}
 use Rattle.model.specs.Types as types
-use Rattle.model.specs.Base.{Bytes, _is_, if_then_else_}
-use Rattle.model.specs.Utf8.{rowOf, leads, leadByte, innerStep, charStep}
-use Rattle.model.specs.Cell.{textByte, numeralStep, firstByte, quotedByte, plainByte, cellStep, isWhole}
-use Rattle.model.specs.Form.{afterCell, grow, inCell, beginRecord, beginFile, commented, formStep, formEnd, lastCell}
-use Rattle.model.specs.Decode.{judgeFrom, judgeCell}
+use Rattle.model.specs.Base.{Bytes}
+use Rattle.model.specs.Cell.{cellStep, isWhole}
+use Rattle.model.specs.Form.{formStep, formEnd, lastCell}
+use Rattle.model.specs.Decode.{judgeCell}
 use Rattle.model.specs.Text.{Value}
 use Rattle.model.specs.Records.{Rec, Read, Progress, going, stopped, nothingRead, readByte, readFrom, readBytes, readEnd, readFile, recordsOf, recordFault, move, complete, judged, closing, endBetween, endAt}
-use Rattle.model.specs.Laws.{All, all-none, all-cons, SoundCell, SoundRecord}
-use Rattle.model.proofs.Tests.{split, is→eq}
-
--- ---- a cell stops only where it is whole
-
--- what a byte says of the cell c: if it stops there, c is whole
-data Stops (d : Dialect) (c : Cell) : Added → Type 0 where
-  goes-on : {c′ : Cell} → Stops d c (More c′)
-  stops : isWhole d c ≡ true → Stops d c Stop
-  refuses : {e : ByteFault} → Stops d c (Refuse e)
-
-text-stops : (d : Dialect) (c : Cell) (f : Char → Cell) (o : Advance) → Stops d c (textByte f o)
-text-stops d c f Broken = refuses
-text-stops d c f (On x) = goes-on
-
-first-stops : (d : Dialect) (b : ℕ) → Stops d Fresh (firstByte d b)
-unfolding firstByte isWhole
-first-stops Csvj b =
-    let P : Added → Type 0 = Stops Csvj Fresh in
-    split P _ (λ _. goes-on) λ _. split P _ (λ _. goes-on) λ _. split P _ (λ _. goes-on) λ _. split P _ (λ _. goes-on) λ _.
-    split P _ (λ _. goes-on) λ _. split P _ (λ _. goes-on) λ _. split P _ (λ _. goes-on) λ _. refuses
-first-stops Tdif b = split (Stops Tdif Fresh) _ (λ _. goes-on) λ _. split (Stops Tdif Fresh) _ (λ _. goes-on) λ _. refuses
-first-stops (CsvPlus s) b =
-    let P : Added → Type 0 = Stops (CsvPlus s) Fresh in
-    split P _ (λ _. goes-on) λ _. split P _ (λ _. stops refl) λ _. text-stops (CsvPlus s) Fresh Plain (charStep Whole b)
-
-quoted-stops : (d : Dialect) (b : ℕ) → Stops d (Quoted Whole) (quotedByte d b)
-unfolding quotedByte
-quoted-stops Csvj b =
-    let P : Added → Type 0 = Stops Csvj (Quoted Whole) in
-    split P _ (λ _. goes-on) λ _. split P _ (λ _. goes-on) λ _. split P _ (λ _. refuses) λ _. text-stops Csvj (Quoted Whole) Quoted (charStep Whole b)
-quoted-stops Tdif b = split (Stops Tdif (Quoted Whole)) _ (λ _. goes-on) λ _. text-stops Tdif (Quoted Whole) Quoted (charStep Whole b)
-quoted-stops (CsvPlus s) b =
-    split (Stops (CsvPlus s) (Quoted Whole)) _ (λ _. goes-on) λ _. text-stops (CsvPlus s) (Quoted Whole) Quoted (charStep Whole b)
-
-plain-stops : (d : Dialect) (b : ℕ) → Stops d (Plain Whole) (plainByte d b)
-unfolding plainByte isWhole
-plain-stops d b =
-    let P : Added → Type 0 = Stops d (Plain Whole) in
-    split P _ (λ _. refuses) λ _. split P _ (λ _. stops refl) λ _. text-stops d (Plain Whole) Plain (charStep Whole b)
-
-numeral-stops : (d : Dialect) (n : Numeral) (b : ℕ) → Stops d (InNumber n) (numeralStep n b)
-unfolding numeralStep isWhole
-numeral-stops d Minus b = let P = Stops d (InNumber Minus) in split P _ (λ _. goes-on) λ _. split P _ (λ _. goes-on) λ _. refuses
-numeral-stops d Zero b = let P = Stops d (InNumber Zero) in split P _ (λ _. goes-on) λ _. split P _ (λ _. goes-on) λ _. stops refl
-numeral-stops d Integer b =
-    let P = Stops d (InNumber Integer) in
-    split P _ (λ _. goes-on) λ _. split P _ (λ _. goes-on) λ _. split P _ (λ _. goes-on) λ _. stops refl
-numeral-stops d Point b = split (Stops d (InNumber Point)) _ (λ _. goes-on) λ _. refuses
-numeral-stops d Fraction b = let P = Stops d (InNumber Fraction) in split P _ (λ _. goes-on) λ _. split P _ (λ _. goes-on) λ _. stops refl
-numeral-stops d E b = let P = Stops d (InNumber E) in split P _ (λ _. goes-on) λ _. split P _ (λ _. goes-on) λ _. refuses
-numeral-stops d ESign b = split (Stops d (InNumber ESign)) _ (λ _. goes-on) λ _. refuses
-numeral-stops d Exponent b = split (Stops d (InNumber Exponent)) _ (λ _. goes-on) λ _. stops refl
-
-cell-stops : (d : Dialect) (c : Cell) (b : ℕ) → Stops d c (cellStep d c b)
-unfolding cellStep isWhole
-cell-stops d Fresh b = first-stops d b
-cell-stops d (Quoted Whole) b = quoted-stops d b
-cell-stops d (Quoted (Within i)) b = text-stops d (Quoted (Within i)) Quoted (charStep (Within i) b)
-cell-stops d Closed b = split (Stops d Closed) _ (λ _. goes-on) λ _. stops refl
-cell-stops d Escape b = split (Stops d Escape) _ (λ _. goes-on) λ _. split (Stops d Escape) _ (λ _. goes-on) λ _. refuses
-cell-stops d (Hex n) b = split (Stops d (Hex n)) _ (λ _. goes-on) λ _. refuses
-cell-stops d (InNumber n) b = numeral-stops d n b
-cell-stops d (InWord w) b = split (Stops d (InWord w)) _ (λ _. goes-on) λ _. refuses
-cell-stops d (Plain Whole) b = plain-stops d b
-cell-stops d (Plain (Within i)) b = text-stops d (Plain (Within i)) Plain (charStep (Within i) b)
-cell-stops d Complete b = stops refl
+use Rattle.model.specs.Laws.{All, all-none, SoundCell, SoundRecord}
+use Rattle.model.proofs.Tests.{split}
+use Rattle.model.proofs.CellRuns as cell-runs
+use Rattle.model.proofs.CellRuns.{Stops, cell-stops, Runs, here, snoc, runs-sound, all-snoc}
+use Rattle.model.proofs.FormSteps as steps
+use Rattle.model.proofs.FormSteps.{Rests, Holds, Opens, Next, Leaves, Goes, step-goes}
 
 -- ---- the cell in hand, and what a byte does to it
 
@@ -118,130 +55,59 @@ pub data Fits (d : Dialect) (c : Cell) (b : ℕ) : Step → Type 0 where
   turns : {f : Form} {k : Bool} → cellAt f ≡ Fresh → Closes d c k → Fits d c b (To f (Tail k))
   completes : {f : Form} {k : Bool} → cellAt f ≡ Fresh → Closes d c k → Fits d c b (To f (Ends k))
 
-after-fits : (d : Dialect) (c : Cell) (k : Bool) (b : ℕ) → Closes d c k → Fits d c b (afterCell d k b)
-unfolding afterCell cellAt
-after-fits Csvj c k b w =
-    let P : Step → Type 0 = Fits Csvj c b in
-    split P _ (λ _. parts refl w) λ _. split P _ (λ _. parts refl w) λ _. split P _ (λ _. completes refl w) λ _. split P _ (λ _. turns refl w) λ _. rejects
-after-fits Tdif c k b w =
-    let P : Step → Type 0 = Fits Tdif c b in
-    split P _ (λ _. parts refl w) λ _. split P _ (λ _. completes refl w) λ _. split P _ (λ _. completes refl w) λ _. rejects
-after-fits (CsvPlus s) c k b w =
-    let P : Step → Type 0 = Fits (CsvPlus s) c b in
-    split P _ (λ _. parts refl w) λ _. split P _ (λ _. completes refl w) λ _. split P _ (λ _. turns refl w) λ _. rejects
-
-in-cell-fits : (d : Dialect) (c : Cell) (b : ℕ) → Fits d c b (inCell d c b)
-unfolding inCell cellAt
-in-cell-fits d c b = go (cellStep d c b) refl (cell-stops d c b)
-  where
-    go : (a : Added) → cellStep d c b ≡ a → Stops d c a → Fits d c b (grow a (afterCell d true b))
-    go (More c′) e goes-on = adds e
-    go Stop e (stops w) = after-fits d c true b w
-    go (Refuse x) e refuses = rejects
-
-begin-fits : (d : Dialect) (b : ℕ) → Fits d Fresh b (beginRecord d b)
-unfolding beginRecord cellAt
-begin-fits Csvj b =
-    let P : Step → Type 0 = Fits Csvj Fresh b in
-    split P _ (λ _. parts refl tt) λ _. split P _ (λ _. completes refl tt) λ _. split P _ (λ _. turns refl tt) λ _. in-cell-fits Csvj Fresh b
-begin-fits Tdif b = split (Fits Tdif Fresh b) _ (λ _. leaves refl) λ _. in-cell-fits Tdif Fresh b
-begin-fits (CsvPlus s) b = in-cell-fits (CsvPlus s) Fresh b
-
--- EF is no delimiter and no quote
-pub mark-cell : (s : Settings) → cellStep (CsvPlus s) Fresh 0xEF ≡ More (Plain (Within (Second EeToEf)))
-unfolding cellStep firstByte charStep leadByte leads rowOf if_then_else_
-mark-cell s = go (s .delimiter) (s .quote)
-  where
-    go : (x : Delimiter) (q : Quote) → cellStep (CsvPlus (record { delimiter = x; quote = q })) Fresh 0xEF ≡ More (Plain (Within (Second EeToEf)))
-    go Comma Double = refl
-    go Comma Single = refl
-    go Semicolon Double = refl
-    go Semicolon Single = refl
-    go Tab Double = refl
-    go Tab Single = refl
-    go Bar Double = refl
-    go Bar Single = refl
-
-file-fits : (d : Dialect) (b : ℕ) → Fits d Fresh b (beginFile d b)
-unfolding beginFile cellAt
-file-fits Csvj b = split (Fits Csvj Fresh b) _ (λ _. leaves refl) λ _. begin-fits Csvj b
-file-fits Tdif b = begin-fits Tdif b
-file-fits (CsvPlus s) b =
-    split (Fits (CsvPlus s) Fresh b) _ (λ e. adds {f = PlainMark1} (rw (is→eq b 0xEF e) (mark-cell s))) λ _. begin-fits (CsvPlus s) b
-
-commented-fits : (d : Dialect) (b : ℕ) (o : Advance) → Fits d Fresh b (commented o)
+holds-cell : {f : Form} {c : Cell} → Holds f c → cellAt f ≡ c
 unfolding cellAt
-commented-fits d b Broken = rejects
-commented-fits d b (On c) = leaves refl
+holds-cell steps.at-top = refl
+holds-cell steps.at-begin = refl
+holds-cell steps.at-ended = refl
+holds-cell steps.at-blanks = refl
+holds-cell steps.at-wanting = refl
+holds-cell steps.inside = refl
+holds-cell steps.plain1 = refl
+holds-cell steps.plain2 = refl
 
-pub mark-rest : (d : Dialect) → cellStep d (Plain (Within (Second EeToEf))) 0xBB ≡ More (Plain (Within Last))
-unfolding cellStep charStep innerStep rowOf if_then_else_
-mark-rest d = refl
+rests-cell : {f : Form} → Rests f → cellAt f ≡ Fresh
+unfolding cellAt
+rests-cell steps.top = refl
+rests-cell steps.begin = refl
+rests-cell steps.ended = refl
+rests-cell steps.mark1 = refl
+rests-cell steps.mark2 = refl
+rests-cell steps.comment = refl
+
+next-cell : {g : Form} → Next g → cellAt g ≡ Fresh
+unfolding cellAt
+next-cell steps.n-begin = refl
+next-cell steps.n-ended = refl
+
+opens-cell : {g : Form} → Opens g → cellAt g ≡ Fresh
+unfolding cellAt
+opens-cell steps.o-after = refl
+opens-cell steps.o-wanting = refl
+opens-cell steps.o-fresh = refl
+
+whole-of : {d : Dialect} {c : Cell} → Stops d c Stop → isWhole d c ≡ true
+whole-of (cell-runs.stops w) = w
+
+closes-of : {d : Dialect} {b : ℕ} {f : Form} {k : Bool} → Leaves d b f k → Closes d (cellAt f) k
+closes-of (steps.none e) = tt
+closes-of {d} {b} {f} (steps.stops {c = c} h s) = rw (holds-cell h) (whole-of (rw s at (cell-stops d c b)))
+
+fits-of : {d : Dialect} {f : Form} {b : ℕ} {s : Step} → Goes d f b s → Fits d (cellAt f) b s
+fits-of steps.refuses = rejects
+fits-of (steps.outside r g) = leaves (rests-cell g)
+fits-of (steps.passes r g) = passes (next-cell g)
+fits-of {b = b} (steps.adds {g = t} n h g i s) = adds {f = t} (rw (holds-cell h, holds-cell i) s)
+fits-of (steps.blanks n e) = unfold cellAt in parts refl tt
+fits-of (steps.parts n l o) = parts (opens-cell o) (closes-of l)
+fits-of (steps.turns p l) = unfold cellAt in turns refl (closes-of l)
+fits-of (steps.ends p l g) = completes (next-cell g) (closes-of l)
+fits-of (steps.ends-cr e p) = unfold cellAt in completes refl tt
 
 pub step-fits : (d : Dialect) (f : Form) (b : ℕ) → Fits d (cellAt f) b (formStep d f b)
-unfolding formStep cellAt
-step-fits d Top b = file-fits d b
-step-fits d Begin b = begin-fits d b
-step-fits d Ended b = split (Fits d Fresh b) _ (λ _. passes refl) λ _. begin-fits d b
-step-fits d Mark1 b = split (Fits d Fresh b) _ (λ _. leaves refl) λ _. rejects
-step-fits d Mark2 b = split (Fits d Fresh b) _ (λ _. passes refl) λ _. rejects
-step-fits d PlainMark1 b =
-    split (Fits d (Plain (Within (Second EeToEf))) b) _ (λ e. adds {f = PlainMark2} (rw (is→eq b 0xBB e) (mark-rest d))) λ _.
-    in-cell-fits d (Plain (Within (Second EeToEf))) b
-step-fits d PlainMark2 b = split (Fits d (Plain (Within Last)) b) _ (λ _. rejects) λ _. in-cell-fits d (Plain (Within Last)) b
-step-fits d (Comment Whole) b =
-    split (Fits d Fresh b) _ (λ _. passes refl) λ _. split (Fits d Fresh b) _ (λ _. passes refl) λ _. commented-fits d b (charStep Whole b)
-step-fits d (Comment (Within i)) b = commented-fits d b (charStep (Within i) b)
-step-fits d Blanks b = begin-fits d b
-step-fits d Wanting b = split (Fits d Fresh b) _ (λ _. parts refl tt) λ _. in-cell-fits d Fresh b
-step-fits d (Inside c) b = in-cell-fits d c b
-step-fits d After b = after-fits d Fresh false b tt
-step-fits d Cr b = split (Fits d Fresh b) _ (λ _. completes refl tt) λ _. rejects
-
--- ---- runs of a cell
-
--- the bytes bs take the cell from c to c′
-pub data Runs (d : Dialect) : Cell → Bytes → Cell → Type 0 where
-  here : {c : Cell} → Runs d c [] c
-  there : {c c′ c″ : Cell} {b : ℕ} {bs : Bytes} → cellStep d c b ≡ More c′ → Runs d c′ bs c″ → Runs d c (b ∷ bs) c″
-
-pub snoc : {d : Dialect} {c c′ c″ : Cell} {bs : Bytes} (b : ℕ) → Runs d c bs c′ → cellStep d c′ b ≡ More c″ → Runs d c (bs ++ (b ∷ [])) c″
-snoc b here e = there e here
-snoc b (there f r) e = there f (snoc b r e)
-
-pub runs-sound : {d : Dialect} {c c′ : Cell} {bs : Bytes} (i : ℕ) → Runs d c bs c′ → isWhole d c′ ≡ true → judgeFrom d c i bs ≡ WholeCell
-unfolding judgeFrom if_then_else_
-runs-sound i here w = rw (w, judgeFrom)
-runs-sound i (there e r) w = rw (e, judgeFrom) (runs-sound (suc i) r w)
-
--- a run to a whole cell
-pub record WholeRun (d : Dialect) (c : Cell) (bs : Bytes) : Type 0 where
-  pub end : Cell
-  pub runs : Runs d c bs end
-  pub whole : isWhole d end ≡ true
-
-unsound-sound : {A : Type 0} {e : Fault} {i : ℕ} → Unsound e i ≡ WholeCell → A
-unsound-sound x = let z : _≡_ {A = ℕ} 0 1 = cc in absurd (omega arith)
-
-pub sound-runs : (d : Dialect) (c : Cell) (i : ℕ) (bs : Bytes) → judgeFrom d c i bs ≡ WholeCell → WholeRun d c bs
-unfolding judgeFrom if_then_else_
-sound-runs d c i [] h = go (isWhole d c) refl h
-  where
-    go : (t : Bool) → isWhole d c ≡ t → (if t then WholeCell else Unsound types.CutShort i) ≡ WholeCell → WholeRun d c []
-    go true e k = record { end = c; runs = here; whole = e }
-    go false e k = unsound-sound k
-sound-runs d c i (b ∷ bs) h = go (cellStep d c b) refl h (λ c′. sound-runs d c′ (suc i) bs)
-  where
-    go : (a : Added) → cellStep d c b ≡ a → (elim a as (λ _. Judged) [ More c′ ↦ judgeFrom d c′ (suc i) bs | Stop ↦ Unsound (types.Byte types.Syntax) i | Refuse x ↦ Unsound (types.Byte x) i ]) ≡ WholeCell → ((c′ : Cell) → judgeFrom d c′ (suc i) bs ≡ WholeCell → WholeRun d c′ bs) → WholeRun d c (b ∷ bs)
-    go (More c′) e k ih = let w = ih c′ k in record { end = w .end; runs = there e (w .runs); whole = w .whole }
-    go Stop e k ih = unsound-sound k
-    go (Refuse x) e k ih = unsound-sound k
+step-fits d f b = fits-of (step-goes d f b)
 
 -- ---- every cell that was read
-
-pub all-snoc {ℓ κ} : {A : Type ℓ} {P : A → Type κ} {xs : List A} {y : A} → All P xs → P y → All P (xs ++ (y ∷ []))
-all-snoc all-none q = all-cons q all-none
-all-snoc (all-cons p ps) q = all-cons p (all-snoc ps q)
 
 -- the end of the file completes a record only after a whole cell
 pub data EndsAfter (d : Dialect) (c : Cell) : Ending → Type 0 where

@@ -9,7 +9,7 @@ use Rattle.model.specs.Utf8.{wideFrom, isContent}
 use Rattle.model.specs.Cell.{firstByte, cellStep, isWhole, isDigit}
 use Rattle.model.specs.Decode.{judgeCell, contentOf}
 use Rattle.model.proofs.Utf8.{text-content}
-use Rattle.model.proofs.Cells.{Runs, there, WholeRun, sound-runs}
+use Rattle.model.proofs.CellRuns.{Runs, there, WholeRun, sound-runs}
 use Rattle.model.proofs.CellContent.{tdif-content, plus-content, same-more, number-step, number-text, ascii-text, first-number}
 use Rattle.model.proofs.JsonContent.{string-content}
 

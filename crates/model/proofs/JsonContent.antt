@@ -17,7 +17,7 @@ use Rattle.model.specs.Cell.{quotedByte, cellStep, isWhole, isShort, isH
 use Rattle.model.specs.Decode.{Unit16, byte, unit, between, escape, digits, units, textOf, hexOf}
 use Rattle.model.proofs.Tests.{split, split-on, impossible, is→eq, and-true, within-true}
 use Rattle.model.proofs.Utf8.{ascii-whole, inner-high, Near, near-gap, near-step, Calm, wide-on}
-use Rattle.model.proofs.Cells.{Runs, here, there}
+use Rattle.model.proofs.CellRuns.{Runs, here, there}
 use Rattle.model.proofs.CellContent.{CharOn, char-on, same-more, no-more}
 
 -- ---- a code point's bytes

@@ -7,7 +7,7 @@ use mathlib.Core.List.{List, _++_}
 use lib.ListN.{length}
 use lib.Dec.{ltb}
 use borrow.Author.Tests.{ltb-false}
-use Rattle.model.specs.Types.{Dialect, Fault, NoCells, TextTooLong, OutputTooLong, Verdict, Sound, Faulty}
+use Rattle.model.specs.Types.{Dialect, Fault, NoCells, TextTooLong, Verdict, Sound, Faulty}
 use Rattle.model.specs.Base.{isEmpty}
 use Rattle.model.specs.Dialect.{isCsvj}
 use Rattle.model.specs.Text.{Value, recordText, ending}

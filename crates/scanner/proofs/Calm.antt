@@ -1,17 +1,16 @@
 -- Where no cell is in hand (`outer`): a byte of the mark or of a comment is met there only, and every other byte leads elsewhere,
 -- ends the record, or is a blank before it. And the record's limit counts every byte of a cell and every byte between cells.
-use Prim.Native.Nat.{ℕ, _≤_}
-use native.Mathlib.Omega.{arith}
+use Prim.Native.Nat.{ℕ}
 use mathlib.Core.Path.{_≡_, refl}
 use mathlib.Core.Bool.{Bool, true, false}
-use Rattle.model.specs.Base.{LF, CR, COMMA, _is_}
+use Rattle.model.specs.Base.{COMMA, _is_}
 use Rattle.model.specs.Dialect.{delimiterOf}
-use Rattle.model.specs.Utf8.{charStep}
-use Rattle.model.specs.Cell.{cellStep, inQuotes}
-use Rattle.model.specs.Form.{isBlank, afterCell, grow, inCell, beginRecord, beginFile, commented, formStep, quotesOpen, counts}
-use Rattle.model.proofs.Tests.{split, is→eq}
-use Rattle.model.proofs.Counted.{counted, more-counted, blank-counted, delimiter-counted}
-use Rattle.scanner.specs.Types.{Dialect, Csvj, Tdif, CsvPlus, EeToEf, Second, Last, Whole, Within, Advance, On, Broken, Cell, Fresh, Plain, ByteFault, Added, More, Stop, Refuse, Form, Top, Begin, Ended, Mark1, Mark2, PlainMark1, PlainMark2, Comment, Blanks, Wanting, Inside, After, Cr, Outside, Passed, OfCell, Between, Tail, Ends, Step, To, Reject}
+use Rattle.model.specs.Form.{isBlank, afterCell, formStep, counts}
+use Rattle.model.proofs.Tests.{split}
+use Rattle.model.proofs.Counted.{blank-counted, delimiter-counted}
+use Rattle.model.proofs.FormSteps as steps
+use Rattle.model.proofs.FormSteps.{Rests, Around, Starts, Grown, Opens, Goes, step-goes}
+use Rattle.scanner.specs.Types.{Dialect, Csvj, Tdif, CsvPlus, ByteFault, Form, Outside, Passed, OfCell, Between, Tail, Ends, Step, To, Reject}
 use Rattle.scanner.specs.Ahead.{outer}
 
 pub data Calm (f : Form) (b : ℕ) : Step → Type 0 where
@@ -41,55 +40,44 @@ module _ (f : Form) (b : ℕ) where
       split P (b is delimiterOf (CsvPlus s)) (λ p. parts (delimiter-counted (CsvPlus s) f b p) refl) λ _.
       split P _ (λ _. finishes) λ _. split P _ (λ _. tails refl) λ _. refuses
 
-  in-cell-calm : (d : Dialect) (c : Cell) → quotesOpen f ≡ inQuotes c → Calm f b (inCell d c b)
-  unfolding inCell
-  in-cell-calm d c q = go (cellStep d c b) refl
-    where
-      go : (a : Added) → cellStep d c b ≡ a → Calm f b (grow a (afterCell d true b))
-      go (More e) s = grows (more-counted d f c e b q s) refl
-      go Stop s = after-calm d true
-      go (Refuse e) s = refuses
+rests-outer : {f : Form} → Rests f → outer f ≡ true
+rests-outer steps.top = refl
+rests-outer steps.begin = refl
+rests-outer steps.ended = refl
+rests-outer steps.mark1 = refl
+rests-outer steps.mark2 = refl
+rests-outer steps.comment = refl
 
-  commented-calm : outer f ≡ true → (o : Advance) → Calm f b (commented o)
-  commented-calm o Broken = refuses
-  commented-calm o (On c) = leaves o
+around-outer : {d : Dialect} {f : Form} → Around d f → outer f ≡ true
+around-outer (steps.rests r) = rests-outer r
+around-outer steps.unread = refl
 
-  begin-calm : outer f ≡ true → quotesOpen f ≡ false → (d : Dialect) → Calm f b (beginRecord d b)
-  unfolding beginRecord inQuotes
-  begin-calm o q Csvj =
-      let P : Step → Type 0 = Calm f b in
-      split P (isBlank b) (λ p. blanks (blank-counted f b p) o) λ _.
-      split P _ (λ _. finishes) λ _. split P _ (λ _. tails refl) λ _. in-cell-calm Csvj Fresh q
-  begin-calm o q Tdif = split (Calm f b) _ (λ _. leaves o) λ _. in-cell-calm Tdif Fresh q
-  begin-calm o q (CsvPlus s) = in-cell-calm (CsvPlus s) Fresh q
+starts-outer : {f : Form} → Starts f → outer f ≡ true
+starts-outer steps.s-top = refl
+starts-outer steps.s-begin = refl
+starts-outer steps.s-ended = refl
+starts-outer steps.s-blanks = refl
 
-  -- a byte of the mark is counted where it is one of a plain cell
-  high-counted : (n : ℕ) → 0x0E ≤ n → (b is n) ≡ true → counts f b ≡ true
-  high-counted n h p = let z : b ≡ n = is→eq b n p in counted f b (λ y. omega arith) (λ y. omega arith)
+grown-inner : {g : Form} → Grown g → outer g ≡ false
+grown-inner steps.g-inside = refl
+grown-inner steps.g-plain1 = refl
+grown-inner steps.g-plain2 = refl
 
-  file-calm : outer f ≡ true → quotesOpen f ≡ false → (d : Dialect) → Calm f b (beginFile d b)
-  unfolding beginFile
-  file-calm o q Csvj = split (Calm f b) _ (λ _. leaves o) λ _. begin-calm o q Csvj
-  file-calm o q Tdif = begin-calm o q Tdif
-  file-calm o q (CsvPlus s) = split (Calm f b) (b is 0xEF) (λ p. grows (high-counted 0xEF (omega arith) p) refl) λ _. begin-calm o q (CsvPlus s)
+opens-inner : {g : Form} → Opens g → outer g ≡ false
+opens-inner steps.o-after = refl
+opens-inner steps.o-wanting = refl
+opens-inner steps.o-fresh = refl
+
+calm : {d : Dialect} {f : Form} {b : ℕ} {s : Step} → Goes d f b s → Calm f b s
+calm steps.refuses = refuses
+calm (steps.outside r g) = leaves (around-outer r)
+calm (steps.passes r g) = passes (rests-outer r)
+calm (steps.adds n h g i s) = grows n (grown-inner g)
+calm (steps.blanks n e) = blanks n (starts-outer e)
+calm (steps.parts n l o) = parts n (opens-inner o)
+calm (steps.turns p l) = tails refl
+calm (steps.ends p l g) = finishes
+calm (steps.ends-cr e p) = finishes
 
 pub step-calm : (d : Dialect) (f : Form) (b : ℕ) → Calm f b (formStep d f b)
-unfolding formStep inQuotes
-step-calm d Top b = file-calm Top b refl refl d
-step-calm d Begin b = begin-calm Begin b refl refl d
-step-calm d Ended b = split (Calm Ended b) _ (λ _. passes refl) λ _. begin-calm Ended b refl refl d
-step-calm d Mark1 b = split (Calm Mark1 b) _ (λ _. leaves refl) λ _. refuses
-step-calm d Mark2 b = split (Calm Mark2 b) _ (λ _. passes refl) λ _. refuses
-step-calm d PlainMark1 b =
-    split (Calm PlainMark1 b) (b is 0xBB) (λ p. grows (high-counted PlainMark1 b 0xBB (omega arith) p) refl) λ _.
-    in-cell-calm PlainMark1 b d (Plain (Within (Second EeToEf))) refl
-step-calm d PlainMark2 b = split (Calm PlainMark2 b) _ (λ _. refuses) λ _. in-cell-calm PlainMark2 b d (Plain (Within Last)) refl
-step-calm d (Comment Whole) b =
-    let P : Step → Type 0 = Calm (Comment Whole) b in
-    split P _ (λ _. passes refl) λ _. split P _ (λ _. passes refl) λ _. commented-calm (Comment Whole) b refl (charStep Whole b)
-step-calm d (Comment (Within i)) b = commented-calm (Comment (Within i)) b refl (charStep (Within i) b)
-step-calm d Blanks b = begin-calm Blanks b refl refl d
-step-calm d Wanting b = split (Calm Wanting b) (isBlank b) (λ p. parts (blank-counted Wanting b p) refl) λ _. in-cell-calm Wanting b d Fresh refl
-step-calm d (Inside c) b = in-cell-calm (Inside c) b d c refl
-step-calm d After b = after-calm After b d false
-step-calm d Cr b = split (Calm Cr b) _ (λ _. finishes) λ _. refuses
+step-calm d f b = calm (step-goes d f b)

@@ -15,7 +15,7 @@ use Rattle.model.specs.Report.{MAXRECORD}
 use Rattle.model.specs.Records.{Read, between-records, closing, fileFull, recordFull}
 use Rattle.model.specs.Laws.{All, all-none}
 use Rattle.model.proofs.Tests.{split}
-use Rattle.model.proofs.Cells.{all-snoc}
+use Rattle.model.proofs.CellRuns.{all-snoc}
 use Rattle.lexer.specs.Run.{part}
 use Rattle.lexer.proofs.Runs.{part-end}
 use Rattle.scanner.specs.Types.{Dialect, Form, Outside, Passed, OfCell, Between, Tail, Step, Ending, Clean, Final, Cut}
