@@ -1,5 +1,5 @@
 //! The rules and what cites them, both ways: every definition of the model cites a clause of `docs/RULES.md` that exists, and
-//! every clause is cited by a definition, a comment in code or a vector.
+//! every clause is cited by a comment in specs/ or src/ or by a vector.
 
 use std::collections::{BTreeMap, BTreeSet};
 use std::fmt;
@@ -26,6 +26,17 @@ impl File {
     /// The lines with their numbers, from 1.
     fn lines(&self) -> impl Iterator<Item = (usize, &str)> {
         self.text.lines().enumerate().map(|(i, line)| (i + 1, line))
+    }
+
+    /// How many lines the comment has with which a file of code begins: it stands above no definition.
+    fn head(&self) -> usize {
+        let mark = match extension(&self.path) {
+            "antt" => "--",
+            "rt" => "//",
+            _ => return 0,
+        };
+        let is_comment = |line: &&str| line.starts_with(mark);
+        self.text.lines().take_while(is_comment).count()
     }
 }
 
@@ -187,12 +198,16 @@ fn definitions(text: &str) -> Vec<Definition> {
         .collect()
 }
 
+fn extension(path: &str) -> &str {
+    path.rsplit('.').next().unwrap_or("")
+}
+
 /// The part of a line that may cite: a comment, the name of a case, or all of a document.
 fn citing_part<'a>(path: &str, line: &'a str) -> &'a str {
-    let from = match path.rsplit('.').next() {
-        Some("antt") => line.find("--"),
-        Some("rt") => line.find("//"),
-        Some("txt") => (line.starts_with('#') || line.starts_with("case ")).then_some(0),
+    let from = match extension(path) {
+        "antt" => line.find("--"),
+        "rt" => line.find("//"),
+        "txt" => (line.starts_with('#') || line.starts_with("case ")).then_some(0),
         _ => Some(0),
     };
     from.map_or("", |at| &line[at..])
@@ -232,7 +247,7 @@ fn check(rules: &File, model: &[File], citing: &[File], others: &[File]) -> (Tal
             for citation in citations(citing_part(&file.path, line)) {
                 match citation {
                     Ok(clause) if clauses.contains_key(&clause) => {
-                        if is_source {
+                        if is_source && n > file.head() {
                             cited.insert(clause);
                         }
                     }
@@ -344,7 +359,7 @@ fn file(path: &str, text: &str) -> File {
 
 /// Two clauses, both cited by the model alone.
 const RULES: &str = "# Rules\n\n## 1. First\n\n**1.1** This, see §1.2.\n\n| **1.2** | that |\n";
-const MODEL: &str = "-- this (§1.1)\nabbrev pub a : T\na = 1\n\n-- that, a second\n-- line (§1.2)\npub data B : T where\n  -- §1.1\n  b : B\n";
+const MODEL: &str = "use x.{y}\n\n-- this (§1.1)\nabbrev pub a : T\na = 1\n\n-- that, a second\n-- line (§1.2)\npub data B : T where\n  -- §1.1\n  b : B\n";
 
 fn problems(rules: &str, model: &str, vectors: &str) -> Vec<String> {
     check(
@@ -393,7 +408,7 @@ fn an_unknown_clause_is_reported() {
     let model = format!("{MODEL}\n-- two of them (§1.1 §7.3)\nabbrev pub c : T\n");
     assert_eq!(
         problems(RULES, &model, ""),
-        ["Model.antt:11: there is no clause 7.3 in RULES.md"]
+        ["Model.antt:13: there is no clause 7.3 in RULES.md"]
     );
     assert_eq!(
         problems(RULES, MODEL, "case one (§1.9)\n# §4\n"),
@@ -410,6 +425,8 @@ fn an_uncited_clause_is_reported() {
     let uncited =
         "RULES.md:9: clause 1.3 is cited by no definition, no comment in code and no vector";
     assert_eq!(problems(&rules, MODEL, "read 1 '§1.3'\n"), [uncited]);
+    let head = format!("-- All of this (§1.3).\nuse a.{{b}}\n\n{MODEL}");
+    assert_eq!(problems(&rules, &head, ""), [uncited]);
     assert_eq!(problems(&rules, MODEL, "# §1.3\n"), Vec::<String>::new());
 }
 

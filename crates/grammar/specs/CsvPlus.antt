@@ -95,7 +95,7 @@ module _ (s : Settings) where
 
     -- LF = %x0A
 
-    -- CRLF = CR LF. The rules depart: LF alone ends a record too (§5.1)
+    -- CRLF = CR LF. The rules depart, and hold against it: LF alone ends a record too (§1.6 §5.1)
     pub data CRLF : Bytes → Type 0 where
       lf : CRLF (LF ∷ [])
       crlf : CRLF core.CRLF
