@@ -1,4 +1,4 @@
-//! Document 01's ledger: the answers to a list of piece and end calls, told from the dialect
+//! The ledger of the rules (§16.1): the answers to a list of piece and end calls, told from the dialect
 //! numbers, the calls and the whole converter alone.
 
 use crate::whole::convert_whole;

@@ -11,7 +11,7 @@ pub enum Dialect {
     CsvPlus,
 }
 
-/// What a cell holds; the discriminants are document 01's kind numbers.
+/// What a cell holds; the discriminants are the rules' kind numbers.
 #[derive(Clone, Copy, Debug, PartialEq, Eq)]
 pub enum Kind {
     /// Text, with the decoded bytes as content.
@@ -76,7 +76,7 @@ impl Kind {
         }
     }
 
-    /// Document 01's number for the kind.
+    /// The rules' number for the kind.
     pub fn number(self) -> u8 {
         self as u8
     }

@@ -1,6 +1,6 @@
 //! Reads, writes and converts tables in three dialects: CSVJ (1), TDIF (2) and CSV+ (3).
 //!
-//! It follows document 01. A file is scanned by position, one record at a time (`records`); each
+//! It follows the rules (docs/RULES.md). A file is scanned by position, one record at a time (`records`); each
 //! record is judged as a whole when it ends (`judge`) and, if converting, put into the target's
 //! canonical text (`text`). The whole-file calls scan the whole file; the piece converter scans
 //! the bytes of the record in hand followed by the new piece.

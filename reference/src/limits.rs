@@ -1,4 +1,4 @@
-//! The limits of document 01.
+//! The limits of the rules.
 
 /// The most bytes in a file, read or written.
 pub const FILE_BYTES: usize = 16_777_215;

@@ -1,6 +1,6 @@
 //! Reports, and how they are told to a person.
 
-/// The faults and refusals; the discriminants are document 01's numbers.
+/// The faults and refusals; the discriminants are the rules' numbers.
 #[derive(Clone, Copy, Debug, PartialEq, Eq)]
 pub enum Fault {
     /// The file ends before any record begins.

@@ -40,7 +40,7 @@ impl Output {
         Ok(())
     }
 
-    /// Fault 9 by cells and names, in document 01's order.
+    /// Fault 9 by cells and names, in the rules' order.
     fn carried(&self, part: Part, cells: &[Cell]) -> Result<(), Refusal> {
         let target = self.target;
         let header = part == Part::Header;

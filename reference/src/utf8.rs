@@ -1,4 +1,4 @@
-//! UTF-8: document 01's table, and the widened form that content has.
+//! UTF-8: the rules' table, and the widened form that content has.
 
 use std::ops::RangeInclusive;
 

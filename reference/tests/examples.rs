@@ -1,4 +1,4 @@
-//! The sixteen rows of document 01's table of examples.
+//! The sixteen examples of the rules.
 
 use reference::{convert, read, Report};
 

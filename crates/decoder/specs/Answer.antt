@@ -1,4 +1,4 @@
--- What the decoder's answer stands for: document 01's report, the number of the kind and the length of the content.
+-- What the decoder's answer stands for: a report, the number of the kind and the length of the content.
 use Prim.Native.Nat.{ℕ}
 use lib.ListN.{length}
 use Rattle.model.specs.declared.Report.{Report}
@@ -16,7 +16,8 @@ pub record Shown : Type 0 where
   pub kind : ℕ
   pub length : ℕ
 
--- "either the content's length and kind or a refusal", whose length and kind are 0
+-- what each case of the decoder's enum stands for: the content's length and kind, or a refusal, whose length and kind are 0 (§9.2 §11.1
+-- §19.7)
 abbrev pub answerOf : Decoded → Shown
 answerOf (Content n k) = record { report = accepted; kind = kindNumber k; length = n }
 answerOf (Refused e) = record { report = e; kind = 0; length = 0 }

@@ -144,7 +144,7 @@ fault-number (types.Clash c) = omega arith
 fault-number types.TextTooLong = omega arith
 fault-number types.OutputTooLong = omega arith
 
--- "acceptance has number, column and offset 0"
+-- acceptance is four zeros
 pub accepted-going : (p : Progress) → reportOf p ≡ accepted → (r : Read) × (p ≡ going r)
 accepted-going (going r) e = (r, refl)
 accepted-going (stopped x r) e =

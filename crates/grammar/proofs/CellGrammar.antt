@@ -20,7 +20,7 @@ derived-spells Csvj c v = csvj.value-spells v
 derived-spells Tdif c v = tdif.field-spells v
 derived-spells (CsvPlus s) c v = plus.field-spells s v
 
--- "A derivation gives each cell's kind and content", and they are the decoder's
+-- a derivation gives each cell's kind and content, and they are the decoder's
 pub derived-content : (d : Dialect) (c : Derived) → DerivesCell d c → c ≡ decoded d (rawOf c)
 derived-content Csvj c v = csvj.value-content v
 derived-content Tdif c v = tdif.field-content v

@@ -1,4 +1,4 @@
--- A text of UTF-8 by document 01's table is exactly UTF8-octets of RFC 3629.
+-- A text of UTF-8 by the rules' table is exactly UTF8-octets of RFC 3629.
 use Prim.Native.Nat.{ℕ}
 use native.Mathlib.Omega.{arith}
 use mathlib.Core.Path.{_≡_, refl, _∙_}

@@ -27,7 +27,7 @@ use Rattle.grammar.specs.Mistakes.{Mistakes}
 use Rattle.grammar.proofs.Acceptance.{acceptance, accepted-records, reader-acceptance}
 use Rattle.grammar.proofs.Refused.{refused}
 
--- a text of document 01's table is UTF8-octets of RFC 3629
+-- a text by the rules' table is UTF8-octets of RFC 3629
 pub texts : (bs : Bytes) → UTF8-octets bs ↔ (textFrom Whole bs ≡ true)
 texts = text-exact
 

@@ -1,4 +1,4 @@
--- What the reader asks of a file beside its form, in grammar words: the limits and the record checks of document 01 over a derivation's
+-- What the reader asks of a file beside its form, in grammar words: the limits and the record checks of the rules over a derivation's
 -- records; and what it is for the reader's records to be these.
 use Prim.Native.Nat.{ℕ, _+_, _≤_}
 use mathlib.Core.Path.{_≡_}
@@ -13,28 +13,26 @@ use Rattle.model.specs.Records.{Rec, nameKey}
 use Rattle.grammar.specs.Derived.{Derived, rawOf, kindIn, contentIn, Line, line, textIn, cellsIn, Every, Each}
 use Rattle.grammar.specs.Derives.{Derives}
 
--- "Limits: 16,777,215 bytes a file, 64 columns, 4,096 bytes a record. CR and LF outside quotes, comments and the mark aren't counted in
--- a record"
+-- the limits: of the file's bytes, of each record's counted bytes, which are its text, and of its columns (§7.1 §7.2 §7.3 §7.4)
 pub record WithinLimits (xs : Bytes) (ls : List (Line Derived)) : Type 0 where
   pub file : length xs ≤ MAXFILE
   pub records : Every (λ l. length (textIn l) ≤ MAXRECORD) ls
   pub columns : Every (λ l. length (cellsIn l) ≤ MAXCOLUMNS) ls
 
--- no two names are the same. CSVJ, CSV+: "distinct by content". TDIF: "distinct without regard to case, that is with A to Z taken as a to
--- z"
+-- no two names are the same, by the dialect's rule (§3.11 §4.10 §5.10)
 pub data Distinct (d : Dialect) : List Derived → Type 0 where
   no-names : Distinct d []
   a-name :
       {c : Derived} {cs : List Derived} → Every (λ x. nameKey d (contentIn x) ≢ nameKey d (contentIn c)) cs → Distinct d cs →
       Distinct d (c ∷ cs)
 
--- "Header cells are text, distinct"; "every data record has the header's number of cells"
+-- header cells are text, distinct; every data record has as many cells as the header (§2.2 §3.10 §4.9)
 pub data ChecksHold (d : Dialect) : List (Line Derived) → Type 0 where
   checks-hold :
       {text : Bytes} {cells : List Derived} {ls : List (Line Derived)} → Every (λ c. kindIn c ≡ Text) cells → Distinct d cells →
       Every (λ l. length (cellsIn l) ≡ length cells) ls → ChecksHold d (line text cells ∷ ls)
 
--- derived with these records, within the limits and sound
+-- derived with these records, within the limits and sound: what the rules accept (§2.1 §19.2)
 pub record Acceptable (d : Dialect) (xs : Bytes) (ls : List (Line Derived)) : Type 0 where
   pub derived : Derives d xs ls
   pub limits : WithinLimits xs ls

@@ -1,6 +1,6 @@
--- The ABNF of RFC 4180, as source document 003 prints it, production by production in its order, with document 01's departures and with a
--- delimiter and a quote that are set. Its CR and LF are those of Rfc5234. By form alone: equal counts and distinct names are left to
--- faults 5 and 6.
+-- The ABNF of RFC 4180, as source document 003 prints it, production by production in its order, with the rules' departures (§1.6) and
+-- with a delimiter and a quote that are set (§5.12). Its CR and LF are those of Rfc5234. By form alone: equal counts and distinct names
+-- are left to faults 5 and 6.
 use Prim.Native.Nat.{ℕ}
 use mathlib.Core.Logic.{_≢_}
 use mathlib.Core.List.{List, [], _∷_, _++_}
@@ -19,14 +19,14 @@ pub data BeginsWithMark : Bytes → Type 0 where
 
 module _ (s : Settings) where
   mutual
-    -- file = [header CRLF] record *(CRLF record) [CRLF]. Document 01 departs: "A file is a header record and then data records", so the
-    -- header stands and the records may be none; and "EF BB BF at offset 0 is fault 3 at offset 2"
+    -- file = [header CRLF] record *(CRLF record) [CRLF]. The rules depart: the header stands and the records may be none (§2.1),
+    -- and the file does not begin with the mark (§5.9)
     pub data File : Bytes → List (Line Derived) → Type 0 where
       file : {xs : Bytes} {ls : List (Line Derived)} → ¬ BeginsWithMark xs → Table xs ls → File xs ls
 
-    -- header [CRLF [record *(CRLF record) [CRLF]]]. Where this could be read as a last empty record or as none, document 01 says: "the
-    -- last ending may be missing", "The end directly after a record's ending starts no record", and of no bytes "the file ends before any
-    -- record begins". So a record with no ending is not empty
+    -- header [CRLF [record *(CRLF record) [CRLF]]]. Where this could be read as a last empty record or as none, the rules have none:
+    -- the last ending may be missing, but the end directly after an ending starts no record (§5.1 §5.2), and a file of no bytes has none
+    -- (§6.1). So a record with no ending is not empty
     pub data Table : Bytes → List (Line Derived) → Type 0 where
       header-unended : {b : ℕ} {text : Bytes} {cells : List Derived} → Header (b ∷ text) cells → Table (b ∷ text) (line (b ∷ text) cells ∷ [])
       header-alone : {text es : Bytes} {cells : List Derived} → Header text cells → CRLF es → Table (text ++ es) (line text cells ∷ [])
@@ -49,7 +49,7 @@ module _ (s : Settings) where
           {raw content text : Bytes} {kind : types.Kind} {b : ℕ} {cells : List Derived} → Name (cell raw kind content) → COMMA b →
           Header text cells → Header (raw ++ (b ∷ text)) (cell raw kind content ∷ cells)
 
-    -- record = field *(COMMA field). Document 01: "An empty line is a record of one empty cell"
+    -- record = field *(COMMA field). An empty line is one empty field (§5.6)
     pub data Record : Bytes → List Derived → Type 0 where
       field : {raw content : Bytes} {kind : types.Kind} → Field (cell raw kind content) → Record raw (cell raw kind content ∷ [])
       fields :
@@ -60,7 +60,7 @@ module _ (s : Settings) where
     pub data Name : Derived → Type 0 where
       name : {c : Derived} → Field c → Name c
 
-    -- field = (escaped / non-escaped). Document 01: "Spaces belong to the cell; a space beside a quoted cell is a fault"
+    -- field = (escaped / non-escaped). Spaces belong to the field, and none stands beside an escaped one (§5.8)
     pub data Field : Derived → Type 0 where
       an-escaped : {bs ts : Bytes} → Escaped bs ts → Field (cell bs types.Text ts)
       a-non-escaped : {bs : Bytes} → Non-escaped bs → Field (cell bs types.Text bs)
@@ -69,7 +69,7 @@ module _ (s : Settings) where
     pub data Escaped : (raw content : Bytes) → Type 0 where
       escaped : {q r : ℕ} {bs ts : Bytes} → DQUOTE q → Inner bs ts → DQUOTE r → Escaped (q ∷ (bs ++ (r ∷ []))) ts
 
-    -- *(TEXTDATA / COMMA / CR / LF / 2DQUOTE), and what it stands for: "quotes doubled"
+    -- *(TEXTDATA / COMMA / CR / LF / 2DQUOTE), and what it stands for: two quotes for one (§5.4)
     pub data Inner : (raw content : Bytes) → Type 0 where
       nothing : Inner [] []
       inner-textdata : {cs bs ts : Bytes} → TEXTDATA cs → Inner bs ts → Inner (cs ++ bs) (cs ++ ts)
@@ -95,12 +95,13 @@ module _ (s : Settings) where
 
     -- LF = %x0A
 
-    -- CRLF = CR LF. Document 01 departs: "A record ends in LF or CRLF"
+    -- CRLF = CR LF. The rules depart, and hold against it: LF alone ends a record too (§1.6 §5.1)
     pub data CRLF : Bytes → Type 0 where
       lf : CRLF (LF ∷ [])
       crlf : CRLF core.CRLF
 
-    -- TEXTDATA = %x20-21 / %x23-2B / %x2D-7E. Document 01 departs: "any UTF-8 without quote, comma, CR, LF"
+    -- TEXTDATA = %x20-21 / %x23-2B / %x2D-7E. The rules depart: any UTF-8 but the quote, the delimiter, CR and LF
+    -- (§5.5)
     pub data TEXTDATA : Bytes → Type 0 where
       ascii :
           {b : ℕ} → b from 0x00 to 0x7F → b ≢ quoteByte (s .quote) → b ≢ delimiterByte (s .delimiter) → b ≢ CR → b ≢ LF →

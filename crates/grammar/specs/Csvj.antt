@@ -1,6 +1,6 @@
 -- The grammar of the CSVJ page (source document 000), production by production in its order, with the values of RFC 8259. Its LF and
--- CRLF are those of Rfc5234. By form alone: the page leaves equal counts and distinct names to its rules 3 and 4, and document 01 to
--- faults 5 and 6; that header values are strings is left to fault 7.
+-- CRLF are those of Rfc5234. By form alone: the page leaves equal counts and distinct names to its rules 3 and 4, and these rules
+-- to faults 5 and 6; that header values are strings is left to fault 7 (§6.3).
 use mathlib.Core.List.{List, [], _∷_, _++_}
 use Rattle.grammar.specs.Types as types
 use Rattle.model.specs.Base.{Bytes}
@@ -11,7 +11,7 @@ use Rattle.grammar.specs.Derived as derived
 
 mutual
   -- The file, with or without a mark. The page says so beside its ABNF: a parser "may ignore one if present at the start of input";
-  -- document 01: "EF BB BF at offset 0 is skipped"
+  -- here it is passed over (§3.8)
   pub data File : Bytes → List (derived.Line Derived) → Type 0 where
     unmarked : {xs : Bytes} {ls : List (derived.Line Derived)} → Csvj-file xs ls → File xs ls
     marked : {xs : Bytes} {ls : List (derived.Line Derived)} → Csvj-file xs ls → File (0xEF ∷ 0xBB ∷ 0xBF ∷ xs) ls
@@ -67,7 +67,7 @@ mutual
 
   -- CRLF = %x0D.0A
 
-  -- value = false / null / true / number / string; a number's content is "its spelling"
+  -- value = false / null / true / number / string; a number's content is its spelling (§2.4)
   pub data Value : Derived → Type 0 where
     a-false : {bs : Bytes} → json.False bs → Value (cell bs types.False [])
     a-null : {bs : Bytes} → json.Null bs → Value (cell bs types.Null [])

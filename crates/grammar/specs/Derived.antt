@@ -3,7 +3,7 @@ use mathlib.Core.List.{List, [], _∷_, map}
 use Rattle.grammar.specs.Types.{Kind}
 use Rattle.model.specs.Base.{Bytes}
 
--- a cell: "a stretch is the raw spelling with its quotes", and its kind and content
+-- a cell: its raw spelling, with its quotes, and its kind and content (§2.3 §10.3)
 pub data Derived : Type 0 where
   cell : (raw : Bytes) (kind : Kind) (content : Bytes) → Derived
 

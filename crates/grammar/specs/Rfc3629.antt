@@ -54,8 +54,7 @@ pub data UTF8-data : Bytes → Type 0 where
 -- 0000 0080-0000 07FF | 110xxxxx 10xxxxxx
 -- 0000 0800-0000 FFFF | 1110xxxx 10xxxxxx 10xxxxxx
 -- 0001 0000-0010 FFFF | 11110xxx 10xxxxxx 10xxxxxx 10xxxxxx
--- The third row departs from RFC 3629 in holding D800-DFFF too. Document 01: "a lone surrogate, which only a CSVJ escape can make, is
--- held in the three-byte pattern (ED, A0 to BF, 80 to BF)"
+-- The third row departs from RFC 3629 in holding D800-DFFF too, for lone surrogates (§2.6 §2.10)
 pub data Octets (u : ℕ) : Bytes → Type 0 where
   one-octet : u from 0x0000 to 0x007F → Octets u (u ∷ [])
   two-octets : (w x : ℕ) → u from 0x0080 to 0x07FF → u ≡ w * 0x40 + x → x ≤ 0x3F → Octets u ((0xC0 + w) ∷ (0x80 + x) ∷ [])

@@ -18,8 +18,7 @@ pub data Pair : ℕ → List Item → Type 0 where
   halves : {h l : ℕ} {us : List Item} → h from 0xD800 to 0xDBFF → l from 0xDC00 to 0xDFFF → Pair h (unit l ∷ us)
 
 -- the chars of a string. "To escape an extended character that is not in the Basic Multilingual Plane, the character is represented as
--- a 12-character sequence, encoding the UTF-16 surrogate pair"; document 01: "A high surrogate escape directly followed by a low one is
--- one code point"
+-- a 12-character sequence, encoding the UTF-16 surrogate pair". A surrogate that is not so paired is a lone one (§2.7 §2.8)
 pub data Content : List Item → Bytes → Type 0 where
   nothing : Content [] []
   as-they-stand : {cs ts : Bytes} {us : List Item} → Content us ts → Content (octets cs ∷ us) (cs ++ ts)
@@ -147,8 +146,7 @@ mutual
   pub data Quotation-mark : ℕ → Type 0 where
     a-quotation-mark : Quotation-mark 0x22
 
-  -- unescaped = %x20-21 / %x23-5B / %x5D-10FFFF, in UTF-8, which has no octets for D800-DFFF. Document 01: "UTF-8 text in a file obeys
-  -- this table of first and second bytes"
+  -- unescaped = %x20-21 / %x23-5B / %x5D-10FFFF, in UTF-8, which has no octets for D800-DFFF (§1.5 §2.11)
   pub data Unescaped : Bytes → Type 0 where
     below-quote : {b : ℕ} → b from 0x20 to 0x21 → Unescaped (b ∷ [])
     below-backslash : {b : ℕ} → b from 0x23 to 0x5B → Unescaped (b ∷ [])

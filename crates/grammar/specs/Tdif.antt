@@ -20,8 +20,8 @@ mutual
     a-comment : {cs xs : Bytes} {ls : List (Line Derived)} → Comment cs → Lines xs ls → Lines (cs ++ xs) ls
     a-record : {bs xs : Bytes} {l : Line Derived} {ls : List (Line Derived)} → Record bs l → Lines xs ls → Lines (bs ++ xs) (l ∷ ls)
 
-  -- header = value *(comma value) linebreak. Document 01 departs, and a header is a record: "by form alone: counts, names, kinds (`\N`
-  -- in a TDIF header) and limits are left to 5 to 8"
+  -- header = value *(comma value) linebreak. The rules depart: a header is a record by form, and `\N` in it is left to fault 7
+  -- (§4.8 §6.3)
   pub data Header : Bytes → Line Derived → Type 0 where
     header : {bs : Bytes} {l : Line Derived} → Record bs l → Header bs l
 
@@ -45,7 +45,7 @@ mutual
   pub data Value : (raw content : Bytes) → Type 0 where
     value : {bs ts : Bytes} → Inner bs ts → Value (DQUOTE ∷ (bs ++ (DQUOTE ∷ []))) ts
 
-  -- *(textdata / 2DQUOTE), and what it stands for: "a quote inside doubled"
+  -- *(textdata / 2DQUOTE), and what it stands for: two quotes for one (§4.4)
   pub data Inner : (raw content : Bytes) → Type 0 where
     nothing : Inner [] []
     textdata : {cs bs ts : Bytes} → Textdata cs → Inner bs ts → Inner (cs ++ bs) (cs ++ ts)

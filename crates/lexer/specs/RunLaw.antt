@@ -44,8 +44,8 @@ runAt d (in-comment Whole) bs = commentRun bs
 runAt d (in-comment (Within i)) bs = 0
 runAt d elsewhere bs = 0
 
--- what has been read after the run xs. In a cell its bytes are the cell's; "comments [..] aren't counted in a record", and no
--- record is in hand there
+-- what has been read after the run xs. In a cell its bytes are the cell's; those of a comment are not counted, and no
+-- record is in hand there (§7.4)
 unfoldable pub ranAt : Place → Read → Bytes → Read
 ranAt (in-cell c) r xs =
     record { done = r .done; form = r .form; offset = r .offset + length xs; start = r .start; size = r .size + length xs; opened = r .opened; raw = r .raw ++ xs; cells = r .cells }

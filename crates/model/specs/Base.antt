@@ -5,77 +5,78 @@ use mathlib.Core.List.{List, [], _∷_, _++_}
 use lib.ListN.{length, drop}
 use lib.Dec.{leb, eqb}
 
--- a choice by a test, for every rule that asks something of a byte, a count or a kind
+-- helper: a choice by a test
 infixr 5 if_then_else_
 unfoldable pub if_then_else_ {ℓ} : {A : Type ℓ} → Bool → A → A → A
 if_then_else_ true a b = a
 if_then_else_ false a b = b
 
--- a file, a raw cell, content or a written text, as document 01 speaks of their "bytes": each is a number
+-- the bytes of a file, of a raw cell, of content or of a written text, each a number (§2.1 §2.4 §14.1)
 abbrev pub Bytes : Type 0
 Bytes = List ℕ
 
--- the same number: this byte is the one that a rule names
+-- helper: the same number, by which a rule names a byte, a count or a kind
 infix 50 _is_
 abbrev pub _is_ : ℕ → ℕ → Bool
 _is_ = eqb
 
--- a range as document 01 prints one, such as "80 to BF": lo ≤ b ≤ hi
+-- a range with both its ends, as rules give one: lo ≤ b ≤ hi (§2.11)
 abbrev pub within : ℕ → ℕ → ℕ → Bool
 within lo hi b = leb lo b && leb b hi
 
--- the LF of "A record ends in LF or CRLF"
+-- the line feed, which ends a record in every dialect (§3.1 §4.1 §5.1)
 abbrev pub LF : ℕ
 LF = 0x0A
 
--- the CR of "A record ends in LF, CR or CRLF"
+-- the carriage return, which ends a TDIF record and elsewhere stands before the LF of an ending (§3.1 §4.1 §5.1 §5.7)
 abbrev pub CR : ℕ
 CR = 0x0D
 
--- the comma of "a comma list"
+-- the comma, which stands between two cells (§3.3 §4.5 §5.3)
 abbrev pub COMMA : ℕ
 COMMA = 0x2C
 
--- the quote of "A cell is \N or quoted, a quote inside doubled", and of a "JSON string"
+-- the quote that a quoted cell and a string begin and end with (§3.6 §4.3 §5.4)
 abbrev pub QUOTE : ℕ
 QUOTE = 0x22
 
--- the backslash of "\N" and of an "escape"
+-- the backslash, which begins an escape of CSVJ and TDIF's null (§3.6 §4.3)
 abbrev pub BACKSLASH : ℕ
 BACKSLASH = 0x5C
 
--- equal, byte for byte: the comparison of "distinct by content"
+-- equal, byte for byte: how names are compared (§3.11 §4.10 §5.10)
 unfoldable pub same : Bytes → Bytes → Bool
 same [] [] = true
 same [] (b ∷ bs) = false
 same (a ∷ s) [] = false
 same (a ∷ s) (b ∷ bs) = eqb a b && same s bs
 
--- some byte passes the test, as in "the content holds quote, comma, CR or LF"
+-- some byte passes the test, as where CSV+ asks for quotes (§14.7)
 unfoldable pub holds : (ℕ → Bool) → Bytes → Bool
 holds p [] = false
 holds p (b ∷ bs) = p b || holds p bs
 
--- the first byte is b, by which a raw cell shows its kind
+-- the first byte is b, which tells the kind of a whole raw cell (§3.4 §4.3)
 abbrev pub begins : ℕ → Bytes → Bool
 begins b [] = false
 begins b (a ∷ bs) = a is b
 
--- nothing is in it: content that "is empty", "a header with no cells"
+-- nothing is in it: a header with no cells, an empty stretch, empty content (§8.2 §13.5 §14.7)
 abbrev pub isEmpty {ℓ} : {A : Type ℓ} → List A → Bool
 isEmpty [] = true
 isEmpty (x ∷ xs) = false
 
--- lists one after another: the "cells (the header's too)" of all records, in file order
+-- lists one after another: the cells of all records, in file order (§10.2)
 unfoldable pub concat {ℓ} : {A : Type ℓ} → List (List A) → List A
 concat [] = []
 concat (x ∷ xs) = x ++ concat xs
 
--- what a lent list holds once `new` is written at its beginning; "every place past the reported count" is left as it was
+-- what a lent list or buffer holds once `new` is written at its beginning: what is past it, and on refusal all of it, is as
+-- it was (§9.3 §9.4)
 abbrev pub over : (new old : List ℕ) → List ℕ
 over new old = new ++ drop (length new) old
 
--- `unfolding base-computes` opens every definition of this module
+-- helper: `unfolding base-computes` opens every definition of this module
 unfoldable pub base-computes : Type 0
 unfolding if_then_else_ same holds concat
 base-computes = Unit {0}

@@ -11,38 +11,38 @@ use Rattle.model.specs.Base.{if_then_else_, _is_, within, LF, CR, QUOTE,
 use Rattle.model.specs.Dialect.{quoteOf, delimiterOf}
 use Rattle.model.specs.Utf8.{charStep}
 
--- a byte of text: "a byte breaks the UTF-8 table" is fault 2
+-- a byte of text, which is fault 2 where it breaks the table (§6.2)
 abbrev pub textByte : (Char → Cell) → Advance → Added
 textByte f Broken = Refuse Encoding
 textByte f (On c) = More (f c)
 
 -- ---- values of RFC 8259 in CSVJ, and \N of TDIF
 
--- a digit of a JSON "number", or of an escape: DIGIT of RFC 8259
+-- a decimal digit, of a number or of an escape (§3.5 §3.6)
 abbrev pub isDigit : ℕ → Bool
 isDigit b = within 0x30 0x39 b
 
--- one of the "escape digits": HEXDIG of RFC 8259, which has both cases
+-- a hexadecimal digit of an escape, of either case (§3.6)
 abbrev pub isHex : ℕ → Bool
 isHex b = isDigit b || within 0x41 0x46 b || within 0x61 0x66 b
 
--- the escapes of one letter in RFC 8259: quote, \ / b f n r t
+-- the byte after the backslash of an escape without digits (§3.6)
 abbrev pub isShort : ℕ → Bool
 isShort b =
     b is QUOTE || b is BACKSLASH || b is 0x2F || b is 0x62 || b is 0x66 || b is 0x6E || b is 0x72 || b is 0x74
 
--- e of RFC 8259, which begins the exponent of a JSON "number"
+-- the letter that begins a number's exponent (§3.5)
 abbrev isE : ℕ → Bool
 isE b = b is 0x65 || b is 0x45
 
--- the four "escape digits" of \u are counted down, and then the string goes on
+-- the digits of a \u escape are counted down from four, and then the string goes on (§3.6)
 abbrev pub afterHex : HexLeft → Cell
 afterHex Four = Hex Three
 afterHex Three = Hex Two
 afterHex Two = Hex One
 afterHex One = Quoted Whole
 
--- a JSON "number", by RFC 8259: number = [ minus ] int [ frac ] [ exp ]
+-- the next byte of a number (§3.5)
 unfoldable pub numeralStep : Numeral → ℕ → Added
 numeralStep Minus b =
     if b is 0x30 then More (InNumber Zero) else if isDigit b then More (InNumber Integer) else Refuse Syntax
@@ -61,7 +61,7 @@ numeralStep E b =
 numeralStep ESign b = if isDigit b then More (InNumber Exponent) else Refuse Syntax
 numeralStep Exponent b = if isDigit b then More (InNumber Exponent) else Stop
 
--- the letter that goes on with a word: "true, false, null", and \N of "A cell is \N or quoted"
+-- the letter that goes on with a word: true, false, null, and the N of TDIF's null (§3.4 §4.3)
 abbrev pub letterOf : Word → ℕ
 letterOf T = 0x72
 letterOf Tr = 0x75
@@ -75,7 +75,7 @@ letterOf Nu = 0x6C
 letterOf Nul = 0x6C
 letterOf Backslash = 0x4E
 
--- what has been read of the word after that letter; its last letter completes the cell
+-- what has been read of the word after that letter; its last letter completes the cell (§3.4 §4.3)
 abbrev pub afterLetter : Word → Cell
 afterLetter T = InWord Tr
 afterLetter Tr = InWord Tru
@@ -91,8 +91,9 @@ afterLetter Backslash = Complete
 
 -- ---- cells
 
--- the first byte. CSVJ: "JSON string, number, true, false, null". TDIF: "A cell is \N or quoted". CSV+: "A cell is quoted [..]
--- or plain (any UTF-8 without quote, comma, CR, LF, possibly empty)"
+-- the first byte of a cell. CSVJ: of a string, a number or a word. TDIF: of a quoted cell or of null. CSV+: of a quoted cell
+-- or a plain one, which is empty if the byte is a delimiter, CR or LF; only a plain cell's first byte can be fault 2 (§3.4
+-- §4.3 §5.3 §5.5 §6.22)
 unfoldable pub firstByte : Dialect → ℕ → Added
 firstByte Csvj b =
     if b is QUOTE then More (Quoted Whole)
@@ -112,8 +113,8 @@ firstByte (CsvPlus s) b =
     else if b is delimiterOf (CsvPlus s) || b is CR || b is LF then Stop
     else textByte Plain (charStep Whole b)
 
--- between the quotes, at a character's start. CSVJ: "Raw bytes below 20 hex are refused in strings". TDIF: "a quote inside
--- doubled, any UTF-8 inside, line breaks too". CSV+: "quotes doubled, any UTF-8 inside"
+-- a byte between the quotes, at a character's start. CSVJ has escapes and refuses bytes below 20; in TDIF and CSV+ a quote
+-- may be the first of two, and every other byte is text (§3.6 §3.7 §4.4 §5.4 §6.22)
 unfoldable pub quotedByte : Dialect → ℕ → Added
 quotedByte Csvj b =
     if b is QUOTE then More Complete
@@ -123,15 +124,16 @@ quotedByte Csvj b =
 quotedByte Tdif b = if b is QUOTE then More Closed else textByte Quoted (charStep Whole b)
 quotedByte (CsvPlus s) b = if b is quoteOf (CsvPlus s) then More Closed else textByte Quoted (charStep Whole b)
 
--- in a plain cell of CSV+, at a character's start after the first: "any UTF-8 without quote, comma, CR, LF"
+-- a byte of a plain CSV+ cell, at a character's start after the first: a quote has no place in it, also not after a space
+-- (§5.5 §5.8)
 unfoldable pub plainByte : Dialect → ℕ → Added
 plainByte d b =
     if b is quoteOf d then Refuse Syntax
     else if b is delimiterOf d || b is CR || b is LF then Stop
     else textByte Plain (charStep Whole b)
 
--- the next byte of a cell: it belongs to the cell, or the cell has ended before it, or it is fault 2 or 3. Fault 2 is for a
--- byte of text "but not inside an escape"
+-- the next byte of a cell: it belongs to the cell, or the cell has ended before it, or it is fault 2 or 3. Where a character
+-- has to go on a byte that breaks the table is 2, inside an escape every wrong byte is 3 (§6.2 §6.3 §6.21 §6.23)
 unfoldable pub cellStep : Dialect → Cell → ℕ → Added
 cellStep d Fresh b = firstByte d b
 cellStep d (Quoted Whole) b = quotedByte d b
@@ -148,18 +150,18 @@ cellStep d Complete b = Stop
 
 -- ---- what has been read is a whole cell
 
--- no character is unfinished; where "the file ends inside a [..] character" is fault 4
+-- no character is unfinished; inside one, the end is fault 4 (§6.4 §11.4)
 abbrev pub betweenCharacters : Char → Bool
 betweenCharacters Whole = true
 betweenCharacters (Within i) = false
 
--- CSV+: "possibly empty". CSVJ, TDIF: fault 4 for "an empty raw cell in CSVJ and TDIF"
+-- a cell may have no bytes: in CSV+ alone (§5.5 §11.5)
 abbrev pub mayBeEmpty : Dialect → Bool
 mayBeEmpty Csvj = false
 mayBeEmpty Tdif = false
 mayBeEmpty (CsvPlus s) = true
 
--- a JSON "number" may end here; elsewhere it is "A cell that ends inside a number"
+-- a number may end here (§3.5 §11.4)
 abbrev pub isNumeral : Numeral → Bool
 isNumeral Minus = false
 isNumeral Zero = true
@@ -170,8 +172,8 @@ isNumeral E = false
 isNumeral ESign = false
 isNumeral Exponent = true
 
--- the cell may end here. It may not inside quotes or a character, nor where "A cell that ends inside a number, word, escape or
--- `\N` is 4, and so is an empty raw cell in CSVJ and TDIF"
+-- a cell may end here: not inside quotes, a character, a number, a word, an escape or TDIF's null, and not before its first
+-- byte unless it may be empty (§5.11 §11.4 §11.5)
 unfoldable pub isWhole : Dialect → Cell → Bool
 isWhole d Fresh = mayBeEmpty d
 isWhole d (Quoted c) = false
@@ -185,7 +187,7 @@ isWhole d Complete = true
 
 -- ---- the next byte stands inside quotes
 
--- the next byte is inside quotes, where CR and LF count; "outside quotes" they don't
+-- the next byte stands inside quotes, where CR and LF are counted in a record (§7.4)
 unfoldable pub inQuotes : Cell → Bool
 inQuotes Fresh = false
 inQuotes (Quoted c) = true
@@ -197,7 +199,7 @@ inQuotes (InWord w) = false
 inQuotes (Plain c) = false
 inQuotes Complete = false
 
--- `unfolding cell-computes` opens every definition of this module
+-- helper: `unfolding cell-computes` opens every definition of this module
 unfoldable pub cell-computes : Type 0
 unfolding numeralStep firstByte quotedByte plainByte cellStep isWhole inQuotes
 cell-computes = Unit {0}

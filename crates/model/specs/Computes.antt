@@ -12,7 +12,7 @@ use Rattle.model.specs.Api.{api-computes}
 use Rattle.model.specs.Ledger.{ledger-computes}
 use Rattle.model.specs.Ascii.{ascii}
 
--- the openers of all modules: with them "Sixteen rows for the table of examples" are proved by computing
+-- helper: the openers of all modules, with which the examples are proved by computing
 unfoldable pub computes : Type 0
 unfolding base-computes dialect-computes utf8-computes cell-computes form-computes decode-computes text-computes report-computes records-computes api-computes ledger-computes ascii
 computes = Unit {0}

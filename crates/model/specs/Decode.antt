@@ -12,7 +12,7 @@ use Rattle.model.specs.Cell.{cellStep, isWhole, isDigit}
 
 -- ---- kinds
 
--- "kind (1 text, 2 number, 3 true, 4 false, 5 null)"
+-- the number of a kind (§2.3)
 abbrev pub kindNumber : Kind → ℕ
 kindNumber Text = 1
 kindNumber Number = 2
@@ -20,7 +20,7 @@ kindNumber True = 3
 kindNumber False = 4
 kindNumber Null = 5
 
--- the kind of a whole cell, by its first byte. "Dialect 2 has text and null; dialect 3 text only"
+-- the kind of a whole cell, by its first byte (§2.5 §3.4 §4.3)
 unfoldable pub kindOf : Dialect → Bytes → Kind
 kindOf Csvj bs =
     if begins QUOTE bs then Text
@@ -33,8 +33,8 @@ kindOf (CsvPlus s) bs = Text
 
 -- ---- text with quotes doubled
 
--- "a quote inside doubled": what follows the opening quote, up to the closing one, a doubled quote taken once. `seen`: the
--- byte before was a quote, which ends the cell unless another follows
+-- what follows the opening quote, up to the closing one, with each doubled quote taken once. `seen`: the byte before was a
+-- quote, which ends the cell unless another follows (§4.4 §5.4)
 unfoldable pub undouble : (q : ℕ) (seen : Bool) → Bytes → Bytes
 undouble q seen [] = []
 undouble q false (b ∷ bs) = if b is q then undouble q true bs else b ∷ undouble q false bs
@@ -42,16 +42,17 @@ undouble q true (b ∷ bs) = if b is q then b ∷ undouble q false bs else []
 
 -- ---- strings of CSVJ
 
--- what a "JSON string" is made of: a byte as it stands, or a code unit that a \u escape names
+-- what a string is made of: bytes as they stand or as an escape of one letter gives them, and code units that \u escapes
+-- name (§2.7 §3.6)
 pub data Unit16 : Type 0 where
   byte : ℕ → Unit16
   unit : ℕ → Unit16
 
--- the value of one of the "escape digits"
+-- the value of a hexadecimal digit (§3.6)
 abbrev pub hexOf : ℕ → ℕ
 hexOf b = if leb b 0x39 then b - 0x30 else if leb b 0x46 then b - 0x37 else b - 0x57
 
--- what an escape of one letter stands for: "08 (b), 09 (t), 0A (n), 0C (f), 0D (r)", and quote, \ and / for themselves
+-- what an escape of one letter stands for (§3.6)
 abbrev pub shortOf : ℕ → ℕ
 shortOf b =
     if b is 0x62 then 0x08
@@ -61,13 +62,13 @@ shortOf b =
     else if b is 0x74 then 0x09
     else b
 
--- where a "JSON string" stands: between escapes, after a backslash, or in a \u escape with the value of its digits so far
+-- where a string stands: between escapes, after a backslash, or in a \u escape with the value of its digits so far (§3.6)
 pub data InString : Type 0 where
   between : InString
   escape : InString
   digits : HexLeft → (sofar : ℕ) → InString
 
--- what stands between the quotes of a "JSON string", up to the closing one
+-- what stands between the quotes of a string, up to the closing one (§3.6)
 unfoldable pub units : InString → Bytes → List Unit16
 units e [] = []
 units between (b ∷ bs) =
@@ -80,7 +81,8 @@ units (digits Three u) (b ∷ bs) = units (digits Two (u * 0x10 + hexOf b)) bs
 units (digits Two u) (b ∷ bs) = units (digits One (u * 0x10 + hexOf b)) bs
 units (digits One u) (b ∷ bs) = unit (u * 0x10 + hexOf b) ∷ units between bs
 
--- "A high surrogate escape directly followed by a low one is one code point"; a lone one keeps "the three-byte pattern"
+-- the content of a string: a high surrogate and directly after it a low one are one code point, any other surrogate is a
+-- lone one (§2.6 §2.7 §2.8)
 unfoldable pub textOf : List Unit16 → Bytes
 textOf [] = []
 textOf (byte b ∷ us) = b ∷ textOf us
@@ -91,7 +93,7 @@ textOf (unit h ∷ unit l ∷ us) =
 
 -- ---- content
 
--- "for text the decoded bytes, for a number its spelling, otherwise none"
+-- the content of a whole cell: decoded text, a number's spelling, and nothing for other kinds (§2.4)
 unfoldable pub contentOf : Dialect → Bytes → Bytes
 contentOf Csvj [] = []
 contentOf Csvj (b ∷ bs) =
@@ -106,8 +108,8 @@ contentOf (CsvPlus s) (b ∷ bs) =
 
 -- ---- whether raw bytes are a single cell
 
--- "2, 3, 4 as above with offsets from the cell's start [..] 3 for any other byte no single cell can go on with [..] A cell
--- that ends inside a number, word, escape or `\N` is 4, and so is an empty raw cell in CSVJ and TDIF"
+-- whether raw bytes, from here on, end a single cell: fault 2 or 3 at a byte, 3 also where the cell has ended before the
+-- byte, or 4 where the bytes end too early (§11.2 §11.3 §11.4 §11.5)
 unfoldable pub judgeFrom : Dialect → Cell → (offset : ℕ) → Bytes → Judged
 judgeFrom d c i [] = if isWhole d c then WholeCell else Unsound CutShort i
 judgeFrom d c i (b ∷ bs) =
@@ -117,11 +119,11 @@ judgeFrom d c i (b ∷ bs) =
       | Refuse e ↦ Unsound (Byte e) i
     ]
 
--- "the raw bytes of one cell", judged from its start. "There is no length limit and no mark rule here"
+-- whether raw bytes are a single cell, whatever their length and whatever they begin with (§11.1 §11.7)
 unfoldable pub judgeCell : Dialect → Bytes → Judged
 judgeCell d bs = judgeFrom d Fresh 0 bs
 
--- `unfolding decode-computes` opens every definition of this module
+-- helper: `unfolding decode-computes` opens every definition of this module
 unfoldable pub decode-computes : Type 0
 unfolding kindOf undouble units textOf contentOf judgeFrom judgeCell
 decode-computes = Unit {0}

@@ -11,12 +11,12 @@ use Rattle.model.specs.Dialect.{delimiterOf}
 use Rattle.model.specs.Utf8.{charStep}
 use Rattle.model.specs.Cell.{cellStep, isWhole, inQuotes}
 
--- "Space and tab may stand before, after and between values and commas"
+-- a space or a tab, which may stand around values and commas of CSVJ (§3.2)
 abbrev pub isBlank : ℕ → Bool
 isBlank b = b is 0x20 || b is 0x09
 
--- the byte after a cell that ends before it (`closes`), or after blanks that follow a cell of CSVJ.
--- CSVJ, CSV+: "A record ends in LF or CRLF". TDIF: "A record ends in LF, CR or CRLF"
+-- the byte after a cell that ends before it (`closes`), or after blanks that follow a cell of CSVJ: a delimiter or the
+-- record's ending, in CSVJ a blank, and nothing else (§3.1 §3.2 §3.3 §4.1 §4.5 §5.1 §5.3 §5.8 §6.23)
 unfoldable pub afterCell : Dialect → (closes : Bool) → ℕ → Step
 afterCell Csvj closes b =
     if isBlank b then To After (Between closes)
@@ -35,18 +35,20 @@ afterCell (CsvPlus s) closes b =
     else if b is CR then To Cr (Tail closes)
     else Reject Syntax
 
--- a byte in a cell, given what it does to the cell and what it is when the cell ends before it
+-- a byte in a cell, given what it does to the cell and what it is when the cell ends before it (§3.3 §4.5 §5.3)
 abbrev pub grow : Added → Step → Step
 grow (More c) s = To (Inside c) OfCell
 grow Stop s = s
 grow (Refuse e) s = Reject e
 
--- the next byte of a record that stands in a cell: the cell's own, or after it a delimiter or the record's "ending"
+-- the next byte of a record that stands in a cell: the cell's own, or after it a delimiter or the record's ending (§3.3 §4.5
+-- §5.3)
 unfoldable pub inCell : Dialect → Cell → ℕ → Step
 inCell d c b = grow (cellStep d c b) (afterCell d true b)
 
--- a record's first byte. CSVJ: "A record holds no values or a comma list". TDIF: "A line whose first byte is # is a comment",
--- "no empty line". CSV+: "An empty line is a record of one empty cell"
+-- a record's first byte. CSVJ: a blank begins a record too, and an ending at once is a record with no values. TDIF: # begins
+-- a comment, and an ending has no place here, so a record has a cell. CSV+: an ending at once follows one empty cell (§3.2
+-- §3.3 §3.12 §4.6 §4.7 §4.8 §5.6 §6.1)
 unfoldable pub beginRecord : Dialect → ℕ → Step
 beginRecord Csvj b =
     if isBlank b then To Blanks (Between false)
@@ -56,29 +58,31 @@ beginRecord Csvj b =
 beginRecord Tdif b = if b is 0x23 then To (Comment Whole) Outside else inCell Tdif Fresh b
 beginRecord (CsvPlus s) b = inCell (CsvPlus s) Fresh b
 
--- the file's first byte. CSVJ: "EF BB BF at offset 0 is skipped". CSV+: "EF BB BF at offset 0 is fault 3 at offset 2"
+-- the file's first byte, which may begin the mark: CSVJ passes over it, TDIF has none, CSV+ refuses it at its third byte
+-- (§3.8 §4.11 §5.9)
 unfoldable pub beginFile : Dialect → ℕ → Step
 beginFile Csvj b = if b is 0xEF then To Mark1 Outside else beginRecord Csvj b
 beginFile Tdif b = beginRecord Tdif b
 beginFile (CsvPlus s) b = if b is 0xEF then To PlainMark1 OfCell else beginRecord (CsvPlus s) b
 
--- a byte of a comment, fault 2 where it "breaks the UTF-8 table in [..] a comment"
+-- a byte of a comment, which is fault 2 where it breaks the table (§4.7 §6.2)
 abbrev pub commented : Advance → Step
 commented Broken = Reject Encoding
 commented (On c) = To (Comment c) Outside
 
--- the next byte of a file; fault 3 is one "after which no mark, comment or record can go on, by form alone"
+-- the next byte of a file: where the file stands then and what the byte is to its record, or fault 2 or 3 (§6.2 §6.3)
 unfoldable pub formStep : Dialect → Form → ℕ → Step
 formStep d Top b = beginFile d b
 formStep d Begin b = beginRecord d b
--- "an LF directly after a CR that ended a record or comment belongs to that ending"
+-- the LF of a CRLF whose CR ended a record or a comment; a second one would open an empty line (§4.2 §4.6)
 formStep d Ended b = if b is LF then To Begin Passed else beginRecord d b
--- "once EF is read there, the first byte that departs from the mark is fault 3"
+-- after EF at offset 0 the mark has to go on (§3.9); in CSV+ the third byte of a mark is the fault, and any other is a plain
+-- cell's (§5.9)
 formStep d Mark1 b = if b is 0xBB then To Mark2 Outside else Reject Syntax
 formStep d Mark2 b = if b is 0xBF then To Begin Passed else Reject Syntax
 formStep d PlainMark1 b = if b is 0xBB then To PlainMark2 OfCell else inCell d (Plain (Within (Second EeToEf))) b
 formStep d PlainMark2 b = if b is 0xBF then Reject Syntax else inCell d (Plain (Within Last)) b
--- "a comment up to its line break"
+-- a comment goes up to its line break (§4.7)
 formStep d (Comment Whole) b =
     if b is LF then To Begin Passed else if b is CR then To Ended Passed else commented (charStep Whole b)
 formStep d (Comment (Within i)) b = commented (charStep (Within i) b)
@@ -86,19 +90,19 @@ formStep d Blanks b = beginRecord d b
 formStep d Wanting b = if isBlank b then To Wanting (Between false) else inCell d Fresh b
 formStep d (Inside c) b = inCell d c b
 formStep d After b = afterCell d false b
--- "A CR outside quotes must be followed by LF"
+-- a CR outside quotes waits for its LF (§3.1 §5.7)
 formStep d Cr b = if b is LF then To Begin (Ends false) else Reject Syntax
 
 -- ---- the end of the file
 
--- CSV+: "the last ending may be missing"
+-- the end of the file in a cell: in CSV+ it completes the last record if the cell may end there (§5.1 §5.11 §6.4)
 abbrev pub lastCell : Dialect → Cell → Ending
 lastCell Csvj c = Cut
 lastCell Tdif c = Cut
 lastCell (CsvPlus s) c = if isWhole (CsvPlus s) c then Final else Cut
 
--- "The end directly after a record's ending starts no record"; fault 4: "the file ends inside a mark, comment, quoted cell,
--- character, or a record that needs its ending (CSV+: or after a CR outside quotes)"
+-- what the end of the file means where the file stands: between records nothing; else fault 4, or the end of a last CSV+
+-- record (§5.2 §6.4 §6.25)
 unfoldable pub formEnd : Dialect → Form → Ending
 formEnd d Top = Clean
 formEnd d Begin = Clean
@@ -116,7 +120,7 @@ formEnd d Cr = Cut
 
 -- ---- what counts in a record
 
--- the next byte of a file is inside quotes: a CR or LF there is none of those "outside quotes"
+-- the next byte of a file stands inside quotes (§7.4)
 abbrev pub quotesOpen : Form → Bool
 quotesOpen Top = false
 quotesOpen Begin = false
@@ -132,12 +136,12 @@ quotesOpen (Inside c) = inQuotes c
 quotesOpen After = false
 quotesOpen Cr = false
 
--- the byte would count: "CR and LF outside quotes, comments and the mark aren't counted in a record". It is asked of a
--- record's bytes; comments and the mark are none (Records, `move`)
+-- the byte would be counted in its record: all but a CR or LF outside quotes. It is asked of a record's bytes; comments and
+-- the mark are of none (Records, `move`) (§7.4)
 unfoldable pub counts : Form → ℕ → Bool
 counts f b = quotesOpen f || not (b is LF || b is CR)
 
--- `unfolding form-computes` opens every definition of this module
+-- helper: `unfolding form-computes` opens every definition of this module
 unfoldable pub form-computes : Type 0
 unfolding afterCell inCell beginRecord beginFile formStep formEnd counts
 form-computes = Unit {0}

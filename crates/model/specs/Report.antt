@@ -1,44 +1,44 @@
--- Reports, limits, and what document 01's table of faults says of each reason: its number and its column, and whether its place
--- is a byte or the record's start.
+-- Reports, limits, and what the table of faults says of each reason: its number and its column, and whether its place is a byte
+-- or the record's start.
 use Prim.Native.Nat.{ℕ}
 use mathlib.Core.Bool.{Bool, true, false}
 use Rattle.model.specs.Types.{Report, Encoding, Syntax, Fault, NoRecord, Byte, CutShort, Uneven, Repeats, NotText, FileTooLong, RecordTooLong, TooManyColumns, NoCells, LacksKind, LoneSurrogate, Clash, TextTooLong, OutputTooLong}
 
--- "A report has number, record, column, offset"
+-- a report: number, record, column, offset (§6.14)
 abbrev pub report : (number record-number column offset : ℕ) → Report
 report n r c o = record { number = n; record_number = r; column = c; offset = o }
 
--- "Acceptance and 10, 11, 12 name record 0; acceptance has number, column and offset 0"
+-- acceptance: four zeros (§6.15)
 abbrev pub accepted : Report
 accepted = report 0 0 0 0
 
--- "10, 11, 12 name record 0"; in the table their offset and column are 0
+-- fault 10, 11 or 12, which has no place in a file: record, column and offset are 0 (§6.10 §6.11 §6.12 §6.16)
 abbrev pub refusal : ℕ → Report
 refusal n = report n 0 0 0
 
--- "Limits: 16,777,215 bytes a file"
+-- the bytes that a file may have (§7.1)
 abbrev pub MAXFILE : ℕ
 MAXFILE = 16777215
 
--- "4,096 bytes a record"
+-- the counted bytes that a record may have (§7.2)
 abbrev pub MAXRECORD : ℕ
 MAXRECORD = 4096
 
--- "64 columns"
+-- the columns that a record may have (§7.3)
 abbrev pub MAXCOLUMNS : ℕ
 MAXCOLUMNS = 64
 
--- a piece "over 4,096 bytes" is refused
+-- how long a piece may be (§15.7)
 abbrev pub MAXPIECE : ℕ
 MAXPIECE = 4096
 
--- an output "under 49,152" is refused
+-- how long the output of a piece or end call must be (§15.7 §15.11)
 abbrev pub LEASTOUTPUT : ℕ
 LEASTOUTPUT = 49152
 
 -- ---- the table of faults, column by column
 
--- the table's "no."
+-- the table's first column: the number of each fault (§6.1 §6.2 §6.3 §6.4 §6.5 §6.6 §6.7 §6.8 §6.13 §6.9)
 unfoldable pub numberOf : Fault → ℕ
 numberOf NoRecord = 1
 numberOf (Byte Encoding) = 2
@@ -57,7 +57,7 @@ numberOf (Clash c) = 9
 numberOf TextTooLong = 9
 numberOf OutputTooLong = 9
 
--- the table's "column": 0 but for "first repeat" (6), "first such" (7) and fault 9's "its column"
+-- the table's last column: 0, but for 6, 7 and three of the reasons for 9 (§6.6 §6.7 §8.2 §8.3 §8.4 §8.5 §8.6)
 unfoldable pub columnOf : Fault → ℕ
 columnOf NoRecord = 0
 columnOf (Byte e) = 0
@@ -75,7 +75,8 @@ columnOf (Clash c) = c
 columnOf TextTooLong = 0
 columnOf OutputTooLong = 0
 
--- the offset is where reading stands ("that byte", "first byte too many", "file length"), and not "record start"
+-- the table's offset is where reading stands, that is the faulty byte, the first byte too many or the file's length, and not
+-- the record's start (§6.1 §6.2 §6.3 §6.4 §6.8)
 unfoldable pub isAtByte : Fault → Bool
 isAtByte NoRecord = true
 isAtByte (Byte e) = true
@@ -93,7 +94,7 @@ isAtByte (Clash c) = false
 isAtByte TextTooLong = false
 isAtByte OutputTooLong = false
 
--- `unfolding report-computes` opens every definition of this module
+-- helper: `unfolding report-computes` opens every definition of this module
 unfoldable pub report-computes : Type 0
 unfolding numberOf columnOf isAtByte
 report-computes = Unit {0}

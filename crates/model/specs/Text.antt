@@ -8,14 +8,15 @@ use Rattle.model.specs.Base.{if_then_else_, _is_, Bytes, QUOTE, BACKSLAS
 use Rattle.model.specs.Dialect.{delimiterOf, quoteOf}
 use Rattle.model.specs.Utf8.{isSurrogate}
 
--- "A cell has a kind [..] and content"; from and upto are its "stretch" in the file
+-- a cell: its kind and its content; from and upto are its stretch, where it was read from or lies in a table's content (§2.3
+-- §2.4 §10.3)
 pub record Value : Type 0 where
   pub from : ℕ
   pub upto : ℕ
   pub kind : Kind
   pub content : Bytes
 
--- the kind is "1 text"
+-- the kind is text (§2.3)
 abbrev pub isText : Kind → Bool
 isText Text = true
 isText Number = false
@@ -25,12 +26,11 @@ isText Null = false
 
 -- ---- CSVJ
 
--- one of the "lower-case digits"
+-- a lower-case hexadecimal digit (§14.3 §14.4)
 abbrev pub hexDigit : ℕ → ℕ
 hexDigit n = if leb n 9 then 0x30 + n else 0x57 + n
 
--- "Escapes only for quote, backslash, and bytes below 20 hex: the short forms for 08 (b), 09 (t), 0A (n), 0C (f), 0D (r), else
--- \u00 and two lower-case digits"
+-- a byte of a text in CSVJ: as it stands, or as its escape (§14.3)
 abbrev pub escaped : ℕ → Bytes
 escaped b =
     if b is QUOTE then BACKSLASH ∷ QUOTE ∷ []
@@ -43,13 +43,13 @@ escaped b =
     else if b is 0x0D then BACKSLASH ∷ 0x72 ∷ []
     else BACKSLASH ∷ 0x75 ∷ 0x30 ∷ 0x30 ∷ hexDigit (b / 0x10) ∷ hexDigit (b % 0x10) ∷ []
 
--- "A lone surrogate is \u and four lower-case digits": the pattern ED b c is \ud and three more
+-- a lone surrogate in CSVJ: the three bytes ED b c are \ud and three more digits (§14.4)
 abbrev pub surrogate : ℕ → ℕ → Bytes
 surrogate b c =
     let low : ℕ = (b - 0x80) % 0x40 in
     BACKSLASH ∷ 0x75 ∷ 0x64 ∷ hexDigit (low / 4) ∷ hexDigit (low % 4 * 4 + (c - 0x80) / 0x10) ∷ hexDigit (c % 0x10) ∷ []
 
--- content between the quotes of a "JSON string": a lone surrogate as its escape, every other byte as `escaped` says
+-- content between the quotes of a string: a lone surrogate as its escape, every other byte as `escaped` says (§14.3 §14.4)
 unfoldable pub jsonBody : Bytes → Bytes
 jsonBody [] = []
 jsonBody (a ∷ []) = escaped a
@@ -57,10 +57,10 @@ jsonBody (a ∷ b ∷ []) = escaped a ++ jsonBody (b ∷ [])
 jsonBody (a ∷ b ∷ c ∷ bs) =
     if isSurrogate a b then surrogate b c ++ jsonBody bs else escaped a ++ jsonBody (b ∷ c ∷ bs)
 
--- a cell of CSVJ: "JSON string, number, true, false, null"
+-- a cell in CSVJ (§14.3 §14.5)
 unfoldable pub jsonCell : Kind → Bytes → Bytes
 jsonCell Text bs = QUOTE ∷ jsonBody bs ++ (QUOTE ∷ [])
--- "Numbers as spelt"
+-- a number is its spelling (§14.5)
 jsonCell Number bs = bs
 jsonCell True bs = 0x74 ∷ 0x72 ∷ 0x75 ∷ 0x65 ∷ []
 jsonCell False bs = 0x66 ∷ 0x61 ∷ 0x6C ∷ 0x73 ∷ 0x65 ∷ []
@@ -68,69 +68,70 @@ jsonCell Null bs = 0x6E ∷ 0x75 ∷ 0x6C ∷ 0x6C ∷ []
 
 -- ---- text with quotes doubled
 
--- "a quote inside doubled"
+-- content with each quote written twice (§14.6 §14.7)
 unfoldable pub doubled : ℕ → Bytes → Bytes
 doubled q [] = []
 doubled q (b ∷ bs) = if b is q then q ∷ q ∷ doubled q bs else b ∷ doubled q bs
 
--- a "quoted cell" of TDIF or CSV+
+-- content in quotes, as a cell of TDIF or CSV+ (§14.6 §14.7)
 unfoldable pub quotedText : ℕ → Bytes → Bytes
 quotedText q bs = q ∷ doubled q bs ++ (q ∷ [])
 
 -- ---- CSV+
 
--- it "begins EF BB BF"
+-- content begins like the mark (§14.7)
 abbrev pub beginsMark : Bytes → Bool
 beginsMark [] = false
 beginsMark (a ∷ []) = false
 beginsMark (a ∷ b ∷ []) = false
 beginsMark (a ∷ b ∷ c ∷ bs) = a is 0xEF && b is 0xBB && c is 0xBF
 
--- one of "quote, comma, CR or LF", by the settings
+-- a byte that has to stand in quotes, by the settings (§5.12 §14.7)
 abbrev pub special : Settings → ℕ → Bool
 special s b = b is quoteOf (CsvPlus s) || b is delimiterOf (CsvPlus s) || b is CR || b is LF
 
--- "quoted exactly when the content holds quote, comma, CR or LF, or is empty in a one-column table, or is the first header
--- cell and begins EF BB BF". `only`: its record has no other cell; `first`: it is the first header cell
+-- a cell in CSV+, in quotes where it has to be. `only`: its record has no other cell; `first`: it is the first header cell
+-- (§14.7)
 unfoldable pub csvPlusCell : Settings → (only first : Bool) → Bytes → Bytes
 csvPlusCell s only first bs =
     if holds (special s) bs || only && isEmpty bs || first && beginsMark bs then quotedText (quoteOf (CsvPlus s)) bs else bs
 
 -- ---- records and tables
 
--- the text of a cell that the dialect carries. TDIF: "quoted or \N"
+-- a cell in the dialect, which carries its kind; TDIF's other kind beside text is null (§14.5 §14.6 §14.7)
 unfoldable pub cellText : Dialect → (only first : Bool) → Value → Bytes
 cellText Csvj only first v = jsonCell (v .kind) (v .content)
 cellText Tdif only first v = if isText (v .kind) then quotedText QUOTE (v .content) else BACKSLASH ∷ 0x4E ∷ []
 cellText (CsvPlus s) only first v = csvPlusCell s only first (v .content)
 
--- CSVJ: "LF". TDIF: "LF". CSV+: "CRLF"
+-- a record's ending (§14.2)
 abbrev pub ending : Dialect → Bytes
 ending Csvj = LF ∷ []
 ending Tdif = LF ∷ []
 ending (CsvPlus s) = CR ∷ LF ∷ []
 
--- the cells after the first, a delimiter before each and "no spaces"
+-- the cells after the first, a delimiter before each and nothing else between them (§14.1)
 unfoldable pub moreCells : Dialect → List Value → Bytes
 moreCells d [] = []
 moreCells d (v ∷ vs) = delimiterOf d ∷ cellText d false false v ++ moreCells d vs
 
--- a record as written, "without its ending"
+-- a record without its ending; a CSV+ cell has to know whether it is alone and whether it is the first header cell (§14.1
+-- §14.7)
 unfoldable pub recordText : Dialect → (header : Bool) → List Value → Bytes
 recordText d header [] = []
 recordText d header (v ∷ vs) = cellText d (isEmpty vs) header v ++ moreCells d vs
 
--- the "data records", each with its ending
+-- the data records, each with its ending (§14.1)
 unfoldable pub dataText : Dialect → List (List Value) → Bytes
 dataText d [] = []
 dataText d (r ∷ rs) = recordText d false r ++ ending d ++ dataText d rs
 
--- the "canonical text" of a table, which is "a header record and then data records"
+-- the canonical text of a table: its header and then its data records (§14.1)
 unfoldable pub tableText : Dialect → List (List Value) → Bytes
 tableText d [] = []
 tableText d (r ∷ rs) = recordText d true r ++ ending d ++ dataText d rs
 
--- `unfolding text-computes` opens every definition of this module
+-- helper: `unfolding text-computes` opens every definition of this module
 unfoldable pub text-computes : Type 0
 unfolding jsonBody jsonCell doubled quotedText csvPlusCell cellText moreCells recordText dataText tableText
 text-computes = Unit {0}

@@ -1,4 +1,4 @@
--- The table's wording of faults 2 and 3: what "can go on, by form alone", and where a byte "breaks the UTF-8 table".
+-- Faults 2 and 3 in the words of the table of faults: what can go on by form alone, and where a byte breaks the table of UTF-8.
 use Prim.Native.Nat.{ℕ}
 use mathlib.Core.Path.{_≡_}
 use mathlib.Core.Bool.{Bool, true, false}
@@ -10,24 +10,23 @@ use Rattle.model.specs.Base.{Bytes}
 use Rattle.model.specs.Utf8.{charStep}
 use Rattle.model.specs.Form.{formStep}
 
--- from this state these bytes, none of them refused "by form alone", end with the end of a record
+-- from this state these bytes, none of them refused by form, end with the end of a record (§6.24)
 pub data Completes (d : Dialect) : Form → Bytes → Type 0 where
   completed : {f f′ : Form} {k : Bool} {b : ℕ} → formStep d f b ≡ To f′ (Ends k) → Completes d f (b ∷ [])
   onward : {f f′ : Form} {p : Part} {b : ℕ} {bs : Bytes} → formStep d f b ≡ To f′ p → Completes d f′ bs → Completes d f (b ∷ bs)
 
--- after this byte a "mark, comment or record can go on, by form alone": some file that begins with these bytes, and this one
--- after them, completes a record
+-- after this byte a file can go on: some file that begins with these bytes, and this one after them, completes a record by
+-- form (§6.3 §6.24)
 abbrev pub CanGoOn : Dialect → Bytes → ℕ → Type 0
 CanGoOn d xs b = (ys : Bytes) × Completes d Top (xs ++ (b ∷ ys))
 
--- the text that a cell's first byte would stand in: of "a plain cell (its first byte too)", in CSV+
+-- the text that a cell's first byte would stand in: in CSV+ that of a plain cell (§6.2 §6.22)
 abbrev pub freshText : Dialect → Option Char
 freshText Csvj = none
 freshText Tdif = none
 freshText (CsvPlus s) = some Whole
 
--- the text that the next byte of a cell would stand in: "a quoted cell, a plain cell (its first byte too) [..] but not inside
--- an escape"
+-- the text that the next byte of a cell would stand in: that of a quoted or a plain cell, none inside an escape (§6.2 §6.23)
 abbrev pub cellTextAt : Dialect → Cell → Option Char
 cellTextAt d Fresh = freshText d
 cellTextAt d (Quoted c) = some c
@@ -39,8 +38,7 @@ cellTextAt d (InWord w) = none
 cellTextAt d (Plain c) = some c
 cellTextAt d Complete = none
 
--- the text that the next byte of a file would stand in: "a quoted cell, a plain cell (its first byte too) or a comment, but
--- not inside an escape"
+-- the text that the next byte of a file would stand in: that of a cell or of a comment (§6.2)
 abbrev pub textAt : Dialect → Form → Option Char
 textAt d Top = freshText d
 textAt d Begin = freshText d
@@ -56,12 +54,12 @@ textAt d (Inside c) = cellTextAt d c
 textAt d After = none
 textAt d Cr = none
 
--- the byte has no place in "the UTF-8 table"
+-- the byte has no place in the table (§2.11)
 abbrev pub isBroken : Advance → Bool
 isBroken (On c) = false
 isBroken Broken = true
 
--- "a byte breaks the UTF-8 table" there
+-- the byte breaks the table in the text that it would stand in, if it would stand in one (§6.2 §6.21)
 abbrev pub breaks : Option Char → ℕ → Bool
 breaks none b = false
 breaks (some c) b = isBroken (charStep c b)

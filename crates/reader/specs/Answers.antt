@@ -8,7 +8,7 @@ use Rattle.model.specs.Records.{readFile}
 use Rattle.model.specs.Api as api
 use Rattle.reader.specs.declared.Answer.{Answer}
 
--- the report, "columns, data records and cells (the header's too)"
+-- the report, columns, data records and cells, the header's included (§10.1)
 abbrev pub answerOf : api.ReadCall → Answer
 answerOf c = record { report = c .report; columns = c .columns; records = c .records; cells = c .cells }
 

@@ -22,7 +22,7 @@ use model::Lead;
 
 // ---- the table
 
-// Document 01's table of first and second bytes, from C2 on. A row there is a column here:
+// The rules' table of first and second bytes, from C2 on (§2.11). A row there is a column here:
 //
 //   first   C2-DF E0    E1-EC ED    EE-EF F0    F1-F3 F4
 //   length  2     3     3     3     3     4     4     4
@@ -37,7 +37,7 @@ const LOW: [u8; 8] = [0x80, 0xA0, 0x80, 0x80, 0x80, 0x90, 0x80, 0x80];
 
 const HIGH: [u8; 8] = [0xBF, 0xBF, 0xBF, 0x9F, 0xBF, 0xBF, 0xBF, 0x8F];
 
-// "Later bytes are 80 to BF", in every row.
+// Later bytes, the same in every row.
 const LATER: [u8; 2] = [0x80, 0xBF];
 
 // The rows' names.
