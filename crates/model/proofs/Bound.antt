@@ -172,15 +172,15 @@ leaves-slack (steps.none e) = free-slack e
 leaves-slack (steps.stops h s) = holds-slack h
 
 steady : {d : Dialect} {f : Form} {b : ℕ} {s : Step} → Goes d f b s → Steady f s
-steady steps.refuses = y-fault
-steady (steps.outside r g) = y-outside
-steady (steps.passes r g) = y-passed
-steady (steps.adds n h g i s) = y-cell (holds-slack h)
-steady (steps.blanks n e) = y-between (free-slack (steps.starts-free e))
-steady (steps.parts n l o) = y-between (leaves-slack l)
-steady (steps.turns p l) = y-tail (leaves-slack l)
-steady (steps.ends p l g) = y-ends (leaves-slack l)
-steady (steps.ends-cr e p) = y-over
+steady (steps.refuses t) = y-fault
+steady (steps.outside t r g) = y-outside
+steady (steps.passes t r g) = y-passed
+steady (steps.adds t n h g i s) = y-cell (holds-slack h)
+steady (steps.blanks t n e) = y-between (free-slack (steps.starts-free e))
+steady (steps.parts t n l o) = y-between (leaves-slack l)
+steady (steps.turns t p l) = y-tail (leaves-slack l)
+steady (steps.ends t p l g) = y-ends (leaves-slack l)
+steady (steps.ends-cr t e p) = y-over
 
 pub step-steady : (d : Dialect) (f : Form) (b : ℕ) → Steady f (formStep d f b)
 step-steady d f b = steady (step-goes d f b)

@@ -1,5 +1,4 @@
--- The automaton of one cell. A cell stops only where it is whole (`cell-stops`), and a run of its bytes to a whole cell is what
--- the decoder finds sound (`runs-sound`, `sound-runs`).
+-- Runs of a cell's bytes: a run to a whole cell is what the decoder finds sound (`runs-sound`, `sound-runs`).
 use Prim.Native.Nat.{ℕ, suc}
 use native.Mathlib.Omega.{arith}
 use mathlib.Core.Path.{_≡_, refl}
@@ -15,71 +14,6 @@ use Rattle.model.specs.Cell.{textByte, numeralStep, firstByte, quotedByt
 use Rattle.model.specs.Decode.{judgeFrom}
 use Rattle.model.specs.Laws.{All, all-none, all-cons}
 use Rattle.model.proofs.Tests.{split}
-
--- ---- a cell stops only where it is whole
-
--- what a byte says of the cell c: if it stops there, c is whole
-pub data Stops (d : Dialect) (c : Cell) : Added → Type 0 where
-  goes-on : {c′ : Cell} → Stops d c (More c′)
-  stops : isWhole d c ≡ true → Stops d c Stop
-  refuses : {e : ByteFault} → Stops d c (Refuse e)
-
-text-stops : (d : Dialect) (c : Cell) (f : Char → Cell) (o : Advance) → Stops d c (textByte f o)
-text-stops d c f Broken = refuses
-text-stops d c f (On x) = goes-on
-
-first-stops : (d : Dialect) (b : ℕ) → Stops d Fresh (firstByte d b)
-unfolding firstByte isWhole
-first-stops Csvj b =
-    let P : Added → Type 0 = Stops Csvj Fresh in
-    split P _ (λ _. goes-on) λ _. split P _ (λ _. goes-on) λ _. split P _ (λ _. goes-on) λ _. split P _ (λ _. goes-on) λ _.
-    split P _ (λ _. goes-on) λ _. split P _ (λ _. goes-on) λ _. split P _ (λ _. goes-on) λ _. refuses
-first-stops Tdif b = split (Stops Tdif Fresh) _ (λ _. goes-on) λ _. split (Stops Tdif Fresh) _ (λ _. goes-on) λ _. refuses
-first-stops (CsvPlus s) b =
-    let P : Added → Type 0 = Stops (CsvPlus s) Fresh in
-    split P _ (λ _. goes-on) λ _. split P _ (λ _. stops refl) λ _. text-stops (CsvPlus s) Fresh Plain (charStep Whole b)
-
-quoted-stops : (d : Dialect) (b : ℕ) → Stops d (Quoted Whole) (quotedByte d b)
-unfolding quotedByte
-quoted-stops Csvj b =
-    let P : Added → Type 0 = Stops Csvj (Quoted Whole) in
-    split P _ (λ _. goes-on) λ _. split P _ (λ _. goes-on) λ _. split P _ (λ _. refuses) λ _. text-stops Csvj (Quoted Whole) Quoted (charStep Whole b)
-quoted-stops Tdif b = split (Stops Tdif (Quoted Whole)) _ (λ _. goes-on) λ _. text-stops Tdif (Quoted Whole) Quoted (charStep Whole b)
-quoted-stops (CsvPlus s) b =
-    split (Stops (CsvPlus s) (Quoted Whole)) _ (λ _. goes-on) λ _. text-stops (CsvPlus s) (Quoted Whole) Quoted (charStep Whole b)
-
-plain-stops : (d : Dialect) (b : ℕ) → Stops d (Plain Whole) (plainByte d b)
-unfolding plainByte isWhole
-plain-stops d b =
-    let P : Added → Type 0 = Stops d (Plain Whole) in
-    split P _ (λ _. refuses) λ _. split P _ (λ _. stops refl) λ _. text-stops d (Plain Whole) Plain (charStep Whole b)
-
-numeral-stops : (d : Dialect) (n : Numeral) (b : ℕ) → Stops d (InNumber n) (numeralStep n b)
-unfolding numeralStep isWhole
-numeral-stops d Minus b = let P = Stops d (InNumber Minus) in split P _ (λ _. goes-on) λ _. split P _ (λ _. goes-on) λ _. refuses
-numeral-stops d Zero b = let P = Stops d (InNumber Zero) in split P _ (λ _. goes-on) λ _. split P _ (λ _. goes-on) λ _. stops refl
-numeral-stops d Integer b =
-    let P = Stops d (InNumber Integer) in
-    split P _ (λ _. goes-on) λ _. split P _ (λ _. goes-on) λ _. split P _ (λ _. goes-on) λ _. stops refl
-numeral-stops d Point b = split (Stops d (InNumber Point)) _ (λ _. goes-on) λ _. refuses
-numeral-stops d Fraction b = let P = Stops d (InNumber Fraction) in split P _ (λ _. goes-on) λ _. split P _ (λ _. goes-on) λ _. stops refl
-numeral-stops d E b = let P = Stops d (InNumber E) in split P _ (λ _. goes-on) λ _. split P _ (λ _. goes-on) λ _. refuses
-numeral-stops d ESign b = split (Stops d (InNumber ESign)) _ (λ _. goes-on) λ _. refuses
-numeral-stops d Exponent b = split (Stops d (InNumber Exponent)) _ (λ _. goes-on) λ _. stops refl
-
-pub cell-stops : (d : Dialect) (c : Cell) (b : ℕ) → Stops d c (cellStep d c b)
-unfolding cellStep isWhole
-cell-stops d Fresh b = first-stops d b
-cell-stops d (Quoted Whole) b = quoted-stops d b
-cell-stops d (Quoted (Within i)) b = text-stops d (Quoted (Within i)) Quoted (charStep (Within i) b)
-cell-stops d Closed b = split (Stops d Closed) _ (λ _. goes-on) λ _. stops refl
-cell-stops d Escape b = split (Stops d Escape) _ (λ _. goes-on) λ _. split (Stops d Escape) _ (λ _. goes-on) λ _. refuses
-cell-stops d (Hex n) b = split (Stops d (Hex n)) _ (λ _. goes-on) λ _. refuses
-cell-stops d (InNumber n) b = numeral-stops d n b
-cell-stops d (InWord w) b = split (Stops d (InWord w)) _ (λ _. goes-on) λ _. refuses
-cell-stops d (Plain Whole) b = plain-stops d b
-cell-stops d (Plain (Within i)) b = text-stops d (Plain (Within i)) Plain (charStep (Within i) b)
-cell-stops d Complete b = stops refl
 
 -- ---- a cell that begins like the mark
 

@@ -19,8 +19,8 @@ use Rattle.model.specs.Text.{Value}
 use Rattle.model.specs.Records.{Rec, Read, Progress, going, stopped, nothingRead, readByte, readFrom, readBytes, readEnd, readFile, recordsOf, recordFault, move, complete, judged, closing, endBetween, endAt}
 use Rattle.model.specs.Laws.{All, all-none, SoundCell, SoundRecord}
 use Rattle.model.proofs.Tests.{split}
-use Rattle.model.proofs.CellRuns as cell-runs
-use Rattle.model.proofs.CellRuns.{Stops, cell-stops, Runs, here, snoc, runs-sound, all-snoc}
+use Rattle.model.proofs.CellSteps.{Takes, takes-stop, cell-takes}
+use Rattle.model.proofs.CellRuns.{Runs, here, snoc, runs-sound, all-snoc}
 use Rattle.model.proofs.FormSteps as steps
 use Rattle.model.proofs.FormSteps.{Rests, Holds, Opens, Next, Leaves, Goes, step-goes}
 
@@ -86,23 +86,23 @@ opens-cell steps.o-after = refl
 opens-cell steps.o-wanting = refl
 opens-cell steps.o-fresh = refl
 
-whole-of : {d : Dialect} {c : Cell} → Stops d c Stop → isWhole d c ≡ true
-whole-of (cell-runs.stops w) = w
+whole-of : {d : Dialect} {c : Cell} {t : Bool} → Takes d c t Stop → isWhole d c ≡ true
+whole-of (takes-stop w) = w
 
 closes-of : {d : Dialect} {b : ℕ} {f : Form} {k : Bool} → Leaves d b f k → Closes d (cellAt f) k
 closes-of (steps.none e) = tt
-closes-of {d} {b} {f} (steps.stops {c = c} h s) = rw (holds-cell h) (whole-of (rw s at (cell-stops d c b)))
+closes-of {d} {b} (steps.stops {c = c} h s) = rw (holds-cell h) (whole-of (rw s at (cell-takes d c b)))
 
 fits-of : {d : Dialect} {f : Form} {b : ℕ} {s : Step} → Goes d f b s → Fits d (cellAt f) b s
-fits-of steps.refuses = rejects
-fits-of (steps.outside r g) = leaves (rests-cell g)
-fits-of (steps.passes r g) = passes (next-cell g)
-fits-of {b = b} (steps.adds {g = t} n h g i s) = adds {f = t} (rw (holds-cell h, holds-cell i) s)
-fits-of (steps.blanks n e) = unfold cellAt in parts refl tt
-fits-of (steps.parts n l o) = parts (opens-cell o) (closes-of l)
-fits-of (steps.turns p l) = unfold cellAt in turns refl (closes-of l)
-fits-of (steps.ends p l g) = completes (next-cell g) (closes-of l)
-fits-of (steps.ends-cr e p) = unfold cellAt in completes refl tt
+fits-of (steps.refuses t) = rejects
+fits-of (steps.outside t r g) = leaves (rests-cell g)
+fits-of (steps.passes t r g) = passes (next-cell g)
+fits-of {b = b} (steps.adds {g = to} t n h g i s) = adds {f = to} (rw (holds-cell h, holds-cell i) s)
+fits-of (steps.blanks t n e) = unfold cellAt in parts refl tt
+fits-of (steps.parts t n l o) = parts (opens-cell o) (closes-of l)
+fits-of (steps.turns t p l) = unfold cellAt in turns refl (closes-of l)
+fits-of (steps.ends t p l g) = completes (next-cell g) (closes-of l)
+fits-of (steps.ends-cr t e p) = unfold cellAt in completes refl tt
 
 pub step-fits : (d : Dialect) (f : Form) (b : ℕ) → Fits d (cellAt f) b (formStep d f b)
 step-fits d f b = fits-of (step-goes d f b)

@@ -2,6 +2,7 @@ pub mod Tests
 pub mod AllExamples
 pub mod Reading
 pub mod Utf8
+pub mod CellSteps
 pub mod CellRuns
 pub mod CellContent
 pub mod Counted

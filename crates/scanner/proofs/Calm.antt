@@ -69,15 +69,15 @@ opens-inner steps.o-wanting = refl
 opens-inner steps.o-fresh = refl
 
 calm : {d : Dialect} {f : Form} {b : ℕ} {s : Step} → Goes d f b s → Calm f b s
-calm steps.refuses = refuses
-calm (steps.outside r g) = leaves (around-outer r)
-calm (steps.passes r g) = passes (rests-outer r)
-calm (steps.adds n h g i s) = grows n (grown-inner g)
-calm (steps.blanks n e) = blanks n (starts-outer e)
-calm (steps.parts n l o) = parts n (opens-inner o)
-calm (steps.turns p l) = tails refl
-calm (steps.ends p l g) = finishes
-calm (steps.ends-cr e p) = finishes
+calm (steps.refuses t) = refuses
+calm (steps.outside t r g) = leaves (around-outer r)
+calm (steps.passes t r g) = passes (rests-outer r)
+calm (steps.adds t n h g i s) = grows n (grown-inner g)
+calm (steps.blanks t n e) = blanks n (starts-outer e)
+calm (steps.parts t n l o) = parts n (opens-inner o)
+calm (steps.turns t p l) = tails refl
+calm (steps.ends t p l g) = finishes
+calm (steps.ends-cr t e p) = finishes
 
 pub step-calm : (d : Dialect) (f : Form) (b : ℕ) → Calm f b (formStep d f b)
 step-calm d f b = calm (step-goes d f b)
