@@ -1,6 +1,5 @@
--- A cell that reading closed is a raw cell that the decoder finds sound, with the same kind and content, in every dialect.
--- Each byte of a file either goes on with the cell in hand or leaves none
--- (`step-fits`); so the raw bytes of every closed cell run from a fresh cell to a whole one (`cells-sound`).
+-- The cell in hand: each byte of a file either goes on with it or leaves none, and closes only a whole one (`step-fits`); the end
+-- of the file completes a record only after a whole cell (`form-ends`).
 use Prim.Native.Nat.{ℕ, suc}
 use mathlib.Core.Path.{_≡_, refl}
 use mathlib.Core.Bool.{Bool, true, false}
@@ -107,7 +106,7 @@ fits-of (steps.ends-cr t e p) = unfold cellAt in completes refl tt
 pub step-fits : (d : Dialect) (f : Form) (b : ℕ) → Fits d (cellAt f) b (formStep d f b)
 step-fits d f b = fits-of (step-goes d f b)
 
--- ---- every cell that was read
+-- ---- the end of the file
 
 -- the end of the file completes a record only after a whole cell
 pub data EndsAfter (d : Dialect) (c : Cell) : Ending → Type 0 where
@@ -135,85 +134,3 @@ form-ends d Wanting = ends-cut
 form-ends d (Inside c) = last-ends d c
 form-ends d After = ends-cut
 form-ends d Cr = ends-cut
-
-module _ (d : Dialect) (target : Option Dialect) where
-  -- the raw bytes in hand run to the cell in hand, and all complete cells are sound
-  pub record InHand (r : Read) : Type 0 where
-    pub runs : Runs d Fresh (r .raw) (cellAt (r .form))
-    pub cells : All (SoundCell d) (r .cells)
-    pub done : All (SoundRecord d) (r .done)
-
-  data Good : Progress → Type 0 where
-    good-going : {r : Read} → InHand r → Good (going r)
-    good-stopped : {e : Fault} {r : Read} → All (SoundRecord d) (r .done) → Good (stopped e r)
-
-  closed-cells : (r : Read) (k : Bool) → InHand r → Closes d (cellAt (r .form)) k → All (SoundCell d) (closing d k r)
-  unfolding judgeCell
-  closed-cells r true i w = all-snoc (i .cells) (record { raw = r .raw; sound = runs-sound 0 (i .runs) w; kind = refl; content = refl })
-  closed-cells r false i w = i .cells
-
-  judged-good : (r next : Read) (v : Verdict) → All (SoundRecord d) (r .done) → InHand next → Good (judged r next v)
-  judged-good r next types.Sound h i = good-going i
-  judged-good r next (Faulty e) h i = good-stopped h
-
-  empty-runs : (f : Form) → cellAt f ≡ Fresh → Runs d Fresh [] (cellAt f)
-  empty-runs f e = rw e here
-
-  complete-good : (r : Read) (vs : List Value) (f : Form) (o : ℕ) → InHand r → All (SoundCell d) vs → cellAt f ≡ Fresh → Good (complete d target r vs f o)
-  unfolding complete
-  complete-good r vs f o i s e =
-      judged-good r _ (recordFault d target (r .done) vs) (i .done)
-      (record { runs = empty-runs f e; cells = all-none; done = all-snoc (i .done) s })
-
-  move-good : (r : Read) (b : ℕ) (s : Step) → InHand r → Fits d (cellAt (r .form)) b s → Good (move d target r b s)
-  unfolding move
-  move-good r b (Reject e) i rejects = good-stopped (i .done)
-  move-good r b (To f Outside) i (leaves e) = good-going (record { runs = empty-runs f e; cells = all-none; done = i .done })
-  move-good r b (To f Passed) i (passes e) = good-going (record { runs = empty-runs f e; cells = all-none; done = i .done })
-  move-good r b (To f OfCell) i (adds e) = good-going (record { runs = snoc b (i .runs) e; cells = i .cells; done = i .done })
-  move-good r b (To f (Between k)) i (parts e w) = good-going (record { runs = empty-runs f e; cells = closed-cells r k i w; done = i .done })
-  move-good r b (To f (Tail k)) i (turns e w) = good-going (record { runs = empty-runs f e; cells = closed-cells r k i w; done = i .done })
-  move-good r b (To f (Ends k)) i (completes e w) = complete-good r (closing d k r) f (suc (r .offset)) i (closed-cells r k i w) e
-
-  byte-good : (r : Read) (b : ℕ) → InHand r → Good (readByte d target r b)
-  unfolding readByte
-  byte-good r b i =
-      split Good _ (λ _. good-stopped (i .done)) λ _. split Good _ (λ _. good-stopped (i .done)) λ _.
-      move-good r b (formStep d (r .form) b) i (step-fits d (r .form) b)
-
-  read-good : (p : Progress) (xs : Bytes) → Good p → Good (readFrom d target p xs)
-  unfolding readFrom
-  read-good p [] g = g
-  read-good (stopped e r) (x ∷ xs) g = g
-  read-good (going r) (x ∷ xs) (good-going i) = read-good (readByte d target r x) xs (byte-good r x i)
-
-  bytes-good : (xs : Bytes) → Good (readBytes d target xs)
-  unfolding readBytes nothingRead cellAt
-  bytes-good xs = read-good (going nothingRead) xs (good-going (record { runs = here; cells = all-none; done = all-none }))
-
-  between-good : (r : Read) (rs : List Rec) → InHand r → Good (endBetween r rs)
-  between-good r [] i = good-stopped (i .done)
-  between-good r (h ∷ rs) i = good-going i
-
-  at-end : (r : Read) (x : Ending) → InHand r → EndsAfter d (cellAt (r .form)) x → Good (endAt d target r x)
-  unfolding cellAt
-  at-end r Clean i ends-clean = between-good r (r .done) i
-  at-end r Final i (ends-final w) = complete-good r (closing d true r) Begin (r .offset) i (closed-cells r true i w) refl
-  at-end r Cut i ends-cut = good-stopped (i .done)
-
-  end-good : (p : Progress) → Good p → Good (readEnd d target p)
-  unfolding readEnd
-  end-good (stopped e r) g = g
-  end-good (going r) (good-going i) = at-end r (formEnd d (r .form)) i (form-ends d (r .form))
-
-  good-records : (p : Progress) → Good p → All (SoundRecord d) (recordsOf p)
-  good-records (going r) (good-going i) = i .done
-  good-records (stopped e r) (good-stopped h) = h
-
-  -- every cell of every record that was read, with or without the file's end
-  pub cells-sound : (xs : Bytes) → All (SoundRecord d) (recordsOf (readBytes d target xs))
-  cells-sound xs = good-records _ (bytes-good xs)
-
-  pub cells-sound-file : (xs : Bytes) → All (SoundRecord d) (recordsOf (readFile d target xs))
-  unfolding readFile
-  cells-sound-file xs = good-records _ (end-good _ (bytes-good xs))

@@ -4,7 +4,7 @@ use Rattle.model.specs.Types.{Dialect}
 use Rattle.model.specs.Records.{going, nothingRead, readBytes}
 use Rattle.model.specs.Laws.{ReadingLaws, Laws}
 use Rattle.model.proofs.Reading.{read-append, fault-stays, fault-stays-file, records-stay}
-use Rattle.model.proofs.Cells.{cells-sound, cells-sound-file}
+use Rattle.model.proofs.Stretches.{cells-sound, cells-sound-file}
 use Rattle.model.proofs.Viable.{completion, completes}
 use Rattle.model.proofs.ViableFile.{refused-file, encoding-file, syntax-file}
 use Rattle.model.proofs.ContentForm.{content-form}

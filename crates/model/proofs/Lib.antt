@@ -8,6 +8,7 @@ pub mod CellContent
 pub mod Counted
 pub mod FormSteps
 pub mod Cells
+pub mod Stretches
 pub mod Viable
 pub mod Encoding
 pub mod RecordFaults
@@ -32,7 +33,6 @@ pub mod TableRead
 pub mod WriterBack
 pub mod TableRows
 pub mod RoundTrip
-pub mod Stretches
 pub mod ReadValid
 pub mod ConvertBack
 pub mod AllTrips
