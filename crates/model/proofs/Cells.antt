@@ -6,7 +6,7 @@ use mathlib.Core.Path.{_≡_, refl}
 use mathlib.Core.Bool.{Bool, true, false}
 use mathlib.Core.Option.{Option}
 use mathlib.Core.List.{List, [], _∷_}
-use Rattle.model.specs.Types.{Dialect, Csvj, Tdif, CsvPlus, EeToEf, Second, Last, Within}
+use Rattle.model.specs.Types.{Dialect, Csvj, Tdif, CsvPlus, Target, EeToEf, Second, Last, Within}
 use Rattle.model.specs.Types.{Cell, Fresh, Plain, More, Stop, ByteFault}
 use Rattle.model.specs.Types.{Form, Top, Begin, Ended, Mark1, Mark2, PlainMark1, PlainMark2, Comment, Blanks, Wanting, Inside, After, Cr, Outside, Passed, OfCell, Between, Tail, Ends, Step, To, Reject, Ending, Clean, Final, Cut}
 use Rattle.model.specs.Types.{Fault, Verdict, Faulty}
@@ -136,7 +136,7 @@ form-ends d (Inside c) = last-ends d c
 form-ends d After = ends-cut
 form-ends d Cr = ends-cut
 
-module _ (d : Dialect) (target : Option Dialect) where
+module _ (d : Dialect) (target : Option Target) where
   -- the raw bytes in hand run to the cell in hand, and all complete cells are sound
   pub record InHand (r : Read) : Type 0 where
     pub runs : Runs d Fresh (r .raw) (cellAt (r .form))
