@@ -7,14 +7,14 @@ use mathlib.Core.Bool.{Bool, true, false}
 use mathlib.Core.Option.{Option}
 use mathlib.Core.List.{List, [], _∷_, _++_}
 use lib.ListN.{length, length-append}
-use Rattle.model.specs.Types.{Kind, Text, Number, True, False, Null, Dialect, Csvj, Tdif, CsvPlus}
+use Rattle.model.specs.Types.{Kind, Text, Number, True, False, Null, Dialect, Csvj, Tdif, CsvPlus, Target}
 use Rattle.model.specs.Types.{Cell, ByteFault, Fault, Verdict, Sound, Faulty}
 use Rattle.model.specs.Types.{Form, Top, Begin, Ended, Mark1, Mark2, PlainMark1, PlainMark2, Comment, Blanks, Wanting, Inside, After, Cr, Outside, Passed, OfCell, Between, Tail, Ends, Step, To, Reject, Ending, Clean, Final, Cut}
 use Rattle.model.specs.Base.{Bytes, QUOTE, if_then_else_, isEmpty}
 use Rattle.model.specs.Dialect.{quoteOf}
 use Rattle.model.specs.Form.{formStep, formEnd, lastCell}
 use Rattle.model.specs.Decode.{kindOf, contentOf}
-use Rattle.model.specs.Text.{Value, jsonBody, jsonCell, quotedText, csvPlusCell, cellText, moreCells, recordText, ending}
+use Rattle.model.specs.Text.{Value, jsonBody, jsonCell, quotedText, csvPlusCell, cellText, moreCells, allCells, recordText, ending}
 use Rattle.model.specs.Records.{Rec, Read, Progress, going, stopped, nothingRead, readByte, readFrom, readBytes, readEnd, readFile, recordsOf, recordFault, move, complete, judged, closing, cellNow, endBetween, endAt}
 use Rattle.model.specs.Laws.{All, all-none, Bounded, BoundedRecord}
 use Rattle.model.proofs.Tests.{split}
@@ -84,16 +84,20 @@ ending-length Csvj = omega arith
 ending-length Tdif = omega arith
 ending-length (CsvPlus s) = omega arith
 
-text-bound : {d : Dialect} {vs : List Value} {n : ℕ} → Weighs d vs (suc n) → Bounded n vs
-unfolding recordText
-text-bound weigh-none t header = let h : length (ending t) ≤ 2 = ending-length t in omega arith
-text-bound {d} (weigh-cell {v} {vs} {n} raw w ws h) t header =
+all-bound : {d : Dialect} {vs : List Value} {n : ℕ} → Weighs d vs (suc n) → (t : Dialect) (header : Bool) → length (allCells t header vs ++ ending t) ≤ 6 * (n + 1)
+unfolding allCells
+all-bound weigh-none t header = let h : length (ending t) ≤ 2 = ending-length t in omega arith
+all-bound {d} (weigh-cell {v} {vs} {n} raw w ws h) t header =
     let a : length (cellText t (isEmpty vs) header v) + 2 ≤ 6 * (length raw + 1) = cell-bound d t (isEmpty vs) header v raw w in
     let b : length (moreCells t vs) ≤ 6 * n = more-bound t ws in
     let c : length (cellText t (isEmpty vs) header v ++ moreCells t vs) ≡ length (cellText t (isEmpty vs) header v) + length (moreCells t vs) = length-append (cellText t (isEmpty vs) header v) (moreCells t vs) in
     let e : length ((cellText t (isEmpty vs) header v ++ moreCells t vs) ++ ending t) ≡ length (cellText t (isEmpty vs) header v ++ moreCells t vs) + length (ending t) = length-append (cellText t (isEmpty vs) header v ++ moreCells t vs) (ending t) in
     let k : length (ending t) ≤ 2 = ending-length t in
     omega arith
+
+text-bound : {d : Dialect} {vs : List Value} {n : ℕ} → Weighs d vs (suc n) → Bounded n vs
+unfolding recordText
+text-bound w t header = all-bound w (t .dialect) header
 
 weigh-more : {d : Dialect} {vs : List Value} {n m : ℕ} → n ≤ m → Weighs d vs n → Weighs d vs m
 weigh-more h weigh-none = weigh-none
@@ -212,7 +216,7 @@ end-steady d (Inside c) = cell-end-steady d c
 end-steady d After = e-cut
 end-steady d Cr = e-cut
 
-module _ (d : Dialect) (target : Option Dialect) where
+module _ (d : Dialect) (target : Option Target) where
   -- the cells in hand weigh no more than the bytes counted, and every complete record is bounded
   pub record Counted (r : Read) : Type 0 where
     pub sum : ℕ

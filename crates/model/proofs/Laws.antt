@@ -1,6 +1,6 @@
 -- The laws of the definitions, each from the file that proves it.
 use mathlib.Core.Option.{Option}
-use Rattle.model.specs.Types.{Dialect}
+use Rattle.model.specs.Types.{Dialect, Target}
 use Rattle.model.specs.Records.{going, nothingRead, readBytes}
 use Rattle.model.specs.Laws.{ReadingLaws, Laws}
 use Rattle.model.proofs.Reading.{read-append, fault-stays, fault-stays-file, records-stay}
@@ -11,7 +11,7 @@ use Rattle.model.proofs.ContentForm.{content-form}
 use Rattle.model.proofs.Lengths.{content-length}
 use Rattle.model.proofs.Bound.{records-bounded, records-bounded-file}
 
-pub reading-laws : (d : Dialect) (target : Option Dialect) → ReadingLaws d target
+pub reading-laws : (d : Dialect) (target : Option Target) → ReadingLaws d target
 unfolding readBytes
 reading-laws d target =
     record {

@@ -4,7 +4,7 @@ use mathlib.Core.Path.{_≡_, refl, sym, ap, _∙_}
 use mathlib.Core.Bool.{true}
 use mathlib.Core.Option.{Option}
 use mathlib.Core.List.{List, [], _∷_, _++_, append-assoc, append-nil}
-use Rattle.model.specs.Types.{Dialect, Fault, Form, Begin, Outside, Passed, OfCell, Between, Tail, Ends, Step, To, Reject, Verdict, Sound, Faulty, Ending, Clean, Final, Cut}
+use Rattle.model.specs.Types.{Dialect, Target, Fault, Form, Begin, Outside, Passed, OfCell, Between, Tail, Ends, Step, To, Reject, Verdict, Sound, Faulty, Ending, Clean, Final, Cut}
 use Rattle.model.specs.Base.{Bytes}
 use Rattle.model.specs.Form.{formStep, formEnd}
 use Rattle.model.specs.Text.{Value}
@@ -12,7 +12,7 @@ use Rattle.model.specs.Records.{Rec, Read, Progress, going, stopped, not
 use Rattle.model.specs.Laws.{Grows}
 use Rattle.model.proofs.Tests.{split}
 
-module _ (d : Dialect) (target : Option Dialect) where
+module _ (d : Dialect) (target : Option Target) where
   -- reading xs and then ys is reading xs ++ ys
   pub read-append : (p : Progress) (xs ys : Bytes) → readFrom d target p (xs ++ ys) ≡ readFrom d target (readFrom d target p xs) ys
   unfolding readFrom
@@ -48,7 +48,7 @@ grows-trans {a} g h =
       sum = h .sum ∙ ap (λ l. l ++ h .added) (g .sum) ∙ append-assoc a (g .added) (h .added);
     }
 
-module _ (d : Dialect) (target : Option Dialect) where
+module _ (d : Dialect) (target : Option Target) where
   judged-grows : (r next : Read) (v : Verdict) → Grows (r .done) (next .done) → Grows (r .done) (recordsOf (judged r next v))
   judged-grows r next Sound g = g
   judged-grows r next (Faulty e) g = grows-refl (r .done)

@@ -5,9 +5,9 @@ use mathlib.Core.Bool.{Bool, true, false, not}
 use mathlib.Core.Option.{Option, none, some}
 use mathlib.Core.List.{List, [], _∷_}
 use lib.ListN.{length}
-use Rattle.model.specs.Types.{Dialect, Fault, NoRecord, Byte, CutShort, Uneven, Repeats, NotText, FileTooLong, RecordTooLong, TooManyColumns, NoCells, LacksKind, LoneSurrogate, Clash, TextTooLong, OutputTooLong, Verdict, Sound, Faulty}
+use Rattle.model.specs.Types.{Dialect, Target, Fault, NoRecord, Byte, CutShort, Uneven, Repeats, NotText, FileTooLong, RecordTooLong, TooManyColumns, NoCells, LacksKind, LoneSurrogate, Clash, TextTooLong, OutputTooLong, Verdict, Sound, Faulty}
 use Rattle.model.specs.Base.{Bytes}
-use Rattle.model.specs.Text.{Value, isText}
+use Rattle.model.specs.Text.{Value, isText, carried}
 use Rattle.model.specs.Records.{Rec, _orElse_, when, nameKey, repeatFrom, repeatFault, notTextFrom, headerFault, dataFault, hasKind, losesSurrogate, uncarriedFrom, clashFault, targetFault, converting, recordFault}
 use Rattle.model.proofs.Tests.{split}
 
@@ -74,18 +74,18 @@ unfolding repeatFault
 clash-record t true vs = repeat-record t Clash [] 1 vs (λ c. refl)
 clash-record t false vs = of-sound
 
-target-record : (t : Dialect) (header : Bool) (written : ℕ) (vs : List Value) → OfRecord (targetFault t header written vs)
+target-record : (t : Target) (header : Bool) (written : ℕ) (vs : List Value) → OfRecord (targetFault t header written vs)
 unfolding targetFault
 target-record t header written vs =
     else-record (when-record _ NoCells refl)
-    (else-record (uncarried-record t 1 vs)
-    (else-record (clash-record t header vs) (else-record (when-record _ TextTooLong refl) (when-record _ OutputTooLong refl))))
+    (else-record (uncarried-record (t .dialect) 1 (carried t vs))
+    (else-record (clash-record (t .dialect) header (carried t vs)) (else-record (when-record _ TextTooLong refl) (when-record _ OutputTooLong refl))))
 
-converting-record : (target : Option Dialect) (f : Dialect → Verdict) → ((t : Dialect) → OfRecord (f t)) → OfRecord (converting target f)
+converting-record : (target : Option Target) (f : Target → Verdict) → ((t : Target) → OfRecord (f t)) → OfRecord (converting target f)
 converting-record none f h = of-sound
 converting-record (some t) f h = h t
 
-pub fault-record : (d : Dialect) (target : Option Dialect) (done : List Rec) (vs : List Value) → OfRecord (recordFault d target done vs)
+pub fault-record : (d : Dialect) (target : Option Target) (done : List Rec) (vs : List Value) → OfRecord (recordFault d target done vs)
 unfolding recordFault
 fault-record d target [] vs = else-record (header-record d vs) (converting-record target _ (λ t. target-record t true _ vs))
 fault-record d target (h ∷ rs) vs =

@@ -7,10 +7,10 @@ use mathlib.Core.List.{List, _++_}
 use lib.ListN.{length}
 use lib.Dec.{ltb}
 use borrow.Author.Tests.{ltb-false}
-use Rattle.model.specs.Types.{Dialect, Fault, NoCells, TextTooLong, Verdict, Sound, Faulty}
+use Rattle.model.specs.Types.{Target, Fault, NoCells, TextTooLong, Verdict, Sound, Faulty}
 use Rattle.model.specs.Base.{isEmpty}
 use Rattle.model.specs.Dialect.{isCsvj}
-use Rattle.model.specs.Text.{Value, recordText, ending}
+use Rattle.model.specs.Text.{Value, carried, recordText, ending}
 use Rattle.model.specs.Report.{MAXFILE, MAXRECORD}
 use Rattle.model.specs.Records.{_orElse_, when, uncarriedFrom, clashFault, targetFault}
 
@@ -41,24 +41,24 @@ unfolding when
 not-when f e = rw e
 
 -- fault 9 has none of its reasons
-pub record TargetSound (t : Dialect) (header : Bool) (written : ℕ) (vs : List Value) : Type 0 where
-  pub filled : (header && isEmpty vs && not (isCsvj t)) ≡ false
-  pub carried : uncarriedFrom t 1 vs ≡ Sound
-  pub clash : clashFault t header vs ≡ Sound
+pub record TargetSound (t : Target) (header : Bool) (written : ℕ) (vs : List Value) : Type 0 where
+  pub filled : (header && isEmpty vs && not (isCsvj (t .dialect))) ≡ false
+  pub carries : uncarriedFrom (t .dialect) 1 (carried t vs) ≡ Sound
+  pub clash : clashFault (t .dialect) header (carried t vs) ≡ Sound
   pub short : length (recordText t header vs) ≤ MAXRECORD
-  pub fits : written + length (recordText t header vs ++ ending t) ≤ MAXFILE
+  pub fits : written + length (recordText t header vs ++ ending (t .dialect)) ≤ MAXFILE
 
-pub target-sound : (t : Dialect) (header : Bool) (written : ℕ) (vs : List Value) → targetFault t header written vs ≡ Sound → TargetSound t header written vs
+pub target-sound : (t : Target) (header : Bool) (written : ℕ) (vs : List Value) → targetFault t header written vs ≡ Sound → TargetSound t header written vs
 unfolding targetFault
 target-sound t header written vs e =
-    let a = else-sound (when (header && isEmpty vs && not (isCsvj t)) NoCells) _ e in
-    let b = else-sound (uncarriedFrom t 1 vs) _ (a .1) in
-    let c = else-sound (clashFault t header vs) _ (b .1) in
+    let a = else-sound (when (header && isEmpty vs && not (isCsvj (t .dialect))) NoCells) _ e in
+    let b = else-sound (uncarriedFrom (t .dialect) 1 (carried t vs)) _ (a .1) in
+    let c = else-sound (clashFault (t .dialect) header (carried t vs)) _ (b .1) in
     let f = else-sound (when (ltb MAXRECORD (length (recordText t header vs))) TextTooLong) _ (c .1) in
     record {
       filled = when-sound _ _ (a .0);
-      carried = b .0;
+      carries = b .0;
       clash = c .0;
       short = ltb-false MAXRECORD (length (recordText t header vs)) (when-sound _ _ (f .0));
-      fits = ltb-false MAXFILE (written + length (recordText t header vs ++ ending t)) (when-sound _ _ (f .1));
+      fits = ltb-false MAXFILE (written + length (recordText t header vs ++ ending (t .dialect))) (when-sound _ _ (f .1));
     }

@@ -9,7 +9,7 @@ use mathlib.Core.Bool.{true, false}
 use mathlib.Core.Option.{Option}
 use mathlib.Core.List.{[], _∷_, _++_}
 use lib.ListN.{length, length-append}
-use Rattle.model.specs.Types.{Dialect, ByteFault, Encoding, Syntax, Form, Top, Part, Outside, Passed, OfCell, Between, Tail, Ends, Step, To, Reject, Fault, Byte, Verdict, Sound, Faulty}
+use Rattle.model.specs.Types.{Dialect, Target, ByteFault, Encoding, Syntax, Form, Top, Part, Outside, Passed, OfCell, Between, Tail, Ends, Step, To, Reject, Fault, Byte, Verdict, Sound, Faulty}
 use Rattle.model.specs.Base.{Bytes, if_then_else_}
 use Rattle.model.specs.Form.{formStep}
 use Rattle.model.specs.Records.{Read, Progress, going, stopped, nothingRead, recordFault, fileFull, recordFull, readByte, readFrom, readBytes, move, complete, judged, closing}
@@ -44,7 +44,7 @@ judged-form : {A : Type 0} (r next : Read) (v : Verdict) (e : ByteFault) → OfR
 judged-form r next Sound e of-sound h = let z : _≡_ {A = ℕ} 0 1 = cc in absurd (omega arith)
 judged-form r next (Faulty x) e (of-fault k) h = let q : x ≡ Byte e = cc in impossible (sym k ∙ ap ofForm q)
 
-module _ (d : Dialect) (target : Option Dialect) where
+module _ (d : Dialect) (target : Option Target) where
   -- a byte that was read moved the file by form
   data Moves (r : Read) (b : ℕ) : Progress → Type 0 where
     moves : {next : Read} {p : Part} → formStep d (r .form) b ≡ To (next .form) p → Moves r b (going next)

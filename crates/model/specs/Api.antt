@@ -6,9 +6,9 @@ use mathlib.Core.Option.{Option, none, some}
 use mathlib.Core.List.{List, [], _∷_, _++_, map}
 use lib.ListN.{length, take, drop}
 use lib.Dec.{leb, ltb, eqb}
-use Rattle.model.specs.Types.{Report, Kind, Text, Number, True, False, Null, Dialect, Csvj, Verdict, Sound, Faulty, Judged, WholeCell, Unsound}
+use Rattle.model.specs.Types.{Report, Kind, Text, Number, True, False, Null, Dialect, Csvj, Target, Verdict, Sound, Faulty, Judged, WholeCell, Unsound}
 use Rattle.model.specs.Base.{if_then_else_, _is_, Bytes, isEmpty, concat, over}
-use Rattle.model.specs.Dialect.{dialectOf}
+use Rattle.model.specs.Dialect.{dialectOf, into}
 use Rattle.model.specs.Utf8.{isContent}
 use Rattle.model.specs.Decode.{kindNumber, kindOf, contentOf, judgeCell}
 use Rattle.model.specs.Text.{Value, tableText}
@@ -130,7 +130,7 @@ abbrev pub fitted : (room : ℕ) → Bytes → Written
 fitted room bs = if ltb room (length bs) then unwritten (refusal 10) else record { report = accepted; text = bs }
 
 -- the canonical text of the records that were read for this target, or the fault that was met (§12.1 §12.2)
-abbrev pub convertedAs : (target : Dialect) → (room : ℕ) → Progress → Written
+abbrev pub convertedAs : (target : Target) → (room : ℕ) → Progress → Written
 convertedAs t room (stopped e r) = unwritten (faultReport e r)
 convertedAs t room (going r) = fitted room (tableText t (rows (r .done)))
 
@@ -141,7 +141,7 @@ converter m n bs room =
       | none ↦ unwritten (refusal 11)
       | some d ↦ elim (dialectOf n) [
         | none ↦ unwritten (refusal 11)
-        | some t ↦ convertedAs t room (readFile d (some t) bs)
+        | some t ↦ convertedAs (into t) room (readFile d (some (into t)) bs)
       ]
     ]
 
@@ -241,23 +241,23 @@ orNext n (Faulty e) next = some (report (numberOf e) n (columnOf e) 0)
 
 -- the fault of the row that follows the rows `done`. 8, 7 and 6 are the header's, since all rows have its count of cells; names
 -- go by the target's rule, so what would clash there is 6 (§13.11 §13.12)
-abbrev pub rowFault : Dialect → (done : List (List Value)) → List Value → Verdict
-rowFault t [] r = headerFault t r orElse targetNext t [] r
+abbrev pub rowFault : Target → (done : List (List Value)) → List Value → Verdict
+rowFault t [] r = headerFault (t .dialect) r orElse targetNext t [] r
 rowFault t (h ∷ rs) r = targetNext t (h ∷ rs) r
 
 -- the first fault of the rows that follow `done` (§13.11)
-unfoldable pub rowsFrom : Dialect → (done : List (List Value)) → List (List Value) → Option Report
+unfoldable pub rowsFrom : Target → (done : List (List Value)) → List (List Value) → Option Report
 rowsFrom t done [] = none
 rowsFrom t done (r ∷ rs) =
     let next : Option Report = rowsFrom t (done ++ (r ∷ [])) rs in
     orNext (suc (length done)) (rowFault t done r) next
 
 -- the first fault of a table (§13.11)
-unfoldable pub rowsFault : Dialect → List (List Value) → Option Report
+unfoldable pub rowsFault : Target → List (List Value) → Option Report
 rowsFault t rs = rowsFrom t [] rs
 
 -- the fault, or the text if it has room (§13.13)
-abbrev pub writtenRows : Dialect → (room : ℕ) → List (List Value) → Option Report → Written
+abbrev pub writtenRows : Target → (room : ℕ) → List (List Value) → Option Report → Written
 writtenRows t room rs (some e) = unwritten e
 writtenRows t room rs none = fitted room (tableText t rs)
 
@@ -266,7 +266,7 @@ unfoldable pub writer : (target : ℕ) → Table → (room : ℕ) → Written
 writer n table room =
     elim (dialectOf n) [
       | none ↦ unwritten (refusal 11)
-      | some t ↦ elim (rowsIn table) [ none ↦ unwritten (refusal 12) | some rs ↦ writtenRows t room rs (rowsFault t rs) ]
+      | some t ↦ elim (rowsIn table) [ none ↦ unwritten (refusal 12) | some rs ↦ writtenRows (into t) room rs (rowsFault (into t) rs) ]
     ]
 
 -- the lent output after the call: the text, and then what stood there (§9.3 §9.4 §13.1)

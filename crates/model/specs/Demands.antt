@@ -5,9 +5,9 @@ use mathlib.Core.Bool.{true}
 use mathlib.Core.Option.{none, some}
 use mathlib.Core.List.{List, [], _∷_, _++_, map}
 use lib.ListN.{length}
-use Rattle.model.specs.Types.{Report, Dialect}
+use Rattle.model.specs.Types.{Report, Dialect, Target}
 use Rattle.model.specs.Base.{if_then_else_, Bytes, concat}
-use Rattle.model.specs.Dialect.{dialectOf}
+use Rattle.model.specs.Dialect.{dialectOf, into}
 use Rattle.model.specs.Text.{tableText}
 use Rattle.model.specs.Report.{accepted, MAXFILE, MAXPIECE, LEASTOUTPUT}
 use Rattle.model.specs.Records.{rows, Progress, readBytes, readFile, recordsOf}
@@ -19,14 +19,14 @@ use Rattle.model.specs.Trips.{RoundTrip}
 -- ---- demand 3: the ledger
 
 -- what these calls have shown of the file (§16.5 §16.6)
-abbrev pub seenIn : Dialect → Dialect → List Entry → Progress
+abbrev pub seenIn : Dialect → Target → List Entry → Progress
 seenIn d t past = if closedIn past then readFile d (some t) (consumedIn past) else readBytes d (some t) (consumedIn past)
 
 -- the outputs of any list of calls, joined, are the canonical text of the records completed in the bytes consumed (§19.4)
 abbrev pub JoinedOutputs : Type 0
 JoinedOutputs =
     (m n : ℕ) (d t : Dialect) (cs : List Call) → dialectOf m ≡ some d → dialectOf n ≡ some t →
-    writtenIn (history m n cs) ≡ tableText t (rows (recordsOf (seenIn d t (history m n cs))))
+    writtenIn (history m n cs) ≡ tableText (into t) (rows (recordsOf (seenIn d (into t) (history m n cs))))
 
 -- no call writes more than its room: the output that a call asks for is enough (§15.11)
 abbrev pub Fits : Type 0

@@ -2,7 +2,7 @@
 use Prim.Native.Nat.{ℕ}
 use mathlib.Core.Bool.{Bool, true, false}
 use mathlib.Core.Option.{Option, none, some}
-use Rattle.model.specs.Types.{Delimiter, Comma, Semicolon, Tab, Bar, Quote, Double, Single, Settings, Dialect, Csvj, Tdif, CsvPlus}
+use Rattle.model.specs.Types.{Delimiter, Comma, Semicolon, Tab, Bar, Quote, Double, Single, Settings, Dialect, Csvj, Tdif, CsvPlus, Target}
 use Rattle.model.specs.Base.{if_then_else_, _is_, COMMA, QUOTE}
 
 -- the byte of each delimiter that CSV+ may be set to (§5.12)
@@ -28,6 +28,10 @@ dialectOf n =
     else if n is 2 then some Tdif
     else if n is 3 then some (CsvPlus standard)
     else none
+
+-- the target that a dialect's number in a call stands for (§1.1 §12.1)
+abbrev pub into : Dialect → Target
+into d = record { dialect = d }
 
 -- what stands between two cells: the comma, in CSV+ the delimiter of its settings (§3.3 §4.5 §5.3 §5.12)
 abbrev pub delimiterOf : Dialect → ℕ

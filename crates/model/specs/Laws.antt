@@ -6,7 +6,7 @@ use mathlib.Core.Bool.{Bool, true, false}
 use mathlib.Core.Option.{Option}
 use mathlib.Core.List.{List, [], _∷_, _++_}
 use lib.ListN.{length}
-use Rattle.model.specs.Types.{Dialect, Form, ByteFault, Encoding, Syntax, Fault, Byte, WholeCell}
+use Rattle.model.specs.Types.{Dialect, Target, Form, ByteFault, Encoding, Syntax, Fault, Byte, WholeCell}
 use Rattle.model.specs.Base.{Bytes}
 use Rattle.model.specs.Utf8.{isContent}
 use Rattle.model.specs.Decode.{kindOf, contentOf, judgeCell}
@@ -39,7 +39,7 @@ SoundRecord d r = All (SoundCell d) (r .cells)
 
 -- the bound of a written record with its ending, in every target, as a header or not (§15.10)
 abbrev pub Bounded : (size : ℕ) → List Value → Type 0
-Bounded size vs = (t : Dialect) (header : Bool) → length (recordText t header vs ++ ending t) ≤ 6 * (size + 1)
+Bounded size vs = (t : Target) (header : Bool) → length (recordText t header vs ++ ending (t .dialect)) ≤ 6 * (size + 1)
 
 -- the same for a record that was read, by its counted bytes (§15.10)
 abbrev pub BoundedRecord : Rec → Type 0
@@ -48,7 +48,7 @@ BoundedRecord r = Bounded (r .size) (r .cells)
 -- ---- laws
 
 -- a file may be cut anywhere: what was read of the bytes consumed stays when more bytes join them (§15.10 §16.4 §16.5)
-pub record ReadingLaws (d : Dialect) (target : Option Dialect) : Type 0 where
+pub record ReadingLaws (d : Dialect) (target : Option Target) : Type 0 where
   -- reading goes on from where it stands
   pub append : (xs ys : Bytes) → readBytes d target (xs ++ ys) ≡ readFrom d target (readBytes d target xs) ys
   -- a fault, and the records before it, are the same for every file that begins with the bytes read so far
@@ -62,7 +62,7 @@ pub record ReadingLaws (d : Dialect) (target : Option Dialect) : Type 0 where
 
 -- faults 2 and 3 are given exactly when the table says: for the byte b after the bytes xs, which were read without fault,
 -- within the limits (§6.2 §6.3 §6.24)
-pub record NextByteLaws (d : Dialect) (target : Option Dialect) (xs : Bytes) (r : Read) (b : ℕ) : Type 0 where
+pub record NextByteLaws (d : Dialect) (target : Option Target) (xs : Bytes) (r : Read) (b : ℕ) : Type 0 where
   -- fault 2 or 3, exactly where no file goes on with it
   pub refused : ((e : ByteFault) × (readBytes d target (xs ++ (b ∷ [])) ≡ stopped (Byte e) r)) ↔ ¬ (CanGoOn d xs b)
   -- fault 2, exactly where it breaks the UTF-8 table
@@ -72,10 +72,10 @@ pub record NextByteLaws (d : Dialect) (target : Option Dialect) (xs : Bytes) (r 
 
 -- the laws, over every dialect (§19.8)
 pub record Laws : Type 0 where
-  pub reading : (d : Dialect) (target : Option Dialect) → ReadingLaws d target
+  pub reading : (d : Dialect) (target : Option Target) → ReadingLaws d target
   -- every state can be completed to a record, by form alone
   pub completion : (d : Dialect) (f : Form) → (bs : Bytes) × Completes d f bs
-  pub next-byte : (d : Dialect) (target : Option Dialect) (xs : Bytes) (r : Read) (b : ℕ) → readBytes d target xs ≡ going r → fileFull r ≡ false → recordFull r b ≡ false → NextByteLaws d target xs r b
+  pub next-byte : (d : Dialect) (target : Option Target) (xs : Bytes) (r : Read) (b : ℕ) → readBytes d target xs ≡ going r → fileFull r ≡ false → recordFull r b ≡ false → NextByteLaws d target xs r b
   -- decoded content has its form: UTF-8, lone surrogates, never a high one directly before a low one (§2.6 §2.9)
   pub content-form : (d : Dialect) (raw : Bytes) → judgeCell d raw ≡ WholeCell → isContent (contentOf d raw) ≡ true
   -- decoded content is no longer than the raw cell

@@ -5,9 +5,9 @@ use mathlib.Core.Option.{Option, none, some}
 use mathlib.Core.List.{List, [], _∷_, _++_, map}
 use lib.ListN.{length, drop}
 use lib.Dec.{ltb}
-use Rattle.model.specs.Types.{Report, Dialect}
+use Rattle.model.specs.Types.{Report, Dialect, Target}
 use Rattle.model.specs.Base.{if_then_else_, _is_, within, Bytes, over}
-use Rattle.model.specs.Dialect.{dialectOf}
+use Rattle.model.specs.Dialect.{dialectOf, into}
 use Rattle.model.specs.Text.{tableText}
 use Rattle.model.specs.Report.{refusal, MAXPIECE, LEASTOUTPUT}
 use Rattle.model.specs.Records.{rows, Progress, readBytes, readFile, reportOf, recordsOf}
@@ -86,18 +86,18 @@ tooSmall c = ltb MAXPIECE (length (bytesOf c)) || ltb (roomOf c) LEASTOUTPUT
 
 -- the file as far as this call shows it: the bytes consumed, for a piece without the file's end, for an end call with it
 -- (§16.5 §16.6)
-abbrev pub seenBy : Dialect → Dialect → Call → Bytes → Progress
+abbrev pub seenBy : Dialect → Target → Call → Bytes → Progress
 seenBy d t (piece bs room) consumed = readBytes d (some t) consumed
 seenBy d t (finish room) consumed = readFile d (some t) consumed
 
 -- the answer of a call that is not refused by the checks: the report on what was read, and the text of the records completed
 -- before any fault, less what was written before (§9.5 §16.5 §16.6 §16.7 §16.8)
-abbrev pub taken : Dialect → (written : Bytes) → Progress → Written
+abbrev pub taken : Target → (written : Bytes) → Progress → Written
 taken t written p = record { report = reportOf p; text = drop (length written) (tableText t (rows (recordsOf p))) }
 
 -- the answer to a call: the checks in their order, by earlier answers, and then the call itself (§15.5 §15.6 §15.7 §15.8
 -- §16.3)
-unfoldable pub answerTo : Dialect → Dialect → (past : List Entry) → Call → Written
+unfoldable pub answerTo : Dialect → Target → (past : List Entry) → Call → Written
 answerTo d t past c =
     elim (faultIn past) [
       | some e ↦ unwritten e
@@ -114,7 +114,7 @@ unfoldable pub answerNow : (source target : ℕ) → (past : List Entry) → Cal
 answerNow m n past c =
     elim (dialectOf m) [
       | none ↦ unwritten (refusal 11)
-      | some d ↦ elim (dialectOf n) [ none ↦ unwritten (refusal 11) | some t ↦ answerTo d t past c ]
+      | some d ↦ elim (dialectOf n) [ none ↦ unwritten (refusal 11) | some t ↦ answerTo d (into t) past c ]
     ]
 
 -- one of the four checks answers this call after these entries: it consumes and changes nothing (§15.4 §15.5 §15.6 §15.7 §15.8)

@@ -5,7 +5,7 @@ use mathlib.Core.Option.{Option, none, some}
 use mathlib.Core.List.{List, [], _∷_, _++_, map}
 use lib.ListN.{length}
 use lib.Dec.{leb, ltb, eqb}
-use Rattle.model.specs.Types.{Report, Kind, Text, Number, True, False, Null, Dialect, Csvj, Tdif, CsvPlus}
+use Rattle.model.specs.Types.{Report, Kind, Text, Number, True, False, Null, Dialect, Csvj, Tdif, CsvPlus, Target}
 use Rattle.model.specs.Types.{Form, Top, Begin, Outside, Passed, OfCell, Between, Tail, Ends, Step, To, Reject, Ending, Clean, Final, Cut}
 use Rattle.model.specs.Types.{Fault, NoRecord, Byte, CutShort, Uneven, Repeats, NotText, FileTooLong, RecordTooLong, TooManyColumns, NoCells, LacksKind, LoneSurrogate, Clash, TextTooLong, OutputTooLong, Verdict, Sound, Faulty}
 use Rattle.model.specs.Base.{if_then_else_, within, Bytes, same, isEmpty}
@@ -13,7 +13,7 @@ use Rattle.model.specs.Dialect.{isCsvj}
 use Rattle.model.specs.Utf8.{holdsLone}
 use Rattle.model.specs.Form.{formStep, formEnd, counts}
 use Rattle.model.specs.Decode.{kindOf, contentOf}
-use Rattle.model.specs.Text.{Value, isText, recordText, tableText, ending}
+use Rattle.model.specs.Text.{Value, isText, carried, recordText, tableText, ending}
 use Rattle.model.specs.Report.{report, accepted, numberOf, columnOf, isAtByte, MAXFILE, MAXRECORD, MAXCOLUMNS}
 
 -- a complete record: where it starts, how many of its bytes are counted, and its cells (§6.20 §7.4)
@@ -119,27 +119,27 @@ clashFault t true vs = repeatFault t Clash vs
 clashFault t false vs = Sound
 
 -- fault 9 of a record, reason by reason, after `written` bytes of output (§6.9 §8.1 §8.2 §8.3 §8.4 §8.5 §8.6)
-unfoldable pub targetFault : Dialect → (header : Bool) → (written : ℕ) → List Value → Verdict
+unfoldable pub targetFault : Target → (header : Bool) → (written : ℕ) → List Value → Verdict
 targetFault t header written vs =
     let text : Bytes = recordText t header vs in
-    when (header && isEmpty vs && not (isCsvj t)) NoCells
-    orElse uncarriedFrom t 1 vs
-    orElse clashFault t header vs
+    when (header && isEmpty vs && not (isCsvj (t .dialect))) NoCells
+    orElse uncarriedFrom (t .dialect) 1 (carried t vs)
+    orElse clashFault (t .dialect) header (carried t vs)
     orElse when (ltb MAXRECORD (length text)) TextTooLong
-    orElse when (ltb MAXFILE (written + length (text ++ ending t))) OutputTooLong
+    orElse when (ltb MAXFILE (written + length (text ++ ending (t .dialect)))) OutputTooLong
 
 -- fault 9 of the record that follows the rows `done`, whose text is all that is written before it (§8.6 §8.7)
-abbrev pub targetNext : Dialect → (done : List (List Value)) → List Value → Verdict
+abbrev pub targetNext : Target → (done : List (List Value)) → List Value → Verdict
 targetNext t done vs = targetFault t (isEmpty done) (length (tableText t done)) vs
 
 -- what is asked only where there is a target (§7.8 §12.2)
-abbrev pub converting : Option Dialect → (Dialect → Verdict) → Verdict
+abbrev pub converting : Option Target → (Target → Verdict) → Verdict
 converting none f = Sound
 converting (some t) f = f t
 
 -- the fault of the record that follows `done`: what its source asks, read in d, and then what its target asks if there is
 -- one (§7.8 §8.7)
-unfoldable pub recordFault : Dialect → (target : Option Dialect) → (done : List Rec) → List Value → Verdict
+unfoldable pub recordFault : Dialect → (target : Option Target) → (done : List Rec) → List Value → Verdict
 recordFault d target [] vs = headerFault d vs orElse converting target (λ t. targetNext t [] vs)
 recordFault d target (h ∷ rs) vs =
     dataFault (length (h .cells)) vs
@@ -189,14 +189,14 @@ judged before next (Faulty e) = stopped e before
 
 -- a record ends and is judged: the record in hand, with these cells; where the file stands then, and the next offset (§7.5
 -- §7.8)
-unfoldable pub complete : Dialect → (target : Option Dialect) → Read → List Value → Form → ℕ → Progress
+unfoldable pub complete : Dialect → (target : Option Target) → Read → List Value → Form → ℕ → Progress
 complete d target r vs f o =
     judged r (between-records (r .done ++ (record { start = r .start; size = r .size; cells = vs } ∷ [])) f o)
     (recordFault d target (r .done) vs)
 
 -- what the byte b, which does this to the form, does to what has been read: which bytes are counted, where a record starts,
 -- where a cell begins and ends (§6.20 §7.4 §10.3)
-unfoldable pub move : Dialect → (target : Option Dialect) → Read → ℕ → Step → Progress
+unfoldable pub move : Dialect → (target : Option Target) → Read → ℕ → Step → Progress
 move d target r b (Reject e) = stopped (Byte e) r
 move d target r b (To f Outside) =
     going (record { done = r .done; form = f; offset = suc (r .offset); start = r .start; size = 0; opened = suc (r .offset); raw = []; cells = [] })
@@ -218,20 +218,20 @@ unfoldable pub recordFull : Read → ℕ → Bool
 recordFull r b = leb MAXRECORD (r .size) && counts (r .form) b
 
 -- one byte more: limits come before form (§7.6)
-unfoldable pub readByte : Dialect → (target : Option Dialect) → Read → ℕ → Progress
+unfoldable pub readByte : Dialect → (target : Option Target) → Read → ℕ → Progress
 readByte d target r b =
     if fileFull r then stopped FileTooLong r
     else if recordFull r b then stopped RecordTooLong r
     else move d target r b (formStep d (r .form) b)
 
 -- bytes in file order, up to the first fault (§7.5)
-unfoldable pub readFrom : Dialect → (target : Option Dialect) → Progress → Bytes → Progress
+unfoldable pub readFrom : Dialect → (target : Option Target) → Progress → Bytes → Progress
 readFrom d target p [] = p
 readFrom d target (stopped e r) (b ∷ bs) = stopped e r
 readFrom d target (going r) (b ∷ bs) = readFrom d target (readByte d target r b) bs
 
 -- the bytes of a file without its end, as a piece call sees those consumed (§16.5)
-unfoldable pub readBytes : Dialect → (target : Option Dialect) → Bytes → Progress
+unfoldable pub readBytes : Dialect → (target : Option Target) → Bytes → Progress
 readBytes d target bs = readFrom d target (going nothingRead) bs
 
 -- ---- the end of the file
@@ -243,18 +243,18 @@ endBetween r (h ∷ rs) = going r
 
 -- the end of the file: between records, or completing a last CSV+ record, which is judged there, or fault 4 (§5.11 §6.4
 -- §6.26)
-abbrev pub endAt : Dialect → (target : Option Dialect) → Read → Ending → Progress
+abbrev pub endAt : Dialect → (target : Option Target) → Read → Ending → Progress
 endAt d target r Clean = endBetween r (r .done)
 endAt d target r Final = complete d target r (closing d true r) Begin (r .offset)
 endAt d target r Cut = stopped CutShort r
 
 -- the end of the file after its bytes, where an earlier fault stays (§7.5)
-unfoldable pub readEnd : Dialect → (target : Option Dialect) → Progress → Progress
+unfoldable pub readEnd : Dialect → (target : Option Target) → Progress → Progress
 readEnd d target (stopped e r) = stopped e r
 readEnd d target (going r) = endAt d target r (formEnd d (r .form))
 
 -- a whole file: its bytes, and then its end (§2.1 §7.5)
-unfoldable pub readFile : Dialect → (target : Option Dialect) → Bytes → Progress
+unfoldable pub readFile : Dialect → (target : Option Target) → Bytes → Progress
 readFile d target bs = readEnd d target (readBytes d target bs)
 
 -- ---- what is reported

@@ -3,7 +3,7 @@ use Prim.Native.Nat.{ℕ, _+_, _-_, _*_, _/_, _%_}
 use mathlib.Core.Bool.{Bool, true, false, _&&_, _||_}
 use mathlib.Core.List.{List, [], _∷_, _++_}
 use lib.Dec.{leb}
-use Rattle.model.specs.Types.{Kind, Text, Number, True, False, Null, Settings, Dialect, Csvj, Tdif, CsvPlus}
+use Rattle.model.specs.Types.{Kind, Text, Number, True, False, Null, Settings, Dialect, Csvj, Tdif, CsvPlus, Target}
 use Rattle.model.specs.Base.{if_then_else_, _is_, Bytes, QUOTE, BACKSLASH, CR, LF, holds, isEmpty}
 use Rattle.model.specs.Dialect.{delimiterOf, quoteOf}
 use Rattle.model.specs.Utf8.{isSurrogate}
@@ -115,23 +115,32 @@ unfoldable pub moreCells : Dialect → List Value → Bytes
 moreCells d [] = []
 moreCells d (v ∷ vs) = delimiterOf d ∷ cellText d false false v ++ moreCells d vs
 
--- a record without its ending; a CSV+ cell has to know whether it is alone and whether it is the first header cell (§14.1
--- §14.7)
-unfoldable pub recordText : Dialect → (header : Bool) → List Value → Bytes
-recordText d header [] = []
-recordText d header (v ∷ vs) = cellText d (isEmpty vs) header v ++ moreCells d vs
+-- all cells of a record, a delimiter between each two; a CSV+ cell has to know whether it is alone and whether it is the first
+-- header cell (§14.1 §14.7)
+unfoldable pub allCells : Dialect → (header : Bool) → List Value → Bytes
+allCells d header [] = []
+allCells d header (v ∷ vs) = cellText d (isEmpty vs) header v ++ moreCells d vs
+
+-- a record's cells as they are written: the point where a cell passes from reading to writing, before fault 9 and before
+-- canonical text. Each is written as it was read (§12.1)
+abbrev pub carried : Target → List Value → List Value
+carried t vs = vs
+
+-- a record without its ending (§14.1)
+unfoldable pub recordText : Target → (header : Bool) → List Value → Bytes
+recordText t header vs = allCells (t .dialect) header (carried t vs)
 
 -- the data records, each with its ending (§14.1)
-unfoldable pub dataText : Dialect → List (List Value) → Bytes
-dataText d [] = []
-dataText d (r ∷ rs) = recordText d false r ++ ending d ++ dataText d rs
+unfoldable pub dataText : Target → List (List Value) → Bytes
+dataText t [] = []
+dataText t (r ∷ rs) = recordText t false r ++ ending (t .dialect) ++ dataText t rs
 
 -- the canonical text of a table: its header and then its data records (§14.1)
-unfoldable pub tableText : Dialect → List (List Value) → Bytes
-tableText d [] = []
-tableText d (r ∷ rs) = recordText d true r ++ ending d ++ dataText d rs
+unfoldable pub tableText : Target → List (List Value) → Bytes
+tableText t [] = []
+tableText t (r ∷ rs) = recordText t true r ++ ending (t .dialect) ++ dataText t rs
 
 -- helper: `unfolding text-computes` opens every definition of this module
 unfoldable pub text-computes : Type 0
-unfolding jsonBody jsonCell doubled quotedText csvPlusCell cellText moreCells recordText dataText tableText
+unfolding jsonBody jsonCell doubled quotedText csvPlusCell cellText moreCells allCells recordText dataText tableText
 text-computes = Unit {0}
