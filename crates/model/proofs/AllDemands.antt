@@ -3,7 +3,7 @@ use Rattle.model.specs.Demands.{Demands}
 use Rattle.model.proofs.AllTrips.{trips}
 use Rattle.model.proofs.CallsMade.{keeps-ledger}
 use Rattle.model.proofs.MachineLaws.{joined-outputs}
-use Rattle.model.proofs.Pieces.{fits, whole-and-pieces, fault-of-every-file}
+use Rattle.model.proofs.Pieces.{fits, whole-and-pieces, end-is-whole, fault-of-every-file}
 
 pub demands : Demands
 demands =
@@ -12,6 +12,7 @@ demands =
       joined-outputs = joined-outputs;
       fits = fits;
       whole-and-pieces = whole-and-pieces;
+      end-is-whole = end-is-whole;
       fault-of-every-file = fault-of-every-file;
       every-list-of-calls = keeps-ledger;
     }

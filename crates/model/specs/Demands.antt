@@ -1,7 +1,7 @@
 -- Demand 3 as statements over the definitions, and demand 2's round trip beside them. They are proved in proofs/AllDemands.antt.
 use Prim.Native.Nat.{ℕ, _≤_}
 use mathlib.Core.Path.{_≡_}
-use mathlib.Core.Bool.{true}
+use mathlib.Core.Bool.{true, false}
 use mathlib.Core.Option.{none, some}
 use mathlib.Core.List.{List, [], _∷_, _++_, map}
 use lib.ListN.{length}
@@ -53,6 +53,12 @@ pub record SameAsWhole (m n : ℕ) (ps : List Bytes) : Type 0 where
 abbrev pub WholeAndPieces : Type 0
 WholeAndPieces = (m n : ℕ) (ps : List Bytes) → All (λ (p : Bytes). length p ≤ MAXPIECE) ps → SameAsWhole m n ps
 
+-- an end call that no check answers reports what the whole converter, with room enough, does for the bytes consumed (§16.6)
+abbrev pub EndIsWhole : Type 0
+EndIsWhole =
+    (m n : ℕ) (cs : List Call) (room : ℕ) → checked m n (history m n cs) (finish room) ≡ false →
+    answerNow m n (history m n cs) (finish room) .report ≡ converter m n (consumedIn (history m n cs)) MAXFILE .report
+
 -- a fault that a piece call met is that of every file that begins with the bytes consumed (§16.5 §16.7)
 abbrev pub FaultOfEveryFile : Type 0
 FaultOfEveryFile =
@@ -88,5 +94,6 @@ pub record Demands : Type 1 where
   pub joined-outputs : JoinedOutputs
   pub fits : Fits
   pub whole-and-pieces : WholeAndPieces
+  pub end-is-whole : EndIsWhole
   pub fault-of-every-file : FaultOfEveryFile
   pub every-list-of-calls : {S : Type 0} (Carries : ℕ → ℕ → List Entry → S → Type 0) → KeepsLedger Carries
