@@ -31,7 +31,7 @@ MAXCOLUMNS = 64
 -- ---- the table of faults, column by column
 
 -- the table's "no."
-unfoldable pub numberOf : Fault → ℕ
+abbrev pub numberOf : Fault → ℕ
 numberOf NoRecord = 1
 numberOf (Byte Encoding) = 2
 numberOf (Byte Syntax) = 3
@@ -50,7 +50,7 @@ numberOf TextTooLong = 9
 numberOf OutputTooLong = 9
 
 -- the table's "column": 0 but for "first repeat" (6), "first such" (7) and fault 9's "its column"
-unfoldable pub columnOf : Fault → ℕ
+abbrev pub columnOf : Fault → ℕ
 columnOf NoRecord = 0
 columnOf (Byte e) = 0
 columnOf CutShort = 0
@@ -68,7 +68,7 @@ columnOf TextTooLong = 0
 columnOf OutputTooLong = 0
 
 -- the offset is where reading stands ("that byte", "first byte too many", "file length"), and not "record start"
-unfoldable pub isAtByte : Fault → Bool
+abbrev pub isAtByte : Fault → Bool
 isAtByte NoRecord = true
 isAtByte (Byte e) = true
 isAtByte CutShort = true
@@ -84,8 +84,3 @@ isAtByte (LoneSurrogate c) = false
 isAtByte (Clash c) = false
 isAtByte TextTooLong = false
 isAtByte OutputTooLong = false
-
--- `unfolding report-computes` opens every definition of this module
-unfoldable pub report-computes : Type 0
-unfolding numberOf columnOf isAtByte
-report-computes = Unit {0}

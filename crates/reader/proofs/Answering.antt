@@ -7,11 +7,8 @@ use mathlib.Core.Option.{none, some}
 use mathlib.Core.List.{List, [], _∷_, _++_, map, map-append, append-nil}
 use lib.ListN.{length, drop, length-append, length-map}
 use lib.Dec.{ltb}
-use borrow.Author.Tests.{ne-eqb, lt-ltb, le-ltb}
+use borrow.Author.Tests.{lt-ltb, le-ltb}
 use Rattle.model.specs.declared.Dialect.{Dialect}
-use Rattle.model.specs.declared.Dialect.the-variants.{Csvj, Tdif, CsvPlus}
-use Rattle.model.specs.declared.Delimiter.the-variants.{Comma}
-use Rattle.model.specs.declared.Quote.the-variants.{Double}
 use Rattle.model.specs.declared.Form.{Form}
 use Rattle.model.specs.declared.Report.{Report}
 use Rattle.model.specs.Base.{if_then_else_, Bytes, concat, over}
@@ -22,7 +19,7 @@ use Rattle.model.specs.Records.{Rec, rows, Read, Progress, going, stopped, read
 use Rattle.model.specs.Api as api
 use Rattle.model.specs.Api.{startsOf, endsOf, kindsOf}
 use Rattle.scanner.specs.Placed.{placed}
-use Rattle.scanner.proofs.Coming.{least-first, least-second}
+use Rattle.numbers.proofs.Least.{least-first, least-second}
 use Rattle.reader.specs.declared.Answer.{Answer}
 use Rattle.reader.specs.declared.records.Head.{Head}
 use Rattle.reader.specs.declared.records.Head.the-variants.{Header, HeaderOnly, NoHeader}
@@ -258,27 +255,11 @@ by-answer : (n : ℕ) (file s₀ e₀ k₀ : List ℕ) (a : api.Answer) (r : Ans
 unfolding api.readCall
 by-answer n file s₀ e₀ k₀ a r s e k q t = subst (λ (b : api.Answer). Fills b s₀ e₀ k₀ r s e k) (sym q) t
 
-pub known : (n : ℕ) (d : Dialect) → dialectOf n ≡ some d → (file s₀ e₀ k₀ : List ℕ) (r : Answer) (s e k : List ℕ) → Fills (answerIn d file (Room s₀ e₀ k₀)) s₀ e₀ k₀ r s e k → Calls n file s₀ e₀ k₀ r s e k
+pub known : (n : ℕ) (d : Dialect) → some d ≡ dialectOf n → (file s₀ e₀ k₀ : List ℕ) (r : Answer) (s e k : List ℕ) → Fills (answerIn d file (Room s₀ e₀ k₀)) s₀ e₀ k₀ r s e k → Calls n file s₀ e₀ k₀ r s e k
 unfolding api.reader
-known n d q file s₀ e₀ k₀ r s e k t = by-answer n file s₀ e₀ k₀ (answerIn d file (Room s₀ e₀ k₀)) r s e k (rw (q, api.reader)) t
+known n d q file s₀ e₀ k₀ r s e k t = by-answer n file s₀ e₀ k₀ (answerIn d file (Room s₀ e₀ k₀)) r s e k (rw (← q, api.reader)) t
 
-no-dialect : (n : ℕ) → ¬ (n ≡ 1) → ¬ (n ≡ 2) → ¬ (n ≡ 3) → dialectOf n ≡ none
-unfolding dialectOf if_then_else_
-no-dialect n a b c = rw (ne-eqb n 1 a, ne-eqb n 2 b, ne-eqb n 3 c)
-
-pub unknown : (n : ℕ) → ¬ (n ≡ 1) → ¬ (n ≡ 2) → ¬ (n ≡ 3) → (file s₀ e₀ k₀ : List ℕ) (t : Report) (r : Answer) → t ≡ refusal 11 → r ≡ told (api.noAnswer t) → Calls n file s₀ e₀ k₀ r s₀ e₀ k₀
+pub unknown : (n : ℕ) → none ≡ dialectOf n → (file s₀ e₀ k₀ : List ℕ) (t : Report) (r : Answer) → t ≡ refusal 11 → r ≡ told (api.noAnswer t) → Calls n file s₀ e₀ k₀ r s₀ e₀ k₀
 unfolding api.reader
-unknown n a b c file s₀ e₀ k₀ t r te re =
-    by-answer n file s₀ e₀ k₀ (api.noAnswer (refusal 11)) r s₀ e₀ k₀ (rw (no-dialect n a b c, api.reader)) (re ∙ ap (λ (z : Report). told (api.noAnswer z)) te, (refl, (refl, refl)))
-
-pub is-csvj : (n : ℕ) → n ≡ 1 → dialectOf n ≡ some Csvj
-unfolding dialectOf if_then_else_
-is-csvj n e = rw e
-
-pub is-tdif : (n : ℕ) → n ≡ 2 → dialectOf n ≡ some Tdif
-unfolding dialectOf if_then_else_
-is-tdif n e = rw e
-
-pub is-plus : (n : ℕ) → n ≡ 3 → dialectOf n ≡ some (CsvPlus (record { delimiter = Comma; quote = Double }))
-unfolding dialectOf if_then_else_
-is-plus n e = rw e
+unknown n q file s₀ e₀ k₀ t r te re =
+    by-answer n file s₀ e₀ k₀ (api.noAnswer (refusal 11)) r s₀ e₀ k₀ (rw (← q, api.reader)) (re ∙ ap (λ (z : Report). told (api.noAnswer z)) te, (refl, (refl, refl)))

@@ -11,7 +11,23 @@ use Rattle.model.specs.Cell.{cellStep, inQuotes}
 use Rattle.model.specs.Form.{isBlank, afterCell, grow, inCell, beginRecord, beginFile, commented, formStep, quotesOpen, counts}
 use Rattle.model.proofs.Tests.{split, is→eq}
 use Rattle.model.proofs.Counted.{counted, more-counted, blank-counted, delimiter-counted}
-use Rattle.scanner.specs.Types.{Dialect, Csvj, Tdif, CsvPlus, EeToEf, Second, Last, Whole, Within, Advance, On, Broken, Cell, Fresh, Plain, ByteFault, Added, More, Stop, Refuse, Form, Top, Begin, Ended, Mark1, Mark2, PlainMark1, PlainMark2, Comment, Blanks, Wanting, Inside, After, Cr, Outside, Passed, OfCell, Between, Tail, Ends, Step, To, Reject}
+use Rattle.model.specs.declared.Dialect.{Dialect}
+use Rattle.model.specs.declared.Dialect.the-variants.{Csvj, Tdif, CsvPlus}
+use Rattle.model.specs.declared.Lead.the-variants.{EeToEf}
+use Rattle.model.specs.declared.Inner.the-variants.{Second, Last}
+use Rattle.model.specs.declared.Char.the-variants.{Whole, Within}
+use Rattle.model.specs.declared.Advance.{Advance}
+use Rattle.model.specs.declared.Advance.the-variants.{On, Broken}
+use Rattle.model.specs.declared.Cell.{Cell}
+use Rattle.model.specs.declared.Cell.the-variants.{Fresh, Plain}
+use Rattle.model.specs.declared.ByteFault.{ByteFault}
+use Rattle.model.specs.declared.Added.{Added}
+use Rattle.model.specs.declared.Added.the-variants.{More, Stop, Refuse}
+use Rattle.model.specs.declared.Form.{Form}
+use Rattle.model.specs.declared.Form.the-variants.{Top, Begin, Ended, Mark1, Mark2, PlainMark1, PlainMark2, Comment, Blanks, Wanting, Inside, After, Cr}
+use Rattle.model.specs.declared.Part.the-variants.{Outside, Passed, OfCell, Between, Tail, Ends}
+use Rattle.model.specs.declared.Step.{Step}
+use Rattle.model.specs.declared.Step.the-variants.{To, Reject}
 use Rattle.scanner.specs.Ahead.{outer}
 
 pub data Calm (f : Form) (b : ℕ) : Step → Type 0 where

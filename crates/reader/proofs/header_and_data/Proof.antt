@@ -17,15 +17,6 @@ data-records-requires c κs =
     let b = header-bounds (a .d) (a .file .now) (a .room) (a .starts .now) (a .ends .now) (a .kinds .now) (q .1) (a .columns) (a .form) (a .next) (q .0) in
     ((b .0, b .1, b .2), (omega arith, omega arith, omega arith))
 
-enum-known-e : tie.Need-enum-known-e
-enum-known-e c = search needs
-
-refused-requires : tie.Need-refused-requires
-refused-requires c κs = search needs
-
-enum-known-records : tie.Need-enum-known-records
-enum-known-records c = search needs
-
 add-if1 : tie.Need-add-if1
 add-if1 c =
     let a = c .before .before .before .before .before .before .before .before .before .before .before .before .before .before .before .before .before .args in
@@ -34,30 +25,12 @@ add-if1 c =
     let y : a .columns + c .before .records .given .0 .1 .0 < 2 ^ 64 = omega arith in
     record { fits = y }
 
-on-call-requires : tie.Need-on-call-requires
-on-call-requires c κs = search needs
-
-refused-requires-2 : tie.Need-refused-requires-2
-refused-requires-2 c κs = search needs
-
-same-length : tie.Need-same-length
-same-length c = search needs
-
-same-length-2 : tie.Need-same-length-2
-same-length-2 c = search needs
-
-same-length-3 : tie.Need-same-length-3
-same-length-3 c = search needs
-
 returns : tie.Need-returns
 returns c =
     let a = c .before .before .before .before .before .before .before .before .before .before .before .before .before .before .before .before .before .before .before .before .args in
     let q = c .before .before .before .before .before .before .before .before .before .before .before .before .before .before .before .before .before .before .before .before .pre in
     let o = data-crowded (a .d) (a .file .now) (a .room) (a .starts .now) (a .ends .now) (a .kinds .now) (q .1) (a .columns) (a .form) (a .next) (q .0) _ _ _ _ (c .before .before .before .before .before .before .before .before .before .before .before .before .data-records .ensures) _ _ (c .before .before .before .before .records .given .1) (c .before .before .if1 .taken) _ (c .before .on-call .ensures) _ (c .refused2 .ensures) in
     (o .answer, (o .at-starts, (o .at-ends, o .at-kinds)))
-
-next-record-requires : tie.Need-next-record-requires
-next-record-requires c κs = search needs
 
 data-records-requires-2 : tie.Need-data-records-requires-2
 data-records-requires-2 c κs =
@@ -67,9 +40,6 @@ data-records-requires-2 c κs =
     let b = header-bounds (a .d) (a .file .now) (a .room) (a .starts .now) (a .ends .now) (a .kinds .now) (q .1) (a .columns) (a .form) (a .next) (q .0) in
     ((b .0, b .1, b .2), (rw (ap length (n .1 .0) ∙ length-placed (a .room) 0 _ _ ∙ held-lengths (c .before .before .before .before .before .before .before .before .before .before .before .before .before .before .before .before .before .before .before .before .before .before .before .data-records .ensures .lists) .0) (q .1 .0), rw (ap length (n .1 .1 .0) ∙ length-placed (a .room) 0 _ _ ∙ held-lengths (c .before .before .before .before .before .before .before .before .before .before .before .before .before .before .before .before .before .before .before .before .before .before .before .data-records .ensures .lists) .1) (q .1 .1), rw (ap length (n .1 .1 .1 .0) ∙ length-placed (a .room) 0 _ _ ∙ held-lengths (c .before .before .before .before .before .before .before .before .before .before .before .before .before .before .before .before .before .before .before .before .before .before .before .data-records .ensures .lists) .2) (q .1 .2)))
 
-on-call-requires-2 : tie.Need-on-call-requires-2
-on-call-requires-2 c κs = search needs
-
 add-t21 : tie.Need-add-t21
 add-t21 c =
     let a = c .before .before .before .before .before .before .before .before .before .before .before .before .before .before .before .before .before .before .before .before .before .before .before .before .before .before .before .before .before .before .before .before .before .before .before .before .before .before .before .args in
@@ -77,15 +47,6 @@ add-t21 c =
     let x : a .columns + c .before .before .before .before .before .before .before .before .before .before .before .before .before .before .before .before .before .before .before .before .before .before .before .records .given .0 .1 .0 ≤ MAXFILE + 1 = few-cells (a .d) (a .file .now) (a .room) (a .starts .now) (a .ends .now) (a .kinds .now) (q .1) (a .columns) (a .form) (a .next) (q .0) _ _ _ _ (c .before .before .before .before .before .before .before .before .before .before .before .before .before .before .before .before .before .before .before .before .before .before .before .before .before .before .before .before .before .before .before .data-records .ensures) _ _ (c .before .before .before .before .before .before .before .before .before .before .before .before .before .before .before .before .before .before .before .before .before .before .before .records .given .1) in
     let y : a .columns + c .before .before .before .before .before .before .before .before .before .before .before .before .before .before .before .before .before .before .before .before .before .before .before .records .given .0 .1 .0 < 2 ^ 64 = omega arith in
     record { fits = y }
-
-same-length-4 : tie.Need-same-length-4
-same-length-4 c = search needs
-
-same-length-5 : tie.Need-same-length-5
-same-length-5 c = search needs
-
-same-length-6 : tie.Need-same-length-6
-same-length-6 c = search needs
 
 returns-2 : tie.Need-returns-2
 returns-2 c =
@@ -128,23 +89,23 @@ header-and-data-spec =
     tie.close
     (tie.spec
     data-records-requires
-    enum-known-e
-    refused-requires
-    enum-known-records
+    (λ c. search needs)
+    (λ c κs. search needs)
+    (λ c. search needs)
     add-if1
-    on-call-requires
-    refused-requires-2
-    same-length
-    same-length-2
-    same-length-3
+    (λ c κs. search needs)
+    (λ c κs. search needs)
+    (λ c. search needs)
+    (λ c. search needs)
+    (λ c. search needs)
     returns
-    next-record-requires
+    (λ c κs. search needs)
     data-records-requires-2
-    on-call-requires-2
+    (λ c κs. search needs)
     add-t21
-    same-length-4
-    same-length-5
-    same-length-6
+    (λ c. search needs)
+    (λ c. search needs)
+    (λ c. search needs)
     returns-2
     same-length-7
     same-length-8
