@@ -265,7 +265,9 @@ grown-by-requires c κs =
 
 shared-slice-read-after-cell : tie.Need-shared-slice-read-after-cell Inv-loop μ-loop
 shared-slice-read-after-cell c =
-    lies-cell-at (c .before .before .before .before .before) _ _ (c .before .before .before .closes .given .1) .1
+    let at-closes = c .before .before .before in
+    let at-place = at-closes .before .before in
+    lies-cell-at (at-place) _ _ (at-closes .closes .given .1) .1
 
 same-length-13 : tie.Need-same-length-13 Inv-loop μ-loop
 same-length-13 c =

@@ -5,25 +5,41 @@ use Rattle.scanner.proofs.ahead.ahead.Statement.{statement}
 use Rattle.scanner.proofs.ahead.ahead.Tie as tie
 
 returns : tie.Need-returns
-returns c = met-skipped (c .before .before .before .before .before .before .before .before .args .d) (c .before .before .before .before .before .before .before .before .args .file .now) (c .before .before .before .before .before .before .before .before .args .f) (c .before .before .before .before .before .before .before .before .args .i) (c .before .before .before .before .before .before .before .before .args .size) (c .before .before .before .before .before .before .before .before .pre .0) (c .before .before .before .before .before .before .before .before .pre .1) _ (c .before .comment-end .ensures) (c .if1 .taken)
+returns c =
+    let at-args = c .before .before .before .before .before .before .before .before in
+    met-skipped (at-args .args .d) (at-args .args .file .now) (at-args .args .f) (at-args .args .i) (at-args .args .size) (at-args .pre .0) (at-args .pre .1) _ (c .before .comment-end .ensures) (c .if1 .taken)
 
 returns-2 : tie.Need-returns-2
-returns-2 c = met-byte (c .before .before .before .before .before .before .before .before .args .d) (c .before .before .before .before .before .before .before .before .args .file .now) (c .before .before .before .before .before .before .before .before .args .f) (c .before .before .before .before .before .before .before .before .args .i) (c .before .before .before .before .before .before .before .before .args .size) (c .before .before .before .before .before .before .before .before .pre .0) (c .before .before .before .before .before .before .before .before .pre .1) _ (c .before .before .before .before .before .hold .ensures) _ (c .before .before .before .s .given .1)
+returns-2 c =
+    let at-s = c .before .before .before in
+    let at-args = at-s .before .before .before .before .before in
+    met-byte (at-args .args .d) (at-args .args .file .now) (at-args .args .f) (at-args .args .i) (at-args .args .size) (at-args .pre .0) (at-args .pre .1) _ (at-s .before .before .hold .ensures) _ (at-s .s .given .1)
 
 returns-3 : tie.Need-returns-3
-returns-3 c = met-after (c .before .before .before .before .before .args .d) (c .before .before .before .before .before .args .file .now) (c .before .before .before .before .before .args .f) (c .before .before .before .before .before .args .i) (c .before .before .before .before .before .args .size) (c .before .before .before .before .before .pre .0) (c .before .before .before .before .before .pre .1) _ (c .before .before .hold .ensures) (c .enum-told .given .1)
+returns-3 c =
+    let at-args = c .before .before .before .before .before in
+    met-after (at-args .args .d) (at-args .args .file .now) (at-args .args .f) (at-args .args .i) (at-args .args .size) (at-args .pre .0) (at-args .pre .1) _ (c .before .before .hold .ensures) (c .enum-told .given .1)
 
 returns-4 : tie.Need-returns-4
 returns-4 c =
-    met-cell (c .before .before .before .before .before .before .before .before .before .before .before .args .d) (c .before .before .before .before .before .before .before .before .before .before .before .args .file .now) (c .before .before .before .before .before .before .before .before .before .before .before .args .f) (c .before .before .before .before .before .before .before .before .before .before .before .args .i) (c .before .before .before .before .before .before .before .before .before .before .before .args .size) (c .before .before .before .before .before .before .before .before .before .before .before .pre .0) (c .before .before .before .before .before .before .before .before .before .before .before .pre .1) _ (c .before .before .before .before .before .before .before .before .hold .ensures) _ (c .before .before .before .before .before .before .c .given .1) _ (c .before .before .before .before .free-to .ensures) _ (sym (c .before .before .before .cell-end .ensures) ∙ c .before .j .given .1)
+    let at-cell-end = c .before .before .before in
+    let at-c = at-cell-end .before .before .before in
+    let at-args = at-c .before .before .before .before .before in
+    met-cell (at-args .args .d) (at-args .args .file .now) (at-args .args .f) (at-args .args .i) (at-args .args .size) (at-args .pre .0) (at-args .pre .1) _ (at-c .before .before .hold .ensures) _ (at-c .c .given .1) _ (at-cell-end .before .free-to .ensures) _ (sym (at-cell-end .cell-end .ensures) ∙ c .before .j .given .1)
 
 returns-5 : tie.Need-returns-5
 returns-5 c =
-    met-cell (c .before .before .before .before .before .before .before .before .before .before .before .args .d) (c .before .before .before .before .before .before .before .before .before .before .before .args .file .now) (c .before .before .before .before .before .before .before .before .before .before .before .args .f) (c .before .before .before .before .before .before .before .before .before .before .before .args .i) (c .before .before .before .before .before .before .before .before .before .before .before .args .size) (c .before .before .before .before .before .before .before .before .before .before .before .pre .0) (c .before .before .before .before .before .before .before .before .before .before .before .pre .1) _ (c .before .before .before .before .before .before .before .before .hold .ensures) _ (c .before .before .before .before .before .before .c .given .1) _ (c .before .before .before .before .free-to .ensures) _ (sym (c .before .before .before .cell-end .ensures) ∙ c .before .e .given .1)
+    let at-cell-end = c .before .before .before in
+    let at-c = at-cell-end .before .before .before in
+    let at-args = at-c .before .before .before .before .before in
+    met-cell (at-args .args .d) (at-args .args .file .now) (at-args .args .f) (at-args .args .i) (at-args .args .size) (at-args .pre .0) (at-args .pre .1) _ (at-c .before .before .hold .ensures) _ (at-c .c .given .1) _ (at-cell-end .before .free-to .ensures) _ (sym (at-cell-end .cell-end .ensures) ∙ c .before .e .given .1)
 
 returns-6 : tie.Need-returns-6
 returns-6 c =
-    met-cell (c .before .before .before .before .before .before .before .before .before .before .before .args .d) (c .before .before .before .before .before .before .before .before .before .before .before .args .file .now) (c .before .before .before .before .before .before .before .before .before .before .before .args .f) (c .before .before .before .before .before .before .before .before .before .before .before .args .i) (c .before .before .before .before .before .before .before .before .before .before .before .args .size) (c .before .before .before .before .before .before .before .before .before .before .before .pre .0) (c .before .before .before .before .before .before .before .before .before .before .before .pre .1) _ (c .before .before .before .before .before .before .before .before .hold .ensures) _ (c .before .before .before .before .before .before .c .given .1) _ (c .before .before .before .before .free-to .ensures) _ (sym (c .before .before .before .cell-end .ensures) ∙ c .before .t .given .1)
+    let at-cell-end = c .before .before .before in
+    let at-c = at-cell-end .before .before .before in
+    let at-args = at-c .before .before .before .before .before in
+    met-cell (at-args .args .d) (at-args .args .file .now) (at-args .args .f) (at-args .args .i) (at-args .args .size) (at-args .pre .0) (at-args .pre .1) _ (at-c .before .before .hold .ensures) _ (at-c .c .given .1) _ (at-cell-end .before .free-to .ensures) _ (sym (at-cell-end .cell-end .ensures) ∙ c .before .t .given .1)
 
 pub ahead-spec : {M : Type 1} → statement M
 ahead-spec =

@@ -18,7 +18,9 @@ comment-run-requires c κs =
     rw (c .least-of .ensures) (omega arith, least-first n MAXFILE)
 
 returns-8 : tie.Need-returns-8
-returns-8 c = search (← c .comment-run .ensures, ← c .before .least-of .ensures, c .before .before .enum-told8 .given .1, c .before .before .before .before .before .f .given .1)
+returns-8 c =
+    let at-f = c .before .before .before .before .before in
+    search (← c .comment-run .ensures, ← c .before .least-of .ensures, c .before .before .enum-told8 .given .1, at-f .f .given .1)
 
 pub comment-end-spec : {M : Type 1} → statement M
 comment-end-spec =
