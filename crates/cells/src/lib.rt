@@ -31,7 +31,7 @@ fn answer_of(d: Decoded) -> DecodeAnswer
             column: 0,
             offset: 0,
             length,
-            kind: decoder::kind_number(kind) as usize,
+            kind: numbers::kind_number(kind) as usize,
         },
         Decoded::Refused(e) => DecodeAnswer {
             number: e.number,

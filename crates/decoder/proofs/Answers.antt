@@ -1,24 +1,24 @@
 -- The answers of the definition, case by case: what a call answered and left is what the definition says.
 -- Assumes nothing.
 use mathlib.Core.Path.{_≡_, refl, sym, ap, _∙_}
-use mathlib.Core.Option.{none}
+use mathlib.Core.Option.{none, some}
 use Prim.Native.Nat.{ℕ, _<_, _≤_}
 use lib.ListN.{length}
-use borrow.Author.Tests.{ne-eqb, lt-ltb, le-ltb}
+use borrow.Author.Tests.{lt-ltb, le-ltb}
 use Rattle.model.specs.declared.Report.{Report}
 use Rattle.model.specs.declared.Kind.{Kind}
 use Rattle.model.specs.declared.Dialect.{Dialect}
-use Rattle.model.specs.declared.Dialect.the-variants.{Csvj, Tdif, CsvPlus}
 use Rattle.model.specs.declared.Fault.{Fault}
 use Rattle.model.specs.declared.Judged.the-variants.{WholeCell, Unsound}
 use Rattle.model.specs.Base.{if_then_else_, Bytes, over}
-use Rattle.model.specs.Dialect.{dialectOf, standard}
-use Rattle.model.specs.Report.{report, refusal, numberOf}
+use Rattle.model.specs.Dialect.{dialectOf}
+use Rattle.model.specs.Report.{report, refusal, numberOf, columnOf}
 use Rattle.model.specs.Decode.{kindOf, contentOf, judgeCell}
 use Rattle.model.specs.Api as api
 use Rattle.decoder.specs.declared.Decoded.{Decoded}
 use Rattle.decoder.specs.declared.Decoded.the-variants.{Content, Refused}
 use Rattle.decoder.specs.Answer.{answerOf, shown, soundCell, anyCell}
+use Rattle.decoder.proofs.Judging.{no-column}
 
 -- the answer r and a room that held old and holds new are what the definition answers
 abbrev pub Decodes : api.Decoded → Decoded → (old new : Bytes) → Type 0
@@ -45,34 +45,23 @@ module _ (d : Dialect) (raw old : Bytes) where
   pub sound : (r : Decoded) (new : Bytes) → judgeCell d raw ≡ WholeCell → Decodes (soundCell d raw (length old)) r old new → Decodes (anyCell d raw (length old)) r old new
   sound r new j p = rw j p
 
-  pub unsound : (f : Fault) (o : ℕ) (e : Report) → judgeCell d raw ≡ Unsound f o → e ≡ report (numberOf f) 0 0 o → Decodes (anyCell d raw (length old)) (Refused e) old old
-  unsound f o e j h = rw j (refused e (report (numberOf f) 0 0 o) old h)
+  pub unsound : (f : Fault) (o : ℕ) (e : Report) → judgeCell d raw ≡ Unsound f o → e ≡ report (numberOf f) 0 (columnOf f) o → Decodes (anyCell d raw (length old)) (Refused e) old old
+  unsound f o e j h = rw j (refused e (report (numberOf f) 0 0 o) old (h ∙ ap (λ (n : ℕ). report (numberOf f) 0 n o) (no-column d raw f o j)))
 
 -- ---- the call
 
-module _ (n : ℕ) (raw : Bytes) where
-  pub dialect-one : (room : ℕ) → n ≡ 1 → api.decoder n raw room ≡ anyCell Csvj raw room
-  unfolding api.decoder dialectOf if_then_else_
-  dialect-one room e = rw e
-
-  pub dialect-two : (room : ℕ) → n ≡ 2 → api.decoder n raw room ≡ anyCell Tdif raw room
-  unfolding api.decoder dialectOf if_then_else_
-  dialect-two room e = rw e
-
-  pub dialect-three : (room : ℕ) → n ≡ 3 → api.decoder n raw room ≡ anyCell (CsvPlus standard) raw room
-  unfolding api.decoder dialectOf if_then_else_
-  dialect-three room e = rw e
-
-  no-dialect : (n ≡ 1 → ⊥) → (n ≡ 2 → ⊥) → (n ≡ 3 → ⊥) → dialectOf n ≡ none
-  unfolding dialectOf if_then_else_
-  no-dialect a b c = rw (ne-eqb n 1 a, ne-eqb n 2 b, ne-eqb n 3 c)
-
-  pub decodes : (a : api.Decoded) (r : Decoded) (old new : Bytes) → api.decoder n raw (length old) ≡ a → Decodes a r old new
+module _ (n : ℕ) (raw old : Bytes) where
+  answers : (a : api.Decoded) (r : Decoded) (new : Bytes) → api.decoder n raw (length old) ≡ a → Decodes a r old new
       → (answerOf r ≡ shown (api.decoder n raw (length old))) × (new ≡ api.decoderLeaves n raw old)
   unfolding api.decoderLeaves
-  decodes a r old new e p = (p .0 ∙ ap shown (sym e), p .1 ∙ ap (λ (x : api.Decoded). over (x .content) old) (sym e))
+  answers a r new e p = (p .0 ∙ ap shown (sym e), p .1 ∙ ap (λ (x : api.Decoded). over (x .content) old) (sym e))
 
-  pub unknown : (e : Report) (old : Bytes) → (n ≡ 1 → ⊥) → (n ≡ 2 → ⊥) → (n ≡ 3 → ⊥) → e ≡ refusal 11
+  pub known : (d : Dialect) (r : Decoded) (new : Bytes) → some d ≡ dialectOf n → Decodes (anyCell d raw (length old)) r old new
+      → (answerOf r ≡ shown (api.decoder n raw (length old))) × (new ≡ api.decoderLeaves n raw old)
+  unfolding api.decoder
+  known d r new e p = answers (anyCell d raw (length old)) r new (rw (← e, api.decoder)) p
+
+  pub unknown : (e : Report) → none ≡ dialectOf n → e ≡ refusal 11
       → (answerOf (Refused e) ≡ shown (api.decoder n raw (length old))) × (old ≡ api.decoderLeaves n raw old)
   unfolding api.decoder
-  unknown e old a b c h = decodes (api.notDecoded (refusal 11)) (Refused e) old old (rw (no-dialect a b c, api.decoder)) (refused e (refusal 11) old h)
+  unknown e f h = answers (api.notDecoded (refusal 11)) (Refused e) old (rw (← f, api.decoder)) (refused e (refusal 11) old h)

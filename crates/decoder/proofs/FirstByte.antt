@@ -1,33 +1,24 @@
--- What the first byte says is what the definitions say of the cell.
+-- What the first byte says of the content is what the definition says of the cell.
 -- Assumes nothing.
 use mathlib.Core.Path.{_≡_, refl, ap, _∙_}
 use mathlib.Core.Bool.{Bool, true, false, _||_}
 use mathlib.Core.List.{[], _∷_}
-use native.Mathlib.Omega.{arith}
-use lib.ListN.{length, getD}
+use lib.ListN.{getD}
 use Prim.Native.Nat.{ℕ}
 use Rattle.model.specs.declared.Settings.{Settings}
 use Rattle.model.specs.declared.Dialect.{Dialect}
 use Rattle.model.specs.declared.Dialect.the-variants.{Csvj, Tdif, CsvPlus}
 use Rattle.model.specs.Base.{if_then_else_, _is_, Bytes, QUOTE}
 use Rattle.model.specs.Dialect.{quoteOf}
-use Rattle.model.specs.Decode.{kindOf, contentOf, undouble, between, units, textOf}
+use Rattle.model.specs.Decode.{contentOf, undouble, between, units, textOf}
 use Rattle.model.specs.Cell.{isDigit}
 use Rattle.model.proofs.Tests.{split}
 use Rattle.decoder.specs.declared.first.Spelling.{Spelling}
 use Rattle.decoder.specs.declared.first.Spelling.the-variants.{Nothing, AsItStands, Doubled, Escaped}
-use Rattle.decoder.specs.FirstByte.{kindBy, spellingBy, contentIn}
-
-pub kind-first : (d : Dialect) (raw : Bytes) → kindBy d (getD raw 0 0) ≡ kindOf d raw
-unfolding kindBy kindOf if_then_else_
-kind-first Csvj [] = refl
-kind-first Csvj (b ∷ bs) = refl
-kind-first Tdif [] = refl
-kind-first Tdif (b ∷ bs) = refl
-kind-first (CsvPlus s) raw = refl
+use Rattle.decoder.specs.FirstByte.{spellingBy, contentIn}
 
 plus-none : (s : Settings) → contentIn (spellingBy (CsvPlus s) 0) [] ≡ []
-unfolding spellingBy contentIn undouble
+unfolding spellingBy undouble
 plus-none s = split (λ (k : Spelling). contentIn k [] ≡ []) (0 is quoteOf (CsvPlus s)) (λ _. refl) λ _. refl
 
 -- a choice of spellings, by a test
@@ -37,7 +28,7 @@ in-choice true x y raw = refl
 in-choice false x y raw = refl
 
 pub content-first : (d : Dialect) (raw : Bytes) → contentIn (spellingBy d (getD raw 0 0)) raw ≡ contentOf d raw
-unfolding spellingBy contentIn contentOf if_then_else_
+unfolding spellingBy contentOf if_then_else_
 content-first Csvj [] = refl
 content-first Csvj (b ∷ bs) =
     in-choice (b is QUOTE) Escaped (if b is 0x2D || isDigit b then AsItStands else Nothing) (b ∷ bs)
@@ -46,10 +37,6 @@ content-first Tdif [] = refl
 content-first Tdif (b ∷ bs) = in-choice (b is QUOTE) (Doubled QUOTE) Nothing (b ∷ bs)
 content-first (CsvPlus s) [] = plus-none s
 content-first (CsvPlus s) (b ∷ bs) = in-choice (b is quoteOf (CsvPlus s)) (Doubled (quoteOf (CsvPlus s))) AsItStands (b ∷ bs)
-
-pub first-none : (raw : Bytes) → length raw ≡ 0 → 0 ≡ getD raw 0 0
-first-none [] e = refl
-first-none (b ∷ bs) e = absurd (omega arith)
 
 -- a spelling after the dialect's own quote
 pub spelt-tdif : (d : Dialect) (q b : ℕ) (r : Spelling) → d ≡ Tdif → q ≡ quoteOf d → r ≡ (if b is q then Doubled q else Nothing) → r ≡ spellingBy d b

@@ -12,12 +12,15 @@ use Rattle.model.specs.declared.Cell.the-variants.{Fresh}
 use Rattle.model.specs.declared.ByteFault.the-variants.{Syntax}
 use Rattle.model.specs.declared.Added.{Added}
 use Rattle.model.specs.declared.Added.the-variants.{More, Stop, Refuse}
+use Rattle.model.specs.declared.Fault.{Fault}
 use Rattle.model.specs.declared.Fault.the-variants.{Byte, CutShort}
 use Rattle.model.specs.declared.Judged.{Judged}
 use Rattle.model.specs.declared.Judged.the-variants.{WholeCell, Unsound}
 use Rattle.model.specs.Base.{if_then_else_, Bytes}
 use Rattle.model.specs.Cell.{cellStep, isWhole}
+use Rattle.model.specs.Report.{columnOf}
 use Rattle.model.specs.Decode.{judgeFrom, judgeCell}
+use Rattle.model.proofs.Tests.{split}
 use Rattle.lexer.specs.declared.run.CellEnd.{CellEnd}
 use Rattle.lexer.specs.declared.run.CellEnd.the-variants.{Stopped, Refused, Open}
 use Rattle.lexer.specs.Run.{part, cellRun}
@@ -54,3 +57,16 @@ unfolding judgeCell
 judged d raw r e =
     let whole : part raw 0 (length raw) ≡ raw = take-all (length raw - 0) raw (omega arith) in
     run-judged d Fresh 0 raw (length raw) (omega arith) ∙ ap (judgedBy d (length raw)) (ap (cellRun d Fresh 0) (sym whole) ∙ sym e)
+
+-- a fault of a cell names no column
+abbrev columnIn : Judged → ℕ
+columnIn WholeCell = 0
+columnIn (Unsound e i) = columnOf e
+
+pub no-column : (d : Dialect) (raw : Bytes) (e : Fault) (i : ℕ) → judgeCell d raw ≡ Unsound e i → columnOf e ≡ 0
+no-column d raw e i j = ap columnIn (sym j ∙ judged d raw (cellRun d Fresh 0 (part raw 0 (length raw))) refl) ∙ at-end (cellRun d Fresh 0 (part raw 0 (length raw)))
+  where
+    at-end : (r : CellEnd) → columnIn (judgedBy d (length raw) r) ≡ 0
+    at-end (Stopped c k) = refl
+    at-end (Refused f k) = refl
+    at-end (Open c) = split (λ (x : Judged). columnIn x ≡ 0) (isWhole d c) (λ _. refl) λ _. refl

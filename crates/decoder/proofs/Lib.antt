@@ -1,4 +1,3 @@
-pub mod Tests
 pub mod Strings
 pub mod Writing
 pub mod Doubled

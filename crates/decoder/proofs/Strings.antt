@@ -1,7 +1,7 @@
 -- Strings of CSVJ by place: what the definition makes of the bytes from a place on, by the bytes that stand there.
 -- Assumes nothing.
 use mathlib.Core.Path.{_≡_, refl, sym, ap, _∙_}
-use mathlib.Core.Bool.{Bool, true, false, _&&_}
+use mathlib.Core.Bool.{true, false, and-false}
 use mathlib.Core.List.{List, [], _∷_, _++_, append-nil}
 use Prim.Native.Nat.{ℕ, _+_, _-_, _*_, _<_, _≤_}
 use native.Mathlib.Numerals.{add-one}
@@ -77,10 +77,6 @@ cut-digits (a ∷ b ∷ c ∷ []) h = refl
 cut-digits (a ∷ b ∷ c ∷ d ∷ bs) h = absurd (omega arith)
 
 -- ---- surrogates
-
-and-false : (x : Bool) → (x && false) ≡ false
-and-false true = refl
-and-false false = refl
 
 pub lone-nil : Lone []
 unfolding textOf

@@ -126,7 +126,6 @@ read-acceptable d xs end e = go (accepted-comes d xs end xs nothingRead [] [] []
 -- ---- the theorems
 
 fault-number : (e : types.Fault) → 1 ≤ numberOf e
-unfolding numberOf
 fault-number types.NoRecord = omega arith
 fault-number (types.Byte Encoding) = omega arith
 fault-number (types.Byte Syntax) = omega arith

@@ -1,7 +1,7 @@
 -- Keys of names by their bytes, and two keys by what stands at a place.
 -- Assumes nothing.
 use mathlib.Core.Path.{_≡_, refl, ap, _∙_}
-use mathlib.Core.Bool.{Bool, true, false, _&&_}
+use mathlib.Core.Bool.{Bool, true, false, _&&_, and-false}
 use mathlib.Core.List.{List, [], _∷_, map}
 use Prim.Native.Nat.{ℕ, zero, suc, _+_, _-_, _<_, _≤_}
 use native.Mathlib.Omega.{arith}
@@ -17,7 +17,7 @@ use Rattle.judge.specs.Keys.{folded, keyAt, keysBefore}
 
 -- the key is the name with each byte folded
 pub key-folds : (d : Dialect) (bs : Bytes) → nameKey d bs ≡ map (folded d) bs
-unfolding nameKey folded
+unfolding nameKey
 key-folds Csvj [] = refl
 key-folds Csvj (b ∷ bs) = ap (λ (l : Bytes). b ∷ l) (key-folds Csvj bs)
 key-folds Tdif [] = refl
@@ -32,10 +32,6 @@ same-length [] [] h = absurd (h refl)
 same-length [] (y ∷ b) h = refl
 same-length (x ∷ a) [] h = refl
 same-length (x ∷ a) (y ∷ b) h = rw (same-length a b (λ e. h (omega arith))) (and-false (eqb x y))
-  where
-    and-false : (t : Bool) → (t && false) ≡ false
-    and-false true = refl
-    and-false false = refl
 
 -- whether two names are the same from place i on
 abbrev pub sameFrom : Dialect → (a b : Bytes) → ℕ → Bool

@@ -1,4 +1,3 @@
-pub mod Tests
 pub mod Cells
 pub mod Keys
 pub mod Decoding

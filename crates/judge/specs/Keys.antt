@@ -10,7 +10,7 @@ use Rattle.model.specs.Decode.{contentOf}
 use Rattle.model.specs.Api.{part}
 
 -- a byte of a name as names are compared
-unfoldable pub folded : Dialect → ℕ → ℕ
+abbrev pub folded : Dialect → ℕ → ℕ
 folded Csvj b = b
 folded Tdif b = lower b
 folded (CsvPlus s) b = b

@@ -39,7 +39,7 @@ LEASTOUTPUT = 49152
 -- ---- the table of faults, column by column
 
 -- the table's first column: the number of each fault (§6.1 §6.2 §6.3 §6.4 §6.5 §6.6 §6.7 §6.8 §6.13 §6.9)
-unfoldable pub numberOf : Fault → ℕ
+abbrev pub numberOf : Fault → ℕ
 numberOf NoRecord = 1
 numberOf (Byte Encoding) = 2
 numberOf (Byte Syntax) = 3
@@ -58,7 +58,7 @@ numberOf TextTooLong = 9
 numberOf OutputTooLong = 9
 
 -- the table's last column: 0, but for 6, 7 and three of the reasons for 9 (§6.6 §6.7 §8.2 §8.3 §8.4 §8.5 §8.6)
-unfoldable pub columnOf : Fault → ℕ
+abbrev pub columnOf : Fault → ℕ
 columnOf NoRecord = 0
 columnOf (Byte e) = 0
 columnOf CutShort = 0
@@ -77,7 +77,7 @@ columnOf OutputTooLong = 0
 
 -- the table's offset is where reading stands, that is the faulty byte, the first byte too many or the file's length, and not
 -- the record's start (§6.1 §6.2 §6.3 §6.4 §6.8)
-unfoldable pub isAtByte : Fault → Bool
+abbrev pub isAtByte : Fault → Bool
 isAtByte NoRecord = true
 isAtByte (Byte e) = true
 isAtByte CutShort = true
@@ -93,8 +93,3 @@ isAtByte (LoneSurrogate c) = false
 isAtByte (Clash c) = false
 isAtByte TextTooLong = false
 isAtByte OutputTooLong = false
-
--- helper: `unfolding report-computes` opens every definition of this module
-unfoldable pub report-computes : Type 0
-unfolding numberOf columnOf isAtByte
-report-computes = Unit {0}

@@ -7,11 +7,8 @@ use mathlib.Core.Option.{none, some}
 use mathlib.Core.List.{List, [], _∷_, _++_, map, map-append, append-nil}
 use lib.ListN.{length, drop, length-append, length-map}
 use lib.Dec.{ltb}
-use borrow.Author.Tests.{ne-eqb, lt-ltb, le-ltb}
+use borrow.Author.Tests.{lt-ltb, le-ltb}
 use Rattle.model.specs.declared.Dialect.{Dialect}
-use Rattle.model.specs.declared.Dialect.the-variants.{Csvj, Tdif, CsvPlus}
-use Rattle.model.specs.declared.Delimiter.the-variants.{Comma}
-use Rattle.model.specs.declared.Quote.the-variants.{Double}
 use Rattle.model.specs.declared.Form.{Form}
 use Rattle.model.specs.declared.Report.{Report}
 use Rattle.model.specs.Base.{if_then_else_, Bytes, concat, over}
@@ -22,7 +19,7 @@ use Rattle.model.specs.Records.{Rec, rows, Read, Progress, going, stopped, read
 use Rattle.model.specs.Api as api
 use Rattle.model.specs.Api.{startsOf, endsOf, kindsOf}
 use Rattle.scanner.specs.Placed.{placed}
-use Rattle.scanner.proofs.Coming.{least-first, least-second}
+use Rattle.numbers.proofs.Least.{least-first, least-second}
 use Rattle.reader.specs.declared.Answer.{Answer}
 use Rattle.reader.specs.declared.records.Head.{Head}
 use Rattle.reader.specs.declared.records.Head.the-variants.{Header, HeaderOnly, NoHeader}
@@ -148,80 +145,82 @@ module _ (d : Dialect) (file : Bytes) (room : ℕ) (s₀ e₀ k₀ : List ℕ) (
               at-kinds = fills _ room (concat (rows (h ∷ []))) k₀ k w (fit .2) (pk ∙ ap (λ (vs : List Value). placed room 0 (kindsOf vs) k₀) (sym v));
             })
 
-  -- ---- a header and data
+-- ---- a header and data
 
-  -- the header, as it is when data may follow
-  record Begun (n : ℕ) (f : Form) (next : ℕ) : Type 0 where
-    h : Rec
-    first : h .cells ≡ firstOf d file .cells
-    count : length (h .cells) ≡ n
-    rest : readFile d none file ≡ restOf d file (h ∷ []) f next
+-- the header, as it is when data may follow
+record Begun (d : Dialect) (file : Bytes) (n : ℕ) (f : Form) (next : ℕ) : Type 0 where
+  h : Rec
+  first : h .cells ≡ firstOf d file .cells
+  count : length (h .cells) ≡ n
+  rest : readFile d none file ≡ restOf d file (h ∷ []) f next
 
-  begun : (n : ℕ) (f : Form) (next : ℕ) → Heads d file (Header n f next) → Begun n f next
-  begun n f next (with-data h g o hc p l m b) = record { h = h; first = hc; count = refl; rest = p }
+begun : {d : Dialect} {file : Bytes} {n : ℕ} {f : Form} {next : ℕ} → Heads d file (Header n f next) → Begun d file n f next
+begun (with-data h g o hc p l m b) = record { h = h; first = hc; count = refl; rest = p }
 
-  pub header-bounds : (n : ℕ) (f : Form) (next : ℕ) → Heads d file (Header n f next) → (next ≤ length file) × (next ≤ MAXFILE) × (n ≤ next)
-  header-bounds n f next (with-data h g o hc p l m b) = (l, m, b)
+pub header-bounds : {d : Dialect} {file : Bytes} {n : ℕ} {f : Form} {next : ℕ} → Heads d file (Header n f next) → (next ≤ length file) × (next ≤ MAXFILE) × (n ≤ next)
+header-bounds (with-data h g o hc p l m b) = (l, m, b)
 
-  module _ (n : ℕ) (f : Form) (next : ℕ) (a : Heads d file (Header n f next)) (p : Pass) (s₁ e₁ k₁ : List ℕ) (y : Passes d file next f n 0 n s₀ e₀ k₀ p s₁ e₁ k₁) where
-    -- the first pass stores nothing
-    pub unchanged : (s₁ ≡ s₀) × (e₁ ≡ e₀) × (k₁ ≡ k₀)
-    unchanged = (y .lists .at-starts ∙ placed-none n (startsOf (y .vs)) s₀, y .lists .at-ends ∙ placed-none n (endsOf (y .vs)) e₀, y .lists .at-kinds ∙ placed-none n (kindsOf (y .vs)) k₀)
+module _ {d : Dialect} {file : Bytes} {n : ℕ} {f : Form} {next base : ℕ} {s₀ e₀ k₀ s₁ e₁ k₁ : List ℕ} {p : Pass} where
+  -- a pass with no room stores nothing
+  pub unchanged : Passes d file next f n 0 base s₀ e₀ k₀ p s₁ e₁ k₁ → (s₁ ≡ s₀) × (e₁ ≡ e₀) × (k₁ ≡ k₀)
+  unchanged y = (y .lists .at-starts ∙ placed-none base (startsOf (y .vs)) s₀, y .lists .at-ends ∙ placed-none base (endsOf (y .vs)) e₀, y .lists .at-kinds ∙ placed-none base (kindsOf (y .vs)) k₀)
 
-    head : Begun n f next
-    head = begun n f next a
+  pub few-cells : {room records c : ℕ} → Passes d file next f n room base s₀ e₀ k₀ p s₁ e₁ k₁ → p ≡ Accepted records c → base + c ≤ MAXFILE + 1
+  few-cells y q = subst (λ (x : Pass). passes.Few base x) q (y .few)
 
-    outcome : Outcome (head .h) (y .vs) (restOf d file (head .h ∷ []) f next) p
-    outcome = y .outcome (head .h) (head .count)
+-- after a first pass that left the lists as they were
+module _ (room : ℕ) {d : Dialect} {file : Bytes} {n : ℕ} {f : Form} {next : ℕ} (a : Heads d file (Header n f next)) {m : ℕ} {s₀ e₀ k₀ s₁ e₁ k₁ : List ℕ} {p : Pass} (y : Passes d file next f n m n s₀ e₀ k₀ p s₁ e₁ k₁) (kept : (s₁ ≡ s₀) × (e₁ ≡ e₀) × (k₁ ≡ k₀)) where
+  head : Begun d file n f next
+  head = begun a
 
-    pub data-refused : (t : Report) → p ≡ Refused t → (r : Answer) → r ≡ told (api.noAnswer t) → Said r s₁ e₁ k₁
-    data-refused t q r re =
-        let o : Outcome (head .h) (y .vs) (restOf d file (head .h ∷ []) f next) (Refused t) = subst (λ (x : Pass). Outcome (head .h) (y .vs) (restOf d file (head .h ∷ []) f next) x) q outcome in
-        refusing (answerIn d file room) t r s₀ e₀ k₀ s₁ e₁ k₁ (ap (λ (g : Progress). api.answerOf g room) (head .rest) ∙ refused-by o .answer room) re (unchanged .0) (unchanged .1) (unchanged .2)
+  outcome : Outcome (head .h) (y .vs) (restOf d file (head .h ∷ []) f next) p
+  outcome = y .outcome (head .h) (head .count)
 
-    module _ (records c : ℕ) (q : p ≡ Accepted records c) where
-      by : AcceptedBy (head .h) (y .vs) (restOf d file (head .h ∷ []) f next) records c
-      by = accepted-by (subst (λ (x : Pass). Outcome (head .h) (y .vs) (restOf d file (head .h ∷ []) f next) x) q outcome)
+  pub data-refused : (t : Report) → p ≡ Refused t → (r : Answer) → r ≡ told (api.noAnswer t) → Answered (answerIn d file room) r s₀ e₀ k₀ s₁ e₁ k₁
+  data-refused t q r re =
+      let o : Outcome (head .h) (y .vs) (restOf d file (head .h ∷ []) f next) (Refused t) = subst (λ (x : Pass). Outcome (head .h) (y .vs) (restOf d file (head .h ∷ []) f next) x) q outcome in
+      refusing (answerIn d file room) t r s₀ e₀ k₀ s₁ e₁ k₁ (ap (λ (g : Progress). api.answerOf g room) (head .rest) ∙ refused-by o .answer room) re (kept .0) (kept .1) (kept .2)
 
-      all : readFile d none file ≡ going (by .r)
-      all = head .rest ∙ by .same
+  module _ {records c : ℕ} (q : p ≡ Accepted records c) where
+    by : AcceptedBy (head .h) (y .vs) (restOf d file (head .h ∷ []) f next) records c
+    by = accepted-by (subst (λ (x : Pass). Outcome (head .h) (y .vs) (restOf d file (head .h ∷ []) f next) x) q outcome)
 
-      total : length (concat (rows (head .h ∷ by .ds))) ≡ n + c
-      total =
-          ap length (rows-more (head .h) (by .ds)) ∙ length-append (head .h .cells) (concat (rows (by .ds)))
-          ∙ ap (λ (m : ℕ). m + length (concat (rows (by .ds)))) (head .count)
-          ∙ ap (λ (m : ℕ). n + m) (ap length (by .cells) ∙ by .sized)
+    all : readFile d none file ≡ going (by .r)
+    all = head .rest ∙ by .same
 
-      pub few-cells : n + c ≤ MAXFILE + 1
-      few-cells = subst (λ (x : Pass). passes.Few n x) q (y .few)
+    total : length (concat (rows (head .h ∷ by .ds))) ≡ n + c
+    total =
+        ap length (rows-more (head .h) (by .ds)) ∙ length-append (head .h .cells) (concat (rows (by .ds)))
+        ∙ ap (λ (m : ℕ). m + length (concat (rows (by .ds)))) (head .count)
+        ∙ ap (λ (m : ℕ). n + m) (ap length (by .cells) ∙ by .sized)
 
-      pub data-crowded : room < n + c → (t : Report) → t ≡ refusal 10 → (r : Answer) → r ≡ told (api.noAnswer t) → Said r s₁ e₁ k₁
-      data-crowded l t te r re =
-          refusing (answerIn d file room) (refusal 10) r s₀ e₀ k₀ s₁ e₁ k₁
-          (crowded d file room (n + c) (head .h) (by .ds) (by .r) all (by .done) total l) (re ∙ ap (λ (z : Report). told (api.noAnswer z)) te) (unchanged .0) (unchanged .1) (unchanged .2)
+    pub data-crowded : room < n + c → (t : Report) → t ≡ refusal 10 → (r : Answer) → r ≡ told (api.noAnswer t) → Answered (answerIn d file room) r s₀ e₀ k₀ s₁ e₁ k₁
+    data-crowded l t te r re =
+        refusing (answerIn d file room) (refusal 10) r s₀ e₀ k₀ s₁ e₁ k₁
+        (crowded d file room (n + c) (head .h) (by .ds) (by .r) all (by .done) total l) (re ∙ ap (λ (z : Report). told (api.noAnswer z)) te) (kept .0) (kept .1) (kept .2)
 
-      module _ (l : n + c ≤ room) (s₂ e₂ k₂ : List ℕ) (ps : s₂ ≡ placed room 0 (startsOf (firstOf d file .cells)) s₁) (pe : e₂ ≡ placed room 0 (endsOf (firstOf d file .cells)) e₁) (pk : k₂ ≡ placed room 0 (kindsOf (firstOf d file .cells)) k₁) (p₂ : Pass) (s₃ e₃ k₃ : List ℕ) (z : Passes d file next f n room n s₂ e₂ k₂ p₂ s₃ e₃ k₃) where
-        again : concat (rows (by .ds)) ≡ z .vs
-        again = same-cells (head .h) (z .vs) (restOf d file (head .h ∷ []) f next) p₂ (by .r) (by .ds) (z .outcome (head .h) (head .count)) (by .same) (by .done)
+    module _ (fit : (room ≤ length s₀) × (room ≤ length e₀) × (room ≤ length k₀)) (l : n + c ≤ room) {s₂ e₂ k₂ : List ℕ} (ps : s₂ ≡ placed room 0 (startsOf (firstOf d file .cells)) s₁) (pe : e₂ ≡ placed room 0 (endsOf (firstOf d file .cells)) e₁) (pk : k₂ ≡ placed room 0 (kindsOf (firstOf d file .cells)) k₁) {p₂ : Pass} {s₃ e₃ k₃ : List ℕ} (z : Passes d file next f n room n s₂ e₂ k₂ p₂ s₃ e₃ k₃) where
+      again : concat (rows (by .ds)) ≡ z .vs
+      again = same-cells (head .h) (z .vs) (restOf d file (head .h ∷ []) f next) p₂ (by .r) (by .ds) (z .outcome (head .h) (head .count)) (by .same) (by .done)
 
-        filled : (φ : Value → ℕ) (old mid₁ mid₂ out : List ℕ) → mid₁ ≡ old → mid₂ ≡ placed room 0 (map φ (firstOf d file .cells)) mid₁ → out ≡ placed room n (map φ (z .vs)) mid₂ → room ≤ length old → out ≡ over (map φ (concat (rows (head .h ∷ by .ds)))) old
-        filled φ old mid₁ mid₂ out x u v w =
-            let e1 : mid₂ ≡ placed room 0 (map φ (head .h .cells)) old = u ∙ ap (placed room 0 (map φ (firstOf d file .cells))) x ∙ ap (λ (vs : List Value). placed room 0 (map φ vs) old) (sym (head .first)) in
-            let e2 : out ≡ placed room (length (head .h .cells)) (map φ (concat (rows (by .ds)))) mid₂ = v ∙ ap (λ (vs : List Value). placed room n (map φ vs) mid₂) (sym again) ∙ ap (λ (m : ℕ). placed room m (map φ (concat (rows (by .ds)))) mid₂) (sym (head .count)) in
-            let m : length (head .h .cells ++ concat (rows (by .ds))) ≡ n + c = ap length (sym (rows-more (head .h) (by .ds))) ∙ total in
-            fills-on φ room (head .h .cells) (concat (rows (by .ds))) old mid₂ out (omega arith) w e1 e2
-            ∙ ap (λ (vs : List Value). over (map φ vs) old) (sym (rows-more (head .h) (by .ds)))
+      filled : (φ : Value → ℕ) (old mid₁ mid₂ out : List ℕ) → mid₁ ≡ old → mid₂ ≡ placed room 0 (map φ (firstOf d file .cells)) mid₁ → out ≡ placed room n (map φ (z .vs)) mid₂ → room ≤ length old → out ≡ over (map φ (concat (rows (head .h ∷ by .ds)))) old
+      filled φ old mid₁ mid₂ out x u v w =
+          let e1 : mid₂ ≡ placed room 0 (map φ (head .h .cells)) old = u ∙ ap (placed room 0 (map φ (firstOf d file .cells))) x ∙ ap (λ (vs : List Value). placed room 0 (map φ vs) old) (sym (head .first)) in
+          let e2 : out ≡ placed room (length (head .h .cells)) (map φ (concat (rows (by .ds)))) mid₂ = v ∙ ap (λ (vs : List Value). placed room n (map φ vs) mid₂) (sym again) ∙ ap (λ (m : ℕ). placed room m (map φ (concat (rows (by .ds)))) mid₂) (sym (head .count)) in
+          let m : length (head .h .cells ++ concat (rows (by .ds))) ≡ n + c = ap length (sym (rows-more (head .h) (by .ds))) ∙ total in
+          fills-on φ room (head .h .cells) (concat (rows (by .ds))) old mid₂ out (omega arith) w e1 e2
+          ∙ ap (λ (vs : List Value). over (map φ vs) old) (sym (rows-more (head .h) (by .ds)))
 
-        pub data-roomy : (t : Report) → t ≡ refusal 0 → Said (record { report = t; columns = n; records = records; cells = n + c }) s₃ e₃ k₃
-        data-roomy t te =
-            subst (λ (x : api.Answer). Answered x (record { report = t; columns = n; records = records; cells = n + c }) s₀ e₀ k₀ s₃ e₃ k₃)
-            (sym (roomy d file room (n + c) (head .h) (by .ds) (by .r) all (by .done) total l))
-            (record {
-              answer = rw (te, total, head .count, by .count);
-              at-starts = filled _ s₀ s₁ s₂ s₃ (unchanged .0) ps (z .lists .at-starts) (fit .0);
-              at-ends = filled _ e₀ e₁ e₂ e₃ (unchanged .1) pe (z .lists .at-ends) (fit .1);
-              at-kinds = filled _ k₀ k₁ k₂ k₃ (unchanged .2) pk (z .lists .at-kinds) (fit .2);
-            })
+      pub data-roomy : (t : Report) → t ≡ refusal 0 → Answered (answerIn d file room) (record { report = t; columns = n; records = records; cells = n + c }) s₀ e₀ k₀ s₃ e₃ k₃
+      data-roomy t te =
+          subst (λ (x : api.Answer). Answered x (record { report = t; columns = n; records = records; cells = n + c }) s₀ e₀ k₀ s₃ e₃ k₃)
+          (sym (roomy d file room (n + c) (head .h) (by .ds) (by .r) all (by .done) total l))
+          (record {
+            answer = rw (te, total, head .count, by .count);
+            at-starts = filled _ s₀ s₁ s₂ s₃ (kept .0) ps (z .lists .at-starts) (fit .0);
+            at-ends = filled _ e₀ e₁ e₂ e₃ (kept .1) pe (z .lists .at-ends) (fit .1);
+            at-kinds = filled _ k₀ k₁ k₂ k₃ (kept .2) pk (z .lists .at-kinds) (fit .2);
+          })
 
 -- ---- a file of a dialect
 
@@ -258,27 +257,11 @@ by-answer : (n : ℕ) (file s₀ e₀ k₀ : List ℕ) (a : api.Answer) (r : Ans
 unfolding api.readCall
 by-answer n file s₀ e₀ k₀ a r s e k q t = subst (λ (b : api.Answer). Fills b s₀ e₀ k₀ r s e k) (sym q) t
 
-pub known : (n : ℕ) (d : Dialect) → dialectOf n ≡ some d → (file s₀ e₀ k₀ : List ℕ) (r : Answer) (s e k : List ℕ) → Fills (answerIn d file (Room s₀ e₀ k₀)) s₀ e₀ k₀ r s e k → Calls n file s₀ e₀ k₀ r s e k
+pub known : (n : ℕ) (d : Dialect) → some d ≡ dialectOf n → (file s₀ e₀ k₀ : List ℕ) (r : Answer) (s e k : List ℕ) → Fills (answerIn d file (Room s₀ e₀ k₀)) s₀ e₀ k₀ r s e k → Calls n file s₀ e₀ k₀ r s e k
 unfolding api.reader
-known n d q file s₀ e₀ k₀ r s e k t = by-answer n file s₀ e₀ k₀ (answerIn d file (Room s₀ e₀ k₀)) r s e k (rw (q, api.reader)) t
+known n d q file s₀ e₀ k₀ r s e k t = by-answer n file s₀ e₀ k₀ (answerIn d file (Room s₀ e₀ k₀)) r s e k (rw (← q, api.reader)) t
 
-no-dialect : (n : ℕ) → ¬ (n ≡ 1) → ¬ (n ≡ 2) → ¬ (n ≡ 3) → dialectOf n ≡ none
-unfolding dialectOf if_then_else_
-no-dialect n a b c = rw (ne-eqb n 1 a, ne-eqb n 2 b, ne-eqb n 3 c)
-
-pub unknown : (n : ℕ) → ¬ (n ≡ 1) → ¬ (n ≡ 2) → ¬ (n ≡ 3) → (file s₀ e₀ k₀ : List ℕ) (t : Report) (r : Answer) → t ≡ refusal 11 → r ≡ told (api.noAnswer t) → Calls n file s₀ e₀ k₀ r s₀ e₀ k₀
+pub unknown : (n : ℕ) → none ≡ dialectOf n → (file s₀ e₀ k₀ : List ℕ) (t : Report) (r : Answer) → t ≡ refusal 11 → r ≡ told (api.noAnswer t) → Calls n file s₀ e₀ k₀ r s₀ e₀ k₀
 unfolding api.reader
-unknown n a b c file s₀ e₀ k₀ t r te re =
-    by-answer n file s₀ e₀ k₀ (api.noAnswer (refusal 11)) r s₀ e₀ k₀ (rw (no-dialect n a b c, api.reader)) (re ∙ ap (λ (z : Report). told (api.noAnswer z)) te, (refl, (refl, refl)))
-
-pub is-csvj : (n : ℕ) → n ≡ 1 → dialectOf n ≡ some Csvj
-unfolding dialectOf if_then_else_
-is-csvj n e = rw e
-
-pub is-tdif : (n : ℕ) → n ≡ 2 → dialectOf n ≡ some Tdif
-unfolding dialectOf if_then_else_
-is-tdif n e = rw e
-
-pub is-plus : (n : ℕ) → n ≡ 3 → dialectOf n ≡ some (CsvPlus (record { delimiter = Comma; quote = Double }))
-unfolding dialectOf if_then_else_
-is-plus n e = rw e
+unknown n q file s₀ e₀ k₀ t r te re =
+    by-answer n file s₀ e₀ k₀ (api.noAnswer (refusal 11)) r s₀ e₀ k₀ (rw (← q, api.reader)) (re ∙ ap (λ (z : Report). told (api.noAnswer z)) te, (refl, (refl, refl)))

@@ -19,7 +19,7 @@ use Rattle.model.specs.declared.Verdict.the-variants.{Sound, Faulty}
 use Rattle.model.specs.Base.{Bytes}
 use Rattle.model.specs.Text.{Value}
 use Rattle.model.specs.Laws.{All, all-none, all-cons}
-use Rattle.model.specs.Report.{report, numberOf, columnOf, isAtByte, MAXFILE, MAXCOLUMNS}
+use Rattle.model.specs.Report.{report, numberOf, columnOf, MAXFILE, MAXCOLUMNS}
 use Rattle.model.specs.Records.{Rec, Read, between-records, Progress, going, stopped, complete, readFrom, readEnd, readBytes, readFile, nothingRead, recordFault, headerFault, faultReport, _orElse_, when}
 use Rattle.model.specs.Api.{startsOf, endsOf}
 use Rattle.scanner.specs.Next.{Next, nextRecord, Fits}
@@ -152,7 +152,6 @@ module _ (d : Dialect) (file : Bytes) where
         subst (λ (k : Report). Heads d file (NoHeader k)) (sym q) (faulty x (at .r) p)
 
     pub nothing-there : (o : ℕ) → v ≡ Finished o → (t : Report) → t ≡ report (numberOf NoRecord) 1 (columnOf NoRecord) o → Heads d file (NoHeader t)
-    unfolding isAtByte
     nothing-there o w t te =
         let at = on-finish d file [] First _ first-follows o (sym ev ∙ w) in
         let p : readFile d none file ≡ stopped NoRecord (at .r) = whole ∙ at .rest in

@@ -36,23 +36,23 @@ or-starts Sound y a b = b
 or-starts (Faulty e) y a b = a
 
 text-starts : (n : ℕ) (vs : List Value) → AtStart (notTextFrom n vs)
-unfolding notTextFrom isAtByte
+unfolding notTextFrom
 text-starts n [] = sound
 text-starts n (v ∷ vs) = or-starts (when (not (isText (v .kind))) (NotText n)) (notTextFrom (suc n) vs) (when-starts (not (isText (v .kind))) (NotText n) refl) (text-starts (suc n) vs)
 
 repeat-starts : (d : Dialect) (seen : List Bytes) (n : ℕ) (vs : List Value) → AtStart (repeatFrom d Repeats seen n vs)
-unfolding repeatFrom isAtByte
+unfolding repeatFrom
 repeat-starts d seen n [] = sound
 repeat-starts d seen n (v ∷ vs) = split AtStart (among (nameKey d (v .content)) seen) (λ _. starts-it refl) λ _. repeat-starts d (nameKey d (v .content) ∷ seen) (suc n) vs
 
 pub header-starts : (d : Dialect) (vs : List Value) → AtStart (headerFault d vs)
-unfolding headerFault repeatFault isAtByte
+unfolding headerFault repeatFault
 header-starts d vs =
     or-starts (when (ltb MAXCOLUMNS (length vs)) TooManyColumns) _ (when-starts (ltb MAXCOLUMNS (length vs)) TooManyColumns refl)
     (or-starts (notTextFrom 1 vs) _ (text-starts 1 vs) (repeat-starts d [] 1 vs))
 
 pub data-starts : (columns : ℕ) (vs : List Value) → AtStart (dataFault columns vs)
-unfolding dataFault isAtByte
+unfolding dataFault
 data-starts n vs =
     or-starts (when (ltb MAXCOLUMNS (length vs)) TooManyColumns) _ (when-starts (ltb MAXCOLUMNS (length vs)) TooManyColumns refl)
     (when-starts (not (eqb (length vs) n)) Uneven refl)

@@ -1,4 +1,3 @@
-pub mod Tests
 pub mod Filling
 pub mod Judging
 pub mod Events

@@ -7,12 +7,12 @@ ghost use Rattle.model.specs.Records.{headerFault};
 ghost use Rattle.model.specs.Report.{MAXFILE};
 ghost use Rattle.scanner.specs.Stretches.{StandsIn};
 ghost use Rattle.reader.specs.Passes.{firstOf, Shows, Heads, Passes};
-use crate::report;
 use model::Dialect;
 use model::Fault;
 use model::Form;
 use model::Report;
 use model::Verdict;
+use numbers::MAX_COLUMNS;
 use scanner::Event;
 
 // What a file begins with.
@@ -37,7 +37,7 @@ fn judged(d: Dialect, file: &[u8], cells: usize, starts: &[usize], ends: &[usize
     requires { ⌜ All (StandsIn d (now file)) (firstOf d (now file) .cells) ⌝ }
     ensures { λ r. ⌜ r ≡ headerFault d (firstOf d (now (file .entry)) .cells) ⌝ }
 {
-    if 64 < cells {
+    if MAX_COLUMNS < cells {
         return Verdict::Faulty(Fault::TooManyColumns);
     }
     judge::header(d, file, &starts[..cells], &ends[..cells])
@@ -47,15 +47,15 @@ fn judged(d: Dialect, file: &[u8], cells: usize, starts: &[usize], ends: &[usize
 pub fn first_record(d: Dialect, file: &[u8]) -> Head
     ensures { λ r. ⌜ Heads d (now (file .entry)) r ⌝ }
 {
-    let mut starts = [0usize; 64];
-    let mut ends = [0usize; 64];
-    let mut kinds = [0u8; 64];
+    let mut starts = [0usize; MAX_COLUMNS];
+    let mut ends = [0usize; MAX_COLUMNS];
+    let mut kinds = [0u8; MAX_COLUMNS];
     match scanner::next_record(
         d,
         file,
         0,
         Form::Top,
-        64,
+        MAX_COLUMNS,
         0,
         &mut starts,
         &mut ends,
@@ -68,14 +68,18 @@ pub fn first_record(d: Dialect, file: &[u8]) -> Head
             next,
         } => match judged(d, file, cells, &starts, &ends) {
             Verdict::Sound => Head::Header { cells, form, next },
-            Verdict::Faulty(e) => Head::NoHeader(report::on_record(e, 1, start)),
+            Verdict::Faulty(e) => Head::NoHeader(numbers::on_record(e, 1, start)),
         },
         Event::LastRecord { start, cells } => match judged(d, file, cells, &starts, &ends) {
             Verdict::Sound => Head::HeaderOnly { cells },
-            Verdict::Faulty(e) => Head::NoHeader(report::on_record(e, 1, start)),
+            Verdict::Faulty(e) => Head::NoHeader(numbers::on_record(e, 1, start)),
         },
-        Event::Failed { fault, offset } => Head::NoHeader(report::on_record(fault, 1, offset)),
-        Event::Finished { offset } => Head::NoHeader(report::on_record(Fault::NoRecord, 1, offset)),
+        Event::Failed { fault, offset } => Head::NoHeader(numbers::on_record(fault, 1, offset)),
+        Event::Finished { offset } => Head::NoHeader(numbers::on_record(
+            Fault::NoRecord,
+            1,
+            offset,
+        )),
     }
 }
 
@@ -122,7 +126,7 @@ pub fn data_records(
                     records += 1;
                 }
                 Verdict::Faulty(e) => {
-                    return Pass::Refused(report::on_record(e, records + 2, start));
+                    return Pass::Refused(numbers::on_record(e, records + 2, start));
                 }
             },
             Event::LastRecord { start, cells: n } => match judge::data(columns, n) {
@@ -133,11 +137,11 @@ pub fn data_records(
                     };
                 }
                 Verdict::Faulty(e) => {
-                    return Pass::Refused(report::on_record(e, records + 2, start));
+                    return Pass::Refused(numbers::on_record(e, records + 2, start));
                 }
             },
             Event::Failed { fault, offset } => {
-                return Pass::Refused(report::on_record(fault, records + 2, offset));
+                return Pass::Refused(numbers::on_record(fault, records + 2, offset));
             }
             Event::Finished { offset: _ } => {
                 return Pass::Accepted { records, cells };

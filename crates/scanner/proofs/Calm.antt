@@ -10,7 +10,7 @@ use Rattle.model.proofs.Tests.{split}
 use Rattle.model.proofs.Counted.{blank-counted, delimiter-counted}
 use Rattle.model.proofs.FormSteps as steps
 use Rattle.model.proofs.FormSteps.{Rests, Around, Starts, Grown, Opens, Goes, step-goes}
-use Rattle.scanner.specs.Types.{Dialect, Csvj, Tdif, CsvPlus, ByteFault, Form, Outside, Passed, OfCell, Between, Tail, Ends, Step, To, Reject}
+use Rattle.model.specs.Types.{Dialect, Csvj, Tdif, CsvPlus, ByteFault, Form, Outside, Passed, OfCell, Between, Tail, Ends, Step, To, Reject}
 use Rattle.scanner.specs.Ahead.{outer}
 
 pub data Calm (f : Form) (b : ℕ) : Step → Type 0 where

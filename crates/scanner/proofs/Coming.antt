@@ -9,14 +9,13 @@ use mathlib.Core.List.{List, [], _∷_, _++_}
 use lib.ListN.{length, take, drop, getD, length-drop}
 use lib.Seq.{drop-cons, take-suc, length-take-le, getD-drop}
 use lib.Dec.{leb}
-use borrow.Author.Tests.{lt-leb, leb-true, leb-false}
+use borrow.Author.Tests.{lt-leb}
 use Rattle.model.specs.Base.{if_then_else_, Bytes}
 use Rattle.model.specs.Cell.{cellStep}
 use Rattle.model.specs.Form.{formStep, inCell, grow, afterCell, counts}
 use Rattle.model.specs.Text.{Value}
 use Rattle.model.specs.Report.{MAXFILE, MAXRECORD}
 use Rattle.model.specs.Records.{Read, fileFull, recordFull}
-use Rattle.model.proofs.Tests.{split, split-on}
 use Rattle.lexer.specs.Run.{part, ordinary, leading, cellRun}
 use Rattle.lexer.specs.Met.{stepOf}
 use Rattle.lexer.specs.declared.form.Held.{Held}
@@ -24,9 +23,21 @@ use Rattle.lexer.specs.declared.form.Held.the-variants as held
 use Rattle.lexer.specs.declared.run.CellEnd.{CellEnd}
 use Rattle.lexer.specs.declared.run.CellEnd.the-variants as cell-end
 use Rattle.lexer.proofs.Runs.{part-next, part-end, part-short, leading-on, leading-ends, leading-none, rest-more, rest-stops, rest-refused, rest-open, comment-step}
-use Rattle.scanner.specs.Types.{Dialect, Whole, Within, Cell, Added, More, Stop, Refuse, Form, Top, Begin, Ended, Mark1, Mark2, PlainMark1, PlainMark2, Comment, Blanks, Wanting, Inside, After, Cr, Part, Outside, Passed, OfCell, Between, Tail, Ends, Step, To, Reject, InHand, Met, Is, Skipped, AfterCell, Refused, Open}
+use Rattle.model.specs.declared.Dialect.{Dialect}
+use Rattle.model.specs.declared.Char.the-variants.{Whole, Within}
+use Rattle.model.specs.declared.Cell.{Cell}
+use Rattle.model.specs.declared.Added.{Added}
+use Rattle.model.specs.declared.Added.the-variants.{More, Stop, Refuse}
+use Rattle.model.specs.declared.Form.{Form}
+use Rattle.model.specs.declared.Form.the-variants.{Top, Begin, Ended, Mark1, Mark2, PlainMark1, PlainMark2, Comment, Blanks, Wanting, Inside, After, Cr}
+use Rattle.model.specs.declared.Part.{Part}
+use Rattle.model.specs.declared.Part.the-variants.{Outside, Passed, OfCell, Between, Tail, Ends}
+use Rattle.model.specs.declared.Step.{Step}
+use Rattle.model.specs.declared.Step.the-variants.{To, Reject}
+use Rattle.scanner.specs.Types.{InHand, Met, Is, Skipped, AfterCell, Refused, Open}
 use Rattle.scanner.specs.Next.{handAfter, grown, cellsAfter, carried, stepped, nextRecord, Next}
 use Rattle.model.specs.Api.{least}
+use Rattle.numbers.proofs.Least.{least-first, least-second, least-above}
 use Rattle.scanner.specs.Ahead.{readAt, steppedAt, metNext, Free, Comes, Lies, commentEnd}
 
 -- ---- one byte
@@ -177,17 +188,6 @@ module _ (d : Dialect) (file : Bytes) (vs : List Value) (stop : ℕ) (inside : s
       not-full f j k l = rw (lt-leb MAXRECORD (k .size) l)
 
 -- ---- limits
-
-pub least-first : (a b : ℕ) → least a b ≤ a
-unfolding if_then_else_
-least-first a b = split-on (leb a b) (λ e. rw (e, if_then_else_) (omega arith)) λ e. let h : b < a = leb-false a b e in rw (e, if_then_else_) (omega arith)
-
-pub least-second : (a b : ℕ) → least a b ≤ b
-unfolding if_then_else_
-least-second a b = split-on (leb a b) (λ e. let h : a ≤ b = leb-true a b e in rw (e, if_then_else_) (omega arith)) λ e. rw (e, if_then_else_) (omega arith)
-
-pub least-above : (x a b : ℕ) → x < a → x < b → x < least a b
-least-above x a b h k = split (λ (n : ℕ). x < n) (leb a b) (λ _. h) λ _. k
 
 pub one-free : (length i size : ℕ) → i < length → i < MAXFILE → Free length i size (i + 1)
 one-free n i size h k = record { on = omega arith; inside = omega arith; file = omega arith; fits = λ l. absurd (omega arith) }

@@ -1,4 +1,3 @@
-pub mod Tests
 pub mod Placing
 pub mod Coming
 pub mod Calm

@@ -13,7 +13,16 @@ use Rattle.model.specs.Form.{formStep, formEnd, counts}
 use Rattle.model.specs.Report.{MAXFILE, MAXRECORD, isAtByte}
 use Rattle.model.specs.Records.{Rec, Read, Progress, going, stopped, closing, complete, move, fileFull, recordFull, readByte, readFrom, readEnd, endAt}
 use Rattle.model.proofs.Tests.{impossible}
-use Rattle.scanner.specs.Types.{Dialect, ByteFault, Encoding, Syntax, Fault, Byte, Form, Part, Outside, Passed, OfCell, Between, Tail, Ends, Step, To, Reject, Ending, Clean, Final, Cut, CutShort, FileTooLong, RecordTooLong}
+use Rattle.model.specs.declared.Dialect.{Dialect}
+use Rattle.model.specs.declared.Form.{Form}
+use Rattle.model.specs.declared.Part.{Part}
+use Rattle.model.specs.declared.Part.the-variants.{Outside, Passed, OfCell, Between, Tail, Ends}
+use Rattle.model.specs.declared.Step.{Step}
+use Rattle.model.specs.declared.Step.the-variants.{To, Reject}
+use Rattle.model.specs.declared.Ending.{Ending}
+use Rattle.model.specs.declared.Ending.the-variants.{Clean, Final, Cut}
+use Rattle.model.specs.declared.Fault.{Fault}
+use Rattle.model.specs.declared.Fault.the-variants.{Byte, CutShort, FileTooLong, RecordTooLong}
 use Rattle.scanner.specs.Next.{Next, endsRecord, carried, failed, ended, stepped, nextRecord}
 use Rattle.scanner.specs.Reading.{redone, Follows, after-record, after-last, after-fault, after-all}
 
@@ -33,7 +42,6 @@ module _ (d : Dialect) (file : Bytes) (rs : List Rec) where
 
   -- the end of the file
   at-end : (r : Read) (x : Ending) → Follows d file rs (ended d r x) (endAt d none (redone rs r) x)
-  unfolding isAtByte
   at-end r Clean = after-all (redone rs r) refl
   at-end r Final = after-last (redone rs r) (closing d true r) refl
   at-end r Cut = after-fault CutShort (redone rs r) (r .cells) refl refl
@@ -65,7 +73,7 @@ module _ (d : Dialect) (file : Bytes) (rs : List Rec) where
   Ih bs = (r : Read) → bs ≡ drop (r .offset) file → Follows d file rs (nextRecord d r bs) (Rest (going (redone rs r)) bs)
 
   on-byte : (r : Read) (b : ℕ) (bs : Bytes) → bs ≡ drop (r .offset + 1) file → Ih bs → (s : Step) → Follows d file rs (stepped d r b (λ r′. nextRecord d r′ bs) s) (Rest (move d none (redone rs r) b s) bs)
-  unfolding stepped if_then_else_ isAtByte move
+  unfolding stepped if_then_else_ move
   on-byte r b bs e ih (Reject x) = faulty (Byte x) r bs refl
   on-byte r b bs e ih (To f Outside) = rw (within-record r b f Outside refl) (ih (carried d r b f Outside) e)
   on-byte r b bs e ih (To f Passed) = rw (within-record r b f Passed refl) (ih (carried d r b f Passed) e)
@@ -75,7 +83,7 @@ module _ (d : Dialect) (file : Bytes) (rs : List Rec) where
   on-byte r b bs e ih (To f (Ends k)) = at-ending r b f k bs e
 
   choose : (r : Read) (b : ℕ) (bs : Bytes) → bs ≡ drop (r .offset + 1) file → Ih bs → (x y : Bool) (s : Step) → Follows d file rs (if x then failed FileTooLong r else if y then failed RecordTooLong r else stepped d r b (λ r′. nextRecord d r′ bs) s) (Rest (if x then stopped FileTooLong (redone rs r) else if y then stopped RecordTooLong (redone rs r) else move d none (redone rs r) b s) bs)
-  unfolding if_then_else_ isAtByte
+  unfolding if_then_else_
   choose r b bs e ih true y s = faulty FileTooLong r bs refl
   choose r b bs e ih false true s = faulty RecordTooLong r bs refl
   choose r b bs e ih false false s = on-byte r b bs e ih s

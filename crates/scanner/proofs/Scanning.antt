@@ -20,7 +20,20 @@ use Rattle.model.specs.Api.{startsOf, endsOf, kindsOf}
 use Rattle.model.proofs.Tests.{impossible}
 use Rattle.lexer.specs.Run.{part}
 use Rattle.lexer.proofs.Runs.{part-end}
-use Rattle.scanner.specs.Types.{Dialect, Csvj, Tdif, CsvPlus, Cell, Form, Top, Begin, Ended, Mark1, Mark2, PlainMark1, PlainMark2, Comment, Blanks, Wanting, Inside, After, Cr, Part, Outside, Passed, OfCell, Between, Tail, Ends, Step, To, Reject, Ending, Clean, Final, Cut, ByteFault, Byte, CutShort, FileTooLong, RecordTooLong, InHand, Met, Is, Skipped, AfterCell, Refused, Open, Event, Completed, LastRecord, Failed, Finished}
+use Rattle.model.specs.declared.Dialect.{Dialect}
+use Rattle.model.specs.declared.Dialect.the-variants.{Csvj, Tdif, CsvPlus}
+use Rattle.model.specs.declared.Cell.{Cell}
+use Rattle.model.specs.declared.ByteFault.{ByteFault}
+use Rattle.model.specs.declared.Form.{Form}
+use Rattle.model.specs.declared.Form.the-variants.{Top, Begin, Ended, Mark1, Mark2, PlainMark1, PlainMark2, Comment, Blanks, Wanting, Inside, After, Cr}
+use Rattle.model.specs.declared.Part.{Part}
+use Rattle.model.specs.declared.Part.the-variants.{Outside, Passed, OfCell, Between, Tail, Ends}
+use Rattle.model.specs.declared.Step.{Step}
+use Rattle.model.specs.declared.Step.the-variants.{To, Reject}
+use Rattle.model.specs.declared.Ending.{Ending}
+use Rattle.model.specs.declared.Ending.the-variants.{Clean, Final, Cut}
+use Rattle.model.specs.declared.Fault.the-variants.{Byte, CutShort, FileTooLong, RecordTooLong}
+use Rattle.scanner.specs.Types.{InHand, Met, Is, Skipped, AfterCell, Refused, Open, Event, Completed, LastRecord, Failed, Finished}
 use Rattle.scanner.specs.Next.{Next, closesCell, endsRecord, oneMore, handAfter, grown, cellsAfter, failed, completed, ended, stepped, nextRecord, Fits}
 use Rattle.scanner.specs.Ahead.{readAt, steppedAt, metNext, outer, Lies, Comes}
 use Rattle.scanner.specs.Placed.{putAt, putIf, placed}

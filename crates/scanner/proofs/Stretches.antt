@@ -18,7 +18,12 @@ use Rattle.model.proofs.Tests.{split}
 use Rattle.model.proofs.CellRuns.{all-snoc}
 use Rattle.lexer.specs.Run.{part}
 use Rattle.lexer.proofs.Runs.{part-end}
-use Rattle.scanner.specs.Types.{Dialect, Form, Outside, Passed, OfCell, Between, Tail, Step, Ending, Clean, Final, Cut}
+use Rattle.model.specs.declared.Dialect.{Dialect}
+use Rattle.model.specs.declared.Form.{Form}
+use Rattle.model.specs.declared.Part.the-variants.{Outside, Passed, OfCell, Between, Tail}
+use Rattle.model.specs.declared.Step.{Step}
+use Rattle.model.specs.declared.Ending.{Ending}
+use Rattle.model.specs.declared.Ending.the-variants.{Clean, Final, Cut}
 use Rattle.scanner.specs.Next.{Next, carried, ended, stepped, nextRecord}
 use Rattle.scanner.specs.Stretches.{StandsIn}
 use Rattle.scanner.proofs.Coming.{part-one}

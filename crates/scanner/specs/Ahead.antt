@@ -12,7 +12,14 @@ use Rattle.model.specs.Report.{MAXFILE, MAXRECORD}
 use Rattle.model.specs.Records.{Read, recordFull}
 use Rattle.model.specs.Api.{least}
 use Rattle.lexer.specs.Run.{part, leading}
-use Rattle.scanner.specs.Types.{Dialect, Char, Whole, Within, Form, Top, Begin, Ended, Mark1, Mark2, PlainMark1, PlainMark2, Comment, Blanks, Wanting, Inside, After, Cr, Outside, Step, Byte, InHand, Failed, Met, Is, Skipped, AfterCell, Refused, Open}
+use Rattle.model.specs.declared.Dialect.{Dialect}
+use Rattle.model.specs.declared.Char.the-variants.{Whole, Within}
+use Rattle.model.specs.declared.Form.{Form}
+use Rattle.model.specs.declared.Form.the-variants.{Top, Begin, Ended, Mark1, Mark2, PlainMark1, PlainMark2, Comment, Blanks, Wanting, Inside, After, Cr}
+use Rattle.model.specs.declared.Part.the-variants.{Outside}
+use Rattle.model.specs.declared.Step.{Step}
+use Rattle.model.specs.declared.Fault.the-variants.{Byte}
+use Rattle.scanner.specs.Types.{InHand, Failed, Met, Is, Skipped, AfterCell, Refused, Open}
 use Rattle.scanner.specs.Next.{Next, stepped, nextRecord, handAfter, grown}
 
 -- reading of this file at i, by the numbers in hand: the bytes of the cell in hand are those from where it was opened

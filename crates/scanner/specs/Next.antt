@@ -9,7 +9,17 @@ use Rattle.model.specs.Form.{formStep, formEnd}
 use Rattle.model.specs.Text.{Value}
 use Rattle.model.specs.Report.{MAXFILE}
 use Rattle.model.specs.Records.{Read, closing, fileFull, recordFull}
-use Rattle.scanner.specs.Types.{Dialect, Form, Part, Outside, Passed, OfCell, Between, Tail, Ends, Step, To, Reject, Ending, Clean, Final, Cut, Fault, Byte, CutShort, FileTooLong, RecordTooLong, InHand, Event, Completed, LastRecord, Failed, Finished}
+use Rattle.model.specs.declared.Dialect.{Dialect}
+use Rattle.model.specs.declared.Form.{Form}
+use Rattle.model.specs.declared.Part.{Part}
+use Rattle.model.specs.declared.Part.the-variants.{Outside, Passed, OfCell, Between, Tail, Ends}
+use Rattle.model.specs.declared.Step.{Step}
+use Rattle.model.specs.declared.Step.the-variants.{To, Reject}
+use Rattle.model.specs.declared.Ending.{Ending}
+use Rattle.model.specs.declared.Ending.the-variants.{Clean, Final, Cut}
+use Rattle.model.specs.declared.Fault.{Fault}
+use Rattle.model.specs.declared.Fault.the-variants.{Byte, CutShort, FileTooLong, RecordTooLong}
+use Rattle.scanner.specs.Types.{InHand, Event, Completed, LastRecord, Failed, Finished}
 
 -- ---- what a byte does to the record in hand
 

@@ -9,7 +9,11 @@ use Rattle.model.specs.Base.{Bytes}
 use Rattle.model.specs.Text.{Value}
 use Rattle.model.specs.Report.{isAtByte}
 use Rattle.model.specs.Records.{Rec, Read, Progress, stopped, complete, readFrom, readEnd, endBetween}
-use Rattle.scanner.specs.Types.{Dialect, Form, Begin, Fault, Completed, LastRecord, Failed, Finished}
+use Rattle.model.specs.declared.Dialect.{Dialect}
+use Rattle.model.specs.declared.Form.{Form}
+use Rattle.model.specs.declared.Form.the-variants.{Begin}
+use Rattle.model.specs.declared.Fault.{Fault}
+use Rattle.scanner.specs.Types.{Completed, LastRecord, Failed, Finished}
 use Rattle.scanner.specs.Next.{Next}
 
 -- the same place of reading, after these records

@@ -7,7 +7,7 @@ use Rattle.model.specs.Decode.{kindOf, contentOf}
 use Rattle.model.specs.Text.{Value}
 use Rattle.model.specs.Report.{MAXRECORD}
 use Rattle.lexer.specs.Run.{part}
-use Rattle.scanner.specs.Types.{Dialect}
+use Rattle.model.specs.declared.Dialect.{Dialect}
 
 -- a cell that stands in a file: its kind and content are those of its stretch, which is no longer than a record may be
 pub record StandsIn (d : Dialect) (file : Bytes) (v : Value) : Type 0 where

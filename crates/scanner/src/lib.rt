@@ -4,10 +4,10 @@
 //
 // The loop holds numbers and the place in the file; ahead.rt finds what stands ahead of it, which is mostly a whole cell. Each
 // function on this way is called from one place, or its answer would go through memory: that costs half of the speed.
-pub mod ahead;
-pub mod hand;
-pub mod limits;
-pub mod place;
+mod ahead;
+mod hand;
+mod limits;
+mod place;
 
 ghost use mathlib.Core.Path.{_≡_};
 ghost use mathlib.Core.List.{[]};
@@ -81,7 +81,7 @@ pub fn next_record(
         cells: 0,
     };
     while i < file.len() {
-        if 16777215 <= i {
+        if numbers::MAX_FILE <= i {
             return Event::Failed {
                 fault: Fault::FileTooLong,
                 offset: i,

@@ -1,54 +1,34 @@
 -- `decoder::decode_cell` meets its contract: the judgement decides, and a refusal names its fault.
 -- Assumes nothing.
-use mathlib.Core.Path.{sym, ap, _∙_}
-use Prim.Native.Nat.{ℕ}
+use mathlib.Core.Path.{sym, _∙_}
 use borrow.Author.Needs.{needs}
-use Rattle.model.specs.Report.{report}
 use Rattle.decoder.proofs.Answers.{sound, unsound}
 use Rattle.decoder.proofs.decode_cell.Statement.{statement}
 use Rattle.decoder.proofs.decode_cell.Tie as tie
 
-judge-cell-requires : tie.Need-judge-cell-requires
-judge-cell-requires c κs = search needs
-
-enum-told : tie.Need-enum-told
-enum-told c = search needs
-
-decode-sound-requires : tie.Need-decode-sound-requires
-decode-sound-requires c κs = search needs
-
-enum-known-fault : tie.Need-enum-known-fault
-enum-known-fault c = search needs
-
-number-of-requires : tie.Need-number-of-requires
-number-of-requires c κs = search needs
-
-on-cell-requires : tie.Need-on-cell-requires
-on-cell-requires c κs = search needs
-
-same-length : tie.Need-same-length
-same-length c = search needs
-
 returns : tie.Need-returns
 returns c =
-    sound (c .before .before .before .before .before .before .before .before .before .args .d) (c .before .before .before .before .before .before .before .before .before .args .raw .now) (c .before .before .before .before .before .before .before .before .before .args .room .now) (c .before .before .decode-sound .result) (c .before .before .decode-sound .last .1 .1 .0)
-    (sym (c .before .before .before .before .before .before .judge-cell .ensures) ∙ c .before .before .before .before .enum-told .given .1) (c .before .before .decode-sound .ensures)
+    let called = c .before .before .decode-sound in
+    let told = c .before .before .before .before in
+    let judged = told .before .before in
+    let a = judged .before .before .before .args in
+    sound (a .d) (a .raw .now) (a .room .now) (called .result) (called .last .1 .1 .0) (sym (judged .judge-cell .ensures) ∙ told .enum-told .given .1) (called .ensures)
 
 returns-2 : tie.Need-returns-2
 returns-2 c =
-    unsound (c .before .before .before .before .before .before .before .before .args .d) (c .before .before .before .before .before .before .before .before .args .raw .now) (c .before .before .before .before .before .before .before .before .args .room .now) _ _ _ (sym (c .before .before .before .before .before .judge-cell .ensures) ∙ c .before .before .before .fault .given .1)
-    (c .on-cell .ensures ∙ ap (λ (n : ℕ). report n 0 0 (c .before .before .before .fault .given .0 .1 .0)) (c .before .number-of .ensures))
+    let judged = c .before .before .before .before in
+    let a = judged .before .before .before .args in
+    unsound (a .d) (a .raw .now) (a .room .now) _ _ _ (sym (judged .judge-cell .ensures) ∙ c .before .before .fault .given .1) (c .on-record .ensures)
 
 pub decode-cell-spec : {M : Type 1} → statement M
 decode-cell-spec =
     tie.close
     (tie.spec
-    judge-cell-requires
-    enum-told
-    decode-sound-requires
-    enum-known-fault
-    number-of-requires
-    on-cell-requires
-    same-length
+    (λ c κs. search needs)
+    (λ c. search needs)
+    (λ c κs. search needs)
+    (λ c. search needs)
+    (λ c κs. search needs)
+    (λ c. search needs)
     returns
     returns-2)

@@ -10,12 +10,6 @@ use Rattle.decoder.proofs.FirstByte.{content-first}
 use Rattle.decoder.proofs.put_content.Statement.{statement}
 use Rattle.decoder.proofs.put_content.Tie as tie
 
-first-of-requires : tie.Need-first-of-requires
-first-of-requires c κs = search needs
-
-spelling-by-requires : tie.Need-spelling-by-requires
-spelling-by-requires c κs = search needs
-
 -- the spelling that was told is that of the cell
 spelt : (c : tie.After-spelling-by)
     → contentIn (c .spelling-by .result) (c .before .before .before .before .args .raw .now) ≡ contentOf (c .before .before .before .before .args .d) (c .before .before .before .before .args .raw .now)
@@ -23,15 +17,12 @@ spelt c =
     let raw = c .before .before .before .before .args .raw .now in
     ap (λ (s : Spelling). contentIn s raw) (c .spelling-by .ensures ∙ ap (spellingBy (c .before .before .before .before .args .d)) (c .before .first-of .ensures)) ∙ content-first (c .before .before .before .before .args .d) raw
 
-put-in-requires : tie.Need-put-in-requires
-put-in-requires c κs = rw (spelt (c .before)) (c .before .before .before .before .before .pre)
-
-same-length : tie.Need-same-length
-same-length c = search needs
-
 returns : tie.Need-returns
-returns c = c .before .before .put-in .ensures ∙ ap (λ (w : Bytes). over w (c .before .before .before .before .before .before .before .before .args .room .now)) (spelt (c .before .before .before .before))
+returns c =
+    let at-place = c .before .before .before .before in
+    let a = at-place .before .before .before .before .args in
+    c .before .before .put-in .ensures ∙ ap (λ (w : Bytes). over w (a .room .now)) (spelt (at-place))
 
 pub put-content-spec : {M : Type 1} → statement M
 put-content-spec =
-    tie.close (tie.spec first-of-requires spelling-by-requires put-in-requires same-length returns)
+    tie.close (tie.spec (λ c κs. search needs) (λ c κs. search needs) (λ c κs. rw (spelt (c .before)) (c .before .before .before .before .before .pre)) (λ c. search needs) returns)

@@ -21,18 +21,6 @@ abbrev μ-loop : tie.MeasureT-loop
 loop-holds : tie.Need-loop-holds Inv-loop μ-loop
 loop-holds c = (omega arith, refl)
 
-mul-from : tie.Need-mul-from Inv-loop μ-loop
-mul-from c = omega arith
-
-shared-slice-read-from : tie.Need-shared-slice-read-from Inv-loop μ-loop
-shared-slice-read-from c = omega arith
-
-mul-upto : tie.Need-mul-upto Inv-loop μ-loop
-mul-upto c = omega arith
-
-shared-slice-read-upto : tie.Need-shared-slice-read-upto Inv-loop μ-loop
-shared-slice-read-upto c = omega (arith, c .before .before .before .before .before .before .before .pre .paired)
-
 -- the cell stands in the file
 at-n : (c : tie.After-shared-slice-known5 Inv-loop μ-loop)
     → let s = c .before .before .before .before .before .before .before .args in
@@ -49,26 +37,11 @@ part-kind-of-start c = at-n c .forward
 part-kind-of-end : tie.Need-part-kind-of-end Inv-loop μ-loop
 part-kind-of-end c = at-n c .within
 
-kind-of-requires : tie.Need-kind-of-requires Inv-loop μ-loop
-kind-of-requires c κs = search needs
-
-is-text-requires : tie.Need-is-text-requires Inv-loop μ-loop
-is-text-requires c κs = search needs
-
-add-column : tie.Need-add-column Inv-loop μ-loop
-add-column c = omega arith
-
 returns : tie.Need-returns Inv-loop μ-loop
 returns c =
     let s = c .before .before .before .before .before .before .before .before .before .before .before in
     let l = c .before .before .before .before .before .before .before .loop in
     sym (l .inv .1 ∙ not-text-here (s .args .d) (s .args .file .now) (s .args .starts .now) (s .args .ends .now) (s .pre .paired) (l .n) (c .before .before .before .before .before .before .loop-test .taken) (sym (c .before .is-text .ensures ∙ ap isText (c .before .before .kind-of .ensures)) ∙ not-true (c .before .is-text .result) (c .if1 .taken)))
-
-add-n : tie.Need-add-n Inv-loop μ-loop
-add-n c = omega arith
-
-loop-less : tie.Need-loop-less Inv-loop μ-loop
-loop-less c = omega arith
 
 loop-again : tie.Need-loop-again Inv-loop μ-loop
 loop-again c =
@@ -90,18 +63,18 @@ first-not-text-spec =
     Inv-loop
     μ-loop
     loop-holds
-    mul-from
-    shared-slice-read-from
-    mul-upto
-    shared-slice-read-upto
+    (λ c. omega arith)
+    (λ c. omega arith)
+    (λ c. omega arith)
+    (λ c. omega (arith, c .before .before .before .before .before .before .before .pre .paired))
     sub-kind-of
     part-kind-of-start
     part-kind-of-end
-    kind-of-requires
-    is-text-requires
-    add-column
+    (λ c κs. search needs)
+    (λ c κs. search needs)
+    (λ c. omega arith)
     returns
-    add-n
-    loop-less
+    (λ c. omega arith)
+    (λ c. omega arith)
     loop-again
     returns-2)

@@ -23,22 +23,10 @@ returns c =
     let s = c .before .before .before .before in
     header-too-many (s .args .d) (cells s) (omega (arith, counted s, c .if1 .taken))
 
-first-not-text-requires : tie.Need-first-not-text-requires
-first-not-text-requires c κs = search needs
-
-enum-known-e : tie.Need-enum-known-e
-enum-known-e c = search needs
-
 returns-2 : tie.Need-returns-2
 returns-2 c =
     let s = c .before .before .before .before .before .before .before .before in
     header-not-text (s .args .d) (cells s) (omega (arith, counted s, c .before .before .before .before .if1 .left)) (c .before .e .given .0 .0) (sym (c .before .before .before .first-not-text .ensures) ∙ c .before .e .given .1)
-
-enum-told : tie.Need-enum-told
-enum-told c = search needs
-
-first-repeat-requires : tie.Need-first-repeat-requires
-first-repeat-requires c κs = search needs
 
 returns-3 : tie.Need-returns-3
 returns-3 c =
@@ -51,9 +39,9 @@ header-spec =
     tie.close
     (tie.spec
     returns
-    first-not-text-requires
-    enum-known-e
+    (λ c κs. search needs)
+    (λ c. search needs)
     returns-2
-    enum-told
-    first-repeat-requires
+    (λ c. search needs)
+    (λ c κs. search needs)
     returns-3)

@@ -1,126 +1,83 @@
-use Prim.Native.Nat.{_+_, _^_, _≤_, _<_}
+-- `reader::header_and_data` meets its contract. The first pass stores nothing, so that a refusal leaves the lists as they were; then the
+-- header and a second pass fill them.
 use native.Mathlib.Omega.{arith}
-use mathlib.Core.Path.{ap, _∙_}
+use mathlib.Core.Path.{_≡_, ap, _∙_}
 use lib.ListN.{length}
 use borrow.Author.Needs.{needs}
-use Rattle.model.specs.Report.{MAXFILE}
 use Rattle.scanner.proofs.Placing.{length-placed}
 use Rattle.reader.proofs.Passing.{held-lengths}
-use Rattle.reader.proofs.Answering.{header-bounds, few-cells, data-refused, data-crowded, data-roomy}
+use Rattle.reader.proofs.Answering.{header-bounds, unchanged, few-cells, data-refused, data-crowded, data-roomy}
 use Rattle.reader.proofs.header_and_data.Statement.{statement}
 use Rattle.reader.proofs.header_and_data.Tie as tie
 
 data-records-requires : tie.Need-data-records-requires
 data-records-requires c κs =
-    let a = c .before .before .before .before .before .before .before .args in
-    let q = c .before .before .before .before .before .before .before .pre in
-    let b = header-bounds (a .d) (a .file .now) (a .room) (a .starts .now) (a .ends .now) (a .kinds .now) (q .1) (a .columns) (a .form) (a .next) (q .0) in
+    let b = header-bounds (c .before .before .before .before .before .before .before .pre .0) in
     ((b .0, b .1, b .2), (omega arith, omega arith, omega arith))
 
-enum-known-e : tie.Need-enum-known-e
-enum-known-e c = search needs
-
-refused-requires : tie.Need-refused-requires
-refused-requires c κs = search needs
-
-enum-known-records : tie.Need-enum-known-records
-enum-known-records c = search needs
+-- the first pass leaves the lists as they were
+kept : (u : tie.After-data-records)
+    → let a = u .before .before .before .before .before .before .before .before .args in
+    let after = u .data-records in
+    (after .last .1 .1 .1 .1 .1 .1 .1 .0 ≡ a .starts .now) × (after .last .1 .1 .1 .1 .1 .1 .1 .1 .0 ≡ a .ends .now) × (after .last .1 .1 .1 .1 .1 .1 .1 .1 .1 .0 ≡ a .kinds .now)
+kept u = unchanged (u .data-records .ensures)
 
 add-if1 : tie.Need-add-if1
 add-if1 c =
-    let a = c .before .before .before .before .before .before .before .before .before .before .before .before .before .before .before .before .before .args in
-    let q = c .before .before .before .before .before .before .before .before .before .before .before .before .before .before .before .before .before .pre in
-    let x : a .columns + c .before .records .given .0 .1 .0 ≤ MAXFILE + 1 = few-cells (a .d) (a .file .now) (a .room) (a .starts .now) (a .ends .now) (a .kinds .now) (q .1) (a .columns) (a .form) (a .next) (q .0) _ _ _ _ (c .before .before .before .before .before .before .before .before .before .data-records .ensures) _ _ (c .before .records .given .1) in
-    let y : a .columns + c .before .records .given .0 .1 .0 < 2 ^ 64 = omega arith in
-    record { fits = y }
-
-on-call-requires : tie.Need-on-call-requires
-on-call-requires c κs = search needs
-
-refused-requires-2 : tie.Need-refused-requires-2
-refused-requires-2 c κs = search needs
-
-same-length : tie.Need-same-length
-same-length c = search needs
-
-same-length-2 : tie.Need-same-length-2
-same-length-2 c = search needs
-
-same-length-3 : tie.Need-same-length-3
-same-length-3 c = search needs
+    let few = few-cells (c .before .before .before .before .before .before .before .before .before .data-records .ensures) (c .before .records .given .1) in
+    record { fits = omega arith }
 
 returns : tie.Need-returns
 returns c =
-    let a = c .before .before .before .before .before .before .before .before .before .before .before .before .before .before .before .before .before .before .before .before .args in
-    let q = c .before .before .before .before .before .before .before .before .before .before .before .before .before .before .before .before .before .before .before .before .pre in
-    let o = data-crowded (a .d) (a .file .now) (a .room) (a .starts .now) (a .ends .now) (a .kinds .now) (q .1) (a .columns) (a .form) (a .next) (q .0) _ _ _ _ (c .before .before .before .before .before .before .before .before .before .before .before .before .data-records .ensures) _ _ (c .before .before .before .before .records .given .1) (c .before .before .if1 .taken) _ (c .before .on-call .ensures) _ (c .refused2 .ensures) in
+    let u = c .before .before .before .before .before .before .before .before .before .before .before .before in
+    let s = u .before .before .before .before .before .before .before .before in
+    let o = data-crowded (s .args .room) (s .pre .0) (u .data-records .ensures) (kept u) (c .before .before .before .before .records .given .1) (c .before .before .if1 .taken) _ (c .before .on-call .ensures) _ (c .refused2 .ensures) in
     (o .answer, (o .at-starts, (o .at-ends, o .at-kinds)))
 
-next-record-requires : tie.Need-next-record-requires
-next-record-requires c κs = search needs
+-- the header read again leaves the lists as long as they were
+long : (u : tie.After-next-record)
+    → let a = u .before .before .before .before .before .before .before .before .before .before .before .before .before .before .before .before .before .before .before .before .before .before .args in
+    let after = u .next-record in
+    (length (after .last .1 .1 .1 .1 .1 .1 .0) ≡ length (a .starts .now)) × (length (after .last .1 .1 .1 .1 .1 .1 .1 .0) ≡ length (a .ends .now)) × (length (after .last .1 .1 .1 .1 .1 .1 .1 .1 .0) ≡ length (a .kinds .now))
+long u =
+    let n = u .next-record .ensures in
+    let k = kept (u .before .before .before .before .before .before .before .before .before .before .before .before .before .before) in
+    (ap length (n .1 .0) ∙ length-placed _ 0 _ _ ∙ ap length (k .0), ap length (n .1 .1 .0) ∙ length-placed _ 0 _ _ ∙ ap length (k .1), ap length (n .1 .1 .1 .0) ∙ length-placed _ 0 _ _ ∙ ap length (k .2))
 
 data-records-requires-2 : tie.Need-data-records-requires-2
 data-records-requires-2 c κs =
-    let a = c .before .before .before .before .before .before .before .before .before .before .before .before .before .before .before .before .before .before .before .before .before .before .before .before .before .before .before .before .before .before .before .args in
-    let q = c .before .before .before .before .before .before .before .before .before .before .before .before .before .before .before .before .before .before .before .before .before .before .before .before .before .before .before .before .before .before .before .pre in
-    let n = c .before .before .before .before .before .before .before .before .before .next-record .ensures in
-    let b = header-bounds (a .d) (a .file .now) (a .room) (a .starts .now) (a .ends .now) (a .kinds .now) (q .1) (a .columns) (a .form) (a .next) (q .0) in
-    ((b .0, b .1, b .2), (rw (ap length (n .1 .0) ∙ length-placed (a .room) 0 _ _ ∙ held-lengths (c .before .before .before .before .before .before .before .before .before .before .before .before .before .before .before .before .before .before .before .before .before .before .before .data-records .ensures .lists) .0) (q .1 .0), rw (ap length (n .1 .1 .0) ∙ length-placed (a .room) 0 _ _ ∙ held-lengths (c .before .before .before .before .before .before .before .before .before .before .before .before .before .before .before .before .before .before .before .before .before .before .before .data-records .ensures .lists) .1) (q .1 .1), rw (ap length (n .1 .1 .1 .0) ∙ length-placed (a .room) 0 _ _ ∙ held-lengths (c .before .before .before .before .before .before .before .before .before .before .before .before .before .before .before .before .before .before .before .before .before .before .before .data-records .ensures .lists) .2) (q .1 .2)))
-
-on-call-requires-2 : tie.Need-on-call-requires-2
-on-call-requires-2 c κs = search needs
+    let u = c .before .before .before .before .before .before .before .before .before in
+    let q = u .before .before .before .before .before .before .before .before .before .before .before .before .before .before .before .before .before .before .before .before .before .before .pre in
+    let b = header-bounds (q .0) in
+    ((b .0, b .1, b .2), (rw (long u .0) (q .1 .0), rw (long u .1) (q .1 .1), rw (long u .2) (q .1 .2)))
 
 add-t21 : tie.Need-add-t21
 add-t21 c =
-    let a = c .before .before .before .before .before .before .before .before .before .before .before .before .before .before .before .before .before .before .before .before .before .before .before .before .before .before .before .before .before .before .before .before .before .before .before .before .before .before .before .args in
-    let q = c .before .before .before .before .before .before .before .before .before .before .before .before .before .before .before .before .before .before .before .before .before .before .before .before .before .before .before .before .before .before .before .before .before .before .before .before .before .before .before .pre in
-    let x : a .columns + c .before .before .before .before .before .before .before .before .before .before .before .before .before .before .before .before .before .before .before .before .before .before .before .records .given .0 .1 .0 ≤ MAXFILE + 1 = few-cells (a .d) (a .file .now) (a .room) (a .starts .now) (a .ends .now) (a .kinds .now) (q .1) (a .columns) (a .form) (a .next) (q .0) _ _ _ _ (c .before .before .before .before .before .before .before .before .before .before .before .before .before .before .before .before .before .before .before .before .before .before .before .before .before .before .before .before .before .before .before .data-records .ensures) _ _ (c .before .before .before .before .before .before .before .before .before .before .before .before .before .before .before .before .before .before .before .before .before .before .before .records .given .1) in
-    let y : a .columns + c .before .before .before .before .before .before .before .before .before .before .before .before .before .before .before .before .before .before .before .before .before .before .before .records .given .0 .1 .0 < 2 ^ 64 = omega arith in
-    record { fits = y }
-
-same-length-4 : tie.Need-same-length-4
-same-length-4 c = search needs
-
-same-length-5 : tie.Need-same-length-5
-same-length-5 c = search needs
-
-same-length-6 : tie.Need-same-length-6
-same-length-6 c = search needs
+    let few = few-cells (c .before .before .before .before .before .before .before .before .before .before .before .before .before .before .before .before .before .before .before .before .before .before .before .before .before .before .before .before .before .before .before .data-records .ensures) (c .before .before .before .before .before .before .before .before .before .before .before .before .before .before .before .before .before .before .before .before .before .before .before .records .given .1) in
+    record { fits = omega arith }
 
 returns-2 : tie.Need-returns-2
 returns-2 c =
-    let a = c .before .before .before .before .before .before .before .before .before .before .before .before .before .before .before .before .before .before .args in
-    let q = c .before .before .before .before .before .before .before .before .before .before .before .before .before .before .before .before .before .before .pre in
-    let o = data-refused (a .d) (a .file .now) (a .room) (a .starts .now) (a .ends .now) (a .kinds .now) (q .1) (a .columns) (a .form) (a .next) (q .0) _ _ _ _ (c .before .before .before .before .before .before .before .before .before .before .data-records .ensures) _ (c .before .before .e .given .1) _ (c .refused .ensures) in
+    let u = c .before .before .before .before .before .before .before .before .before .before in
+    let s = u .before .before .before .before .before .before .before .before in
+    let o = data-refused (s .args .room) (s .pre .0) (u .data-records .ensures) (kept u) _ (c .before .before .e .given .1) _ (c .refused .ensures) in
     (o .answer, (o .at-starts, (o .at-ends, o .at-kinds)))
 
 same-length-7 : tie.Need-same-length-7
-same-length-7 c =
-    let a = c .before .before .before .before .before .before .before .before .before .before .before .before .before .before .before .before .before .before .before .before .before .before .before .before .before .before .before .before .before .before .before .before .before .before .before .before .before .before .before .args in
-    let q = c .before .before .before .before .before .before .before .before .before .before .before .before .before .before .before .before .before .before .before .before .before .before .before .before .before .before .before .before .before .before .before .before .before .before .before .before .before .before .before .pre in
-    let n = c .before .before .before .before .before .before .before .before .before .before .before .before .before .before .before .before .before .next-record .ensures in
-    held-lengths (c .before .before .before .before .before .before .before .data-records2 .ensures .lists) .0 ∙ ap length (n .1 .0) ∙ length-placed (a .room) 0 _ _ ∙ held-lengths (c .before .before .before .before .before .before .before .before .before .before .before .before .before .before .before .before .before .before .before .before .before .before .before .before .before .before .before .before .before .before .before .data-records .ensures .lists) .0
+same-length-7 c = held-lengths (c .before .before .before .before .before .before .before .data-records2 .ensures .lists) .0 ∙ long (c .before .before .before .before .before .before .before .before .before .before .before .before .before .before .before .before .before) .0
 
 same-length-8 : tie.Need-same-length-8
-same-length-8 c =
-    let a = c .before .before .before .before .before .before .before .before .before .before .before .before .before .before .before .before .before .before .before .before .before .before .before .before .before .before .before .before .before .before .before .before .before .before .before .before .before .before .before .args in
-    let q = c .before .before .before .before .before .before .before .before .before .before .before .before .before .before .before .before .before .before .before .before .before .before .before .before .before .before .before .before .before .before .before .before .before .before .before .before .before .before .before .pre in
-    let n = c .before .before .before .before .before .before .before .before .before .before .before .before .before .before .before .before .before .next-record .ensures in
-    held-lengths (c .before .before .before .before .before .before .before .data-records2 .ensures .lists) .1 ∙ ap length (n .1 .1 .0) ∙ length-placed (a .room) 0 _ _ ∙ held-lengths (c .before .before .before .before .before .before .before .before .before .before .before .before .before .before .before .before .before .before .before .before .before .before .before .before .before .before .before .before .before .before .before .data-records .ensures .lists) .1
+same-length-8 c = held-lengths (c .before .before .before .before .before .before .before .data-records2 .ensures .lists) .1 ∙ long (c .before .before .before .before .before .before .before .before .before .before .before .before .before .before .before .before .before) .1
 
 same-length-9 : tie.Need-same-length-9
-same-length-9 c =
-    let a = c .before .before .before .before .before .before .before .before .before .before .before .before .before .before .before .before .before .before .before .before .before .before .before .before .before .before .before .before .before .before .before .before .before .before .before .before .before .before .before .args in
-    let q = c .before .before .before .before .before .before .before .before .before .before .before .before .before .before .before .before .before .before .before .before .before .before .before .before .before .before .before .before .before .before .before .before .before .before .before .before .before .before .before .pre in
-    let n = c .before .before .before .before .before .before .before .before .before .before .before .before .before .before .before .before .before .next-record .ensures in
-    held-lengths (c .before .before .before .before .before .before .before .data-records2 .ensures .lists) .2 ∙ ap length (n .1 .1 .1 .0) ∙ length-placed (a .room) 0 _ _ ∙ held-lengths (c .before .before .before .before .before .before .before .before .before .before .before .before .before .before .before .before .before .before .before .before .before .before .before .before .before .before .before .before .before .before .before .data-records .ensures .lists) .2
+same-length-9 c = held-lengths (c .before .before .before .before .before .before .before .data-records2 .ensures .lists) .2 ∙ long (c .before .before .before .before .before .before .before .before .before .before .before .before .before .before .before .before .before) .2
 
 returns-3 : tie.Need-returns-3
 returns-3 c =
-    let a = c .before .before .before .before .before .before .before .before .before .before .before .before .before .before .before .before .before .before .before .before .before .before .before .before .before .before .before .before .before .before .before .before .before .before .before .before .before .before .before .args in
-    let q = c .before .before .before .before .before .before .before .before .before .before .before .before .before .before .before .before .before .before .before .before .before .before .before .before .before .before .before .before .before .before .before .before .before .before .before .before .before .before .before .pre in
+    let u = c .before .before .before .before .before .before .before .before .before .before .before .before .before .before .before .before .before .before .before .before .before .before .before .before .before .before .before .before .before .before .before in
+    let s = u .before .before .before .before .before .before .before .before in
     let n = c .before .before .before .before .before .before .before .before .before .before .before .before .before .before .before .before .before .next-record .ensures in
-    let o = data-roomy (a .d) (a .file .now) (a .room) (a .starts .now) (a .ends .now) (a .kinds .now) (q .1) (a .columns) (a .form) (a .next) (q .0) _ _ _ _ (c .before .before .before .before .before .before .before .before .before .before .before .before .before .before .before .before .before .before .before .before .before .before .before .before .before .before .before .before .before .before .before .data-records .ensures) _ _ (c .before .before .before .before .before .before .before .before .before .before .before .before .before .before .before .before .before .before .before .before .before .before .before .records .given .1) (c .before .before .before .before .before .before .before .before .before .before .before .before .before .before .before .before .before .before .before .before .before .if1 .left) _ _ _ (n .1 .0) (n .1 .1 .0) (n .1 .1 .1 .0) _ _ _ _ (c .before .before .before .before .before .before .before .data-records2 .ensures) _ (c .on-call2 .ensures) in
+    let o = data-roomy (s .args .room) (s .pre .0) (u .data-records .ensures) (kept u) (c .before .before .before .before .before .before .before .before .before .before .before .before .before .before .before .before .before .before .before .before .before .before .before .records .given .1) (s .pre .1) (c .before .before .before .before .before .before .before .before .before .before .before .before .before .before .before .before .before .before .before .before .before .if1 .left) (n .1 .0) (n .1 .1 .0) (n .1 .1 .1 .0) (c .before .before .before .before .before .before .before .data-records2 .ensures) _ (c .on-call2 .ensures) in
     (o .answer, (o .at-starts, (o .at-ends, o .at-kinds)))
 
 pub header-and-data-spec : {M : Type 1} → statement M
@@ -128,23 +85,23 @@ header-and-data-spec =
     tie.close
     (tie.spec
     data-records-requires
-    enum-known-e
-    refused-requires
-    enum-known-records
+    (λ c. search needs)
+    (λ c κs. search needs)
+    (λ c. search needs)
     add-if1
-    on-call-requires
-    refused-requires-2
-    same-length
-    same-length-2
-    same-length-3
+    (λ c κs. search needs)
+    (λ c κs. search needs)
+    (λ c. search needs)
+    (λ c. search needs)
+    (λ c. search needs)
     returns
-    next-record-requires
+    (λ c κs. search needs)
     data-records-requires-2
-    on-call-requires-2
+    (λ c κs. search needs)
     add-t21
-    same-length-4
-    same-length-5
-    same-length-6
+    (λ c. search needs)
+    (λ c. search needs)
+    (λ c. search needs)
     returns-2
     same-length-7
     same-length-8

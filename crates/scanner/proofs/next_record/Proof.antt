@@ -8,7 +8,13 @@ use borrow.Author.Needs.{needs}
 use Rattle.model.specs.Form.{afterCell}
 use Rattle.model.specs.Report.{MAXFILE}
 use Rattle.model.specs.Records.{recordFull}
-use Rattle.scanner.specs.Types.{Cell, ByteFault, Inside, Outside, Step, Byte, InHand, Is, Skipped, AfterCell, Refused, Open, Failed}
+use Rattle.model.specs.declared.Cell.{Cell}
+use Rattle.model.specs.declared.ByteFault.{ByteFault}
+use Rattle.model.specs.declared.Form.the-variants.{Inside}
+use Rattle.model.specs.declared.Part.the-variants.{Outside}
+use Rattle.model.specs.declared.Step.{Step}
+use Rattle.model.specs.declared.Fault.the-variants.{Byte}
+use Rattle.scanner.specs.Types.{InHand, Is, Skipped, AfterCell, Refused, Open, Failed}
 use Rattle.scanner.specs.Next.{handAfter, grown}
 use Rattle.scanner.specs.Ahead.{readAt}
 use Rattle.scanner.proofs.Scanning.{Scanning, Stepping, Out, begins, too-long-file, too-long-record, by-byte, by-cell, by-skip, by-open, by-refusal, lies-cell, lies-skip, lies-open, step-refused, step-on, step-over, step-fits, clean-end, cut-short, last-put, last-fits, lengths, out-lengths, small-sum, small-step}
@@ -105,12 +111,6 @@ returns c =
     let o = too-long-file (a .d) (a .file .now) (a .first) (a .from) (a .room) (a .base) (a .starts .now) (a .ends .now) (a .kinds .now) (l .form) (l .i) (l .h) (l .inv) (c .before .loop-test .taken) (c .if1 .taken) in
     (o .event, (o .at-starts, (o .at-ends, (o .at-kinds, tt))))
 
-shared-slice-read-is-full : tie.Need-shared-slice-read-is-full Inv-loop μ-loop
-shared-slice-read-is-full c = omega arith
-
-is-full-requires : tie.Need-is-full-requires Inv-loop μ-loop
-is-full-requires c κs = search needs
-
 same-length-4 : tie.Need-same-length-4 Inv-loop μ-loop
 same-length-4 c =
     let a = c .before .before .before .before .before .before .before .before .before .before .args in
@@ -139,12 +139,6 @@ returns-2 c =
 ahead-requires : tie.Need-ahead-requires Inv-loop μ-loop
 ahead-requires c κs = (c .before .before .before .before .loop-test .taken, c .before .before .before .if1 .left)
 
-enum-known-s : tie.Need-enum-known-s Inv-loop μ-loop
-enum-known-s c = search needs
-
-enum-known-s-2 : tie.Need-enum-known-s-2 Inv-loop μ-loop
-enum-known-s-2 c = search needs
-
 same-length-7 : tie.Need-same-length-7 Inv-loop μ-loop
 same-length-7 c =
     let a = c .before .before .before .before .before .before .before .before .before .before .before .before .before .before .before .before .before .args in
@@ -169,12 +163,6 @@ returns-3 c =
     let l = c .before .before .before .before .before .before .before .before .before .before .before .before .loop in
     let o = step-refused (a .d) (a .file .now) (a .first) (a .from) (a .room) (a .base) (a .starts .now) (a .ends .now) (a .kinds .now) (l .form) (l .i) (l .h) (l .starts) (l .ends) (l .kinds) _ (byte-step (c .before .before .before .before .before .before) _ (c .before .before .before .before .s .given .1)) _ (c .before .s2 .given .1) in
     (o .event, (o .at-starts, (o .at-ends, (o .at-kinds, tt))))
-
-enum-known-s-3 : tie.Need-enum-known-s-3 Inv-loop μ-loop
-enum-known-s-3 c = search needs
-
-closes-cell-requires : tie.Need-closes-cell-requires Inv-loop μ-loop
-closes-cell-requires c κs = search needs
 
 add-put : tie.Need-add-put Inv-loop μ-loop
 add-put c =
@@ -205,9 +193,6 @@ add-i c =
     let a = c .before .before .before .before .before .before .before .before .before .before .before .before .before .before .before .before .before .before .before .before .before .before .before .before .before .before .before .before .before .before .args in
     let l = c .before .before .before .before .before .before .before .before .before .before .before .before .before .before .before .before .before .before .before .before .before .before .before .before .before .loop in
     let m : l .i < MAXFILE = c .before .before .before .before .before .before .before .before .before .before .before .before .before .before .before .before .before .before .before .before .before .before .before .if1 .left in let x : l .i + 1 < 2 ^ 64 = omega arith in record { fits = x }
-
-ends-record-requires : tie.Need-ends-record-requires Inv-loop μ-loop
-ends-record-requires c κs = search needs
 
 same-length-10 : tie.Need-same-length-10 Inv-loop μ-loop
 same-length-10 c =
@@ -246,9 +231,6 @@ loop-again c =
     let l = c .before .before .before .before .before .before .before .before .before .before .before .before .before .before .before .before .before .before .before .before .before .before .before .before .before .before .before .loop in
     step-on (a .d) (a .file .now) (a .first) (a .from) (a .room) (a .base) (a .starts .now) (a .ends .now) (a .kinds .now) (l .form) (l .i) (l .h) (l .starts) (l .ends) (l .kinds) _ (byte-step (c .before .before .before .before .before .before .before .before .before .before .before .before .before .before .before .before .before .before .before .before .before) _ (c .before .before .before .before .before .before .before .before .before .before .before .before .before .before .before .before .before .before .before .s .given .1)) _ _ (c .before .before .before .before .before .before .before .before .before .before .before .before .before .before .before .before .s3 .given .1) _ (c .before .before .before .before .before .before .before .before .before .before .before .before .before .before .closes-cell .ensures) _ _ _ (c .before .before .before .before .before .before .before .before .before .put .ensures) _ (c .before .before .moved .ensures) _ (c .before .ends-record .ensures) (c .if3 .left)
 
-enum-known-j : tie.Need-enum-known-j Inv-loop μ-loop
-enum-known-j c = search needs
-
 sub-moved : tie.Need-sub-moved Inv-loop μ-loop
 sub-moved c =
     let n = lies-skip-at (c .before .before .before) _ (c .before .j .given .1) in let j1 = n .0 in omega arith
@@ -270,9 +252,6 @@ loop-again-2 : tie.Need-loop-again-2 Inv-loop μ-loop
 loop-again-2 c =
     skip-turn (c .before .before .before .before) _ (c .before .before .j .given .1) _ (c .moved2 .ensures)
 
-enum-known-closes : tie.Need-enum-known-closes Inv-loop μ-loop
-enum-known-closes c = search needs
-
 sub-grown-by : tie.Need-sub-grown-by Inv-loop μ-loop
 sub-grown-by c = lies-cell-at (c .before .before .before) _ _ (c .before .closes .given .1) .0
 
@@ -286,13 +265,9 @@ grown-by-requires c κs =
 
 shared-slice-read-after-cell : tie.Need-shared-slice-read-after-cell Inv-loop μ-loop
 shared-slice-read-after-cell c =
-    lies-cell-at (c .before .before .before .before .before) _ _ (c .before .before .before .closes .given .1) .1
-
-after-cell-requires : tie.Need-after-cell-requires Inv-loop μ-loop
-after-cell-requires c κs = search needs
-
-enum-known-e : tie.Need-enum-known-e Inv-loop μ-loop
-enum-known-e c = search needs
+    let at-closes = c .before .before .before in
+    let at-place = at-closes .before .before in
+    lies-cell-at (at-place) _ _ (at-closes .closes .given .1) .1
 
 same-length-13 : tie.Need-same-length-13 Inv-loop μ-loop
 same-length-13 c =
@@ -318,12 +293,6 @@ returns-5 c =
     let l = c .before .before .before .before .before .before .before .before .before .before .before .before .before .before .before .loop in
     let o = step-refused (a .d) (a .file .now) (a .first) (a .from) (a .room) (a .base) (a .starts .now) (a .ends .now) (a .kinds .now) (l .form) _ _ (l .starts) (l .ends) (l .kinds) _ (cell-step (c .before .before .before .before .before .before .before .before .before) _ _ (c .before .before .before .before .before .before .before .closes .given .1) _ (c .before .before .before .before .before .grown-by .ensures) _ (c .before .before .before .after-cell .ensures)) _ (c .before .e .given .1) in
     (o .event, (o .at-starts, (o .at-ends, (o .at-kinds, tt))))
-
-enum-known-f : tie.Need-enum-known-f Inv-loop μ-loop
-enum-known-f c = search needs
-
-closes-cell-requires-2 : tie.Need-closes-cell-requires-2 Inv-loop μ-loop
-closes-cell-requires-2 c κs = search needs
 
 add-put-2 : tie.Need-add-put-2 Inv-loop μ-loop
 add-put-2 c =
@@ -353,9 +322,6 @@ add-i-2 c =
     let a = c .before .before .before .before .before .before .before .before .before .before .before .before .before .before .before .before .before .before .before .before .before .before .before .before .before .before .before .before .before .before .before .before .before .args in
     let l = c .before .before .before .before .before .before .before .before .before .before .before .before .before .before .before .before .before .before .before .before .before .before .before .before .before .before .before .before .loop in
     let n = lies-cell-at (c .before .before .before .before .before .before .before .before .before .before .before .before .before .before .before .before .before .before .before .before .before .before) _ _ (c .before .before .before .before .before .before .before .before .before .before .before .before .before .before .before .before .before .before .before .before .closes .given .1) in let j2 = n .2 in omega arith
-
-ends-record-requires-2 : tie.Need-ends-record-requires-2 Inv-loop μ-loop
-ends-record-requires-2 c κs = search needs
 
 same-length-16 : tie.Need-same-length-16 Inv-loop μ-loop
 same-length-16 c =
@@ -392,9 +358,6 @@ loop-again-3 c =
     let l = c .before .before .before .before .before .before .before .before .before .before .before .before .before .before .before .before .before .before .before .before .before .before .before .before .before .before .before .before .before .before .loop in
     step-on (a .d) (a .file .now) (a .first) (a .from) (a .room) (a .base) (a .starts .now) (a .ends .now) (a .kinds .now) (l .form) _ _ (l .starts) (l .ends) (l .kinds) _ (cell-step (c .before .before .before .before .before .before .before .before .before .before .before .before .before .before .before .before .before .before .before .before .before .before .before .before) _ _ (c .before .before .before .before .before .before .before .before .before .before .before .before .before .before .before .before .before .before .before .before .before .before .closes .given .1) _ (c .before .before .before .before .before .before .before .before .before .before .before .before .before .before .before .before .before .before .before .before .grown-by .ensures) _ (c .before .before .before .before .before .before .before .before .before .before .before .before .before .before .before .before .before .before .after-cell .ensures)) _ _ (c .before .before .before .before .before .before .before .before .before .before .before .before .before .before .before .before .f .given .1) _ (c .before .before .before .before .before .before .before .before .before .before .before .before .before .before .closes-cell2 .ensures) _ _ _ (c .before .before .before .before .before .before .before .before .before .put2 .ensures) _ (c .before .before .moved3 .ensures) _ (c .before .ends-record2 .ensures) (c .if4 .left)
 
-enum-known-e-2 : tie.Need-enum-known-e-2 Inv-loop μ-loop
-enum-known-e-2 c = search needs
-
 same-length-19 : tie.Need-same-length-19 Inv-loop μ-loop
 same-length-19 c =
     let a = c .before .before .before .before .before .before .before .before .before .before .before .before .before .before .args in
@@ -420,9 +383,6 @@ returns-7 c =
     let o = refusal (c .before .before .before) _ _ (c .before .e2 .given .1) in
     (o .event, (o .at-starts, (o .at-ends, (o .at-kinds, tt))))
 
-enum-known-c : tie.Need-enum-known-c Inv-loop μ-loop
-enum-known-c c = search needs
-
 sub-grown-by-2 : tie.Need-sub-grown-by-2 Inv-loop μ-loop
 sub-grown-by-2 c =
     let n = lies-open-at (c .before .before .before) _ _ (c .before .c .given .1) in let j1 = n .0 in omega arith
@@ -442,15 +402,6 @@ loop-less-4 c =
 loop-again-4 : tie.Need-loop-again-4 Inv-loop μ-loop
 loop-again-4 c =
     open-turn (c .before .before .before .before) _ _ (c .before .before .c .given .1) _ (c .grown-by2 .ensures)
-
-file-end-requires : tie.Need-file-end-requires Inv-loop μ-loop
-file-end-requires c κs = search needs
-
-enum-told : tie.Need-enum-told Inv-loop μ-loop
-enum-told c = search needs
-
-enum-told-2 : tie.Need-enum-told-2 Inv-loop μ-loop
-enum-told-2 c = search needs
 
 add-put-3 : tie.Need-add-put-3 Inv-loop μ-loop
 add-put-3 c =
@@ -475,9 +426,6 @@ add-t68 c =
     let few : a .base + l .h .cells ≤ l .i = l .inv .reached .few in
     let sized : l .h .size ≤ l .i = l .inv .reached .sized in
     let under : l .i ≤ MAXFILE = l .inv .reached .under in omega arith
-
-enum-told-3 : tie.Need-enum-told-3 Inv-loop μ-loop
-enum-told-3 c = search needs
 
 same-length-22 : tie.Need-same-length-22 Inv-loop μ-loop
 same-length-22 c =
@@ -565,77 +513,77 @@ next-record-spec =
     same-length-2
     same-length-3
     returns
-    shared-slice-read-is-full
-    is-full-requires
+    (λ c. omega arith)
+    (λ c κs. search needs)
     same-length-4
     same-length-5
     same-length-6
     returns-2
     ahead-requires
-    enum-known-s
-    enum-known-s-2
+    (λ c. search needs)
+    (λ c. search needs)
     same-length-7
     same-length-8
     same-length-9
     returns-3
-    enum-known-s-3
-    closes-cell-requires
+    (λ c. search needs)
+    (λ c κs. search needs)
     add-put
     put-requires
     moved-requires
     add-i
-    ends-record-requires
+    (λ c κs. search needs)
     same-length-10
     same-length-11
     same-length-12
     returns-4
     loop-less
     loop-again
-    enum-known-j
+    (λ c. search needs)
     sub-moved
     moved-requires-2
     loop-less-2
     loop-again-2
-    enum-known-closes
+    (λ c. search needs)
     sub-grown-by
     grown-by-requires
     shared-slice-read-after-cell
-    after-cell-requires
-    enum-known-e
+    (λ c κs. search needs)
+    (λ c. search needs)
     same-length-13
     same-length-14
     same-length-15
     returns-5
-    enum-known-f
-    closes-cell-requires-2
+    (λ c. search needs)
+    (λ c κs. search needs)
     add-put-2
     put-requires-2
     moved-requires-3
     add-i-2
-    ends-record-requires-2
+    (λ c κs. search needs)
     same-length-16
     same-length-17
     same-length-18
     returns-6
     loop-less-3
     loop-again-3
-    enum-known-e-2
+    (λ c. search needs)
     same-length-19
     same-length-20
     same-length-21
     returns-7
-    enum-known-c
+    (λ c. search needs)
     sub-grown-by-2
     grown-by-requires-2
     loop-less-4
     loop-again-4
-    file-end-requires
-    enum-told
-    enum-told-2
+    (λ c κs. search needs)
+    (λ c. search needs)
+    (λ c. search needs)
     add-put-3
     put-requires-3
     add-t68
-    enum-told-3
+    (λ c. search needs)
     same-length-22
     same-length-23
     same-length-24

@@ -8,9 +8,6 @@ use Rattle.decoder.proofs.Strings.{goes-length, taken-whole}
 use Rattle.decoder.proofs.content.put_escape.Statement.{statement}
 use Rattle.decoder.proofs.content.put_escape.Tie as tie
 
-piece-at-requires : tie.Need-piece-at-requires
-piece-at-requires c κs = search needs
-
 array-share-prefix-bytes : tie.Need-array-share-prefix-bytes
 array-share-prefix-bytes c = taken-whole (c .before .before .piece-at .result .length) (c .before .before .piece-at .result .bytes) (c .before .before .piece-at .ensures .sized)
 
@@ -18,10 +15,10 @@ slice-aggregate-put-bytes : tie.Need-slice-aggregate-put-bytes
 slice-aggregate-put-bytes c = sym (c .before .before .before .piece-at .ensures .sized)
 
 put-bytes-requires : tie.Need-put-bytes-requires
-put-bytes-requires c κs = omega (arith, c .before .before .before .piece-at .ensures .sized, goes-length (c .before .before .before .piece-at .ensures), c .before .before .before .before .before .before .pre .1)
-
-same-length : tie.Need-same-length
-same-length c = search needs
+put-bytes-requires c κs =
+    let at-piece-at = c .before .before .before in
+    let at-pre = at-piece-at .before .before .before in
+    omega (arith, at-piece-at .piece-at .ensures .sized, goes-length (at-piece-at .piece-at .ensures), at-pre .pre .1)
 
 returns : tie.Need-returns
 returns c =
@@ -34,9 +31,9 @@ pub put-escape-spec : {M : Type 1} → statement M
 put-escape-spec =
     tie.close
     (tie.spec
-    piece-at-requires
+    (λ c κs. search needs)
     array-share-prefix-bytes
     slice-aggregate-put-bytes
     put-bytes-requires
-    same-length
+    (λ c. search needs)
     returns)

@@ -19,23 +19,19 @@ abbrev μ-loop : tie.MeasureT-loop
 loop-holds : tie.Need-loop-holds Inv-loop μ-loop
 loop-holds c = start _ _ _ (omega (arith, c .before .before .pre))
 
-shared-slice-read-b : tie.Need-shared-slice-read-b Inv-loop μ-loop
-shared-slice-read-b c = omega arith
-
-same-length : tie.Need-same-length Inv-loop μ-loop
-same-length c = c .before .before .before .loop .inv .long
-
 returns : tie.Need-returns Inv-loop μ-loop
-returns c = filled (rw (string-quote (c .before .before .before .before .before .before .args .raw .now) (c .before .before .before .loop .i) (c .before .before .loop-test .taken) (c .if1 .taken)) at (c .before .before .before .loop .inv))
+returns c =
+    let at-loop = c .before .before .before in
+    let a = at-loop .before .before .before .args in
+    filled (rw (string-quote (a .raw .now) (at-loop .loop .i) (c .before .before .loop-test .taken) (c .if1 .taken)) at (at-loop .loop .inv))
 
 put-escape-requires : tie.Need-put-escape-requires Inv-loop μ-loop
 put-escape-requires c κs = ((omega arith, c .before .if2 .taken), omega (arith, room-left (c .before .before .before .before .before .loop .inv)))
 
-loop-less : tie.Need-loop-less Inv-loop μ-loop
-loop-less c = omega (arith, c .before .before .put-escape .ensures .on)
-
 loop-again : tie.Need-loop-again Inv-loop μ-loop
-loop-again c = turned _ _ (c .before .before .before .before .before .before .before .before .loop .inv) (c .before .before .put-escape .ensures)
+loop-again c =
+    let at-loop = c .before .before .before .before .before .before .before .before in
+    turned _ _ (at-loop .loop .inv) (c .before .before .put-escape .ensures)
 
 -- a byte that stands for itself comes next
 now-left : (c : tie.Else2 Inv-loop μ-loop)
@@ -47,20 +43,8 @@ now-left c = rw (string-byte (c .before .before .before .before .before .before 
 slice-write-out : tie.Need-slice-write-out Inv-loop μ-loop
 slice-write-out c = here (now-left c)
 
-add-o : tie.Need-add-o Inv-loop μ-loop
-add-o c = omega (arith, here (now-left c), now-left c .long)
-
-add-i : tie.Need-add-i Inv-loop μ-loop
-add-i c = omega arith
-
-loop-less-2 : tie.Need-loop-less-2 Inv-loop μ-loop
-loop-less-2 c = omega arith
-
 loop-again-2 : tie.Need-loop-again-2 Inv-loop μ-loop
 loop-again-2 c = store (now-left c)
-
-same-length-2 : tie.Need-same-length-2 Inv-loop μ-loop
-same-length-2 c = c .before .loop .inv .long
 
 returns-2 : tie.Need-returns-2 Inv-loop μ-loop
 returns-2 c = filled (rw (string-end (c .before .before .before .before .args .raw .now) (c .before .loop .i) (c .loop-test .left)) at (c .before .loop .inv))
@@ -72,16 +56,16 @@ put-string-spec =
     Inv-loop
     μ-loop
     loop-holds
-    shared-slice-read-b
-    same-length
+    (λ c. omega arith)
+    (λ c. c .before .before .before .loop .inv .long)
     returns
     put-escape-requires
-    loop-less
+    (λ c. omega (arith, c .before .before .put-escape .ensures .on))
     loop-again
     slice-write-out
-    add-o
-    add-i
-    loop-less-2
+    (λ c. omega (arith, here (now-left c), now-left c .long))
+    (λ c. omega arith)
+    (λ c. omega arith)
     loop-again-2
-    same-length-2
+    (λ c. c .before .loop .inv .long)
     returns-2)

@@ -22,26 +22,19 @@ abbrev μ-loop : tie.MeasureT-loop
 loop-holds : tie.Need-loop-holds Inv-loop μ-loop
 loop-holds c = start _ _ _ (omega (arith, c .pre))
 
-shared-slice-read-b : tie.Need-shared-slice-read-b Inv-loop μ-loop
-shared-slice-read-b c = omega arith
-
-add-i : tie.Need-add-i Inv-loop μ-loop
-add-i c = omega arith
-
-same-length : tie.Need-same-length Inv-loop μ-loop
-same-length c = c .before .before .before .before .loop .inv .long
-
 returns : tie.Need-returns Inv-loop μ-loop
-returns c = filled (rw (at-last (c .before .before .before .before .before .args .q) (c .before .before .before .before .before .args .raw .now) (c .before .before .before .before .loop .i) (c .before .before .before .loop-test .taken) (c .before .if1 .taken) (c .if2 .taken)) at (c .before .before .before .before .loop .inv))
-
-shared-slice-read-if3 : tie.Need-shared-slice-read-if3 Inv-loop μ-loop
-shared-slice-read-if3 c = omega arith
-
-same-length-2 : tie.Need-same-length-2 Inv-loop μ-loop
-same-length-2 c = c .before .before .before .before .before .before .loop .inv .long
+returns c =
+    let at-loop-test = c .before .before .before in
+    let at-loop = at-loop-test .before in
+    let a = at-loop .before .args in
+    filled (rw (at-last (a .q) (a .raw .now) (at-loop .loop .i) (at-loop-test .loop-test .taken) (c .before .if1 .taken) (c .if2 .taken)) at (at-loop .loop .inv))
 
 returns-2 : tie.Need-returns-2 Inv-loop μ-loop
-returns-2 c = filled (rw (at-close (c .before .before .before .before .before .before .before .args .q) (c .before .before .before .before .before .before .before .args .raw .now) (c .before .before .before .before .before .before .loop .i) (c .before .before .before .before .before .loop-test .taken) (c .before .before .before .if1 .taken) (omega arith) (c .if3 .taken)) at (c .before .before .before .before .before .before .loop .inv))
+returns-2 c =
+    let at-if1 = c .before .before .before in
+    let at-loop = at-if1 .before .before .before in
+    let a = at-loop .before .args in
+    filled (rw (at-close (a .q) (a .raw .now) (at-loop .loop .i) (at-if1 .before .before .loop-test .taken) (at-if1 .if1 .taken) (omega arith) (c .if3 .taken)) at (at-loop .loop .inv))
 
 -- what a turn takes of the text: the byte, and of two quotes the second is passed over
 turn : (c : tie.Joined1 Inv-loop μ-loop)
@@ -69,20 +62,8 @@ now-left c = rw (turn c .0) at (c .before .before .before .loop .inv)
 slice-write-out : tie.Need-slice-write-out Inv-loop μ-loop
 slice-write-out c = here (now-left c)
 
-add-o : tie.Need-add-o Inv-loop μ-loop
-add-o c = omega (arith, here (now-left c), now-left c .long)
-
-add-i-2 : tie.Need-add-i-2 Inv-loop μ-loop
-add-i-2 c = omega (arith, turn (c .before) .2)
-
-loop-less : tie.Need-loop-less Inv-loop μ-loop
-loop-less c = omega (arith, turn (c .before) .1, turn (c .before) .2)
-
 loop-again : tie.Need-loop-again Inv-loop μ-loop
 loop-again c = store (now-left (c .before))
-
-same-length-3 : tie.Need-same-length-3 Inv-loop μ-loop
-same-length-3 c = c .before .loop .inv .long
 
 returns-3 : tie.Need-returns-3 Inv-loop μ-loop
 returns-3 c = filled (rw (at-end (c .before .before .args .q) false (c .before .before .args .raw .now) (c .before .loop .i) (c .loop-test .left)) at (c .before .loop .inv))
@@ -94,17 +75,17 @@ put-undoubled-spec =
     Inv-loop
     μ-loop
     loop-holds
-    shared-slice-read-b
-    add-i
-    same-length
+    (λ c. omega arith)
+    (λ c. omega arith)
+    (λ c. c .before .before .before .before .loop .inv .long)
     returns
-    shared-slice-read-if3
-    same-length-2
+    (λ c. omega arith)
+    (λ c. c .before .before .before .before .before .before .loop .inv .long)
     returns-2
     slice-write-out
-    add-o
-    add-i-2
-    loop-less
+    (λ c. omega (arith, here (now-left c), now-left c .long))
+    (λ c. omega (arith, turn (c .before) .2))
+    (λ c. omega (arith, turn (c .before) .1, turn (c .before) .2))
     loop-again
-    same-length-3
+    (λ c. c .before .loop .inv .long)
     returns-3)

@@ -18,35 +18,23 @@ abbrev μ-loop : tie.MeasureT-loop
 loop-holds : tie.Need-loop-holds Inv-loop μ-loop
 loop-holds c = (omega arith, omega arith)
 
-shared-slice-read-b : tie.Need-shared-slice-read-b Inv-loop μ-loop
-shared-slice-read-b c = omega arith
-
 returns : tie.Need-returns Inv-loop μ-loop
-returns c = omega (arith, ap length (string-quote (c .before .before .before .before .before .args .raw .now) (c .before .before .before .loop .i) (c .before .before .loop-test .taken) (c .if1 .taken)))
+returns c =
+    let at-loop = c .before .before .before in
+    let a = at-loop .before .before .args in
+    omega (arith, ap length (string-quote (a .raw .now) (at-loop .loop .i) (c .before .before .loop-test .taken) (c .if1 .taken)))
 
 piece-at-requires : tie.Need-piece-at-requires Inv-loop μ-loop
 piece-at-requires c κs = (omega arith, c .if2 .taken)
 
-add-n : tie.Need-add-n Inv-loop μ-loop
-add-n c = omega (arith, c .before .piece-at .ensures .on, c .before .piece-at .ensures .inside)
-
-loop-less : tie.Need-loop-less Inv-loop μ-loop
-loop-less c = omega (arith, c .before .piece-at .ensures .on)
-
 loop-again : tie.Need-loop-again Inv-loop μ-loop
 loop-again c = (omega (arith, c .before .piece-at .ensures .on), omega (arith, goes-length (c .before .piece-at .ensures)))
 
-add-n-2 : tie.Need-add-n-2 Inv-loop μ-loop
-add-n-2 c = omega arith
-
-add-i : tie.Need-add-i Inv-loop μ-loop
-add-i c = omega arith
-
-loop-less-2 : tie.Need-loop-less-2 Inv-loop μ-loop
-loop-less-2 c = omega arith
-
 loop-again-2 : tie.Need-loop-again-2 Inv-loop μ-loop
-loop-again-2 c = (omega arith, omega (arith, ap length (string-byte (c .before .before .before .before .before .before .args .raw .now) (c .before .before .before .before .loop .i) (c .before .before .before .loop-test .taken) (c .before .if1 .left) (c .if2 .left))))
+loop-again-2 c =
+    let at-loop-test = c .before .before .before in
+    let a = at-loop-test .before .before .before .args in
+    (omega arith, omega (arith, ap length (string-byte (a .raw .now) (at-loop-test .before .loop .i) (at-loop-test .loop-test .taken) (c .before .if1 .left) (c .if2 .left))))
 
 returns-2 : tie.Need-returns-2 Inv-loop μ-loop
 returns-2 c = omega (arith, ap length (string-end (c .before .before .before .args .raw .now) (c .before .loop .i) (c .loop-test .left)))
@@ -58,14 +46,14 @@ string-length-spec =
     Inv-loop
     μ-loop
     loop-holds
-    shared-slice-read-b
+    (λ c. omega arith)
     returns
     piece-at-requires
-    add-n
-    loop-less
+    (λ c. omega (arith, c .before .piece-at .ensures .on, c .before .piece-at .ensures .inside))
+    (λ c. omega (arith, c .before .piece-at .ensures .on))
     loop-again
-    add-n-2
-    add-i
-    loop-less-2
+    (λ c. omega arith)
+    (λ c. omega arith)
+    (λ c. omega arith)
     loop-again-2
     returns-2)

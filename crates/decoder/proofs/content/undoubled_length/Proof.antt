@@ -21,20 +21,18 @@ abbrev μ-loop : tie.MeasureT-loop
 loop-holds : tie.Need-loop-holds Inv-loop μ-loop
 loop-holds c = (omega arith, omega arith)
 
-shared-slice-read-if1 : tie.Need-shared-slice-read-if1 Inv-loop μ-loop
-shared-slice-read-if1 c = omega arith
-
-add-i : tie.Need-add-i Inv-loop μ-loop
-add-i c = omega arith
-
 returns : tie.Need-returns Inv-loop μ-loop
-returns c = omega (arith, ap length (at-last (c .before .before .before .before .before .args .q) (c .before .before .before .before .before .args .raw .now) (c .before .before .before .before .loop .i) (c .before .before .before .loop-test .taken) (c .before .if1 .taken) (c .if2 .taken)))
-
-shared-slice-read-if3 : tie.Need-shared-slice-read-if3 Inv-loop μ-loop
-shared-slice-read-if3 c = omega arith
+returns c =
+    let at-loop-test = c .before .before .before in
+    let a = at-loop-test .before .before .args in
+    omega (arith, ap length (at-last (a .q) (a .raw .now) (at-loop-test .before .loop .i) (at-loop-test .loop-test .taken) (c .before .if1 .taken) (c .if2 .taken)))
 
 returns-2 : tie.Need-returns-2 Inv-loop μ-loop
-returns-2 c = omega (arith, ap length (at-close (c .before .before .before .before .before .before .before .args .q) (c .before .before .before .before .before .before .before .args .raw .now) (c .before .before .before .before .before .before .loop .i) (c .before .before .before .before .before .loop-test .taken) (c .before .before .before .if1 .taken) (omega arith) (c .if3 .taken)))
+returns-2 c =
+    let at-if1 = c .before .before .before in
+    let at-loop = at-if1 .before .before .before in
+    let a = at-loop .before .args in
+    omega (arith, ap length (at-close (a .q) (a .raw .now) (at-loop .loop .i) (at-if1 .before .before .loop-test .taken) (at-if1 .if1 .taken) (omega arith) (c .if3 .taken)))
 
 -- what a turn takes of the text: the byte, and of two quotes the second is passed over
 turn : (c : tie.Joined1 Inv-loop μ-loop)
@@ -52,15 +50,6 @@ turn c =
     (λ w. rw (w .1) (at-other q raw i h (w .0 .left), omega arith, omega arith))
     (c .if1 .came)
 
-add-n : tie.Need-add-n Inv-loop μ-loop
-add-n c = omega (arith, turn c .1, turn c .2)
-
-add-i-2 : tie.Need-add-i-2 Inv-loop μ-loop
-add-i-2 c = omega (arith, turn (c .before) .2)
-
-loop-less : tie.Need-loop-less Inv-loop μ-loop
-loop-less c = omega (arith, turn (c .before) .1, turn (c .before) .2)
-
 loop-again : tie.Need-loop-again Inv-loop μ-loop
 loop-again c = (omega (arith, turn (c .before) .1), omega (arith, ap length (turn (c .before) .0)))
 
@@ -74,13 +63,13 @@ undoubled-length-spec =
     Inv-loop
     μ-loop
     loop-holds
-    shared-slice-read-if1
-    add-i
+    (λ c. omega arith)
+    (λ c. omega arith)
     returns
-    shared-slice-read-if3
+    (λ c. omega arith)
     returns-2
-    add-n
-    add-i-2
-    loop-less
+    (λ c. omega (arith, turn c .1, turn c .2))
+    (λ c. omega (arith, turn (c .before) .2))
+    (λ c. omega (arith, turn (c .before) .1, turn (c .before) .2))
     loop-again
     returns-3)

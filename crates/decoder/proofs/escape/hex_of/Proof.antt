@@ -3,26 +3,17 @@
 use native.Mathlib.Omega.{arith}
 use borrow.Author.Needs.{needs}
 use Rattle.model.specs.Base.{if_then_else_}
-use Rattle.decoder.proofs.Tests.{tests}
+use Rattle.model.proofs.Tests.{tests}
 use Rattle.decoder.proofs.escape.hex_of.Statement.{statement}
 use Rattle.decoder.proofs.escape.hex_of.Tie as tie
-
-less-requires : tie.Need-less-requires
-less-requires c κs = search needs
 
 returns : tie.Need-returns
 unfolding if_then_else_
 returns c = (search tests, omega arith)
 
-less-requires-2 : tie.Need-less-requires-2
-less-requires-2 c κs = search needs
-
 returns-2 : tie.Need-returns-2
 unfolding if_then_else_
 returns-2 c = (search tests, omega arith)
-
-less-requires-3 : tie.Need-less-requires-3
-less-requires-3 c κs = search needs
 
 returns-3 : tie.Need-returns-3
 unfolding if_then_else_
@@ -30,4 +21,4 @@ returns-3 c = (search tests, omega arith)
 
 pub hex-of-spec : {M : Type 1} → statement M
 hex-of-spec =
-    tie.close (tie.spec less-requires returns less-requires-2 returns-2 less-requires-3 returns-3)
+    tie.close (tie.spec (λ c κs. search needs) returns (λ c κs. search needs) returns-2 (λ c κs. search needs) returns-3)

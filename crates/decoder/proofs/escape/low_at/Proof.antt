@@ -7,32 +7,18 @@ use Rattle.decoder.proofs.Strings.{low-cut, low-other, low-short, low-b
 use Rattle.decoder.proofs.escape.low_at.Statement.{statement}
 use Rattle.decoder.proofs.escape.low_at.Tie as tie
 
-sub-if1 : tie.Need-sub-if1
-sub-if1 c = search needs
-
 returns : tie.Need-returns
 returns c = low-cut (c .before .before .args .raw .now) (c .before .before .args .i) (c .if1 .taken)
 
-shared-slice-read-if2 : tie.Need-shared-slice-read-if2
-shared-slice-read-if2 c = search needs
-
 returns-2 : tie.Need-returns-2
-returns-2 c = low-other (c .before .before .before .before .args .raw .now) (c .before .before .before .before .args .i) (omega arith) (c .if2 .taken)
-
-add-if3 : tie.Need-add-if3
-add-if3 c = search needs
-
-shared-slice-read-if3 : tie.Need-shared-slice-read-if3
-shared-slice-read-if3 c = search needs
+returns-2 c =
+    let a = c .before .before .before .before .args in
+    low-other (a .raw .now) (a .i) (omega arith) (c .if2 .taken)
 
 returns-3 : tie.Need-returns-3
-returns-3 c = low-short (c .before .before .before .before .before .before .args .raw .now) (c .before .before .before .before .before .before .args .i) (omega arith) (c .before .before .if2 .left) (c .if3 .taken)
-
-add-unit-at : tie.Need-add-unit-at
-add-unit-at c = search needs
-
-unit-at-requires : tie.Need-unit-at-requires
-unit-at-requires c κs = search needs
+returns-3 c =
+    let a = c .before .before .before .before .before .before .args in
+    low-short (a .raw .now) (a .i) (omega arith) (c .before .before .if2 .left) (c .if3 .taken)
 
 -- a \u escape stands there
 there : (c : tie.After-unit-at) → UnitThere (c .before .before .before .before .before .before .before .args .raw .now) (c .before .before .before .before .before .before .before .args .i)
@@ -60,15 +46,15 @@ pub low-at-spec : {M : Type 1} → statement M
 low-at-spec =
     tie.close
     (tie.spec
-    sub-if1
+    (λ c. search needs)
     returns
-    shared-slice-read-if2
+    (λ c. search needs)
     returns-2
-    add-if3
-    shared-slice-read-if3
+    (λ c. search needs)
+    (λ c. search needs)
     returns-3
-    add-unit-at
-    unit-at-requires
+    (λ c. search needs)
+    (λ c κs. search needs)
     returns-4
     returns-5
     returns-6)

@@ -6,54 +6,33 @@ use Rattle.decoder.proofs.Strings.{goes-cut, goes-short, cut-backslash,
 use Rattle.decoder.proofs.escape.piece_at.Statement.{statement}
 use Rattle.decoder.proofs.escape.piece_at.Tie as tie
 
-sub-if1 : tie.Need-sub-if1
-sub-if1 c = search needs
-
 returns : tie.Need-returns
 returns c =
-    goes-cut (c .before .before .args .raw .now) (c .before .before .args .i) _ (c .before .before .pre .0) (cut-backslash (c .before .before .args .raw .now) (c .before .before .args .i) (c .before .before .pre .0) (c .if1 .taken) (c .before .before .pre .1))
-
-add-b : tie.Need-add-b
-add-b c = search needs
-
-shared-slice-read-b : tie.Need-shared-slice-read-b
-shared-slice-read-b c = search needs
-
-short-of-requires : tie.Need-short-of-requires
-short-of-requires c κs = search needs
-
-add-t13 : tie.Need-add-t13
-add-t13 c = search needs
+    let at-args = c .before .before in
+    goes-cut (at-args .args .raw .now) (at-args .args .i) _ (at-args .pre .0) (cut-backslash (at-args .args .raw .now) (at-args .args .i) (at-args .pre .0) (c .if1 .taken) (at-args .pre .1))
 
 returns-2 : tie.Need-returns-2
 returns-2 c =
-    goes-short (c .before .before .before .before .before .args .raw .now) (c .before .before .before .before .before .args .i) (c .short-of .result) _ (omega arith) (c .before .before .before .before .before .pre .1) (c .before .if2 .taken) (c .short-of .ensures)
-
-sub-if3 : tie.Need-sub-if3
-sub-if3 c = search needs
+    let at-args = c .before .before .before .before .before in
+    goes-short (at-args .args .raw .now) (at-args .args .i) (c .short-of .result) _ (omega arith) (at-args .pre .1) (c .before .if2 .taken) (c .short-of .ensures)
 
 returns-3 : tie.Need-returns-3
 returns-3 c =
-    goes-cut (c .before .before .before .before .before .args .raw .now) (c .before .before .before .before .before .args .i) _ (c .before .before .before .before .before .pre .0) (cut-unit (c .before .before .before .before .before .args .raw .now) (c .before .before .before .before .before .args .i) (omega arith) (c .if3 .taken) (c .before .before .before .before .before .pre .1) (c .before .if2 .left))
-
-unit-piece-requires : tie.Need-unit-piece-requires
-unit-piece-requires c κs = search needs
-
-returns-4 : tie.Need-returns-4
-returns-4 c = search needs
+    let at-args = c .before .before .before .before .before in
+    goes-cut (at-args .args .raw .now) (at-args .args .i) _ (at-args .pre .0) (cut-unit (at-args .args .raw .now) (at-args .args .i) (omega arith) (c .if3 .taken) (at-args .pre .1) (c .before .if2 .left))
 
 pub piece-at-spec : {M : Type 1} → statement M
 piece-at-spec =
     tie.close
     (tie.spec
-    sub-if1
+    (λ c. search needs)
     returns
-    add-b
-    shared-slice-read-b
-    short-of-requires
-    add-t13
+    (λ c. search needs)
+    (λ c. search needs)
+    (λ c κs. search needs)
+    (λ c. search needs)
     returns-2
-    sub-if3
+    (λ c. search needs)
     returns-3
-    unit-piece-requires
-    returns-4)
+    (λ c κs. search needs)
+    (λ c. search needs))

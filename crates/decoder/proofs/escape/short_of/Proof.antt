@@ -1,33 +1,10 @@
 -- `decoder::escape::short_of` meets its contract, by its tests.
 -- Assumes nothing.
 use Rattle.model.specs.Base.{if_then_else_}
-use Rattle.decoder.proofs.Tests.{tests}
+use Rattle.model.proofs.Tests.{tests}
 use Rattle.decoder.proofs.escape.short_of.Statement.{statement}
 use Rattle.decoder.proofs.escape.short_of.Tie as tie
 
-returns : tie.Need-returns
-unfolding if_then_else_
-returns c = search tests
-
-returns-2 : tie.Need-returns-2
-unfolding if_then_else_
-returns-2 c = search tests
-
-returns-3 : tie.Need-returns-3
-unfolding if_then_else_
-returns-3 c = search tests
-
-returns-4 : tie.Need-returns-4
-unfolding if_then_else_
-returns-4 c = search tests
-
-returns-5 : tie.Need-returns-5
-unfolding if_then_else_
-returns-5 c = search tests
-
-returns-6 : tie.Need-returns-6
-unfolding if_then_else_
-returns-6 c = search tests
-
 pub short-of-spec : {M : Type 1} → statement M
-short-of-spec = tie.close (tie.spec returns returns-2 returns-3 returns-4 returns-5 returns-6)
+unfolding if_then_else_
+short-of-spec = tie.close (tie.spec (λ c. search tests) (λ c. search tests) (λ c. search tests) (λ c. search tests) (λ c. search tests) (λ c. search tests))

@@ -21,20 +21,11 @@ loop-holds c = (omega arith, refl)
 repeats-requires : tie.Need-repeats-requires Inv-loop μ-loop
 repeats-requires c κs = (c .before .before .before .before .before .pre, c .loop-test .taken)
 
-add-column : tie.Need-add-column Inv-loop μ-loop
-add-column c = omega arith
-
 returns : tie.Need-returns Inv-loop μ-loop
 returns c =
     let s = c .before .before .before .before .before .before .before in
     let l = c .before .before .before .loop in
     sym (repeat-start (s .args .d) (s .args .file .now) (s .args .starts .now) (s .args .ends .now) ∙ l .inv .1 ∙ repeat-here (s .args .d) (s .args .file .now) (s .args .starts .now) (s .args .ends .now) (s .pre .paired) (l .n) (c .before .before .loop-test .taken) (sym (c .before .repeats .ensures) ∙ c .if1 .taken))
-
-add-n : tie.Need-add-n Inv-loop μ-loop
-add-n c = omega arith
-
-loop-less : tie.Need-loop-less Inv-loop μ-loop
-loop-less c = omega arith
 
 loop-again : tie.Need-loop-again Inv-loop μ-loop
 loop-again c =
@@ -57,9 +48,9 @@ first-repeat-spec =
     μ-loop
     loop-holds
     repeats-requires
-    add-column
+    (λ c. omega arith)
     returns
-    add-n
-    loop-less
+    (λ c. omega arith)
+    (λ c. omega arith)
     loop-again
     returns-2)

@@ -9,9 +9,6 @@ use Rattle.judge.proofs.Decoding.{Holds, holds}
 use Rattle.judge.proofs.names.has_name.Statement.{statement}
 use Rattle.judge.proofs.names.has_name.Tie as tie
 
-put-name-requires : tie.Need-put-name-requires
-put-name-requires c κs = search needs
-
 held : (c : tie.After-slice-known2)
     → let s = c .before .before .before .before .before .before .before .args in
     Holds (contentOf (s .d) (s .raw .now)) (c .before .before .put-name .last .1 .1 .0) (c .before .before .put-name .result)
@@ -25,12 +22,6 @@ slice-reshare-prefix-same-name c = held c .inside
 slice-aggregate-same-name : tie.Need-slice-aggregate-same-name
 slice-aggregate-same-name c = held (c .before) .whole
 
-same-name-requires : tie.Need-same-name-requires
-same-name-requires c κs = search needs
-
-same-length : tie.Need-same-length
-same-length c = search needs
-
 returns : tie.Need-returns
 returns c =
     let s = c .before .before .before .before .before .before .before .before .before .args in
@@ -40,9 +31,9 @@ pub has-name-spec : {M : Type 1} → statement M
 has-name-spec =
     tie.close
     (tie.spec
-    put-name-requires
+    (λ c κs. search needs)
     slice-reshare-prefix-same-name
     slice-aggregate-same-name
-    same-name-requires
-    same-length
+    (λ c κs. search needs)
+    (λ c. search needs)
     returns)

@@ -23,20 +23,10 @@ abbrev μ-loop : tie.MeasureT-loop
 loop-holds : tie.Need-loop-holds Inv-loop μ-loop
 loop-holds c = (c .before .before .before .before .pre .1, refl, refl)
 
-sub-j : tie.Need-sub-j Inv-loop μ-loop
-sub-j c = omega arith
-
-mul-from : tie.Need-mul-from Inv-loop μ-loop
-mul-from c = omega arith
-
-shared-slice-read-from : tie.Need-shared-slice-read-from Inv-loop μ-loop
-shared-slice-read-from c = omega arith
-
-mul-upto : tie.Need-mul-upto Inv-loop μ-loop
-mul-upto c = omega arith
-
 shared-slice-read-upto : tie.Need-shared-slice-read-upto Inv-loop μ-loop
-shared-slice-read-upto c = omega (arith, c .before .before .before .before .before .before .before .before .pre .0 .paired)
+shared-slice-read-upto c =
+    let at-pre = c .before .before .before .before .before .before .before .before in
+    omega (arith, at-pre .pre .0 .paired)
 
 -- the cell before j stands in the file
 before-j : (c : tie.After-shared-slice-known6 Inv-loop μ-loop)
@@ -54,9 +44,6 @@ part-has-name-start c = before-j c .forward
 part-has-name-end : tie.Need-part-has-name-end Inv-loop μ-loop
 part-has-name-end c = before-j c .within
 
-slice-aggregate-has-name : tie.Need-slice-aggregate-has-name Inv-loop μ-loop
-slice-aggregate-has-name c = omega arith
-
 has-name-requires : tie.Need-has-name-requires Inv-loop μ-loop
 has-name-requires c κs =
     let l = c .before .before .before .before .before .loop in
@@ -67,9 +54,6 @@ returns c =
     let s = c .before .before .before .before .before .before .before .before .before .before .before .before .before .args in
     let l = c .before .before .before .before .before .before .before .before .loop in
     sym (l .inv .2 ∙ among-last (s .d) (s .file .now) (s .starts .now) (s .ends .now) (nameKey (s .d) (s .name .now)) (l .j) (omega arith) (sym (c .before .before .has-name .ensures) ∙ c .if1 .taken))
-
-loop-less : tie.Need-loop-less Inv-loop μ-loop
-loop-less c = omega arith
 
 loop-again : tie.Need-loop-again Inv-loop μ-loop
 loop-again c =
@@ -93,17 +77,17 @@ is-among-spec =
     Inv-loop
     μ-loop
     loop-holds
-    sub-j
-    mul-from
-    shared-slice-read-from
-    mul-upto
+    (λ c. omega arith)
+    (λ c. omega arith)
+    (λ c. omega arith)
+    (λ c. omega arith)
     shared-slice-read-upto
     sub-has-name
     part-has-name-start
     part-has-name-end
-    slice-aggregate-has-name
+    (λ c. omega arith)
     has-name-requires
     returns
-    loop-less
+    (λ c. omega arith)
     loop-again
     returns-2)

@@ -5,25 +5,10 @@ use Rattle.judge.proofs.Decoding.{never-refused, decoded}
 use Rattle.judge.proofs.names.put_name.Statement.{statement}
 use Rattle.judge.proofs.names.put_name.Tie as tie
 
-decode-sound-requires : tie.Need-decode-sound-requires
-decode-sound-requires c κs = search needs
-
-enum-known-length : tie.Need-enum-known-length
-enum-known-length c = search needs
-
-enum-told : tie.Need-enum-told
-enum-told c = search needs
-
-same-length : tie.Need-same-length
-same-length c = search needs
-
 returns : tie.Need-returns
 returns c =
     let s = c .before .before .before .before .before .before .before .before in
     never-refused (s .args .d) (s .args .raw .now) (s .args .room .now) (s .pre) (c .before .before .before .before .decode-sound .result) _ (c .enum-told .given .1) (c .before .before .before .before .decode-sound .ensures .0)
-
-same-length-2 : tie.Need-same-length-2
-same-length-2 c = search needs
 
 returns-2 : tie.Need-returns-2
 returns-2 c =
@@ -34,10 +19,10 @@ pub put-name-spec : {M : Type 1} → statement M
 put-name-spec =
     tie.close
     (tie.spec
-    decode-sound-requires
-    enum-known-length
-    enum-told
-    same-length
+    (λ c κs. search needs)
+    (λ c. search needs)
+    (λ c. search needs)
+    (λ c. search needs)
     returns
-    same-length-2
+    (λ c. search needs)
     returns-2)

@@ -15,18 +15,6 @@ use Rattle.judge.proofs.Decoding.{Holds, holds}
 use Rattle.judge.proofs.names.repeats.Statement.{statement}
 use Rattle.judge.proofs.names.repeats.Tie as tie
 
-mul-from : tie.Need-mul-from
-mul-from c = search needs
-
-shared-slice-read-from : tie.Need-shared-slice-read-from
-shared-slice-read-from c = search needs
-
-mul-upto : tie.Need-mul-upto
-mul-upto c = search needs
-
-shared-slice-read-upto : tie.Need-shared-slice-read-upto
-shared-slice-read-upto c = search needs
-
 -- the cell stands in the file
 at-n : (c : tie.Start) → Stretch (length (c .args .file .now)) (getD (c .args .starts .now) (c .args .n) 0) (getD (c .args .ends .now) (c .args .n) 0)
 at-n c = c .pre .0 .each (c .args .n) (c .pre .1)
@@ -47,9 +35,6 @@ part-put-name-start c = at-n (c .before .before .before .before .before) .forwar
 part-put-name-end : tie.Need-part-put-name-end
 part-put-name-end c = at-n (c .before .before .before .before .before) .within
 
-slice-aggregate-put-name : tie.Need-slice-aggregate-put-name
-slice-aggregate-put-name c = search needs
-
 put-name-requires : tie.Need-put-name-requires
 put-name-requires c κs = part-fits _ _ _ (at-n (c .before .before .before .before .before .before .before)) zeros refl
 
@@ -62,9 +47,6 @@ array-share-prefix-room c = held c .inside
 slice-aggregate-is-among : tie.Need-slice-aggregate-is-among
 slice-aggregate-is-among c = held (c .before) .whole
 
-is-among-requires : tie.Need-is-among-requires
-is-among-requires c κs = search needs
-
 returns : tie.Need-returns
 returns c =
     let s = c .before .before .before .before .before .before .before .before .before .before .before .args in
@@ -74,16 +56,16 @@ pub repeats-spec : {M : Type 1} → statement M
 repeats-spec =
     tie.close
     (tie.spec
-    mul-from
-    shared-slice-read-from
-    mul-upto
-    shared-slice-read-upto
+    (λ c. search needs)
+    (λ c. search needs)
+    (λ c. search needs)
+    (λ c. search needs)
     sub-put-name
     part-put-name-start
     part-put-name-end
-    slice-aggregate-put-name
+    (λ c. search needs)
     put-name-requires
     array-share-prefix-room
     slice-aggregate-is-among
-    is-among-requires
+    (λ c κs. search needs)
     returns)

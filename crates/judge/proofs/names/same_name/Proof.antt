@@ -23,29 +23,11 @@ returns c =
 loop-holds : tie.Need-loop-holds Inv-loop μ-loop
 loop-holds c = (omega arith, omega arith, refl)
 
-shared-slice-read-fold-byte : tie.Need-shared-slice-read-fold-byte Inv-loop μ-loop
-shared-slice-read-fold-byte c = omega arith
-
-fold-byte-requires : tie.Need-fold-byte-requires Inv-loop μ-loop
-fold-byte-requires c κs = search needs
-
-shared-slice-read-fold-byte-2 : tie.Need-shared-slice-read-fold-byte-2 Inv-loop μ-loop
-shared-slice-read-fold-byte-2 c = omega arith
-
-fold-byte-requires-2 : tie.Need-fold-byte-requires-2 Inv-loop μ-loop
-fold-byte-requires-2 c κs = search needs
-
 returns-2 : tie.Need-returns-2 Inv-loop μ-loop
 returns-2 c =
     let s = c .before .before .before .before .before .before .before .before .before .before .args in
     let l = c .before .before .before .before .before .before .loop in
     sym (l .inv .2 ∙ same-differs (s .d) (s .a .now) (s .b .now) (l .i) (omega arith) (omega arith) (λ e. c .if2 .taken (c .before .before .before .fold-byte .ensures ∙ e ∙ sym (c .before .fold-byte2 .ensures))))
-
-add-i : tie.Need-add-i Inv-loop μ-loop
-add-i c = omega arith
-
-loop-less : tie.Need-loop-less Inv-loop μ-loop
-loop-less c = omega arith
 
 loop-again : tie.Need-loop-again Inv-loop μ-loop
 loop-again c =
@@ -69,12 +51,12 @@ same-name-spec =
     μ-loop
     returns
     loop-holds
-    shared-slice-read-fold-byte
-    fold-byte-requires
-    shared-slice-read-fold-byte-2
-    fold-byte-requires-2
+    (λ c. omega arith)
+    (λ c κs. search needs)
+    (λ c. omega arith)
+    (λ c κs. search needs)
     returns-2
-    add-i
-    loop-less
+    (λ c. omega arith)
+    (λ c. omega arith)
     loop-again
     returns-3)

@@ -42,15 +42,6 @@ next-record-requires c κs =
     let q = c .before .before .before .before .before .before .before .before .pre .1 in
     ((l .inv .inside, under, few), (rw (n .0) (q .0), rw (n .1) (q .1), rw (n .2) (q .2)))
 
-enum-known-start : tie.Need-enum-known-start Inv-loop μ-loop
-enum-known-start c = search needs
-
-data-requires : tie.Need-data-requires Inv-loop μ-loop
-data-requires c κs = search needs
-
-enum-told : tie.Need-enum-told Inv-loop μ-loop
-enum-told c = search needs
-
 add-cells : tie.Need-add-cells Inv-loop μ-loop
 add-cells c =
     let a = c .before .before .before .before .before .before .before .before .before .before .before .before .before .before .before .before .before .before .before .before .before .args in
@@ -89,9 +80,6 @@ loop-again c =
     let n = c .before .before .before .before .before .before .before .before .before .before .before .before .next-record .ensures in
     record-on (a .d) (a .file .now) (a .from) (a .first) (a .columns) (a .room) (a .base) (a .starts .now) (a .ends .now) (a .kinds .now) (l .form) (l .i) (l .cells) (l .records) (l .starts) (l .ends) (l .kinds) (l .inv) _ (n .0) _ _ _ (n .1 .0) (n .1 .1 .0) (n .1 .1 .1 .0) _ _ _ _ (c .before .before .before .before .start .given .1) (n .1 .1 .1 .1) _ (c .before .before .«data» .ensures) (c .enum-told .given .1)
 
-enum-known-e : tie.Need-enum-known-e Inv-loop μ-loop
-enum-known-e c = search needs
-
 add-on-record : tie.Need-add-on-record Inv-loop μ-loop
 add-on-record c =
     let a = c .before .before .before .before .before .before .before .before .before .before .before .before .before .before .before .before .before .before .before .before .before .before .args in
@@ -100,9 +88,6 @@ add-on-record c =
     let under : l .i ≤ MAXFILE = l .inv .under in
     let many : l .records ≤ l .i = l .inv .many in
     omega arith
-
-on-record-requires : tie.Need-on-record-requires Inv-loop μ-loop
-on-record-requires c κs = search needs
 
 same-length : tie.Need-same-length Inv-loop μ-loop
 same-length c =
@@ -131,15 +116,6 @@ returns c =
     let l = c .before .before .before .before .before .before .before .before .before .before .before .before .before .before .before .before .before .before .loop in
     let n = c .before .before .before .before .before .before .before .before .before .before .before .before .before .before .next-record .ensures in
     record-refused (a .d) (a .file .now) (a .from) (a .first) (a .columns) (a .room) (a .base) (a .starts .now) (a .ends .now) (a .kinds .now) (l .form) (l .i) (l .cells) (l .records) (l .starts) (l .ends) (l .kinds) (l .inv) _ (n .0) _ _ _ (n .1 .0) (n .1 .1 .0) (n .1 .1 .1 .0) _ _ _ _ (c .before .before .before .before .before .before .start .given .1) (n .1 .1 .1 .1) _ (c .before .before .before .before .«data» .ensures) _ (c .before .before .e .given .1) _ (c .on-record .ensures)
-
-enum-known-start-2 : tie.Need-enum-known-start-2 Inv-loop μ-loop
-enum-known-start-2 c = search needs
-
-data-requires-2 : tie.Need-data-requires-2 Inv-loop μ-loop
-data-requires-2 c κs = search needs
-
-enum-told-2 : tie.Need-enum-told-2 Inv-loop μ-loop
-enum-told-2 c = search needs
 
 add-t37 : tie.Need-add-t37 Inv-loop μ-loop
 add-t37 c =
@@ -187,9 +163,6 @@ returns-2 c =
     let n = c .before .before .before .before .before .before .before .before .before .before .before .before .next-record .ensures in
     last-accepted (a .d) (a .file .now) (a .from) (a .first) (a .columns) (a .room) (a .base) (a .starts .now) (a .ends .now) (a .kinds .now) (l .form) (l .i) (l .cells) (l .records) (l .starts) (l .ends) (l .kinds) (l .inv) _ (n .0) _ _ _ (n .1 .0) (n .1 .1 .0) (n .1 .1 .1 .0) _ _ (c .before .before .before .before .start2 .given .1) (n .1 .1 .1 .1) _ (c .before .before .data2 .ensures) (c .enum-told2 .given .1)
 
-enum-known-e-2 : tie.Need-enum-known-e-2 Inv-loop μ-loop
-enum-known-e-2 c = search needs
-
 add-on-record-2 : tie.Need-add-on-record-2 Inv-loop μ-loop
 add-on-record-2 c =
     let a = c .before .before .before .before .before .before .before .before .before .before .before .before .before .before .before .before .before .before .before .before .before .before .args in
@@ -198,9 +171,6 @@ add-on-record-2 c =
     let under : l .i ≤ MAXFILE = l .inv .under in
     let many : l .records ≤ l .i = l .inv .many in
     omega arith
-
-on-record-requires-2 : tie.Need-on-record-requires-2 Inv-loop μ-loop
-on-record-requires-2 c κs = search needs
 
 same-length-7 : tie.Need-same-length-7 Inv-loop μ-loop
 same-length-7 c =
@@ -230,9 +200,6 @@ returns-3 c =
     let n = c .before .before .before .before .before .before .before .before .before .before .before .before .before .before .next-record .ensures in
     last-refused (a .d) (a .file .now) (a .from) (a .first) (a .columns) (a .room) (a .base) (a .starts .now) (a .ends .now) (a .kinds .now) (l .form) (l .i) (l .cells) (l .records) (l .starts) (l .ends) (l .kinds) (l .inv) _ (n .0) _ _ _ (n .1 .0) (n .1 .1 .0) (n .1 .1 .1 .0) _ _ (c .before .before .before .before .before .before .start2 .given .1) (n .1 .1 .1 .1) _ (c .before .before .before .before .data2 .ensures) _ (c .before .before .e2 .given .1) _ (c .on-record2 .ensures)
 
-enum-known-fault : tie.Need-enum-known-fault Inv-loop μ-loop
-enum-known-fault c = search needs
-
 add-on-record-3 : tie.Need-add-on-record-3 Inv-loop μ-loop
 add-on-record-3 c =
     let a = c .before .before .before .before .before .before .before .before .before .before .before .before .before .before .before .before .before .before .args in
@@ -241,9 +208,6 @@ add-on-record-3 c =
     let under : l .i ≤ MAXFILE = l .inv .under in
     let many : l .records ≤ l .i = l .inv .many in
     omega arith
-
-on-record-requires-3 : tie.Need-on-record-requires-3 Inv-loop μ-loop
-on-record-requires-3 c κs = search needs
 
 same-length-10 : tie.Need-same-length-10 Inv-loop μ-loop
 same-length-10 c =
@@ -272,9 +236,6 @@ returns-4 c =
     let l = c .before .before .before .before .before .before .before .before .before .before .before .before .before .before .loop in
     let n = c .before .before .before .before .before .before .before .before .before .before .next-record .ensures in
     fault-refused (a .d) (a .file .now) (a .from) (a .first) (a .columns) (a .room) (a .base) (a .starts .now) (a .ends .now) (a .kinds .now) (l .form) (l .i) (l .cells) (l .records) (l .starts) (l .ends) (l .kinds) (l .inv) _ (n .0) _ _ _ (n .1 .0) (n .1 .1 .0) (n .1 .1 .1 .0) _ _ (c .before .before .fault .given .1) _ (c .on-record3 .ensures)
-
-enum-told-3 : tie.Need-enum-told-3 Inv-loop μ-loop
-enum-told-3 c = search needs
 
 same-length-13 : tie.Need-same-length-13 Inv-loop μ-loop
 same-length-13 c =
@@ -313,44 +274,44 @@ data-records-spec =
     loop-holds
     add-next-record
     next-record-requires
-    enum-known-start
-    data-requires
-    enum-told
+    (λ c. search needs)
+    (λ c κs. search needs)
+    (λ c. search needs)
     add-cells
     add-records
     loop-less
     loop-again
-    enum-known-e
+    (λ c. search needs)
     add-on-record
-    on-record-requires
+    (λ c κs. search needs)
     same-length
     same-length-2
     same-length-3
     returns
-    enum-known-start-2
-    data-requires-2
-    enum-told-2
+    (λ c. search needs)
+    (λ c κs. search needs)
+    (λ c. search needs)
     add-t37
     add-t38
     same-length-4
     same-length-5
     same-length-6
     returns-2
-    enum-known-e-2
+    (λ c. search needs)
     add-on-record-2
-    on-record-requires-2
+    (λ c κs. search needs)
     same-length-7
     same-length-8
     same-length-9
     returns-3
-    enum-known-fault
+    (λ c. search needs)
     add-on-record-3
-    on-record-requires-3
+    (λ c κs. search needs)
     same-length-10
     same-length-11
     same-length-12
     returns-4
-    enum-told-3
+    (λ c. search needs)
     same-length-13
     same-length-14
     same-length-15

@@ -7,77 +7,17 @@ use Rattle.reader.proofs.Headers.{first-counts, only-counts, shows, hea
 use Rattle.reader.proofs.records.first_record.Statement.{statement}
 use Rattle.reader.proofs.records.first_record.Tie as tie
 
-slice-aggregate-next-record : tie.Need-slice-aggregate-next-record
-slice-aggregate-next-record c = search needs
-
-slice-aggregate-next-record-2 : tie.Need-slice-aggregate-next-record-2
-slice-aggregate-next-record-2 c = search needs
-
-slice-aggregate-next-record-3 : tie.Need-slice-aggregate-next-record-3
-slice-aggregate-next-record-3 c = search needs
-
-next-record-requires : tie.Need-next-record-requires
-next-record-requires c κs = search needs
-
-enum-known-start : tie.Need-enum-known-start
-enum-known-start c = search needs
-
-slice-aggregate-judged : tie.Need-slice-aggregate-judged
-slice-aggregate-judged c = search needs
-
-slice-aggregate-judged-2 : tie.Need-slice-aggregate-judged-2
-slice-aggregate-judged-2 c = search needs
-
 judged-requires : tie.Need-judged-requires
 judged-requires c κs =
     let a = c .before .before .before .before .before .before .before .before .before .before .before .before .before .args in
     let n = c .before .before .before .before .before .before .before .before .next-record .ensures in
     (first-counts (a .d) (a .file .now) _ (n .0) _ _ _ _ (c .before .before .before .start .given .1), (shows _ _ _ _ _ refl refl (n .1 .0) (n .1 .1 .0), cells-stand (a .d) (a .file .now) Top 0 (omega arith)))
 
-enum-told : tie.Need-enum-told
-enum-told c = search needs
-
-enum-known-e : tie.Need-enum-known-e
-enum-known-e c = search needs
-
-on-record-requires : tie.Need-on-record-requires
-on-record-requires c κs = search needs
-
-enum-known-start-2 : tie.Need-enum-known-start-2
-enum-known-start-2 c = search needs
-
-slice-aggregate-judged-3 : tie.Need-slice-aggregate-judged-3
-slice-aggregate-judged-3 c = search needs
-
-slice-aggregate-judged-4 : tie.Need-slice-aggregate-judged-4
-slice-aggregate-judged-4 c = search needs
-
 judged-requires-2 : tie.Need-judged-requires-2
 judged-requires-2 c κs =
     let a = c .before .before .before .before .before .before .before .before .before .before .before .before .before .args in
     let n = c .before .before .before .before .before .before .before .before .next-record .ensures in
     (only-counts (a .d) (a .file .now) _ (n .0) _ _ (c .before .before .before .start2 .given .1), (shows _ _ _ _ _ refl refl (n .1 .0) (n .1 .1 .0), cells-stand (a .d) (a .file .now) Top 0 (omega arith)))
-
-enum-told-2 : tie.Need-enum-told-2
-enum-told-2 c = search needs
-
-enum-known-e-2 : tie.Need-enum-known-e-2
-enum-known-e-2 c = search needs
-
-on-record-requires-2 : tie.Need-on-record-requires-2
-on-record-requires-2 c κs = search needs
-
-enum-known-fault : tie.Need-enum-known-fault
-enum-known-fault c = search needs
-
-on-record-requires-3 : tie.Need-on-record-requires-3
-on-record-requires-3 c κs = search needs
-
-enum-known-offset : tie.Need-enum-known-offset
-enum-known-offset c = search needs
-
-on-record-requires-4 : tie.Need-on-record-requires-4
-on-record-requires-4 c κs = search needs
 
 returns : tie.Need-returns
 returns c =
@@ -119,28 +59,28 @@ pub first-record-spec : {M : Type 1} → statement M
 first-record-spec =
     tie.close
     (tie.spec
-    slice-aggregate-next-record
-    slice-aggregate-next-record-2
-    slice-aggregate-next-record-3
-    next-record-requires
-    enum-known-start
-    slice-aggregate-judged
-    slice-aggregate-judged-2
+    (λ c. search needs)
+    (λ c. search needs)
+    (λ c. search needs)
+    (λ c κs. search needs)
+    (λ c. search needs)
+    (λ c. search needs)
+    (λ c. search needs)
     judged-requires
-    enum-told
-    enum-known-e
-    on-record-requires
-    enum-known-start-2
-    slice-aggregate-judged-3
-    slice-aggregate-judged-4
+    (λ c. search needs)
+    (λ c. search needs)
+    (λ c κs. search needs)
+    (λ c. search needs)
+    (λ c. search needs)
+    (λ c. search needs)
     judged-requires-2
-    enum-told-2
-    enum-known-e-2
-    on-record-requires-2
-    enum-known-fault
-    on-record-requires-3
-    enum-known-offset
-    on-record-requires-4
+    (λ c. search needs)
+    (λ c. search needs)
+    (λ c κs. search needs)
+    (λ c. search needs)
+    (λ c κs. search needs)
+    (λ c. search needs)
+    (λ c κs. search needs)
     returns
     returns-2
     returns-3
