@@ -129,7 +129,7 @@ pub record NearStep (c : Char) (w : Wide) (b : ℕ) : Type 0 where
   pub near : Near c wide
   pub calm : Calm wide
 
-same-on : {x y : Char} {o : Advance} → o ≡ On x → o ≡ On y → x ≡ y
+pub same-on : {x y : Char} {o : Advance} → o ≡ On x → o ≡ On y → x ≡ y
 same-on p q = cc
 
 ed-char : charStep Whole 0xED ≡ On (Within (Second Ed))
