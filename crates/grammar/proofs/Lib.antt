@@ -25,5 +25,6 @@ pub mod Standing
 pub mod Accepting
 pub mod AcceptedOnly
 pub mod Acceptance
+pub mod GoingOn
 pub mod Refused
 pub mod Theorems

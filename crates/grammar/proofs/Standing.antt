@@ -3,7 +3,7 @@
 use Prim.Native.Nat.{ℕ, suc, _+_, _≤_}
 use native.Mathlib.Omega.{arith}
 use mathlib.Core.Path.{_≡_, refl, sym, ap, _∙_}
-use mathlib.Core.Bool.{true, false}
+use mathlib.Core.Bool.{Bool, true, false}
 use mathlib.Core.List.{List, [], _∷_, _++_, map, append-assoc, append-nil}
 use lib.ListN.{length, length-append}
 use Rattle.grammar.specs.Types.{Dialect, Form, OfCell, Outside, Passed, Between, Tail, Ends, To}
@@ -15,7 +15,7 @@ use Rattle.model.specs.Records.{Read, cellNow, closing}
 use Rattle.grammar.specs.Derived.{Derived, Line, line, textIn, Every, every-none, every-cons, Each, each-none, each-cons}
 use Rattle.grammar.specs.Reading.{decoded, decodedLine}
 use Rattle.grammar.specs.Accepted.{ShowsCell, ShowsRecord}
-use Rattle.grammar.proofs.Parts.{Stage, at-rest, in-record, in-cell, nowhere, stageOf, Recording, record-open, cell-open, none-at-rest, none-in-record, Moves, unreached, leaves, passes, adds, parts, parts-closing, turns, turns-closing, completes, completes-closing}
+use Rattle.grammar.proofs.Parts.{Stage, at-rest, in-record, in-cell, nowhere, stageOf, Recording, record-open, cell-open, RecordEnded, ended-rests, none-at-rest, none-in-record, Moves, unreached, leaves, passes, adds, parts, parts-closing, turns, turns-closing, completes, completes-closing}
 
 pub each-snoc : {A B : Type 0} {R : A → B → Type 0} {xs : List A} {ys : List B} {x : A} {y : B} → Each R xs ys → R x y → Each R (xs ++ (x ∷ [])) (ys ++ (y ∷ []))
 each-snoc each-none r = each-cons r each-none
@@ -226,9 +226,14 @@ moved-tail-closing (turns-closing c r) t = (c, r)
 
 pub moved-ends : {d : Dialect} {f h : Form} {b : ℕ} {g : Stage} {text raw : Bytes} {cells : List Derived} → Moves d f b g (To h (Ends false)) → Tidy g text raw cells → Ended d h (counts f b ≡ false) text raw
 moved-ends unreached t = no-standing t
-moved-ends (completes c none-at-rest r) tidy-rest = ended c r
-moved-ends (completes c none-in-record r) tidy-record = ended c r
+moved-ends {d} (completes c none-at-rest r) tidy-rest = ended c (ended-rests d r)
+moved-ends {d} (completes c none-in-record r) tidy-record = ended c (ended-rests d r)
 
 pub moved-ends-closing : {d : Dialect} {f h : Form} {b : ℕ} {g : Stage} {text raw : Bytes} {cells : List Derived} → Moves d f b g (To h (Ends true)) → Tidy g text raw cells → (counts f b ≡ false) × (stageOf d h ≡ at-rest)
 moved-ends-closing unreached t = no-standing t
-moved-ends-closing (completes-closing c r) t = (c, r)
+moved-ends-closing {d} (completes-closing c r) t = (c, ended-rests d r)
+
+pub moved-complete : {d : Dialect} {f h : Form} {b : ℕ} {g : Stage} {k : Bool} {text raw : Bytes} {cells : List Derived} → Moves d f b g (To h (Ends k)) → Tidy g text raw cells → RecordEnded h
+moved-complete unreached t = no-standing t
+moved-complete (completes c n r) t = r
+moved-complete (completes-closing c r) t = r

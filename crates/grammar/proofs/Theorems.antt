@@ -2,8 +2,8 @@
 use Prim.Native.Nat.{ℕ, _≤_}
 use mathlib.Core.Path.{_≡_}
 use mathlib.Core.Logic.{_↔_}
-use mathlib.Core.Bool.{true}
-use mathlib.Core.Option.{none, some}
+use mathlib.Core.Bool.{true, false}
+use mathlib.Core.Option.{Option, none, some}
 use mathlib.Core.List.{List}
 use Rattle.grammar.specs.Types.{Dialect, Whole}
 use Rattle.model.specs.declared.Judged.the-variants.{WholeCell}
@@ -12,12 +12,14 @@ use Rattle.model.specs.Dialect.{dialectOf}
 use Rattle.model.specs.Utf8.{textFrom}
 use Rattle.model.specs.Decode.{judgeCell}
 use Rattle.model.specs.Report.{accepted}
-use Rattle.model.specs.Records.{Read, going, readFile, reportOf}
+use Rattle.model.specs.Records.{Read, going, fileFull, recordFull, readBytes, readFile, reportOf}
+use Rattle.model.specs.Viable.{CanGoOn}
 use Rattle.model.specs.Api.{reader}
 use Rattle.grammar.specs.Rfc3629.{UTF8-octets}
 use Rattle.grammar.specs.Derived.{Derived, rawOf, Line, Each}
 use Rattle.grammar.specs.Derives.{DerivesCell, Derives}
 use Rattle.grammar.specs.Reading.{decoded, ReadByForm}
+use Rattle.grammar.specs.NextByte.{GoesOn, NextByte}
 use Rattle.grammar.specs.Accepted.{Acceptable, cellCount, ShowsRecord}
 use Rattle.grammar.proofs.Texts.{text-exact}
 use Rattle.grammar.proofs.CellGrammar.{cell-exact, derived-content}
@@ -25,6 +27,7 @@ use Rattle.grammar.proofs.FileGrammar.{grammar-exact, unambiguous}
 use Rattle.grammar.specs.Exact.{Exact}
 use Rattle.grammar.specs.Mistakes.{Mistakes}
 use Rattle.grammar.proofs.Acceptance.{acceptance, accepted-records, reader-acceptance}
+use Rattle.grammar.proofs.GoingOn.{can-go-on, next-byte-exact}
 use Rattle.grammar.proofs.Refused.{refused}
 
 -- a text of document 01's table is UTF8-octets of RFC 3629
@@ -61,9 +64,19 @@ pub reader-exactly :
     (reader n xs room .report ≡ accepted) ↔ ((ls : List (Line Derived)) × Acceptable d xs ls × (cellCount ls ≤ room))
 reader-exactly = reader-acceptance
 
+-- a byte can go on, by form alone, exactly when some derivation's text begins so
+pub goes-on : (d : Dialect) (xs : Bytes) (b : ℕ) → CanGoOn d xs b ↔ GoesOn d xs b
+goes-on = can-go-on
+
+-- so faults 2 and 3 are for the byte with which no derivation's text begins
+pub next-byte :
+    (d : Dialect) (target : Option Dialect) (xs : Bytes) (r : Read) (b : ℕ) → readBytes d target xs ≡ going r → fileFull r ≡ false →
+    recordFull r b ≡ false → NextByte d target xs r b
+next-byte = next-byte-exact
+
 -- so the grammars are exact, and make none of the mistakes
 pub exact : Exact
-exact = record { files = files; contents = contents; acceptance = accepted-exactly }
+exact = record { files = files; contents = contents; acceptance = accepted-exactly; next-byte = next-byte }
 
 pub mistakes : Mistakes
 mistakes = refused exact

@@ -9,5 +9,6 @@ pub mod CsvPlus
 pub mod Derives
 pub mod Reading
 pub mod Accepted
+pub mod NextByte
 pub mod Exact
 pub mod Mistakes
