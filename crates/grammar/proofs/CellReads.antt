@@ -13,26 +13,30 @@ use Rattle.model.specs.Form.{afterCell, grow, inCell, formStep}
 use Rattle.model.proofs.Tests.{impossible}
 use Rattle.model.proofs.CellContent.{no-more}
 use Rattle.grammar.specs.Derived.{Line, line}
-use Rattle.grammar.specs.Reading.{Reads, of-cell}
+use Rattle.grammar.specs.Stretches.{Stretch, stretch, past}
 use Rattle.grammar.proofs.Spelling.{Spells, whole, byte}
 use Rattle.grammar.proofs.Separators.{Separates, Reached, reached-step, stops}
+use Rattle.grammar.proofs.Walks.{Walks, of-cell}
 use Rattle.grammar.proofs.Steps.{Takes, rejected, stop-whole}
 use Rattle.grammar.proofs.Steps as steps
 
 -- ---- a cell is read
 
--- after any whole cell these bytes are read, with the rest of the record's text and the cells after that one
-abbrev pub Follows : Dialect → Bytes → (text : Bytes) (cells : List Bytes) (ls : List (Line Bytes)) → Type 0
-Follows d ys text cells ls = (c : Cell) → Reached d c → isWhole d c ≡ true → Reads d (Inside c) ys (line text ([] ∷ cells) ∷ ls)
+-- after any whole cell, which ends at o, these bytes are read, with the rest of the record's text, the cells after that one and their
+-- stretches
+abbrev pub Follows : Dialect → (o : ℕ) → Bytes → (text : Bytes) (cells : List Bytes) (ls : List (Line Bytes)) (ps : List Stretch) (ss : List (List Stretch)) → Type 0
+Follows d o ys text cells ls ps ss =
+    (c : Cell) (p : ℕ) → Reached d c → isWhole d c ≡ true → Walks d (Inside c) o p ys (line text ([] ∷ cells) ∷ ls) ((stretch p o ∷ ps) ∷ ss)
 
-cell-step : (d : Dialect) (c e : Cell) (b : ℕ) → cellStep d c b ≡ More e → formStep d (Inside c) b ≡ To (Inside e) OfCell
+pub cell-step : (d : Dialect) (c e : Cell) (b : ℕ) → cellStep d c b ≡ More e → formStep d (Inside c) b ≡ To (Inside e) OfCell
 unfolding formStep inCell
 cell-step d c e b s = rw s
 
 pub cell-reads :
-    {d : Dialect} {c : Cell} {raw ys text : Bytes} {cells : List Bytes} {ls : List (Line Bytes)} → Spells d c raw → Reached d c →
-    Follows d ys text cells ls → Reads d (Inside c) (raw ++ ys) (line (raw ++ text) (raw ∷ cells) ∷ ls)
-cell-reads {c} (whole w) r k = k c r w
+    {d : Dialect} {c : Cell} {o p : ℕ} {raw ys text : Bytes} {cells : List Bytes} {ls : List (Line Bytes)} {ps : List Stretch} {ss : List (List Stretch)} →
+    Spells d c raw → Reached d c → Follows d (past raw o) ys text cells ls ps ss →
+    Walks d (Inside c) o p (raw ++ ys) (line (raw ++ text) (raw ∷ cells) ∷ ls) ((stretch p (past raw o) ∷ ps) ∷ ss)
+cell-reads {c} {p} (whole w) r k = k c p r w
 cell-reads {d} (byte {c} {e} {b} s m) r k = of-cell (cell-step d c e b s) (cell-reads m (reached-step d c e b r s) k)
 
 -- the byte after a whole cell

@@ -1,6 +1,6 @@
 -- The grammar of CSVJ derives exactly the files that its automaton reads by form. After a value, and after a space or a tab that follows
 -- one, the same may come (`Continues`, `AfterByte`); before a record's first value the same may come as at its beginning.
-use Prim.Native.Nat.{ℕ}
+use Prim.Native.Nat.{ℕ, suc}
 use mathlib.Core.Path.{_≡_, refl}
 use mathlib.Core.Bool.{Bool, true, false}
 use mathlib.Core.List.{List, [], _∷_, _++_, map, append-assoc, append-nil}
@@ -13,62 +13,74 @@ use Rattle.model.specs.Form.{isBlank, afterCell, inCell, beginRecord, beginFile
 use Rattle.model.proofs.Tests.{split, split-on, is→eq}
 use Rattle.grammar.specs.Rfc5234.{LF, CR}
 use Rattle.grammar.specs.Derived.{Derived, rawOf, Line, line, spelling}
-use Rattle.grammar.specs.Reading.{Reads, ends-clean, outside, passed, between, between-closing, tail, tail-closing, ends, ends-closing, decoded, decodedLine}
+use Rattle.grammar.specs.Reading.{Reads, decoded, decodedLine}
+use Rattle.grammar.specs.Stretches.{Stretch, past, csvjValues, csvjText, csvjLine, csvjLines, csvjTable, csvjFile}
 use Rattle.grammar.specs.Csvj.{File, unmarked, marked, Csvj-file, csvj-file, Data-lines, no-line, a-line, header-line, data-line, ended, Line-text, empty, filled, Values, value, values, Comma, comma, Line-terminator, lf, crlf, Ws, no-ws, space, tab}
 use Rattle.grammar.specs.Csvj as csvj
 use Rattle.grammar.proofs.Spelling.{Spells}
 use Rattle.grammar.proofs.CellGrammar.{derived-spells, spells-derived}
 use Rattle.grammar.proofs.Separators.{by-delimiter, by-cr, by-lf, by-space, by-tab}
-use Rattle.grammar.proofs.Steps.{Takes, rejected, by-bytes, cut-off, from-state}
+use Rattle.grammar.proofs.Steps.{Takes, rejected, by-bytes, cut-off}
 use Rattle.grammar.proofs.Steps as steps
+use Rattle.grammar.proofs.Walks.{Walks, ends-clean, outside, passed, between, between-closing, tail, tail-closing, ends, ends-closing, from-state, past-append}
 use Rattle.grammar.proofs.CellReads.{Follows, cell-reads, after-whole, FirstOfCell, first-of-cell, spells-first, other-byte, CellThen, cell-then, Closes, closes, in-cell-byte}
 
 -- ---- what is derived is read
 
 -- after a value, and after blanks that follow one
-record Continues (ys text : Bytes) (cells : List Bytes) (ls : List (Line Bytes)) : Type 0 where
-  after-value : Follows Csvj ys text cells ls
-  after-blank : Reads Csvj After ys (line text cells ∷ ls)
+record Continues (o : ℕ) (ys text : Bytes) (cells : List Bytes) (ls : List (Line Bytes)) (ps : List Stretch) (ss : List (List Stretch)) : Type 0 where
+  after-value : Follows Csvj o ys text cells ls ps ss
+  after-blank : Walks Csvj After o o ys (line text cells ∷ ls) (ps ∷ ss)
 
-space-continues : {ys text : Bytes} {cells : List Bytes} {ls : List (Line Bytes)} → Continues ys text cells ls → Continues (0x20 ∷ ys) (0x20 ∷ text) cells ls
+space-continues :
+    {o : ℕ} {ys text : Bytes} {cells : List Bytes} {ls : List (Line Bytes)} {ps : List Stretch} {ss : List (List Stretch)} → Continues (suc o) ys text cells ls ps ss →
+    Continues o (0x20 ∷ ys) (0x20 ∷ text) cells ls ps ss
 unfolding formStep afterCell if_then_else_
 space-continues k =
     record {
-      after-value = λ c r w. between-closing (after-whole Csvj c 0x20 r w by-space) (k .after-blank);
+      after-value = λ c p r w. between-closing (after-whole Csvj c 0x20 r w by-space) (k .after-blank);
       after-blank = between refl (k .after-blank);
     }
 
-tab-continues : {ys text : Bytes} {cells : List Bytes} {ls : List (Line Bytes)} → Continues ys text cells ls → Continues (0x09 ∷ ys) (0x09 ∷ text) cells ls
+tab-continues :
+    {o : ℕ} {ys text : Bytes} {cells : List Bytes} {ls : List (Line Bytes)} {ps : List Stretch} {ss : List (List Stretch)} → Continues (suc o) ys text cells ls ps ss →
+    Continues o (0x09 ∷ ys) (0x09 ∷ text) cells ls ps ss
 unfolding formStep afterCell if_then_else_
 tab-continues k =
     record {
-      after-value = λ c r w. between-closing (after-whole Csvj c 0x09 r w by-tab) (k .after-blank);
+      after-value = λ c p r w. between-closing (after-whole Csvj c 0x09 r w by-tab) (k .after-blank);
       after-blank = between refl (k .after-blank);
     }
 
-ws-continues : {ws ys text : Bytes} {cells : List Bytes} {ls : List (Line Bytes)} → Ws ws → Continues ys text cells ls → Continues (ws ++ ys) (ws ++ text) cells ls
+ws-continues :
+    {o : ℕ} {ws ys text : Bytes} {cells : List Bytes} {ls : List (Line Bytes)} {ps : List Stretch} {ss : List (List Stretch)} → Ws ws → Continues (past ws o) ys text cells ls ps ss →
+    Continues o (ws ++ ys) (ws ++ text) cells ls ps ss
 ws-continues no-ws k = k
 ws-continues (space w) k = space-continues (ws-continues w k)
 ws-continues (tab w) k = tab-continues (ws-continues w k)
 
-comma-continues : {ys text : Bytes} {cells : List Bytes} {ls : List (Line Bytes)} → Reads Csvj Wanting ys (line text cells ∷ ls) → Continues (0x2C ∷ ys) (0x2C ∷ text) cells ls
+comma-continues :
+    {o : ℕ} {ys text : Bytes} {cells : List Bytes} {ls : List (Line Bytes)} {ps : List Stretch} {ss : List (List Stretch)} → Walks Csvj Wanting (suc o) (suc o) ys (line text cells ∷ ls) (ps ∷ ss) →
+    Continues o (0x2C ∷ ys) (0x2C ∷ text) cells ls ps ss
 unfolding formStep afterCell if_then_else_
 comma-continues k =
     record {
-      after-value = λ c r w. between-closing (after-whole Csvj c 0x2C r w by-delimiter) k;
+      after-value = λ c p r w. between-closing (after-whole Csvj c 0x2C r w by-delimiter) k;
       after-blank = between refl k;
     }
 
-terminator-continues : {es zs : Bytes} {ls : List (Line Bytes)} → Line-terminator es → Reads Csvj Begin zs ls → Continues (es ++ zs) [] [] ls
+terminator-continues :
+    {o : ℕ} {es zs : Bytes} {ls : List (Line Bytes)} {ss : List (List Stretch)} → Line-terminator es → Walks Csvj Begin (past es o) (past es o) zs ls ss →
+    Continues o (es ++ zs) [] [] ls [] ss
 unfolding formStep afterCell if_then_else_
 terminator-continues lf k =
     record {
-      after-value = λ c r w. ends-closing (after-whole Csvj c LF r w by-lf) k;
+      after-value = λ c p r w. ends-closing (after-whole Csvj c LF r w by-lf) k;
       after-blank = ends refl k;
     }
 terminator-continues crlf k =
     record {
-      after-value = λ c r w. tail-closing (after-whole Csvj c CR r w by-cr) (ends refl k);
+      after-value = λ c p r w. tail-closing (after-whole Csvj c CR r w by-cr) (ends refl k);
       after-blank = tail refl (ends refl k);
     }
 
@@ -78,8 +90,8 @@ data Opening : Form → Type 0 where
   at-begin : Opening Begin
   at-blanks : Opening Blanks
 
-abbrev FromLine : Bytes → List (Line Bytes) → Type 0
-FromLine xs ls = (f : Form) → Opening f → Reads Csvj f xs ls
+abbrev FromLine : ℕ → Bytes → List (Line Bytes) → List (List Stretch) → Type 0
+FromLine o xs ls ss = (f : Form) → Opening f → Walks Csvj f o o xs ls ss
 
 open-value : {f : Form} (b : ℕ) (e : Cell) → Opening f → cellStep Csvj Fresh b ≡ More e → formStep Csvj f b ≡ formStep Csvj (Inside Fresh) b
 unfolding formStep beginFile beginRecord cellStep firstByte if_then_else_
@@ -91,13 +103,16 @@ wanted-value : (b : ℕ) (e : Cell) → cellStep Csvj Fresh b ≡ More e → for
 unfolding formStep cellStep firstByte if_then_else_
 wanted-value b e s = rw (other-byte Csvj b 0x20 e s refl, other-byte Csvj b 0x09 e s refl)
 
-from-first : {xs : Bytes} {ls : List (Line Bytes)} → FirstOfCell Csvj xs → Reads Csvj (Inside Fresh) xs ls → FromLine xs ls
+from-first : {o : ℕ} {xs : Bytes} {ls : List (Line Bytes)} {ss : List (List Stretch)} → FirstOfCell Csvj xs → Walks Csvj (Inside Fresh) o o xs ls ss → FromLine o xs ls ss
 from-first (first-of-cell {b} {e} s) r f o = from-state (open-value b e o s) r
 
-from-wanted : {xs : Bytes} {ls : List (Line Bytes)} → FirstOfCell Csvj xs → Reads Csvj (Inside Fresh) xs ls → Reads Csvj Wanting xs ls
+from-wanted :
+    {o : ℕ} {xs : Bytes} {ls : List (Line Bytes)} {ss : List (List Stretch)} → FirstOfCell Csvj xs → Walks Csvj (Inside Fresh) o o xs ls ss → Walks Csvj Wanting o o xs ls ss
 from-wanted (first-of-cell {b} {e} s) r = from-state (wanted-value b e s) r
 
-ws-wanted : {ws ys text : Bytes} {cells : List Bytes} {ls : List (Line Bytes)} → Ws ws → Reads Csvj Wanting ys (line text cells ∷ ls) → Reads Csvj Wanting (ws ++ ys) (line (ws ++ text) cells ∷ ls)
+ws-wanted :
+    {o : ℕ} {ws ys text : Bytes} {cells : List Bytes} {ls : List (Line Bytes)} {ss : List (List Stretch)} → Ws ws →
+    Walks Csvj Wanting (past ws o) (past ws o) ys (line text cells ∷ ls) ss → Walks Csvj Wanting o o (ws ++ ys) (line (ws ++ text) cells ∷ ls) ss
 unfolding formStep if_then_else_
 ws-wanted no-ws k = k
 ws-wanted (space w) k = between refl (ws-wanted w k)
@@ -115,7 +130,9 @@ tab-step at-top = refl
 tab-step at-begin = refl
 tab-step at-blanks = refl
 
-ws-opening : {ws ys text : Bytes} {cells : List Bytes} {ls : List (Line Bytes)} → Ws ws → FromLine ys (line text cells ∷ ls) → FromLine (ws ++ ys) (line (ws ++ text) cells ∷ ls)
+ws-opening :
+    {o : ℕ} {ws ys text : Bytes} {cells : List Bytes} {ls : List (Line Bytes)} {ss : List (List Stretch)} → Ws ws → FromLine (past ws o) ys (line text cells ∷ ls) ss →
+    FromLine o (ws ++ ys) (line (ws ++ text) cells ∷ ls) ss
 ws-opening no-ws k f o = k f o
 ws-opening (space w) k f o = between (space-step o) (ws-opening w k Blanks at-blanks)
 ws-opening (tab w) k f o = between (tab-step o) (ws-opening w k Blanks at-blanks)
@@ -132,7 +149,9 @@ cr-step at-top = refl
 cr-step at-begin = refl
 cr-step at-blanks = refl
 
-terminator-opening : {es zs : Bytes} {ls : List (Line Bytes)} → Line-terminator es → Reads Csvj Begin zs ls → FromLine (es ++ zs) (line [] [] ∷ ls)
+terminator-opening :
+    {o : ℕ} {es zs : Bytes} {ls : List (Line Bytes)} {ss : List (List Stretch)} → Line-terminator es → Walks Csvj Begin (past es o) (past es o) zs ls ss →
+    FromLine o (es ++ zs) (line [] [] ∷ ls) ([] ∷ ss)
 unfolding formStep if_then_else_
 terminator-opening lf k f o = ends (lf-step o) k
 terminator-opening crlf k f o = tail (cr-step o) (ends refl k)
@@ -142,43 +161,53 @@ unfolding isWhole
 values-first ys (value v) = spells-first refl (derived-spells Csvj _ v) ys
 values-first ys (values {raw} {cs} {text} v c k) = rw (append-assoc raw (cs ++ text) ys) (spells-first refl (derived-spells Csvj _ v) ((cs ++ text) ++ ys))
 
-comma-follows : {cs ys text : Bytes} {cells : List Bytes} {ls : List (Line Bytes)} → Comma cs → Reads Csvj Wanting ys (line text cells ∷ ls) → Continues (cs ++ ys) (cs ++ text) cells ls
-comma-follows {ys} {text} (comma {ws} {vs} a b) k =
-    rw (append-assoc ws (0x2C ∷ vs) ys, append-assoc ws (0x2C ∷ vs) text) (ws-continues a (comma-continues (ws-wanted b k)))
+comma-follows :
+    {o : ℕ} {cs ys text : Bytes} {cells : List Bytes} {ls : List (Line Bytes)} {ps : List Stretch} {ss : List (List Stretch)} → Comma cs →
+    Walks Csvj Wanting (past cs o) (past cs o) ys (line text cells ∷ ls) (ps ∷ ss) → Continues o (cs ++ ys) (cs ++ text) cells ls ps ss
+comma-follows {o} {ys} {text} (comma {ws} {vs} a b) k =
+    rw (append-assoc ws (0x2C ∷ vs) ys, append-assoc ws (0x2C ∷ vs) text)
+    (ws-continues a (comma-continues (ws-wanted b (rw (past-append ws (0x2C ∷ vs) o) at k))))
 
 values-read :
-    {text ys rest : Bytes} {cells : List Derived} {ls : List (Line Bytes)} → Values text cells → Continues ys rest [] ls →
-    Reads Csvj (Inside Fresh) (text ++ ys) (line (text ++ rest) (map rawOf cells) ∷ ls)
-values-read (value v) k = cell-reads (derived-spells Csvj _ v) tt (k .after-value)
-values-read {ys} {rest} (values {raw} {cs} {text} v c m) k =
+    (o : ℕ) {text ys rest : Bytes} {cells : List Derived} {ls : List (Line Bytes)} {ss : List (List Stretch)} (m : Values text cells) → Continues (past text o) ys rest [] ls [] ss →
+    Walks Csvj (Inside Fresh) o o (text ++ ys) (line (text ++ rest) (map rawOf cells) ∷ ls) (csvjValues o m ∷ ss)
+values-read o (value v) k = cell-reads (derived-spells Csvj _ v) tt (k .after-value)
+values-read o {ys} {rest} (values {raw} {cs} {text} v c m) k =
     rw (append-assoc raw (cs ++ text) ys, append-assoc raw (cs ++ text) rest, append-assoc cs text ys, append-assoc cs text rest)
-    (cell-reads (derived-spells Csvj _ v) tt (comma-follows c (from-wanted (values-first ys m) (values-read m k)) .after-value))
+    (cell-reads (derived-spells Csvj _ v) tt
+    (comma-follows c (from-wanted (values-first ys m) (values-read (past cs (past raw o)) m (rw (past-append raw (cs ++ text) o, past-append cs text (past raw o)) at k))) .after-value))
 
-text-reads : {text es zs : Bytes} {cells : List Derived} {ls : List (Line Bytes)} → Line-text text cells → Line-terminator es → Reads Csvj Begin zs ls → FromLine (text ++ (es ++ zs)) (line text (map rawOf cells) ∷ ls)
-text-reads {es} {zs} {ls} (empty {ws} {vs} a b) e k =
-    let r : FromLine (ws ++ (vs ++ (es ++ zs))) (line (ws ++ (vs ++ [])) [] ∷ ls) = ws-opening a (ws-opening b (terminator-opening e k)) in
+text-reads :
+    (o : ℕ) {text es zs : Bytes} {cells : List Derived} {ls : List (Line Bytes)} {ss : List (List Stretch)} (t : Line-text text cells) → Line-terminator es →
+    Walks Csvj Begin (past es (past text o)) (past es (past text o)) zs ls ss → FromLine o (text ++ (es ++ zs)) (line text (map rawOf cells) ∷ ls) (csvjText o t ∷ ss)
+text-reads o {es} {zs} {ls} {ss} (empty {ws} {vs} a b) e k =
+    let r : FromLine o (ws ++ (vs ++ (es ++ zs))) (line (ws ++ (vs ++ [])) [] ∷ ls) ([] ∷ ss) = ws-opening a (ws-opening b (terminator-opening e (rw (past-append ws vs o) at k))) in
     rw (append-assoc ws vs (es ++ zs)) (rw (append-nil vs) at r)
-text-reads {es} {zs} {ls} (filled {ws} {vs} {text} {cells} a m b) e k =
-    let r : Reads Csvj (Inside Fresh) (text ++ (vs ++ (es ++ zs))) (line (text ++ (vs ++ [])) (map rawOf cells) ∷ ls) = values-read m (ws-continues b (terminator-continues e k)) in
-    let q : FromLine (ws ++ (text ++ (vs ++ (es ++ zs)))) (line (ws ++ (text ++ (vs ++ []))) (map rawOf cells) ∷ ls) = ws-opening a (from-first (values-first (vs ++ (es ++ zs)) m) r) in
+text-reads o {es} {zs} {ls} {ss} (filled {ws} {vs} {text} {cells} a m b) e k =
+    let i : ℕ = past ws o in
+    let n : Walks Csvj Begin (past es (past vs (past text i))) (past es (past vs (past text i))) zs ls ss = rw (past-append ws (text ++ vs) o, past-append text vs (past ws o)) at k in
+    let r : Walks Csvj (Inside Fresh) i i (text ++ (vs ++ (es ++ zs))) (line (text ++ (vs ++ [])) (map rawOf cells) ∷ ls) (csvjValues i m ∷ ss) = values-read i m (ws-continues b (terminator-continues e n)) in
+    let q : FromLine o (ws ++ (text ++ (vs ++ (es ++ zs)))) (line (ws ++ (text ++ (vs ++ []))) (map rawOf cells) ∷ ls) (csvjValues i m ∷ ss) = ws-opening a (from-first (values-first (vs ++ (es ++ zs)) m) r) in
     rw (append-assoc ws (text ++ vs) (es ++ zs), append-assoc text vs (es ++ zs)) (rw (append-nil vs) at q)
 
-line-reads : {bs xs : Bytes} {l : Line Derived} {ls : List (Line Bytes)} → csvj.Line bs l → Reads Csvj Begin xs ls → FromLine (bs ++ xs) (spelling l ∷ ls)
+line-reads :
+    (o : ℕ) {bs xs : Bytes} {l : Line Derived} {ls : List (Line Bytes)} {ss : List (List Stretch)} (k : csvj.Line bs l) → Walks Csvj Begin (past bs o) (past bs o) xs ls ss →
+    FromLine o (bs ++ xs) (spelling l ∷ ls) (csvjLine o k ∷ ss)
 unfolding spelling
-line-reads {xs} (ended {text} {es} t e) k = rw (append-assoc text es xs) (text-reads t e k)
+line-reads o {xs} (ended {text} {es} t e) k = rw (append-assoc text es xs) (text-reads o t e (rw (past-append text es o) at k))
 
-lines-read : {xs : Bytes} {ls : List (Line Derived)} → Data-lines xs ls → Reads Csvj Begin xs (map spelling ls)
+lines-read : (o : ℕ) {xs : Bytes} {ls : List (Line Derived)} (k : Data-lines xs ls) → Walks Csvj Begin o o xs (map spelling ls) (csvjLines o k)
 unfolding formEnd
-lines-read no-line = ends-clean refl
-lines-read (a-line (data-line l) k) = line-reads l (lines-read k) Begin at-begin
+lines-read o no-line = ends-clean refl
+lines-read o (a-line {bs} (data-line l) k) = line-reads o l (lines-read (past bs o) k) Begin at-begin
 
-csvj-reads : {xs : Bytes} {ls : List (Line Derived)} → Csvj-file xs ls → FromLine xs (map spelling ls)
-csvj-reads (csvj-file (header-line l) k) = line-reads l (lines-read k)
+table-reads : (o : ℕ) {xs : Bytes} {ls : List (Line Derived)} (k : Csvj-file xs ls) → FromLine o xs (map spelling ls) (csvjTable o k)
+table-reads o (csvj-file {bs} (header-line l) k) = line-reads o l (lines-read (past bs o) k)
 
-pub file-reads : {xs : Bytes} {ls : List (Line Derived)} → File xs ls → Reads Csvj Top xs (map spelling ls)
+pub file-reads : {xs : Bytes} {ls : List (Line Derived)} (k : File xs ls) → Walks Csvj Top 0 0 xs (map spelling ls) (csvjFile k)
 unfolding formStep beginFile if_then_else_
-file-reads (unmarked k) = csvj-reads k Top at-top
-file-reads (marked k) = outside refl (outside refl (passed refl (csvj-reads k Begin at-begin)))
+file-reads (unmarked k) = table-reads 0 k Top at-top
+file-reads (marked k) = outside refl (outside refl (passed refl (table-reads 3 k Begin at-begin)))
 
 -- ---- what is read is derived
 

@@ -13,6 +13,7 @@ pub mod CsvjCells
 pub mod CellGrammar
 pub mod Steps
 pub mod Separators
+pub mod Walks
 pub mod CellReads
 pub mod Delimited
 pub mod TdifFiles

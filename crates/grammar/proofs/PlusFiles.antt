@@ -1,7 +1,7 @@
 -- The grammar of CSV+ derives exactly the files that its automaton reads by form, for every delimiter and quote. At offset 0 the
 -- automaton shadows a plain cell that begins like the mark; it refuses only where the mark is complete (`top-reads`).
-use Prim.Native.Nat.{ℕ}
-use mathlib.Core.Path.{_≡_, refl, _∙_}
+use Prim.Native.Nat.{ℕ, suc}
+use mathlib.Core.Path.{_≡_, refl, ap, _∙_}
 use mathlib.Core.Bool.{Bool, true, false}
 use mathlib.Core.List.{List, [], _∷_, _++_, map, append-nil}
 use borrow.Author.Tests.{eqb-false}
@@ -17,16 +17,18 @@ use Rattle.model.proofs.Cells.{mark-cell, mark-rest}
 use Rattle.model.proofs.CellContent.{d-plus}
 use Rattle.grammar.specs.Rfc5234.{LF, CR}
 use Rattle.grammar.specs.Derived.{Derived, rawOf, Line, line, spelling}
-use Rattle.grammar.specs.Reading.{Reads, ends-clean, ends-final, of-cell, tail-closing, ends, ends-closing, decoded, decodedLine}
+use Rattle.grammar.specs.Reading.{Reads, decoded, decodedLine}
+use Rattle.grammar.specs.Stretches.{Stretch, past, cellAt, plusHeader, plusRecord, plusRecords, plusTable, plusFile}
 use Rattle.grammar.specs.CsvPlus.{BeginsWithMark, mark, File, file, Table, header-unended, header-alone, header-then, Records, unended, last, next, Header, a-name, names, Record, field, fields, name, comma, CRLF, lf, crlf}
 use Rattle.grammar.proofs.PlusCells.{COMMA}
 use Rattle.grammar.proofs.Spelling.{whole}
 use Rattle.grammar.proofs.CellGrammar.{derived-spells, spells-derived}
 use Rattle.grammar.proofs.Separators.{by-cr, by-lf}
-use Rattle.grammar.proofs.Steps.{Takes, rejected, at-end, first-byte, by-bytes, cut-off, from-state}
+use Rattle.grammar.proofs.Steps.{Takes, rejected, at-end, by-bytes, cut-off}
 use Rattle.grammar.proofs.Steps as steps
-use Rattle.grammar.proofs.CellReads.{Follows, after-whole, CellThen, cell-then, Closes, closes, more-cell, in-cell-byte}
-use Rattle.grammar.proofs.Delimited.{Cells, one-cell, more-cells, cells-read, RecordThen, record-then, After, at-tail, at-delimiter, record-of}
+use Rattle.grammar.proofs.Walks.{Walks, ends-clean, ends-final, tail-closing, ends, ends-closing, reads, from-state, with-cell-byte}
+use Rattle.grammar.proofs.CellReads.{Follows, cell-step, after-whole, CellThen, cell-then, Closes, closes, more-cell, in-cell-byte}
+use Rattle.grammar.proofs.Delimited.{Cells, one-cell, more-cells, cellsAt, cells-read, RecordThen, record-then, After, at-tail, at-delimiter, record-of}
 
 data NonEmpty : Bytes → Type 0 where
   some : {b : ℕ} {bs : Bytes} → NonEmpty (b ∷ bs)
@@ -64,6 +66,11 @@ module _ (s : Settings) where
   record-cells (field v) = one-cell (derived-spells (CsvPlus s) _ v)
   record-cells (fields v comma f) = more-cells (derived-spells (CsvPlus s) _ v) (record-cells f)
 
+  record-placed : (o : ℕ) {text : Bytes} {cells : List Derived} (r : Record s text cells) → cellsAt o (record-cells r) ≡ plusRecord s o r
+  unfolding record-cells
+  record-placed o (field v) = refl
+  record-placed o (fields {raw} v comma f) = ap (λ ps. cellAt o raw ∷ ps) (record-placed (suc (past raw o)) f)
+
   cells-record : {text : Bytes} {cells : List Bytes} → Cells (CsvPlus s) text cells → Record s text (map (decoded (CsvPlus s)) cells)
   cells-record (one-cell {raw} m) = field (spells-derived (CsvPlus s) raw m)
   cells-record (more-cells {raw} m n) = fields (spells-derived (CsvPlus s) raw m) comma (cells-record n)
@@ -83,6 +90,17 @@ module _ (s : Settings) where
   table-records (header-alone h e) = last (header-record h) e
   table-records (header-then h e k) = next (header-record h) e k
 
+  header-placed : (o : ℕ) {text : Bytes} {cells : List Derived} (h : Header s text cells) → plusRecord s o (header-record h) ≡ plusHeader s o h
+  unfolding header-record
+  header-placed o (a-name (name v)) = refl
+  header-placed o (names {raw} (name v) c h) = ap (λ ps. cellAt o raw ∷ ps) (header-placed (suc (past raw o)) h)
+
+  table-placed : (o : ℕ) {xs : Bytes} {ls : List (Line Derived)} (t : Table s xs ls) → plusRecords s o (table-records t) ≡ plusTable s o t
+  unfolding table-records
+  table-placed o (header-unended h) = rw (header-placed o h)
+  table-placed o (header-alone h e) = rw (header-placed o h)
+  table-placed o (header-then h e k) = rw (header-placed o h)
+
   records-table : {xs : Bytes} {ls : List (Line Derived)} → Records s xs ls → Table s xs ls
   records-table (unended r) = header-unended (record-header r)
   records-table (last r e) = header-alone (record-header r) e
@@ -98,16 +116,17 @@ module _ (s : Settings) where
   unfolding afterCell if_then_else_
   after-cr = rw (separate s .1)
 
-  ending-follows : {es zs : Bytes} {ls : List (Line Bytes)} → CRLF s es → Reads (CsvPlus s) Begin zs ls → Follows (CsvPlus s) (es ++ zs) [] [] ls
+  ending-follows :
+      {o : ℕ} {es zs : Bytes} {ls : List (Line Bytes)} {ss : List (List Stretch)} → CRLF s es → Walks (CsvPlus s) Begin (past es o) (past es o) zs ls ss → Follows (CsvPlus s) o (es ++ zs) [] [] ls [] ss
   unfolding formStep if_then_else_
-  ending-follows lf k c r w = ends-closing (after-whole (CsvPlus s) c LF r w by-lf ∙ after-lf) k
-  ending-follows crlf k c r w = tail-closing (after-whole (CsvPlus s) c CR r w by-cr ∙ after-cr) (ends refl k)
+  ending-follows lf k c p r w = ends-closing (after-whole (CsvPlus s) c LF r w by-lf ∙ after-lf) k
+  ending-follows crlf k c p r w = tail-closing (after-whole (CsvPlus s) c CR r w by-cr ∙ after-cr) (ends refl k)
 
-  end-follows : Follows (CsvPlus s) [] [] [] []
+  end-follows : (o : ℕ) → Follows (CsvPlus s) o [] [] [] [] [] []
   unfolding formEnd if_then_else_
-  end-follows c r w = ends-final {f = Inside c} (rw w)
+  end-follows o c p r w = ends-final {f = Inside c} (rw w)
 
-  begin-reads : {xs : Bytes} {ls : List (Line Bytes)} → NonEmpty xs → Reads (CsvPlus s) (Inside Fresh) xs ls → Reads (CsvPlus s) Begin xs ls
+  begin-reads : {o : ℕ} {xs : Bytes} {ls : List (Line Bytes)} {ss : List (List Stretch)} → NonEmpty xs → Walks (CsvPlus s) (Inside Fresh) o o xs ls ss → Walks (CsvPlus s) Begin o o xs ls ss
   unfolding formStep beginRecord
   begin-reads some r = from-state refl r
 
@@ -117,38 +136,30 @@ module _ (s : Settings) where
   ending-some (b ∷ text) zs e = some
 
   -- records from the first cell on
-  data FromFresh (ls : List (Line Bytes)) (xs : Bytes) : Type 0 where
-    from-fresh : NonEmpty xs → Reads (CsvPlus s) (Inside Fresh) xs ls → FromFresh ls xs
+  data FromFresh (o : ℕ) (ls : List (Line Bytes)) (ss : List (List Stretch)) (xs : Bytes) : Type 0 where
+    from-fresh : NonEmpty xs → Walks (CsvPlus s) (Inside Fresh) o o xs ls ss → FromFresh o ls ss xs
 
-  to-begin : {xs : Bytes} {ls : List (Line Bytes)} → FromFresh ls xs → Reads (CsvPlus s) Begin xs ls
+  to-begin : {o : ℕ} {xs : Bytes} {ls : List (Line Bytes)} {ss : List (List Stretch)} → FromFresh o ls ss xs → Walks (CsvPlus s) Begin o o xs ls ss
   to-begin (from-fresh n r) = begin-reads n r
 
-  none-reads : Reads (CsvPlus s) Begin [] []
+  none-reads : (o : ℕ) → Walks (CsvPlus s) Begin o o [] [] []
   unfolding formEnd
-  none-reads = ends-clean refl
+  none-reads o = ends-clean refl
 
-  records-read : {xs : Bytes} {ls : List (Line Derived)} → Records s xs ls → FromFresh (map spelling ls) xs
+  record-reads :
+      (o : ℕ) {text ys : Bytes} {cells : List Derived} {ls : List (Line Bytes)} {ss : List (List Stretch)} (r : Record s text cells) → Follows (CsvPlus s) (past text o) ys [] [] ls [] ss →
+      Walks (CsvPlus s) (Inside Fresh) o o (text ++ ys) (line text (map rawOf cells) ∷ ls) (plusRecord s o r ∷ ss)
+  record-reads o r f = rw (← (record-placed o r)) (cells-read d-plus o (record-cells r) f)
+
+  records-read : (o : ℕ) {xs : Bytes} {ls : List (Line Derived)} (k : Records s xs ls) → FromFresh o (map spelling ls) (plusRecords s o k) xs
   unfolding spelling
-  records-read (unended {b} {text} {cells} r) =
-      let k : Reads (CsvPlus s) (Inside Fresh) ((b ∷ text) ++ []) (line (b ∷ text) (map rawOf cells) ∷ []) = cells-read d-plus (record-cells r) end-follows in
+  records-read o (unended {b} {text} {cells} r) =
+      let k : Walks (CsvPlus s) (Inside Fresh) o o ((b ∷ text) ++ []) (line (b ∷ text) (map rawOf cells) ∷ []) (plusRecord s o r ∷ []) = record-reads o r (end-follows (past (b ∷ text) o)) in
       from-fresh some (rw (append-nil (b ∷ text)) at k)
-  records-read (last {text} {es} r e) =
-      rw (← (append-nil es)) (from-fresh (ending-some text [] e) (cells-read d-plus (record-cells r) (ending-follows e none-reads)))
-  records-read (next {text} {es} {xs} r e k) =
-      from-fresh (ending-some text xs e) (cells-read d-plus (record-cells r) (ending-follows e (to-begin (records-read k))))
-
-  -- a byte that belongs to the cell in hand
-  data Took (e : Cell) (b : ℕ) (bs : Bytes) : List (Line Bytes) → Type 0 where
-    took :
-        {text raw : Bytes} {cells : List Bytes} {ls : List (Line Bytes)} → Reads (CsvPlus s) (Inside e) bs (line text (raw ∷ cells) ∷ ls) →
-        Took e b bs (line (b ∷ text) ((b ∷ raw) ∷ cells) ∷ ls)
-
-  take : {c e : Cell} (b : ℕ) {bs : Bytes} {ls : List (Line Bytes)} → cellStep (CsvPlus s) c b ≡ More e → Reads (CsvPlus s) (Inside c) (b ∷ bs) ls → Took e b bs ls
-  unfolding formStep inCell
-  take {e} b {bs} {ls} q r = go (rw q at (first-byte (λ g ls. Reads (CsvPlus s) g bs ls) (λ g ls k. k) r))
-    where
-      go : {ls : List (Line Bytes)} → Takes (λ g ls. Reads (CsvPlus s) g bs ls) b (To (Inside e) OfCell) ls → Took e b bs ls
-      go (steps.of-cell k) = took k
+  records-read o (last {text} {es} r e) =
+      rw (← (append-nil es)) (from-fresh (ending-some text [] e) (record-reads o r (ending-follows e (none-reads (past es (past text o))))))
+  records-read o (next {text} {es} {xs} r e k) =
+      from-fresh (ending-some text xs e) (record-reads o r (ending-follows e (to-begin (records-read (past es (past text o)) k))))
 
   abbrev afterEf : Cell
   afterEf = Plain (Within (Second EeToEf))
@@ -160,58 +171,52 @@ module _ (s : Settings) where
   unfolding formEnd if_then_else_
   unfinished c w r = cut-off (rw w at (at-end r))
 
-  mark-last-reads : (bs : Bytes) {ls : List (Line Bytes)} → ¬ MarkLast bs → Reads (CsvPlus s) (Inside afterBb) bs ls → Reads (CsvPlus s) PlainMark2 bs ls
+  mark-last-reads : {o p : ℕ} (bs : Bytes) {ls : List (Line Bytes)} {ss : List (List Stretch)} → ¬ MarkLast bs → Walks (CsvPlus s) (Inside afterBb) o p bs ls ss → Walks (CsvPlus s) PlainMark2 o p bs ls ss
   unfolding formStep isWhole if_then_else_
-  mark-last-reads [] n r = unfinished afterBb refl r
-  mark-last-reads (b ∷ bs) {ls} n r = go (b is 0xBF) refl
+  mark-last-reads [] n r = unfinished afterBb refl (reads r)
+  mark-last-reads {o} {p} (b ∷ bs) {ls} {ss} n r = go (b is 0xBF) refl
     where
-      go : (t : Bool) → (b is 0xBF) ≡ t → Reads (CsvPlus s) PlainMark2 (b ∷ bs) ls
-      go true p = absurd (n (rw (is→eq b 0xBF p) mark-bf))
-      go false p = from-state (rw p) r
+      go : (t : Bool) → (b is 0xBF) ≡ t → Walks (CsvPlus s) PlainMark2 o p (b ∷ bs) ls ss
+      go true e = absurd (n (rw (is→eq b 0xBF e) mark-bf))
+      go false e = from-state (rw e) r
 
-  mark-rest-reads : (bs : Bytes) {ls : List (Line Bytes)} → ¬ MarkRest bs → Reads (CsvPlus s) (Inside afterEf) bs ls → Reads (CsvPlus s) PlainMark1 bs ls
+  mark-rest-reads : {o p : ℕ} (bs : Bytes) {ls : List (Line Bytes)} {ss : List (List Stretch)} → ¬ MarkRest bs → Walks (CsvPlus s) (Inside afterEf) o p bs ls ss → Walks (CsvPlus s) PlainMark1 o p bs ls ss
   unfolding formStep isWhole if_then_else_
-  mark-rest-reads [] n r = unfinished afterEf refl r
-  mark-rest-reads (b ∷ bs) {ls} n r = go (b is 0xBB) refl
+  mark-rest-reads [] n r = unfinished afterEf refl (reads r)
+  mark-rest-reads {o} {p} (b ∷ bs) {ls} {ss} n r = go (b is 0xBB) refl
     where
-      last-one : {ls : List (Line Bytes)} → ¬ MarkLast bs → Took afterBb 0xBB bs ls → Reads (CsvPlus s) PlainMark1 (0xBB ∷ bs) ls
-      last-one m (took k) = of-cell refl (mark-last-reads bs m k)
-
       rest-of : ¬ MarkRest (0xBB ∷ bs) → ¬ MarkLast bs
       rest-of m q = m (add q)
         where
           add : {bs : Bytes} → MarkLast bs → MarkRest (0xBB ∷ bs)
           add mark-bf = mark-bb
 
-      go : (t : Bool) → (b is 0xBB) ≡ t → Reads (CsvPlus s) PlainMark1 (b ∷ bs) ls
-      go true p =
-          let q = is→eq b 0xBB p in
-          let k : Reads (CsvPlus s) (Inside afterEf) (0xBB ∷ bs) ls = rw q at r in
-          rw q (last-one (rest-of (rw q at n)) (take 0xBB (mark-rest (CsvPlus s)) k))
-      go false p = from-state (rw p) r
+      go : (t : Bool) → (b is 0xBB) ≡ t → Walks (CsvPlus s) PlainMark1 o p (b ∷ bs) ls ss
+      go true e =
+          let q = is→eq b 0xBB e in
+          let k : Walks (CsvPlus s) (Inside afterEf) o p (0xBB ∷ bs) ls ss = rw q at r in
+          rw q (with-cell-byte (cell-step (CsvPlus s) afterEf afterBb 0xBB (mark-rest (CsvPlus s))) refl (λ ls m. mark-last-reads bs (rest-of (rw q at n)) m) k)
+      go false e = from-state (rw e) r
 
-  top-reads : {xs : Bytes} {ls : List (Line Bytes)} → ¬ BeginsWithMark xs → FromFresh ls xs → Reads (CsvPlus s) Top xs ls
+  top-reads : {o : ℕ} {xs : Bytes} {ls : List (Line Bytes)} {ss : List (List Stretch)} → ¬ BeginsWithMark xs → FromFresh o ls ss xs → Walks (CsvPlus s) Top o o xs ls ss
   unfolding formStep beginFile beginRecord if_then_else_
-  top-reads {ls} n (from-fresh (some {b} {bs}) r) = go (b is 0xEF) refl
+  top-reads {o} {ls} {ss} n (from-fresh (some {b} {bs}) r) = go (b is 0xEF) refl
     where
-      first-one : {ls : List (Line Bytes)} → ¬ MarkRest bs → Took afterEf 0xEF bs ls → Reads (CsvPlus s) Top (0xEF ∷ bs) ls
-      first-one m (took k) = of-cell refl (mark-rest-reads bs m k)
-
       rest-of : ¬ BeginsWithMark (0xEF ∷ bs) → ¬ MarkRest bs
       rest-of m q = m (add q)
         where
           add : {bs : Bytes} → MarkRest bs → BeginsWithMark (0xEF ∷ bs)
           add mark-bb = mark
 
-      go : (t : Bool) → (b is 0xEF) ≡ t → Reads (CsvPlus s) Top (b ∷ bs) ls
-      go true p =
-          let q = is→eq b 0xEF p in
-          let k : Reads (CsvPlus s) (Inside Fresh) (0xEF ∷ bs) ls = rw q at r in
-          rw q (first-one (rest-of (rw q at n)) (take 0xEF (mark-cell s) k))
-      go false p = from-state (rw p) r
+      go : (t : Bool) → (b is 0xEF) ≡ t → Walks (CsvPlus s) Top o o (b ∷ bs) ls ss
+      go true e =
+          let q = is→eq b 0xEF e in
+          let k : Walks (CsvPlus s) (Inside Fresh) o o (0xEF ∷ bs) ls ss = rw q at r in
+          rw q (with-cell-byte (cell-step (CsvPlus s) Fresh afterEf 0xEF (mark-cell s)) refl (λ ls m. mark-rest-reads bs (rest-of (rw q at n)) m) k)
+      go false e = from-state (rw e) r
 
-  pub file-reads : {xs : Bytes} {ls : List (Line Derived)} → File s xs ls → Reads (CsvPlus s) Top xs (map spelling ls)
-  file-reads (file n k) = top-reads n (records-read (table-records k))
+  pub file-reads : {xs : Bytes} {ls : List (Line Derived)} (k : File s xs ls) → Walks (CsvPlus s) Top 0 0 xs (map spelling ls) (plusFile s k)
+  file-reads (file n k) = rw (← (table-placed 0 k)) (top-reads n (records-read 0 (table-records k)))
 
   -- ---- what is read is derived
 

@@ -1,6 +1,6 @@
 -- The grammar of TDIF derives exactly the files that its automaton reads by form. A CR that ends a line leaves the automaton where an LF
 -- would be skipped; no line begins with LF, so CR LF is one linebreak in the grammar too.
-use Prim.Native.Nat.{ℕ, _≤_, _<_}
+use Prim.Native.Nat.{ℕ, suc, _≤_, _<_}
 use native.Mathlib.Omega.{arith}
 use mathlib.Core.Path.{_≡_, refl, ap, _∙_}
 use mathlib.Core.Logic.{_≢_}
@@ -20,23 +20,30 @@ use Rattle.model.proofs.Utf8.{ascii-whole}
 use Rattle.model.proofs.CellContent.{d-tdif}
 use Rattle.grammar.specs.Rfc5234.{LF, CR}
 use Rattle.grammar.specs.Derived.{Derived, rawOf, Line, line, spelling}
-use Rattle.grammar.specs.Reading.{Reads, ends-clean, outside, passed, ends-closing, decoded, decodedLine}
+use Rattle.grammar.specs.Reading.{Reads, decoded, decodedLine}
+use Rattle.grammar.specs.Stretches.{Stretch, past, cellAt, tdifFields, tdifRecord, tdifLines, tdifFile}
 use Rattle.grammar.specs.Tdif.{comment-first, header-first, no-line, a-comment, a-record, header, ended, Fields, field, fields, comment, Remark, no-remark, commentdata, Commentdata, below-lf, below-cr, above-cr, comment-beyond, comma, hash, Linebreak, cr, lf, crlf}
 use Rattle.grammar.specs.Tdif as tdif
 use Rattle.grammar.proofs.Ranges.{range}
 use Rattle.grammar.proofs.Chars.{Finishes, finished, finishing, Long, long, data-long, long-data, whole-ascii, first-high}
 use Rattle.grammar.proofs.CellGrammar.{derived-spells, spells-derived}
 use Rattle.grammar.proofs.Separators.{by-cr, by-lf}
-use Rattle.grammar.proofs.Steps.{Takes, rejected, by-bytes, cut-off, from-state, clean}
+use Rattle.grammar.proofs.Steps.{Takes, rejected, by-bytes, cut-off, clean}
 use Rattle.grammar.proofs.Steps as steps
+use Rattle.grammar.proofs.Walks.{Walks, ends-clean, outside, passed, ends-closing, from-state, past-append}
 use Rattle.grammar.proofs.CellReads.{Follows, after-whole, FirstOfCell, first-of-cell, spells-first, other-byte, CellThen, cell-then, Closes, closes, in-cell-byte}
-use Rattle.grammar.proofs.Delimited.{Cells, one-cell, more-cells, cells-read, RecordThen, record-then, After, at-tail, at-delimiter, record-of}
+use Rattle.grammar.proofs.Delimited.{Cells, one-cell, more-cells, cellsAt, cells-read, RecordThen, record-then, After, at-tail, at-delimiter, record-of}
 
 -- ---- fields are cells with commas between them
 
 fields-cells : {text : Bytes} {cells : List Derived} → Fields text cells → Cells Tdif text (map rawOf cells)
 fields-cells (field v) = one-cell (derived-spells Tdif _ v)
 fields-cells (fields v comma f) = more-cells (derived-spells Tdif _ v) (fields-cells f)
+
+fields-placed : (o : ℕ) {text : Bytes} {cells : List Derived} (m : Fields text cells) → cellsAt o (fields-cells m) ≡ tdifFields o m
+unfolding fields-cells
+fields-placed o (field v) = refl
+fields-placed o (fields {raw} v comma f) = ap (λ ps. cellAt o raw ∷ ps) (fields-placed (suc (past raw o)) f)
 
 cells-fields : {text : Bytes} {cells : List Bytes} → Cells Tdif text cells → Fields text (map (decoded Tdif) cells)
 cells-fields (one-cell {raw} m) = field (spells-derived Tdif raw m)
@@ -51,8 +58,8 @@ data Opening : Form → Type 0 where
   at-ended : Opening Ended
 
 -- from each of these states
-abbrev FromLine : Bytes → List (Line Bytes) → Type 0
-FromLine xs ls = (f : Form) → Opening f → Reads Tdif f xs ls
+abbrev FromLine : ℕ → Bytes → List (Line Bytes) → List (List Stretch) → Type 0
+FromLine o xs ls ss = (f : Form) → Opening f → Walks Tdif f o o xs ls ss
 
 -- the first byte of a field is not of a comment and no LF
 open-field : {f : Form} (b : ℕ) (e : Cell) → Opening f → cellStep Tdif Fresh b ≡ More e → formStep Tdif f b ≡ formStep Tdif (Inside Fresh) b
@@ -66,18 +73,18 @@ unfolding isWhole
 cells-first ys (one-cell m) = spells-first refl m ys
 cells-first ys (more-cells {raw} {text} m n) = rw (append-assoc raw (COMMA ∷ text) ys) (spells-first refl m (COMMA ∷ (text ++ ys)))
 
-from-first : {xs : Bytes} {ls : List (Line Bytes)} → FirstOfCell Tdif xs → Reads Tdif (Inside Fresh) xs ls → FromLine xs ls
+from-first : {o : ℕ} {xs : Bytes} {ls : List (Line Bytes)} {ss : List (List Stretch)} → FirstOfCell Tdif xs → Walks Tdif (Inside Fresh) o o xs ls ss → FromLine o xs ls ss
 from-first (first-of-cell {b} {e} s) r f o = from-state (open-field b e o s) r
 
 -- a linebreak after a field
-break-follows : {es zs : Bytes} {ls : List (Line Bytes)} → Linebreak es → FromLine zs ls → Follows Tdif (es ++ zs) [] [] ls
+break-follows : {o : ℕ} {es zs : Bytes} {ls : List (Line Bytes)} {ss : List (List Stretch)} → Linebreak es → FromLine (past es o) zs ls ss → Follows Tdif o (es ++ zs) [] [] ls [] ss
 unfolding afterCell formStep if_then_else_
-break-follows cr k c r w = ends-closing (after-whole Tdif c CR r w by-cr) (k Ended at-ended)
-break-follows lf k c r w = ends-closing (after-whole Tdif c LF r w by-lf) (k Begin at-begin)
-break-follows crlf k c r w = ends-closing (after-whole Tdif c CR r w by-cr) (passed refl (k Begin at-begin))
+break-follows cr k c p r w = ends-closing (after-whole Tdif c CR r w by-cr) (k Ended at-ended)
+break-follows lf k c p r w = ends-closing (after-whole Tdif c LF r w by-lf) (k Begin at-begin)
+break-follows crlf k c p r w = ends-closing (after-whole Tdif c CR r w by-cr) (passed refl (k Begin at-begin))
 
 -- a linebreak after a comment
-break-reads : {es zs : Bytes} {ls : List (Line Bytes)} → Linebreak es → FromLine zs ls → Reads Tdif (Comment Whole) (es ++ zs) ls
+break-reads : {o : ℕ} {es zs : Bytes} {ls : List (Line Bytes)} {ss : List (List Stretch)} → Linebreak es → FromLine (past es o) zs ls ss → Walks Tdif (Comment Whole) o o (es ++ zs) ls ss
 unfolding formStep if_then_else_
 break-reads cr k = passed refl (k Ended at-ended)
 break-reads lf k = passed refl (k Begin at-begin)
@@ -87,26 +94,35 @@ comment-step : (b : ℕ) → b ≢ LF → b ≢ CR → formStep Tdif (Comment Wh
 unfolding formStep if_then_else_
 comment-step b n m = rw (ne-eqb b LF n, ne-eqb b CR m)
 
-ascii-reads : (b : ℕ) {ys : Bytes} {ls : List (Line Bytes)} → b ≤ 0x7F → b ≢ LF → b ≢ CR → Reads Tdif (Comment Whole) ys ls → Reads Tdif (Comment Whole) (b ∷ ys) ls
+ascii-reads :
+    (b : ℕ) {o : ℕ} {ys : Bytes} {ls : List (Line Bytes)} {ss : List (List Stretch)} → b ≤ 0x7F → b ≢ LF → b ≢ CR → Walks Tdif (Comment Whole) (suc o) (suc o) ys ls ss →
+    Walks Tdif (Comment Whole) o o (b ∷ ys) ls ss
 ascii-reads b h n m k = outside (comment-step b n m ∙ ap commented (ascii-whole b h)) k
 
-finish-reads : {c : Char} {cs ys : Bytes} {ls : List (Line Bytes)} → Finishes c cs → Reads Tdif (Comment Whole) ys ls → Reads Tdif (Comment c) (cs ++ ys) ls
+finish-reads :
+    {c : Char} {o : ℕ} {cs ys : Bytes} {ls : List (Line Bytes)} {ss : List (List Stretch)} → Finishes c cs → Walks Tdif (Comment Whole) (past cs o) (past cs o) ys ls ss →
+    Walks Tdif (Comment c) o o (cs ++ ys) ls ss
 unfolding formStep
 finish-reads finished k = k
 finish-reads (finishing e m) k = outside (ap commented e) (finish-reads m k)
 
-long-reads : {cs ys : Bytes} {ls : List (Line Bytes)} → Long cs → Reads Tdif (Comment Whole) ys ls → Reads Tdif (Comment Whole) (cs ++ ys) ls
+long-reads :
+    {o : ℕ} {cs ys : Bytes} {ls : List (Line Bytes)} {ss : List (List Stretch)} → Long cs → Walks Tdif (Comment Whole) (past cs o) (past cs o) ys ls ss →
+    Walks Tdif (Comment Whole) o o (cs ++ ys) ls ss
 long-reads (long {i} {b} e m) k =
     let h : 0x80 ≤ b = first-high b i e in
     outside (comment-step b (λ z. omega arith) (λ z. omega arith) ∙ ap commented e) (finish-reads m k)
 
-remark-reads : {bs ys : Bytes} {ls : List (Line Bytes)} → Remark bs → Reads Tdif (Comment Whole) ys ls → Reads Tdif (Comment Whole) (bs ++ ys) ls
+remark-reads :
+    {o : ℕ} {bs ys : Bytes} {ls : List (Line Bytes)} {ss : List (List Stretch)} → Remark bs → Walks Tdif (Comment Whole) (past bs o) (past bs o) ys ls ss →
+    Walks Tdif (Comment Whole) o o (bs ++ ys) ls ss
 remark-reads no-remark k = k
 remark-reads (commentdata (below-lf {b} r) m) k = let h : b ≤ 0x09 = r .high in ascii-reads b (omega arith) (λ e. omega arith) (λ e. omega arith) (remark-reads m k)
 remark-reads (commentdata (below-cr {b} r) m) k =
     let h : 0x0B ≤ b = r .low in let j : b ≤ 0x0C = r .high in ascii-reads b (omega arith) (λ e. omega arith) (λ e. omega arith) (remark-reads m k)
 remark-reads (commentdata (above-cr {b} r) m) k = let h : 0x0E ≤ b = r .low in ascii-reads b (r .high) (λ e. omega arith) (λ e. omega arith) (remark-reads m k)
-remark-reads {ys} (commentdata {cs} {bs} (comment-beyond u) m) k = rw (append-assoc cs bs ys) (long-reads (data-long u) (remark-reads m k))
+remark-reads {o} {ys} (commentdata {cs} {bs} (comment-beyond u) m) k =
+    rw (append-assoc cs bs ys) (long-reads (data-long u) (remark-reads m (rw (past-append cs bs o) at k)))
 
 hash-step : {f : Form} → Opening f → formStep Tdif f 0x23 ≡ To (Comment Whole) Outside
 unfolding formStep beginFile beginRecord if_then_else_
@@ -114,33 +130,35 @@ hash-step at-top = refl
 hash-step at-begin = refl
 hash-step at-ended = refl
 
-comment-reads : {cs xs : Bytes} {ls : List (Line Bytes)} → tdif.Comment cs → FromLine xs ls → FromLine (cs ++ xs) ls
-comment-reads {xs} (comment {bs} {es} hash m b) k f o =
-    rw (append-assoc bs es xs) (outside (hash-step o) (remark-reads m (break-reads b k)))
+comment-reads : {o : ℕ} {cs xs : Bytes} {ls : List (Line Bytes)} {ss : List (List Stretch)} → tdif.Comment cs → FromLine (past cs o) xs ls ss → FromLine o (cs ++ xs) ls ss
+comment-reads {o} {xs} (comment {bs} {es} hash m b) k f g =
+    rw (append-assoc bs es xs) (outside (hash-step g) (remark-reads m (break-reads b (rw (past-append bs es (suc o)) at k))))
 
-record-reads : {bs xs : Bytes} {l : Line Derived} {ls : List (Line Bytes)} → tdif.Record bs l → FromLine xs ls → FromLine (bs ++ xs) (spelling l ∷ ls)
+record-reads :
+    (o : ℕ) {bs xs : Bytes} {l : Line Derived} {ls : List (Line Bytes)} {ss : List (List Stretch)} (r : tdif.Record bs l) → FromLine (past bs o) xs ls ss →
+    FromLine o (bs ++ xs) (spelling l ∷ ls) (tdifRecord o r ∷ ss)
 unfolding spelling
-record-reads {xs} (ended {text} {es} m b) k =
+record-reads o {xs} (ended {text} {es} m b) k =
     let n = fields-cells m in
-    rw (append-assoc text es xs) (from-first (cells-first (es ++ xs) n) (cells-read d-tdif n (break-follows b k)))
+    rw (append-assoc text es xs, ← (fields-placed o m)) (from-first (cells-first (es ++ xs) n) (cells-read d-tdif o n (break-follows b (rw (past-append text es o) at k))))
 
-none-reads : FromLine [] []
+none-reads : (o : ℕ) → FromLine o [] [] []
 unfolding formEnd
-none-reads Top at-top = ends-clean refl
-none-reads Begin at-begin = ends-clean refl
-none-reads Ended at-ended = ends-clean refl
+none-reads o Top at-top = ends-clean refl
+none-reads o Begin at-begin = ends-clean refl
+none-reads o Ended at-ended = ends-clean refl
 
-lines-read : {xs : Bytes} {ls : List (Line Derived)} → tdif.Lines xs ls → FromLine xs (map spelling ls)
-lines-read no-line = none-reads
-lines-read (a-comment c k) = comment-reads c (lines-read k)
-lines-read (a-record r k) = record-reads r (lines-read k)
+lines-read : (o : ℕ) {xs : Bytes} {ls : List (Line Derived)} (k : tdif.Lines xs ls) → FromLine o xs (map spelling ls) (tdifLines o k)
+lines-read o no-line = none-reads o
+lines-read o (a-comment {cs} c k) = comment-reads c (lines-read (past cs o) k)
+lines-read o (a-record {bs} r k) = record-reads o r (lines-read (past bs o) k)
 
-pub file-reads : {xs : Bytes} {ls : List (Line Derived)} → tdif.File xs ls → Reads Tdif Top xs (map spelling ls)
-file-reads k = go k Top at-top
+pub file-reads : {xs : Bytes} {ls : List (Line Derived)} (k : tdif.File xs ls) → Walks Tdif Top 0 0 xs (map spelling ls) (tdifFile 0 k)
+file-reads k = go 0 k Top at-top
   where
-    go : {xs : Bytes} {ls : List (Line Derived)} → tdif.File xs ls → FromLine xs (map spelling ls)
-    go (comment-first c k) = comment-reads c (go k)
-    go (header-first (header r) k) = record-reads r (lines-read k)
+    go : (o : ℕ) {xs : Bytes} {ls : List (Line Derived)} (k : tdif.File xs ls) → FromLine o xs (map spelling ls) (tdifFile o k)
+    go o (comment-first {cs} c k) = comment-reads c (go (past cs o) k)
+    go o (header-first {bs} (header r) k) = record-reads o r (lines-read (past bs o) k)
 
 -- ---- what is read is derived
 

@@ -10,5 +10,6 @@ pub mod Derives
 pub mod Reading
 pub mod Accepted
 pub mod NextByte
+pub mod Stretches
 pub mod Exact
 pub mod Mistakes
