@@ -126,13 +126,13 @@ some-last (x ∷ pre) l = some
 
 -- ---- a fault does not go on
 
-not-going : {A : Type 0} (d : Dialect) (e : Fault) (r : Read) (xs : Bytes) {end : Read} → readEnd d none (readFrom d none (stopped e r) xs) ≡ going end → A
+pub not-going : {A : Type 0} (d : Dialect) (e : Fault) (r : Read) (xs : Bytes) {end : Read} → readEnd d none (readFrom d none (stopped e r) xs) ≡ going end → A
 unfolding readEnd
 not-going d e r xs {end} q =
     let z : stopped e r ≡ going end = rw (read-stopped d none e r xs) at q in
     let o : _≡_ {A = ℕ} 0 1 = cc in absurd (omega arith)
 
-same-going : {r end : Read} → going r ≡ going end → r ≡ end
+pub same-going : {r end : Read} → going r ≡ going end → r ≡ end
 same-going e = cc
 
 pub stopped-going : {A : Type 0} {e : Fault} {r end : Read} → stopped e r ≡ going end → A

@@ -60,7 +60,7 @@ module _ (d : Dialect) where
     next-reads true e (recorded l ls r) = recorded _ _ (reading.ends-closing e r)
     next-reads false e (recorded l ls r) = recorded _ _ (reading.ends e r)
 
-    rest-reads : {text raw : Bytes} {cells : List Derived} → Rested d h text raw cells → ((t : Tidy (stageOf d h) [] [] []) → Recorded d h bs) → ((ls : List (Line Bytes)) → Reads d h bs ls → Reads d f (b ∷ bs) ls) → Recorded d f (b ∷ bs)
+    rest-reads : {text raw : Bytes} {cells : List Derived} → Rested d h text raw cells → ((t : Tidy {A = Derived} (stageOf d h) [] [] []) → Recorded d h bs) → ((ls : List (Line Bytes)) → Reads d h bs ls → Reads d f (b ∷ bs) ls) → Recorded d f (b ∷ bs)
     rest-reads (rested g) ih k = go (ih (rest-tidy g))
       where
         go : Recorded d h bs → Recorded d f (b ∷ bs)

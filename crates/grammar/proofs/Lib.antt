@@ -26,6 +26,7 @@ pub mod Standing
 pub mod Accepting
 pub mod AcceptedOnly
 pub mod Acceptance
+pub mod Placed
 pub mod GoingOn
 pub mod Refused
 pub mod Theorems

@@ -1,10 +1,11 @@
 -- The theorems of this crate, each by its type; the arguments stand in the files that they are taken from.
-use Prim.Native.Nat.{ℕ, _≤_}
+use Prim.Native.Nat.{ℕ, _+_, _≤_}
 use mathlib.Core.Path.{_≡_}
 use mathlib.Core.Logic.{_↔_}
 use mathlib.Core.Bool.{true, false}
 use mathlib.Core.Option.{Option, none, some}
 use mathlib.Core.List.{List}
+use lib.ListN.{length}
 use Rattle.grammar.specs.Types.{Dialect, Whole}
 use Rattle.model.specs.declared.Judged.the-variants.{WholeCell}
 use Rattle.model.specs.Base.{Bytes}
@@ -20,6 +21,7 @@ use Rattle.grammar.specs.Derived.{Derived, rawOf, Line, Each}
 use Rattle.grammar.specs.Derives.{DerivesCell, Derives}
 use Rattle.grammar.specs.Reading.{decoded, ReadByForm}
 use Rattle.grammar.specs.NextByte.{GoesOn, NextByte}
+use Rattle.grammar.specs.Stretches.{past, stretches, shown}
 use Rattle.grammar.specs.Accepted.{Acceptable, cellCount, ShowsRecord}
 use Rattle.grammar.proofs.Texts.{text-exact}
 use Rattle.grammar.proofs.CellGrammar.{cell-exact, derived-content}
@@ -27,6 +29,8 @@ use Rattle.grammar.proofs.FileGrammar.{grammar-exact, unambiguous}
 use Rattle.grammar.specs.Exact.{Exact}
 use Rattle.grammar.specs.Mistakes.{Mistakes}
 use Rattle.grammar.proofs.Acceptance.{acceptance, accepted-records, reader-acceptance}
+use Rattle.grammar.proofs.Walks.{past-length}
+use Rattle.grammar.proofs.Placed.{same-stretches}
 use Rattle.grammar.proofs.GoingOn.{can-go-on, next-byte-exact}
 use Rattle.grammar.proofs.Refused.{refused}
 
@@ -58,6 +62,16 @@ accepted-exactly = acceptance
 pub same-records : (d : Dialect) (xs : Bytes) (ls : List (Line Derived)) → Derives d xs ls → (r : Read) → readFile d none xs ≡ going r → Each (ShowsRecord xs) (r .done) ls
 same-records = accepted-records
 
+-- and each cell stands where the derivation's texts place it: one position runs through all of them
+pub stretches-exactly :
+    (d : Dialect) (xs : Bytes) (ls : List (Line Derived)) (k : Derives d xs ls) (r : Read) → readFile d none xs ≡ going r →
+    shown (r .done) ≡ stretches d xs ls k
+stretches-exactly = same-stretches
+
+-- that position moves by the length of each text
+pub positions : (xs : Bytes) (o : ℕ) → past xs o ≡ o + length xs
+positions = past-length
+
 -- the reader's call, by a dialect's number and with lists of this length
 pub reader-exactly :
     (n : ℕ) (d : Dialect) (xs : Bytes) (room : ℕ) → dialectOf n ≡ some d →
@@ -76,7 +90,7 @@ next-byte = next-byte-exact
 
 -- so the grammars are exact, and make none of the mistakes
 pub exact : Exact
-exact = record { files = files; contents = contents; acceptance = accepted-exactly; next-byte = next-byte }
+exact = record { files = files; contents = contents; acceptance = accepted-exactly; stretches = stretches-exactly; next-byte = next-byte }
 
 pub mistakes : Mistakes
 mistakes = refused exact

@@ -1,10 +1,11 @@
 -- Reading by form with the places of cells: `Reads`, and beside each line the stretches of its cells (`Walks`). The next byte is at o, and
 -- the cell in hand, if one is, was opened at p.
-use Prim.Native.Nat.{ℕ, suc}
+use Prim.Native.Nat.{ℕ, suc, _+_}
 use native.Mathlib.Omega.{arith}
 use mathlib.Core.Path.{_≡_, refl, _∙_}
 use mathlib.Core.Bool.{true, false}
 use mathlib.Core.List.{List, [], _∷_, _++_}
+use lib.ListN.{length}
 use Rattle.grammar.specs.Types.{Dialect, Form, Outside, Passed, OfCell, Between, Tail, Ends, To, Clean, Final}
 use Rattle.model.specs.Base.{Bytes}
 use Rattle.model.specs.Form.{formStep, formEnd}
@@ -96,3 +97,7 @@ with-cell-byte q s t (ends-closing e k) = let z : _≡_ {A = ℕ} 0 1 = cc in ab
 pub past-append : (xs ys : Bytes) (o : ℕ) → past (xs ++ ys) o ≡ past ys (past xs o)
 past-append [] ys o = refl
 past-append (b ∷ bs) ys o = past-append bs ys (suc o)
+
+pub past-length : (xs : Bytes) (o : ℕ) → past xs o ≡ o + length xs
+past-length [] o = omega arith
+past-length (b ∷ bs) o = let h : past bs (suc o) ≡ suc o + length bs = past-length bs (suc o) in omega arith

@@ -14,6 +14,7 @@ use Rattle.grammar.specs.Derives.{DerivesCell, Derives}
 use Rattle.grammar.specs.Reading.{decoded, ReadByForm}
 use Rattle.grammar.specs.Accepted.{Acceptable}
 use Rattle.grammar.specs.NextByte.{NextByte}
+use Rattle.grammar.specs.Stretches.{stretches, shown}
 
 pub record Exact : Type 0 where
   -- a file is derived with these records exactly when it is read by form with them
@@ -22,6 +23,10 @@ pub record Exact : Type 0 where
   pub contents : (d : Dialect) (c : Derived) → DerivesCell d c → c ≡ decoded d (rawOf c)
   -- a file is accepted exactly when it is derived and the limits and the record checks hold
   pub acceptance : (d : Dialect) (xs : Bytes) → (reportOf (readFile d none xs) ≡ accepted) ↔ ((ls : List (Line Derived)) × Acceptable d xs ls)
+  -- the cells of a file that was read stand where every derivation of it has them
+  pub stretches :
+      (d : Dialect) (xs : Bytes) (ls : List (Line Derived)) (k : Derives d xs ls) (r : Read) → readFile d none xs ≡ going r →
+      shown (r .done) ≡ stretches d xs ls k
   -- a byte after bytes that were read, within the limits, is fault 2 or 3 exactly when no derivation's text begins so
   pub next-byte :
       (d : Dialect) (target : Option Dialect) (xs : Bytes) (r : Read) (b : ℕ) → readBytes d target xs ≡ going r → fileFull r ≡ false →

@@ -109,5 +109,4 @@ abbrev pub stretchOf : Value → Stretch
 stretchOf v = stretch (v .from) (v .upto)
 
 abbrev pub shown : List Rec → List (List Stretch)
-shown [] = []
-shown (r ∷ rs) = map stretchOf (r .cells) ∷ shown rs
+shown = map (λ (r : Rec). map stretchOf (r .cells))
