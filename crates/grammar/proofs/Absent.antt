@@ -19,7 +19,7 @@ use Rattle.grammar.specs.Tdif as tdif
 use Rattle.grammar.specs.CsvPlus as plus
 use Rattle.grammar.specs.Accepted.{a-name, WithinLimits, ChecksHold, checks-hold}
 use Rattle.grammar.specs.NextByte.{GoesOn}
-use Rattle.grammar.specs.Mistakes.{Mistakes, nameA, twoNames, tooLong}
+use Rattle.grammar.specs.Mistakes.{Mistakes, Misplacements, nameA, twoNames, tooLong}
 
 -- ---- TDIF: a line begins with #, a quote or a backslash
 
@@ -273,6 +273,8 @@ absent =
       blanks-uncounted = λ l k. blank-text l (blanks-uncounted k);
       repeated-name = repeated-name;
       long-record = long-record;
-      equal-cells = λ n x a. refl;
       begun = begun;
     }
+
+pub absent-places : Misplacements
+absent-places = record { equal-cells = λ n x a. refl }

@@ -18,7 +18,7 @@ use Rattle.grammar.specs.Reading.{Reads, decodedLine}
 use Rattle.grammar.specs.Reading as reading
 use Rattle.grammar.specs.NextByte.{GoesOn, NextByte}
 use Rattle.grammar.proofs.Parts.{in-cell, stageOf, RecordEnded, ended-rests, then-begin, then-ended}
-use Rattle.grammar.proofs.Standing.{Tidy, tidy-rest, tidy-cell, Rested, rested, Parted, parted, recording-tidy, rest-tidy}
+use Rattle.grammar.proofs.Standing.{Tidy, tidy-rest, tidy-cell, Rested, rested, recording-tidy, rest-tidy, parted-tidy}
 use Rattle.grammar.proofs.Standing.{moved-outside, moved-passed, moved-of-cell, moved-between, moved-between-closing, moved-tail, moved-tail-closing, moved-complete}
 use Rattle.grammar.proofs.AcceptedOnly.{HasCell, has-cell, its-moves, reads-cell}
 use Rattle.grammar.proofs.FileGrammar.{derived-reads, reads-derived}
@@ -53,9 +53,6 @@ module _ (d : Dialect) where
     record-reads : Told f h b bs → Recorded d h bs → Recorded d f (b ∷ bs)
     record-reads k (recorded (line text cells) ls r) = k text cells ls r
 
-    parted-reads : {c : Type 0} {text raw : Bytes} {cells : List Derived} → Parted d h c text raw → ((t : Tidy (stageOf d h) text [] cells) → Recorded d h bs) → Told f h b bs → Recorded d f (b ∷ bs)
-    parted-reads (parted c g) ih k = record-reads k (ih (recording-tidy g))
-
     next-reads : (k : Bool) → formStep d f b ≡ To h (Ends k) → Recorded d h bs → Recorded d f (b ∷ bs)
     next-reads true e (recorded l ls r) = recorded _ _ (reading.ends-closing e r)
     next-reads false e (recorded l ls r) = recorded _ _ (reading.ends e r)
@@ -76,11 +73,11 @@ module _ (d : Dialect) where
       let g = moved-of-cell (its-moves d f b _ e) t .1 in
       let s : Tidy (stageOf d h) text raw cells = rw g tidy-cell in of-cell-reads b bs e g (completes-reads k s)
   completes-reads {cells} (onward {f} {p = Between false} {b} {bs} e k) t =
-      parted-reads b bs {cells = cells} (moved-between (its-moves d f b _ e) t) (λ t. completes-reads k t) (λ text cells ls r. recorded _ _ (reading.between e r))
+      record-reads b bs (λ text cells ls r. recorded _ _ (reading.between e r)) (completes-reads k (parted-tidy {cells = cells} (moved-between (its-moves d f b _ e) t)))
   completes-reads {text} {cells} (onward {f} {p = Between true} {b} {bs} e k) t =
       record-reads b bs (λ text cells ls r. recorded _ _ (reading.between-closing e r)) (completes-reads k (recording-tidy {text = text} {cells = cells} (moved-between-closing (its-moves d f b _ e) t .1)))
   completes-reads {cells} (onward {f} {p = Tail false} {b} {bs} e k) t =
-      parted-reads b bs {cells = cells} (moved-tail (its-moves d f b _ e) t) (λ t. completes-reads k t) (λ text cells ls r. recorded _ _ (reading.tail e r))
+      record-reads b bs (λ text cells ls r. recorded _ _ (reading.tail e r)) (completes-reads k (parted-tidy {cells = cells} (moved-tail (its-moves d f b _ e) t)))
   completes-reads {text} {cells} (onward {f} {p = Tail true} {b} {bs} e k) t =
       record-reads b bs (λ text cells ls r. recorded _ _ (reading.tail-closing e r)) (completes-reads k (recording-tidy {text = text} {cells = cells} (moved-tail-closing (its-moves d f b _ e) t .1)))
   completes-reads (onward {f} {p = Ends k} {b} {bs} e m) t =

@@ -14,8 +14,8 @@ use Rattle.model.specs.Records.{Rec, Read, Progress, going, stopped, nothingRea
 use Rattle.grammar.specs.Derived.{Derived, Line, spelling}
 use Rattle.grammar.specs.Derives.{Derives}
 use Rattle.grammar.specs.Stretches.{Stretch, stretch, stretches, stretchOf, shown}
-use Rattle.grammar.proofs.Parts.{at-rest, stageOf, ended-rests}
-use Rattle.grammar.proofs.Standing.{Tidy, tidy-rest, tidy-cell, Rested, rested, Parted, parted, recording-tidy, rest-tidy}
+use Rattle.grammar.proofs.Parts.{stageOf, ended-rests}
+use Rattle.grammar.proofs.Standing.{Tidy, tidy-rest, tidy-cell, recording-tidy, rest-tidy, rested-none, parted-tidy}
 use Rattle.grammar.proofs.Standing.{moved-outside, moved-passed, moved-of-cell, moved-between, moved-between-closing, moved-tail, moved-tail-closing, moved-complete}
 use Rattle.grammar.proofs.Walks.{Walks}
 use Rattle.grammar.proofs.Walks as walks
@@ -72,9 +72,6 @@ module _ (d : Dialect) (end : Read) where
   record-onto rs r ss =
       rw (map-append (λ (r : Rec). map stretchOf (r .cells)) rs (r ∷ []), append-assoc (shown rs) (map stretchOf (r .cells) ∷ []) (onto [] ss), onto-none ss, append-nil (map stretchOf (r .cells)))
 
-  rested-none : {h : Form} {A : Type 0} {text raw : Bytes} {cells : List A} → Rested d h text raw cells → (cells ≡ []) × (stageOf d h ≡ at-rest)
-  rested-none (rested g) = (refl, g)
-
   between-same : (r : Read) (rs : List Rec) → endBetween r rs ≡ going end → r ≡ end
   between-same r [] q = stopped-going q
   between-same r (h ∷ rs) q = same-going q
@@ -85,9 +82,6 @@ module _ (d : Dialect) (end : Read) where
 
   stepped : (r : Read) {f : Form} (b : ℕ) (s : Step) → r .form ≡ f → formStep d f b ≡ s → formStep d (r .form) b ≡ s
   stepped r b s p e = ap (λ z. formStep d z b) p ∙ e
-
-  parted-tidy : {h : Form} {c A : Type 0} {text raw : Bytes} {cells : List A} → Parted d h c text raw → Tidy (stageOf d h) text [] cells
-  parted-tidy (parted c g) = recording-tidy g
 
   walk-shows :
       {f : Form} {o p : ℕ} {xs text raw : Bytes} {ls : List (Line Bytes)} {ss : List (List Stretch)} → Walks d f o p xs ls ss →

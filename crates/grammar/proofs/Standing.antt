@@ -194,6 +194,12 @@ recording-tidy cell-open = tidy-cell
 pub rest-tidy : {A : Type 0} {g : Stage} → g ≡ at-rest → Tidy {A = A} g [] [] []
 rest-tidy e = rw e tidy-rest
 
+pub rested-none : {d : Dialect} {h : Form} {A : Type 0} {text raw : Bytes} {cells : List A} → Rested d h text raw cells → (cells ≡ []) × (stageOf d h ≡ at-rest)
+rested-none (rested g) = (refl, g)
+
+pub parted-tidy : {d : Dialect} {h : Form} {c A : Type 0} {text raw : Bytes} {cells : List A} → Parted d h c text raw → Tidy (stageOf d h) text [] cells
+parted-tidy (parted c g) = recording-tidy g
+
 pub moved-outside : {d : Dialect} {f h : Form} {b : ℕ} {g : Stage} {A : Type 0} {text raw : Bytes} {cells : List A} → Moves d f b g (To h Outside) → Tidy g text raw cells → Rested d h text raw cells
 moved-outside unreached t = no-standing t
 moved-outside (leaves s) tidy-rest = rested s

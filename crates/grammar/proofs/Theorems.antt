@@ -4,19 +4,21 @@ use mathlib.Core.Path.{_≡_}
 use mathlib.Core.Logic.{_↔_}
 use mathlib.Core.Bool.{true, false}
 use mathlib.Core.Option.{Option, none, some}
-use mathlib.Core.List.{List}
+use mathlib.Core.List.{List, [], _∷_}
 use lib.ListN.{length}
 use Rattle.grammar.specs.Types.{Dialect, Whole}
 use Rattle.model.specs.declared.Judged.the-variants.{WholeCell}
 use Rattle.model.specs.Base.{Bytes}
-use Rattle.model.specs.Dialect.{dialectOf}
+use Rattle.model.specs.Dialect.{dialectOf, standard}
 use Rattle.model.specs.Utf8.{textFrom}
 use Rattle.model.specs.Decode.{judgeCell}
 use Rattle.model.specs.Report.{accepted}
 use Rattle.model.specs.Records.{Read, going, fileFull, recordFull, readBytes, readFile, reportOf}
 use Rattle.model.specs.Viable.{CanGoOn}
 use Rattle.model.specs.Api.{reader}
+use Rattle.grammar.specs.Rfc5234.{_from_to_}
 use Rattle.grammar.specs.Rfc3629.{UTF8-octets}
+use Rattle.grammar.specs.CsvPlus.{TEXTDATA, NarrowTEXTDATA}
 use Rattle.grammar.specs.Derived.{Derived, rawOf, Line, Each}
 use Rattle.grammar.specs.Derives.{DerivesCell, Derives}
 use Rattle.grammar.specs.Reading.{decoded, ReadByForm}
@@ -24,19 +26,24 @@ use Rattle.grammar.specs.NextByte.{GoesOn, NextByte}
 use Rattle.grammar.specs.Stretches.{past, stretches, shown}
 use Rattle.grammar.specs.Accepted.{Acceptable, cellCount, ShowsRecord}
 use Rattle.grammar.proofs.Texts.{text-exact}
+use Rattle.grammar.proofs.PlusCells.{textdata-exact}
 use Rattle.grammar.proofs.CellGrammar.{cell-exact, derived-content}
 use Rattle.grammar.proofs.FileGrammar.{grammar-exact, unambiguous}
-use Rattle.grammar.specs.Exact.{Exact}
-use Rattle.grammar.specs.Mistakes.{Mistakes}
+use Rattle.grammar.specs.Exact.{Exact, ExactPlaces}
+use Rattle.grammar.specs.Mistakes.{Mistakes, Misplacements}
 use Rattle.grammar.proofs.Acceptance.{acceptance, accepted-records, reader-acceptance}
 use Rattle.grammar.proofs.Walks.{past-length}
 use Rattle.grammar.proofs.Placed.{same-stretches}
 use Rattle.grammar.proofs.GoingOn.{can-go-on, next-byte-exact}
-use Rattle.grammar.proofs.Refused.{refused}
+use Rattle.grammar.proofs.Refused.{refused, refused-places}
 
 -- a text of document 01's table is UTF8-octets of RFC 3629
 pub texts : (bs : Bytes) → UTF8-octets bs ↔ (textFrom Whole bs ≡ true)
 texts = text-exact
+
+-- RFC 4180's own TEXTDATA is that of dialect 3 among the bytes 20 to 7E: all others are the departure that CsvPlus names
+pub textdata : (b : ℕ) → NarrowTEXTDATA (b ∷ []) ↔ (TEXTDATA standard (b ∷ []) × (b from 0x20 to 0x7E))
+textdata = textdata-exact
 
 -- the decoder finds a raw cell sound exactly when the grammar derives it
 pub cells : (d : Dialect) (raw : Bytes) → DerivesCell d (decoded d raw) ↔ (judgeCell d raw ≡ WholeCell)
@@ -90,7 +97,13 @@ next-byte = next-byte-exact
 
 -- so the grammars are exact, and make none of the mistakes
 pub exact : Exact
-exact = record { files = files; contents = contents; acceptance = accepted-exactly; stretches = stretches-exactly; next-byte = next-byte }
+exact = record { files = files; contents = contents; acceptance = accepted-exactly; next-byte = next-byte }
 
 pub mistakes : Mistakes
 mistakes = refused exact
+
+pub exact-places : ExactPlaces
+exact-places = record { stretches = stretches-exactly }
+
+pub misplacements : Misplacements
+misplacements = refused-places exact-places

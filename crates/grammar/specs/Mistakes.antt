@@ -30,24 +30,6 @@ twoNames = 0x22 ∷ 0x61 ∷ 0x22 ∷ 0x2C ∷ 0x22 ∷ 0x61 ∷ 0x22 ∷ []
 abbrev pub tooLong : Bytes
 tooLong = replicate 4097 0x61
 
--- `x`, `a` and `a`, each with LF, of plain CSV+ cells
-abbrev pub threeLines : Bytes
-threeLines = 0x78 ∷ 0x0A ∷ 0x61 ∷ 0x0A ∷ 0x61 ∷ 0x0A ∷ []
-
-abbrev pub letter : ℕ → Line Derived
-letter b = line (b ∷ []) (cell (b ∷ []) Text (b ∷ []) ∷ [])
-
-abbrev pub threeRecords : List (Line Derived)
-threeRecords = letter 0x78 ∷ letter 0x61 ∷ letter 0x61 ∷ []
-
-abbrev pub threeDerived :
-    ¬ plus.BeginsWithMark threeLines → plus.Non-escaped standard (0x78 ∷ []) → plus.Non-escaped standard (0x61 ∷ []) →
-    plus.File standard threeLines threeRecords
-threeDerived n x a =
-    plus.file n
-    (plus.header-then (plus.a-name (plus.name (plus.a-non-escaped x))) plus.lf
-    (plus.next (plus.field (plus.a-non-escaped a)) plus.lf (plus.last (plus.field (plus.a-non-escaped a)) plus.lf)))
-
 pub record Mistakes : Type 0 where
   -- an empty line in TDIF: LF where a line may stand
   pub empty-line : (ls : List (Line Derived)) → ¬ tdif.Lines (0x0A ∷ []) ls
@@ -74,9 +56,30 @@ pub record Mistakes : Type 0 where
   pub repeated-name : ¬ ChecksHold Csvj (line twoNames (nameA ∷ nameA ∷ []) ∷ [])
   -- a record of 4,097 bytes
   pub long-record : ¬ WithinLimits tooLong (line tooLong (cell tooLong Text tooLong ∷ []) ∷ [])
+  -- a byte that is refused though a file goes on with it: the quote with which a CSVJ file begins
+  pub begun : ¬ ¬ GoesOn Csvj [] 0x22
+
+-- `x`, `a` and `a`, each with LF, of plain CSV+ cells
+abbrev pub threeLines : Bytes
+threeLines = 0x78 ∷ 0x0A ∷ 0x61 ∷ 0x0A ∷ 0x61 ∷ 0x0A ∷ []
+
+abbrev pub letter : ℕ → Line Derived
+letter b = line (b ∷ []) (cell (b ∷ []) Text (b ∷ []) ∷ [])
+
+abbrev pub threeRecords : List (Line Derived)
+threeRecords = letter 0x78 ∷ letter 0x61 ∷ letter 0x61 ∷ []
+
+abbrev pub threeDerived :
+    ¬ plus.BeginsWithMark threeLines → plus.Non-escaped standard (0x78 ∷ []) → plus.Non-escaped standard (0x61 ∷ []) →
+    plus.File standard threeLines threeRecords
+threeDerived n x a =
+    plus.file n
+    (plus.header-then (plus.a-name (plus.name (plus.a-non-escaped x))) plus.lf
+    (plus.next (plus.field (plus.a-non-escaped a)) plus.lf (plus.last (plus.field (plus.a-non-escaped a)) plus.lf)))
+
+-- the same of where cells stand
+pub record Misplacements : Type 0 where
   -- a position that starts again with each record, so that the second `a` stands at the first one's place
   pub equal-cells :
       (n : ¬ plus.BeginsWithMark threeLines) (x : plus.Non-escaped standard (0x78 ∷ [])) (a : plus.Non-escaped standard (0x61 ∷ [])) →
       stretches (CsvPlus standard) threeLines threeRecords (threeDerived n x a) ≡ (stretch 0 1 ∷ []) ∷ (stretch 2 3 ∷ []) ∷ (stretch 4 5 ∷ []) ∷ []
-  -- a byte that is refused though a file goes on with it: the quote with which a CSVJ file begins
-  pub begun : ¬ ¬ GoesOn Csvj [] 0x22

@@ -49,7 +49,7 @@ separator-ascii d b e =
 
 -- ---- later bytes
 
-broken-on : {A : Type 0} {c : Char} → Broken ≡ On c → A
+pub broken-on : {A : Type 0} {c : Char} → Broken ≡ On c → A
 broken-on e = let z : _≡_ {A = ℕ} 0 1 = cc in absurd (omega arith)
 
 second-low : (l : Lead) → 0x80 ≤ rowOf l .lo2
