@@ -5,7 +5,7 @@ use native.Mathlib.Omega.{arith}
 use mathlib.Core.Path.{_≡_, refl, sym}
 use mathlib.Core.Bool.{Bool, true, false}
 use mathlib.Core.List.{List, [], _∷_}
-use Rattle.grammar.specs.Types.{Lead, C2ToDf, E0, E1ToEc, Ed, EeToEf, F0, F1ToF3, F4, Inner, Second, LastTwo, Last, Char, Whole, Within, Advance, On, Broken}
+use Rattle.grammar.specs.Types.{Lead, C2ToDf, E0, E1ToEc, Ed, EeToEf, F0, F1ToF3, F4, Inner, Second, LastTwo, Last, Char, Whole, Within, On}
 use Rattle.model.specs.Base.{Bytes, within, if_then_else_}
 use Rattle.model.specs.Utf8.{rowOf, leads, leadByte, afterSecond, innerStep, charStep}
 use Rattle.model.proofs.Utf8.{broken-on, same-on}

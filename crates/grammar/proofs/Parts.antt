@@ -1,23 +1,19 @@
 -- What each step of a file does to the record and the cell in hand: a mark or a comment stands where neither is; a byte of a cell or
 -- between cells is counted, and a CR or LF that ends a record is not; and a cell is left only by closing it.
-use Prim.Native.Nat.{ℕ, _≤_}
+use Prim.Native.Nat.{ℕ}
 use native.Mathlib.Omega.{arith}
 use mathlib.Core.Path.{_≡_, refl, sym, _∙_}
-use mathlib.Core.Logic.{_≢_}
-use mathlib.Core.Bool.{Bool, true, false, not, _||_}
-use borrow.Author.Tests.{ne-eqb}
-use Rattle.grammar.specs.Types.{Delimiter, Comma, Semicolon, Tab, Bar, Settings, Dialect, Csvj, Tdif, CsvPlus, EeToEf, Second, Last, Char, Whole, Within, Advance, On, Broken}
-use Rattle.grammar.specs.Types.{Numeral, Minus, Zero, Integer, Point, Fraction, E, ESign, Exponent, Word, T, Tr, Tru, F, Fa, Fal, Fals, N, Nu, Nul, Backslash}
+use mathlib.Core.Bool.{Bool, true, false}
+use Rattle.grammar.specs.Types.{Settings, Dialect, Csvj, Tdif, CsvPlus, EeToEf, Second, Last, Char, Whole, Within, Advance, On, Broken}
 use Rattle.grammar.specs.Types.{Cell, Fresh, Quoted, Closed, Escape, Hex, InNumber, InWord, Plain, Complete, Added, More, Stop, Refuse, ByteFault}
 use Rattle.grammar.specs.Types.{Form, Top, Begin, Ended, Mark1, Mark2, PlainMark1, PlainMark2, Comment, Blanks, Wanting, Inside, After, Cr, Outside, Passed, OfCell, Between, Tail, Ends, Step, To, Reject}
-use Rattle.model.specs.Base.{LF, CR, COMMA, _is_, if_then_else_}
-use Rattle.model.specs.Dialect.{quoteOf, delimiterOf, delimiterByte}
+use Rattle.model.specs.Base.{LF, CR, COMMA, _is_}
+use Rattle.model.specs.Dialect.{delimiterOf}
 use Rattle.model.specs.Utf8.{charStep}
-use Rattle.model.specs.Cell.{textByte, letterOf, numeralStep, firstByte, quotedByte, plainByte, cellStep, inQuotes}
+use Rattle.model.specs.Cell.{textByte, quotedByte, cellStep, inQuotes}
 use Rattle.model.specs.Form.{isBlank, afterCell, grow, inCell, beginRecord, beginFile, commented, formStep, quotesOpen, counts}
-use Rattle.model.proofs.Tests.{split, split-on, impossible, is→eq}
-use Rattle.model.proofs.Utf8.{inner-high}
-use Rattle.model.proofs.CellContent.{no-more, no-stop, char-on}
+use Rattle.model.proofs.Tests.{split, impossible, is→eq}
+use Rattle.model.proofs.CellContent.{no-stop}
 use Rattle.model.proofs.Counted.{counted, lf-uncounted, cr-uncounted, more-counted, blank-counted, delimiter-counted}
 
 -- ---- a cell does not stop in quotes

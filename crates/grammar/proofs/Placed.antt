@@ -3,15 +3,19 @@
 use Prim.Native.Nat.{ℕ, suc}
 use mathlib.Core.Path.{_≡_, refl, sym, ap, _∙_}
 use mathlib.Core.Bool.{Bool, true, false}
-use mathlib.Core.Option.{none}
+use mathlib.Core.Option.{none, some}
 use mathlib.Core.List.{List, [], _∷_, _++_, map, map-append, append-assoc, append-nil}
-use Rattle.grammar.specs.Types.{Dialect, Form, Begin, Top, OfCell, Outside, Passed, Between, Tail, Ends, Step, To, Ending, Clean, Final, Cut, Verdict, Sound, Faulty}
+use lib.ListN.{length}
+use lib.Dec.{ltb}
+use Rattle.grammar.specs.Types.{Dialect, Form, Begin, OfCell, Outside, Passed, Between, Tail, Ends, Step, To, Clean, Final, Verdict, Sound, Faulty}
 use Rattle.grammar.specs.Types as types
-use Rattle.model.specs.Base.{Bytes, if_then_else_}
+use Rattle.model.specs.Base.{Bytes, if_then_else_, concat}
+use Rattle.model.specs.Dialect.{dialectOf}
 use Rattle.model.specs.Form.{formStep, formEnd}
-use Rattle.model.specs.Text.{Value}
-use Rattle.model.specs.Records.{Rec, Read, Progress, going, stopped, nothingRead, between-records, cellNow, closing, judged, complete, move, fileFull, recordFull, recordFault, readByte, readFrom, readBytes, endBetween, endAt, readEnd, readFile}
-use Rattle.grammar.specs.Derived.{Derived, Line, spelling}
+use Rattle.model.specs.Report.{accepted}
+use Rattle.model.specs.Records.{Rec, rows, Progress, stopped, Read, going, nothingRead, between-records, cellNow, closing, judged, complete, move, fileFull, recordFull, recordFault, readByte, readFrom, readBytes, endBetween, readEnd, readFile}
+use Rattle.model.specs.Api.{answered, answerOf, reader}
+use Rattle.grammar.specs.Derived.{Derived, Line}
 use Rattle.grammar.specs.Derives.{Derives}
 use Rattle.grammar.specs.Stretches.{Stretch, stretch, stretches, stretchOf, shown}
 use Rattle.grammar.proofs.Parts.{stageOf, ended-rests}
@@ -21,6 +25,7 @@ use Rattle.grammar.proofs.Walks.{Walks}
 use Rattle.grammar.proofs.Walks as walks
 use Rattle.grammar.proofs.AcceptedOnly.{its-moves, not-going, same-going, stopped-going}
 use Rattle.grammar.proofs.FileGrammar.{derived-walks}
+use Rattle.grammar.proofs.Acceptance.{accepted-going, ten}
 
 -- the complete cells of the record in hand stand before the rest of it
 onto : List Stretch → List (List Stretch) → List (List Stretch)
@@ -142,3 +147,32 @@ module _ (d : Dialect) (end : Read) where
 pub same-stretches : (d : Dialect) (xs : Bytes) (ls : List (Line Derived)) (k : Derives d xs ls) (r : Read) → readFile d none xs ≡ going r → shown (r .done) ≡ stretches d xs ls k
 unfolding readFile readBytes nothingRead
 same-stretches d xs ls k r e = walk-shows d r (derived-walks d xs ls k) nothingRead refl refl refl tidy-rest e ∙ onto-none (stretches d xs ls k)
+
+-- ---- the reader's call
+
+rows-stretches : (rs : List Rec) → map stretchOf (concat (rows rs)) ≡ concat (shown rs)
+unfolding rows concat
+rows-stretches [] = refl
+rows-stretches (r ∷ rs) = map-append stretchOf (r .cells) (concat (rows rs)) ∙ ap (λ z. map stretchOf (r .cells) ++ z) (rows-stretches rs)
+
+-- an accepted file is answered with all its cells
+answered-cells : (rs : List Rec) (room : ℕ) → answered rs (concat (rows rs)) room .report ≡ accepted → answered rs (concat (rows rs)) room .cells ≡ concat (rows rs)
+unfolding rows concat if_then_else_
+answered-cells [] room e = refl
+answered-cells (h ∷ rs) room e = go (ltb room (length (concat (rows (h ∷ rs))))) refl
+  where
+    go : (t : Bool) → ltb room (length (concat (rows (h ∷ rs)))) ≡ t → answered (h ∷ rs) (concat (rows (h ∷ rs))) room .cells ≡ concat (rows (h ∷ rs))
+    go true p = ten (rw p at e)
+    go false p = rw p
+
+-- the cells that it answers stand, in file order, where every derivation has them
+pub reader-stretches :
+    (n : ℕ) (d : Dialect) (xs : Bytes) (room : ℕ) (ls : List (Line Derived)) (k : Derives d xs ls) → dialectOf n ≡ some d →
+    reader n xs room .report ≡ accepted → map stretchOf (reader n xs room .cells) ≡ concat (stretches d xs ls k)
+unfolding reader
+reader-stretches n d xs room ls k dialect e = rw (dialect, reader) (go (readFile d none xs) refl (rw (dialect, reader) at e))
+  where
+    go : (p : Progress) → readFile d none xs ≡ p → answerOf p room .report ≡ accepted → map stretchOf (answerOf p room .cells) ≡ concat (stretches d xs ls k)
+    go (going r) q e =
+        ap (map stretchOf) (answered-cells (r .done) room e) ∙ rows-stretches (r .done) ∙ ap concat (same-stretches d xs ls k r q)
+    go (stopped x r) q e = stopped-going (accepted-going (stopped x r) e .1)

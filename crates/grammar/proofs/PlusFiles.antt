@@ -5,12 +5,12 @@ use mathlib.Core.Path.{_≡_, refl, ap, _∙_}
 use mathlib.Core.Bool.{Bool, true, false}
 use mathlib.Core.List.{List, [], _∷_, _++_, map, append-nil}
 use borrow.Author.Tests.{eqb-false}
-use Rattle.grammar.specs.Types.{Delimiter, Comma, Semicolon, Tab, Bar, Settings, CsvPlus, EeToEf, Second, Last, Within, Cell, Fresh, Plain, More}
+use Rattle.grammar.specs.Types.{Delimiter, Comma, Semicolon, Tab, Bar, Settings, CsvPlus, EeToEf, Second, Last, Within, Cell, Fresh, Plain}
 use Rattle.grammar.specs.Types.{Form, Top, Begin, Ended, Mark1, Mark2, PlainMark1, PlainMark2, Blanks, Wanting, Inside, Cr, OfCell, Between, Tail, Ends, Step, To, Clean, Final}
 use Rattle.grammar.specs.Types as types
 use Rattle.model.specs.Base.{Bytes, _is_, if_then_else_}
 use Rattle.model.specs.Dialect.{delimiterByte}
-use Rattle.model.specs.Cell.{cellStep, isWhole}
+use Rattle.model.specs.Cell.{isWhole}
 use Rattle.model.specs.Form.{afterCell, inCell, beginRecord, beginFile, formStep, formEnd}
 use Rattle.model.proofs.Tests.{split, is→eq}
 use Rattle.model.proofs.Cells.{mark-cell, mark-rest}

@@ -2,12 +2,12 @@
 -- no cell of CSVJ is plain (`Reached`).
 use Prim.Native.Nat.{ℕ}
 use mathlib.Core.Path.{_≡_, refl}
-use mathlib.Core.Bool.{Bool, true, false, _||_}
+use mathlib.Core.Bool.{true, false, _||_}
 use Rattle.grammar.specs.Types.{Delimiter, Comma, Semicolon, Tab, Bar, Quote, Double, Single, Dialect, Csvj, Tdif, CsvPlus, Whole, Within, Advance, On, Broken, HexLeft, Four, Three, Two, One}
 use Rattle.grammar.specs.Types.{Numeral, Minus, Zero, Integer, Point, Fraction, E, ESign, Exponent, Word, T, Tr, Tru, F, Fa, Fal, Fals, N, Nu, Nul, Backslash}
 use Rattle.grammar.specs.Types.{Cell, Fresh, Quoted, Closed, Escape, Hex, InNumber, InWord, Plain, Complete, Added, More, Stop, Refuse, ByteFault}
 use Rattle.model.specs.Base.{CR, LF, _is_, if_then_else_}
-use Rattle.model.specs.Dialect.{quoteOf, delimiterOf, delimiterByte, quoteByte}
+use Rattle.model.specs.Dialect.{quoteOf, delimiterOf, delimiterByte}
 use Rattle.model.specs.Utf8.{charStep}
 use Rattle.model.specs.Cell.{textByte, isDigit, afterHex, afterLetter, numeralStep, firstByte, quotedByte, plainByte, cellStep, isNumeral, isWhole}
 use Rattle.model.proofs.Tests.{split, impossible, same-byte}

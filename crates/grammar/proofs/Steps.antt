@@ -1,6 +1,6 @@
 -- Reading by form, a byte at a time: what a byte's step says of the records that it and the bytes after it give.
 use Prim.Native.Nat.{ℕ}
-use mathlib.Core.Path.{_≡_, refl, ap, _∙_}
+use mathlib.Core.Path.{_≡_, refl, ap}
 use mathlib.Core.Bool.{true, false}
 use mathlib.Core.List.{List, [], _∷_}
 use Rattle.grammar.specs.Types.{Dialect, Csvj, Tdif, CsvPlus, Cell, Stop, ByteFault, Form, Inside, Outside, Passed, OfCell, Between, Tail, Ends, Step, To, Reject, Ending, Clean, Final, Cut}

@@ -4,11 +4,11 @@ use mathlib.Core.Path.{_≡_}
 use mathlib.Core.Logic.{_↔_}
 use mathlib.Core.Bool.{true, false}
 use mathlib.Core.Option.{Option, none, some}
-use mathlib.Core.List.{List, [], _∷_}
+use mathlib.Core.List.{List, [], _∷_, map}
 use lib.ListN.{length}
 use Rattle.grammar.specs.Types.{Dialect, Whole}
 use Rattle.model.specs.declared.Judged.the-variants.{WholeCell}
-use Rattle.model.specs.Base.{Bytes}
+use Rattle.model.specs.Base.{Bytes, concat}
 use Rattle.model.specs.Dialect.{dialectOf, standard}
 use Rattle.model.specs.Utf8.{textFrom}
 use Rattle.model.specs.Decode.{judgeCell}
@@ -23,7 +23,7 @@ use Rattle.grammar.specs.Derived.{Derived, rawOf, Line, Each}
 use Rattle.grammar.specs.Derives.{DerivesCell, Derives}
 use Rattle.grammar.specs.Reading.{decoded, ReadByForm}
 use Rattle.grammar.specs.NextByte.{GoesOn, NextByte}
-use Rattle.grammar.specs.Stretches.{past, stretches, shown}
+use Rattle.grammar.specs.Stretches.{past, stretches, stretchOf, shown}
 use Rattle.grammar.specs.Accepted.{Acceptable, cellCount, ShowsRecord}
 use Rattle.grammar.proofs.Texts.{text-exact}
 use Rattle.grammar.proofs.PlusCells.{textdata-exact}
@@ -33,7 +33,7 @@ use Rattle.grammar.specs.Exact.{Exact, ExactPlaces}
 use Rattle.grammar.specs.Mistakes.{Mistakes, Misplacements}
 use Rattle.grammar.proofs.Acceptance.{acceptance, accepted-records, reader-acceptance}
 use Rattle.grammar.proofs.Walks.{past-length}
-use Rattle.grammar.proofs.Placed.{same-stretches}
+use Rattle.grammar.proofs.Placed.{same-stretches, reader-stretches}
 use Rattle.grammar.proofs.GoingOn.{can-go-on, next-byte-exact}
 use Rattle.grammar.proofs.Refused.{refused, refused-places}
 
@@ -84,6 +84,12 @@ pub reader-exactly :
     (n : ℕ) (d : Dialect) (xs : Bytes) (room : ℕ) → dialectOf n ≡ some d →
     (reader n xs room .report ≡ accepted) ↔ ((ls : List (Line Derived)) × Acceptable d xs ls × (cellCount ls ≤ room))
 reader-exactly = reader-acceptance
+
+-- and the cells that it answers stand, in file order, where the derivation's texts place them
+pub reader-places :
+    (n : ℕ) (d : Dialect) (xs : Bytes) (room : ℕ) (ls : List (Line Derived)) (k : Derives d xs ls) → dialectOf n ≡ some d →
+    reader n xs room .report ≡ accepted → map stretchOf (reader n xs room .cells) ≡ concat (stretches d xs ls k)
+reader-places = reader-stretches
 
 -- a byte can go on, by form alone, exactly when some derivation's text begins so
 pub goes-on : (d : Dialect) (xs : Bytes) (b : ℕ) → CanGoOn d xs b ↔ GoesOn d xs b
