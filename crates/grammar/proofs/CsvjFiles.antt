@@ -1,16 +1,16 @@
 -- The grammar of CSVJ derives exactly the files that its automaton reads by form. After a value, and after a space or a tab that follows
--- one, the same may come (`Continues`, `AfterByte`); before a record's first value the same may come as at its beginning.
+-- one, the same may come (`Continues`, `AfterThen`); before a record's first value the same may come as at its beginning.
 use Prim.Native.Nat.{ℕ, suc}
 use mathlib.Core.Path.{_≡_, refl}
 use mathlib.Core.Bool.{Bool, true, false}
 use mathlib.Core.List.{List, [], _∷_, _++_, map, append-assoc, append-nil}
 use Rattle.grammar.specs.Types.{Csvj, Cell, Fresh, More}
-use Rattle.grammar.specs.Types.{Form, Top, Begin, Ended, Mark1, Mark2, PlainMark1, PlainMark2, Blanks, Wanting, Inside, After, Cr, Outside, Passed, Between, Tail, Ends, Step, To, Clean}
+use Rattle.grammar.specs.Types.{Form, Top, Begin, Mark1, Blanks, Wanting, Inside, After, Cr, Outside, Between, Tail, Ends, Step, To}
 use Rattle.grammar.specs.Types as types
 use Rattle.model.specs.Base.{Bytes, _is_, if_then_else_}
 use Rattle.model.specs.Cell.{firstByte, cellStep, isWhole}
-use Rattle.model.specs.Form.{isBlank, afterCell, inCell, beginRecord, beginFile, formStep, formEnd}
-use Rattle.model.proofs.Tests.{split, split-on, is→eq}
+use Rattle.model.specs.Form.{isBlank, afterCell, beginRecord, beginFile, formStep, formEnd}
+use Rattle.model.proofs.Tests.{split, is→eq}
 use Rattle.grammar.specs.Rfc5234.{LF, CR}
 use Rattle.grammar.specs.Derived.{Derived, rawOf, Line, line, spelling}
 use Rattle.grammar.specs.Reading.{Reads, decoded, decodedLine}
@@ -20,10 +20,11 @@ use Rattle.grammar.specs.Csvj as csvj
 use Rattle.grammar.proofs.Spelling.{Spells}
 use Rattle.grammar.proofs.CellGrammar.{derived-spells, spells-derived}
 use Rattle.grammar.proofs.Separators.{by-delimiter, by-cr, by-lf, by-space, by-tab}
-use Rattle.grammar.proofs.Steps.{Takes, rejected, by-bytes, cut-off}
+use Rattle.grammar.proofs.Steps.{Takes, rejected, cut-off}
 use Rattle.grammar.proofs.Steps as steps
 use Rattle.grammar.proofs.Walks.{Walks, ends-clean, outside, passed, between, between-closing, tail, tail-closing, ends, ends-closing, from-state, past-append}
-use Rattle.grammar.proofs.CellReads.{Follows, cell-reads, after-whole, FirstOfCell, first-of-cell, spells-first, other-byte, CellThen, cell-then, Closes, closes, in-cell-byte}
+use Rattle.grammar.proofs.CellReads.{Follows, cell-reads, after-whole, FirstOfCell, first-of-cell, spells-first, other-byte, CellThen, cell-then, AfterByte, ended-before, ends-now}
+use Rattle.grammar.proofs.Coming.{Grammar, MarkRest, mark-bb, AfterCr, then-lf, WantedThen, wanted-then, blank-ws, Then, cell-byte, Facts, reads-coming}
 
 -- ---- what is derived is read
 
@@ -234,48 +235,12 @@ data AfterText : Bytes → List Bytes → Type 0 where
 data AfterThen : Bytes → Bytes → List Bytes → List (Line Bytes) → Type 0 where
   after-then : {text ys : Bytes} {cells : List Bytes} {ls : List (Line Bytes)} → AfterText text cells → TerminatorThen ys ls → AfterThen (text ++ ys) text cells ls
 
--- the same, where the value ends before these bytes or has ended
-data AfterByte (ys : Bytes) : (ends-here : Bool) → List (Line Bytes) → Type 0 where
-  ended-before : {text : Bytes} {cells : List Bytes} {ls : List (Line Bytes)} → AfterThen ys text cells ls → AfterByte ys false (line text cells ∷ ls)
-  ends-now : {text : Bytes} {cells : List Bytes} {ls : List (Line Bytes)} → AfterThen ys text cells ls → AfterByte ys true (line text ([] ∷ cells) ∷ ls)
-
-data WantedThen : Bytes → List (Line Bytes) → Type 0 where
-  wanted-then : {text ys : Bytes} {cells : List Bytes} {ls : List (Line Bytes)} → WantedText text cells → TerminatorThen ys ls → WantedThen (text ++ ys) (line text cells ∷ ls)
-
 data LineThen : Bytes → List (Line Bytes) → Type 0 where
   line-then : {text ys : Bytes} {cells : List Bytes} {ls : List (Line Bytes)} → Line-text text (map (decoded Csvj) cells) → TerminatorThen ys ls → LineThen (text ++ ys) (line text cells ∷ ls)
-
-data AfterCr : Bytes → List (Line Bytes) → Type 0 where
-  then-lf : {zs : Bytes} {ls : List (Line Bytes)} → DerivedLines zs ls → AfterCr (LF ∷ zs) (line [] [] ∷ ls)
 
 data TopLines : Bytes → List (Line Bytes) → Type 0 where
   no-mark : {xs : Bytes} {ls : List (Line Bytes)} → DerivedLines xs ls → TopLines xs ls
   a-mark : {xs : Bytes} {ls : List (Line Bytes)} → DerivedLines xs ls → TopLines (0xEF ∷ 0xBB ∷ 0xBF ∷ xs) ls
-
-data MarkRest : Bytes → List (Line Bytes) → Type 0 where
-  mark-bb : {xs : Bytes} {ls : List (Line Bytes)} → DerivedLines xs ls → MarkRest (0xBB ∷ 0xBF ∷ xs) ls
-
-data MarkLast : Bytes → List (Line Bytes) → Type 0 where
-  mark-bf : {xs : Bytes} {ls : List (Line Bytes)} → DerivedLines xs ls → MarkLast (0xBF ∷ xs) ls
-
-abbrev InValue : Cell → Bytes → List (Line Bytes) → Type 0
-InValue = CellThen Csvj AfterThen
-
--- what is still to come, where the file stands; CSVJ reaches no other states
-abbrev ToCome : Form → Bytes → List (Line Bytes) → Type 0
-ToCome Top xs ls = TopLines xs ls
-ToCome Begin xs ls = DerivedLines xs ls
-ToCome Ended xs ls = Unit {0}
-ToCome Mark1 xs ls = MarkRest xs ls
-ToCome Mark2 xs ls = MarkLast xs ls
-ToCome PlainMark1 xs ls = Unit {0}
-ToCome PlainMark2 xs ls = Unit {0}
-ToCome (types.Comment c) xs ls = Unit {0}
-ToCome Blanks xs ls = LineThen xs ls
-ToCome Wanting xs ls = WantedThen xs ls
-ToCome (Inside c) xs ls = InValue c xs ls
-ToCome After xs ls = AfterByte xs false ls
-ToCome Cr xs ls = AfterCr xs ls
 
 regroup : (raw ws w₂ vs us : Bytes) → raw ++ (ws ++ (0x2C ∷ (w₂ ++ (vs ++ us)))) ≡ (raw ++ ((ws ++ (0x2C ∷ w₂)) ++ vs)) ++ us
 regroup raw ws w₂ vs us = simp append-assoc
@@ -289,22 +254,13 @@ value-text {raw} m (after-comma {ws} a (wanted-text {ws = w₂} b (values-text {
 data ValuesThen : Bytes → List (Line Bytes) → Type 0 where
   values-then : {text ys : Bytes} {cells : List Bytes} {ls : List (Line Bytes)} → ValuesText text cells → TerminatorThen ys ls → ValuesThen (text ++ ys) (line text cells ∷ ls)
 
-value-then : {xs : Bytes} {ls : List (Line Bytes)} → InValue Fresh xs ls → ValuesThen xs ls
+value-then : {xs : Bytes} {ls : List (Line Bytes)} → CellThen Csvj AfterThen Fresh xs ls → ValuesThen xs ls
 value-then (cell-then {raw} m (after-then {text} {ys} a t)) = rw (← (append-assoc raw text ys)) (values-then (value-text m a) t)
-
-value-wanted : {xs : Bytes} {ls : List (Line Bytes)} → ValuesThen xs ls → WantedThen xs ls
-value-wanted (values-then k t) = wanted-then (wanted-text no-ws k) t
 
 value-line : {xs : Bytes} {ls : List (Line Bytes)} → ValuesThen xs ls → LineThen xs ls
 value-line (values-then (values-text k w) t) = line-then (filled no-ws k w) t
 
 -- a blank in front
-blank-ws : (b : ℕ) {ws : Bytes} → isBlank b ≡ true → Ws ws → Ws (b ∷ ws)
-blank-ws b p w = split-on (b is 0x20) (λ q. rw (is→eq b 0x20 q) (space w)) λ q. rw (is→eq b 0x09 (rw q at p)) (tab w)
-
-blank-wanted : (b : ℕ) {text : Bytes} {cells : List Bytes} → isBlank b ≡ true → WantedText text cells → WantedText (b ∷ text) cells
-blank-wanted b p (wanted-text w k) = wanted-text (blank-ws b p w) k
-
 blank-after : (b : ℕ) {text : Bytes} {cells : List Bytes} → isBlank b ≡ true → AfterText text cells → AfterText (b ∷ text) cells
 blank-after b p (after-last w) = after-last (blank-ws b p w)
 blank-after b p (after-comma w k) = after-comma (blank-ws b p w) k
@@ -318,147 +274,100 @@ unfolding decodedLine
 line-lines (line-then {text} t (terminator-then {es} {zs} e k)) = rw (← (append-assoc text es zs)) (a-line (data-line (ended t e)) k)
 
 -- the LF of a CRLF
-crlf-then : {xs text : Bytes} {cells : List Bytes} {ls : List (Line Bytes)} → AfterCr xs (line text cells ∷ ls) → AfterThen (CR ∷ xs) text cells ls
+crlf-then : {xs text : Bytes} {cells : List Bytes} {ls : List (Line Bytes)} → AfterCr DerivedLines xs (line text cells ∷ ls) → AfterThen (CR ∷ xs) text cells ls
 crlf-then (then-lf k) = after-then (after-last no-ws) (terminator-then crlf k)
 
-blank-more : (b : ℕ) {xs text : Bytes} {cells : List Bytes} {ls : List (Line Bytes)} → isBlank b ≡ true → AfterByte xs false (line text cells ∷ ls) → AfterThen (b ∷ xs) (b ∷ text) cells ls
+blank-more : (b : ℕ) {xs text : Bytes} {cells : List Bytes} {ls : List (Line Bytes)} → isBlank b ≡ true → AfterByte AfterThen xs false (line text cells ∷ ls) → AfterThen (b ∷ xs) (b ∷ text) cells ls
 blank-more b p (ended-before (after-then a t)) = after-then (blank-after b p a) t
 
-comma-more : {xs text : Bytes} {cells : List Bytes} {ls : List (Line Bytes)} → WantedThen xs (line text cells ∷ ls) → AfterThen (0x2C ∷ xs) (0x2C ∷ text) cells ls
-comma-more (wanted-then k t) = after-then (after-comma no-ws k) t
+comma-more : {xs text : Bytes} {cells : List Bytes} {ls : List (Line Bytes)} → WantedThen Csvj AfterThen xs (line text cells ∷ ls) → AfterThen (0x2C ∷ xs) (0x2C ∷ text) cells ls
+comma-more (wanted-then {ws} w k) = go (value-then k)
+  where
+    go : {xs text : Bytes} {cells : List Bytes} {ls : List (Line Bytes)} → ValuesThen xs (line text cells ∷ ls) → AfterThen (0x2C ∷ (ws ++ xs)) (0x2C ∷ (ws ++ text)) cells ls
+    go (values-then {text} {ys} v t) = rw (← (append-assoc ws text ys)) (after-then (after-comma no-ws (wanted-text w v)) t)
+
+abbrev coming : Grammar
+coming = record { Lines = DerivedLines; Tops = TopLines; First = LineThen; Further = AfterThen }
+
+abbrev K : Bytes → Form → List (Line Bytes) → Type 0
+K = Then Csvj coming
 
 module _ (bs : Bytes) where
-  abbrev K : Form → List (Line Bytes) → Type 0
-  K f ls = ToCome f bs ls
-
-  blank-taken : (k : Bool) (b : ℕ) {ls : List (Line Bytes)} → isBlank b ≡ true → Takes K b (To After (Between k)) ls → AfterByte (b ∷ bs) k ls
+  blank-taken : (k : Bool) (b : ℕ) {ls : List (Line Bytes)} → isBlank b ≡ true → Takes (K bs) b (To After (Between k)) ls → AfterByte AfterThen (b ∷ bs) k ls
   blank-taken true b p (steps.between-closing m) = ends-now (blank-more b p m)
   blank-taken false b p (steps.between m) = ended-before (blank-more b p m)
 
-  comma-taken : (k : Bool) {ls : List (Line Bytes)} → Takes K 0x2C (To Wanting (Between k)) ls → AfterByte (0x2C ∷ bs) k ls
+  comma-taken : (k : Bool) {ls : List (Line Bytes)} → Takes (K bs) 0x2C (To Wanting (Between k)) ls → AfterByte AfterThen (0x2C ∷ bs) k ls
   comma-taken true (steps.between-closing m) = ends-now (comma-more m)
   comma-taken false (steps.between m) = ended-before (comma-more m)
 
-  lf-taken : (k : Bool) {b : ℕ} {ls : List (Line Bytes)} → Takes K b (To Begin (Ends k)) ls → AfterByte (LF ∷ bs) k ls
+  lf-taken : (k : Bool) {b : ℕ} {ls : List (Line Bytes)} → Takes (K bs) b (To Begin (Ends k)) ls → AfterByte AfterThen (LF ∷ bs) k ls
   lf-taken true (steps.ends-closing m) = ends-now (after-then (after-last no-ws) (terminator-then lf m))
   lf-taken false (steps.ends m) = ended-before (after-then (after-last no-ws) (terminator-then lf m))
 
-  cr-taken : (k : Bool) {b : ℕ} {ls : List (Line Bytes)} → Takes K b (To Cr (Tail k)) ls → AfterByte (CR ∷ bs) k ls
+  cr-taken : (k : Bool) {b : ℕ} {ls : List (Line Bytes)} → Takes (K bs) b (To Cr (Tail k)) ls → AfterByte AfterThen (CR ∷ bs) k ls
   cr-taken true (steps.tail-closing m) = ends-now (crlf-then m)
   cr-taken false (steps.tail m) = ended-before (crlf-then m)
 
-  after-byte : (k : Bool) (b : ℕ) (ls : List (Line Bytes)) → Takes K b (afterCell Csvj k b) ls → AfterByte (b ∷ bs) k ls
+  after-byte : (k : Bool) (b : ℕ) (ls : List (Line Bytes)) → Takes (K bs) b (afterCell Csvj k b) ls → AfterByte AfterThen (b ∷ bs) k ls
   unfolding afterCell
   after-byte k b ls =
-      let P : Step → Type 0 = λ s. Takes K b s ls → AfterByte (b ∷ bs) k ls in
+      let P : Step → Type 0 = λ s. Takes (K bs) b s ls → AfterByte AfterThen (b ∷ bs) k ls in
       split P (isBlank b) (λ p t. blank-taken k b p t) λ _.
       split P (b is 0x2C) (λ p t. let q = is→eq b 0x2C p in rw q (comma-taken k (rw q at t))) λ _.
       split P (b is LF) (λ p t. rw (is→eq b LF p) (lf-taken k t)) λ _.
       split P (b is CR) (λ p t. rw (is→eq b CR p) (cr-taken k t)) λ _ t. rejected t
 
-  closing-byte : (b : ℕ) (ls : List (Line Bytes)) → Takes K b (afterCell Csvj true b) ls → Closes AfterThen (b ∷ bs) ls
-  closing-byte b ls t = go (after-byte true b ls t)
-    where
-      go : {ys : Bytes} {ls : List (Line Bytes)} → AfterByte ys true ls → Closes AfterThen ys ls
-      go (ends-now a) = closes a
-
-  value-byte : (c : Cell) (b : ℕ) (ls : List (Line Bytes)) → Takes K b (inCell Csvj c b) ls → InValue c (b ∷ bs) ls
-  value-byte c b ls t = in-cell-byte K c b bs ls (λ e ls k. k) (closing-byte b) t
-
-  blank-opens : (b : ℕ) {ls : List (Line Bytes)} → isBlank b ≡ true → Takes K b (To Blanks (Between false)) ls → LineThen (b ∷ bs) ls
+module _ (bs : Bytes) where
+  blank-opens : (b : ℕ) {ls : List (Line Bytes)} → isBlank b ≡ true → Takes (K bs) b (To Blanks (Between false)) ls → LineThen (b ∷ bs) ls
   blank-opens b p (steps.between m) = go m
     where
       go : {xs text : Bytes} {cells : List Bytes} {ls : List (Line Bytes)} → LineThen xs (line text cells ∷ ls) → LineThen (b ∷ xs) (line (b ∷ text) cells ∷ ls)
       go (line-then x t) = line-then (blank-text b p x) t
 
-  lf-opens : {b : ℕ} {ls : List (Line Bytes)} → Takes K b (To Begin (Ends false)) ls → LineThen (LF ∷ bs) ls
+  lf-opens : {b : ℕ} {ls : List (Line Bytes)} → Takes (K bs) b (To Begin (Ends false)) ls → LineThen (LF ∷ bs) ls
   lf-opens (steps.ends m) = line-then (empty no-ws no-ws) (terminator-then lf m)
 
-  cr-opens : {b : ℕ} {ls : List (Line Bytes)} → Takes K b (To Cr (Tail false)) ls → LineThen (CR ∷ bs) ls
+  cr-opens : {b : ℕ} {ls : List (Line Bytes)} → Takes (K bs) b (To Cr (Tail false)) ls → LineThen (CR ∷ bs) ls
   cr-opens (steps.tail m) = go m
     where
-      go : {xs text : Bytes} {cells : List Bytes} {ls : List (Line Bytes)} → AfterCr xs (line text cells ∷ ls) → LineThen (CR ∷ xs) (line text cells ∷ ls)
+      go : {xs text : Bytes} {cells : List Bytes} {ls : List (Line Bytes)} → AfterCr DerivedLines xs (line text cells ∷ ls) → LineThen (CR ∷ xs) (line text cells ∷ ls)
       go (then-lf k) = line-then (empty no-ws no-ws) (terminator-then crlf k)
 
-  line-byte : (b : ℕ) (ls : List (Line Bytes)) → Takes K b (beginRecord Csvj b) ls → LineThen (b ∷ bs) ls
+  line-byte : (b : ℕ) (ls : List (Line Bytes)) → Takes (K bs) b (beginRecord Csvj b) ls → LineThen (b ∷ bs) ls
   unfolding beginRecord
   line-byte b ls =
-      let P : Step → Type 0 = λ s. Takes K b s ls → LineThen (b ∷ bs) ls in
+      let P : Step → Type 0 = λ s. Takes (K bs) b s ls → LineThen (b ∷ bs) ls in
       split P (isBlank b) (λ p t. blank-opens b p t) λ _.
       split P (b is LF) (λ p t. rw (is→eq b LF p) (lf-opens t)) λ _.
-      split P (b is CR) (λ p t. rw (is→eq b CR p) (cr-opens t)) λ _ t. value-line (value-then (value-byte Fresh b ls t))
+      split P (b is CR) (λ p t. rw (is→eq b CR p) (cr-opens t)) λ _ t. value-line (value-then (cell-byte Csvj coming after-byte bs Fresh b ls t))
 
-  mark-opens : {b : ℕ} {ls : List (Line Bytes)} → Takes K b (To Mark1 Outside) ls → TopLines (0xEF ∷ bs) ls
+  mark-opens : {b : ℕ} {ls : List (Line Bytes)} → Takes (K bs) b (To Mark1 Outside) ls → TopLines (0xEF ∷ bs) ls
   mark-opens (steps.outside m) = go m
     where
-      go : {xs : Bytes} {ls : List (Line Bytes)} → MarkRest xs ls → TopLines (0xEF ∷ xs) ls
+      go : {xs : Bytes} {ls : List (Line Bytes)} → MarkRest DerivedLines xs ls → TopLines (0xEF ∷ xs) ls
       go (mark-bb k) = a-mark k
 
-  top-byte : (b : ℕ) (ls : List (Line Bytes)) → Takes K b (beginFile Csvj b) ls → TopLines (b ∷ bs) ls
+  top-byte : (b : ℕ) (ls : List (Line Bytes)) → Takes (K bs) b (beginFile Csvj b) ls → TopLines (b ∷ bs) ls
   unfolding beginFile
   top-byte b ls =
-      split (λ s. Takes K b s ls → TopLines (b ∷ bs) ls) (b is 0xEF) (λ p t. rw (is→eq b 0xEF p) (mark-opens t)) λ _ t.
+      split (λ s. Takes (K bs) b s ls → TopLines (b ∷ bs) ls) (b is 0xEF) (λ p t. rw (is→eq b 0xEF p) (mark-opens t)) λ _ t.
       no-mark (line-lines (line-byte b ls t))
 
-  bb-taken : {b : ℕ} {ls : List (Line Bytes)} → Takes K b (To Mark2 Outside) ls → MarkRest (0xBB ∷ bs) ls
-  bb-taken (steps.outside m) = go m
-    where
-      go : {xs : Bytes} {ls : List (Line Bytes)} → MarkLast xs ls → MarkRest (0xBB ∷ xs) ls
-      go (mark-bf k) = mark-bb k
-
-  bf-taken : {b : ℕ} {ls : List (Line Bytes)} → Takes K b (To Begin Passed) ls → MarkLast (0xBF ∷ bs) ls
-  bf-taken (steps.passed m) = mark-bf m
-
-  blank-wants : (b : ℕ) {ls : List (Line Bytes)} → isBlank b ≡ true → Takes K b (To Wanting (Between false)) ls → WantedThen (b ∷ bs) ls
-  blank-wants b p (steps.between m) = go m
-    where
-      go : {xs text : Bytes} {cells : List Bytes} {ls : List (Line Bytes)} → WantedThen xs (line text cells ∷ ls) → WantedThen (b ∷ xs) (line (b ∷ text) cells ∷ ls)
-      go (wanted-then x t) = wanted-then (blank-wanted b p x) t
-
-  lf-after-cr : {b : ℕ} {ls : List (Line Bytes)} → Takes K b (To Begin (Ends false)) ls → AfterCr (LF ∷ bs) ls
-  lf-after-cr (steps.ends k) = then-lf k
-
-  step-byte : (f : Form) (b : ℕ) (ls : List (Line Bytes)) → Takes K b (formStep Csvj f b) ls → ToCome f (b ∷ bs) ls
-  unfolding formStep
-  step-byte Top b ls t = top-byte b ls t
-  step-byte Begin b ls t = line-lines (line-byte b ls t)
-  step-byte Ended b ls t = tt
-  step-byte Mark1 b ls t = split (λ s. Takes K b s ls → MarkRest (b ∷ bs) ls) (b is 0xBB) (λ p t. rw (is→eq b 0xBB p) (bb-taken t)) (λ _ t. rejected t) t
-  step-byte Mark2 b ls t = split (λ s. Takes K b s ls → MarkLast (b ∷ bs) ls) (b is 0xBF) (λ p t. rw (is→eq b 0xBF p) (bf-taken t)) (λ _ t. rejected t) t
-  step-byte PlainMark1 b ls t = tt
-  step-byte PlainMark2 b ls t = tt
-  step-byte (types.Comment c) b ls t = tt
-  step-byte Blanks b ls t = line-byte b ls t
-  step-byte Wanting b ls t =
-      split (λ s. Takes K b s ls → WantedThen (b ∷ bs) ls) (isBlank b) (λ p t. blank-wants b p t) (λ _ t. value-wanted (value-then (value-byte Fresh b ls t))) t
-  step-byte (Inside c) b ls t = value-byte c b ls t
-  step-byte After b ls t = after-byte false b ls t
-  step-byte Cr b ls t = split (λ s. Takes K b s ls → AfterCr (b ∷ bs) ls) (b is LF) (λ p t. rw (is→eq b LF p) (lf-after-cr t)) (λ _ t. rejected t) t
-
-no-lines : {ls : List (Line Bytes)} → steps.Finishes Clean ls → DerivedLines [] ls
-no-lines steps.clean = no-line
-
-end-byte : (f : Form) (ls : List (Line Bytes)) → steps.Finishes (formEnd Csvj f) ls → ToCome f [] ls
-unfolding formEnd
-end-byte Top ls t = no-mark (no-lines t)
-end-byte Begin ls t = no-lines t
-end-byte Ended ls t = tt
-end-byte Mark1 ls t = cut-off t
-end-byte Mark2 ls t = cut-off t
-end-byte PlainMark1 ls t = tt
-end-byte PlainMark2 ls t = tt
-end-byte (types.Comment c) ls t = tt
-end-byte Blanks ls t = cut-off t
-end-byte Wanting ls t = cut-off t
-end-byte (Inside c) ls t = cut-off t
-end-byte After ls t = cut-off t
-end-byte Cr ls t = cut-off t
-
-reads-lines : (xs : Bytes) (f : Form) (ls : List (Line Bytes)) → Reads Csvj f xs ls → ToCome f xs ls
-reads-lines = by-bytes Csvj ToCome end-byte step-byte
+facts : Facts Csvj coming
+facts =
+    record {
+      after-byte = after-byte;
+      first-byte = line-byte;
+      first-line = λ bs b ls k. line-lines k;
+      top-byte = top-byte;
+      no-line = no-line;
+      no-top = no-mark no-line;
+      last-cell = λ c ls t. cut-off t;
+    }
 
 pub reads-file : {xs : Bytes} {l : Line Bytes} {ls : List (Line Bytes)} → Reads Csvj Top xs (l ∷ ls) → File xs (map (decodedLine Csvj) (l ∷ ls))
-reads-file {xs} {l} {ls} r = go (reads-lines xs Top (l ∷ ls) r)
+reads-file {xs} {l} {ls} r = go (reads-coming Csvj coming facts xs Top (l ∷ ls) r)
   where
     first : {xs : Bytes} {l : Line Derived} {ls : List (Line Derived)} → Data-lines xs (l ∷ ls) → Csvj-file xs (l ∷ ls)
     first (a-line (data-line l) k) = csvj-file (header-line l) k

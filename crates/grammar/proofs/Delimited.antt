@@ -2,9 +2,9 @@
 -- text. They are read (`cells-read`), and what is read from a record's first cell on is of this form (`record-of`).
 use Prim.Native.Nat.{ℕ, suc}
 use mathlib.Core.Path.{_≡_, refl, _∙_}
-use mathlib.Core.Bool.{true}
+use mathlib.Core.Bool.{Bool, true, false}
 use mathlib.Core.List.{List, [], _∷_, _++_, append-assoc, append-nil}
-use Rattle.grammar.specs.Types.{Dialect, CsvPlus, Fresh, Inside, Between, To}
+use Rattle.grammar.specs.Types.{Dialect, CsvPlus, Fresh, Form, Inside, Between, To}
 use Rattle.model.specs.Base.{Bytes, if_then_else_}
 use Rattle.model.specs.Dialect.{delimiterOf}
 use Rattle.model.specs.Form.{afterCell}
@@ -15,7 +15,9 @@ use Rattle.grammar.specs.Stretches.{Stretch, past, cellAt}
 use Rattle.grammar.proofs.Spelling.{Spells}
 use Rattle.grammar.proofs.Separators.{Reached, by-delimiter}
 use Rattle.grammar.proofs.Walks.{Walks, between-closing, past-append}
-use Rattle.grammar.proofs.CellReads.{Follows, cell-reads, after-whole, CellThen, cell-then}
+use Rattle.grammar.proofs.Steps.{Takes}
+use Rattle.grammar.proofs.Steps as steps
+use Rattle.grammar.proofs.CellReads.{Follows, cell-reads, after-whole, CellThen, cell-then, AfterByte, ended-before, ends-now}
 
 -- cell *( delimiter cell )
 pub data Cells (d : Dialect) : Bytes → List Bytes → Type 0 where
@@ -72,3 +74,11 @@ module _ (d : Dialect) (Tail : Bytes → List (Line Bytes) → Type 0) where
   record-of (cell-then {raw} m (at-tail t)) = rw (append-nil raw) (record-then (one-cell m) t)
   record-of (cell-then {raw} m (at-delimiter (record-then {text} {ys} n t))) =
       rw (← (append-assoc raw (delimiterOf d ∷ text) ys)) (record-then (more-cells m n) t)
+
+  -- a delimiter after a cell
+  pub delimiter-taken :
+      (K : Form → List (Line Bytes) → Type 0) {bs : Bytes} (k : Bool) {ls : List (Line Bytes)} →
+      ((ls : List (Line Bytes)) → K (Inside Fresh) ls → CellThen d After Fresh bs ls) → Takes K (delimiterOf d) (To (Inside Fresh) (Between k)) ls →
+      AfterByte After (delimiterOf d ∷ bs) k ls
+  delimiter-taken K true f (steps.between-closing m) = ends-now (at-delimiter (record-of (f _ m)))
+  delimiter-taken K false f (steps.between m) = ended-before (at-delimiter (record-of (f _ m)))

@@ -16,6 +16,7 @@ pub mod Separators
 pub mod Walks
 pub mod CellReads
 pub mod Delimited
+pub mod Coming
 pub mod TdifFiles
 pub mod PlusFiles
 pub mod CsvjFiles

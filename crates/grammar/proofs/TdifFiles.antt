@@ -1,38 +1,37 @@
 -- The grammar of TDIF derives exactly the files that its automaton reads by form. A CR that ends a line leaves the automaton where an LF
 -- would be skipped; no line begins with LF, so CR LF is one linebreak in the grammar too.
-use Prim.Native.Nat.{ℕ, suc, _≤_, _<_}
+use Prim.Native.Nat.{ℕ, suc, _≤_}
 use native.Mathlib.Omega.{arith}
 use mathlib.Core.Path.{_≡_, refl, ap, _∙_}
 use mathlib.Core.Logic.{_≢_}
-use mathlib.Core.Bool.{true}
+use mathlib.Core.Bool.{Bool, true, false}
 use mathlib.Core.List.{List, [], _∷_, _++_, map, append-assoc}
-use lib.Dec.{leb}
-use borrow.Author.Tests.{ne-eqb, eqb-false, leb-true, leb-false}
-use Rattle.grammar.specs.Types.{Tdif, Inner, Char, Whole, Within, Advance, On, Broken, Cell, Fresh, More}
-use Rattle.grammar.specs.Types.{Form, Top, Begin, Ended, Mark1, Mark2, PlainMark1, PlainMark2, Comment, Blanks, Wanting, Inside, Cr, Outside, Passed, Between, Ends, Step, To}
+use borrow.Author.Tests.{ne-eqb}
+use Rattle.grammar.specs.Types.{Tdif, Char, Whole, Cell, Fresh, More}
+use Rattle.grammar.specs.Types.{Form, Top, Begin, Ended, Comment, Inside, Outside, Ends, Step, To}
 use Rattle.grammar.specs.Types as types
 use Rattle.model.specs.Base.{Bytes, COMMA, _is_, if_then_else_}
 use Rattle.model.specs.Utf8.{charStep}
 use Rattle.model.specs.Cell.{firstByte, cellStep, isWhole}
 use Rattle.model.specs.Form.{afterCell, inCell, beginRecord, beginFile, commented, formStep, formEnd}
-use Rattle.model.proofs.Tests.{split, split-on, is→eq}
+use Rattle.model.proofs.Tests.{split, is→eq}
 use Rattle.model.proofs.Utf8.{ascii-whole}
 use Rattle.model.proofs.CellContent.{d-tdif}
 use Rattle.grammar.specs.Rfc5234.{LF, CR}
 use Rattle.grammar.specs.Derived.{Derived, rawOf, Line, line, spelling}
 use Rattle.grammar.specs.Reading.{Reads, decoded, decodedLine}
 use Rattle.grammar.specs.Stretches.{Stretch, past, cellAt, tdifFields, tdifRecord, tdifLines, tdifFile}
-use Rattle.grammar.specs.Tdif.{comment-first, header-first, no-line, a-comment, a-record, header, ended, Fields, field, fields, comment, Remark, no-remark, commentdata, Commentdata, below-lf, below-cr, above-cr, comment-beyond, comma, hash, Linebreak, cr, lf, crlf}
+use Rattle.grammar.specs.Tdif.{comment-first, header-first, no-line, a-comment, a-record, header, ended, Fields, field, fields, comment, Remark, no-remark, commentdata, below-lf, below-cr, above-cr, comment-beyond, comma, hash, Linebreak, cr, lf, crlf}
 use Rattle.grammar.specs.Tdif as tdif
-use Rattle.grammar.proofs.Ranges.{range}
-use Rattle.grammar.proofs.Chars.{Finishes, finished, finishing, Long, long, data-long, long-data, whole-ascii, first-high}
+use Rattle.grammar.proofs.Chars.{Finishes, finished, finishing, Long, long, data-long, first-high}
 use Rattle.grammar.proofs.CellGrammar.{derived-spells, spells-derived}
 use Rattle.grammar.proofs.Separators.{by-cr, by-lf}
-use Rattle.grammar.proofs.Steps.{Takes, rejected, by-bytes, cut-off, clean}
+use Rattle.grammar.proofs.Steps.{Takes, rejected, cut-off}
 use Rattle.grammar.proofs.Steps as steps
 use Rattle.grammar.proofs.Walks.{Walks, ends-clean, outside, passed, ends-closing, from-state, past-append}
-use Rattle.grammar.proofs.CellReads.{Follows, after-whole, FirstOfCell, first-of-cell, spells-first, other-byte, CellThen, cell-then, Closes, closes, in-cell-byte}
-use Rattle.grammar.proofs.Delimited.{Cells, one-cell, more-cells, cellsAt, cells-read, RecordThen, record-then, After, at-tail, at-delimiter, record-of}
+use Rattle.grammar.proofs.CellReads.{Follows, after-whole, FirstOfCell, first-of-cell, spells-first, other-byte, CellThen, cell-then, AfterByte, ended-before, ends-now}
+use Rattle.grammar.proofs.Delimited.{Cells, one-cell, more-cells, cellsAt, cells-read, RecordThen, record-then, After, at-tail, record-of, delimiter-taken}
+use Rattle.grammar.proofs.Coming.{Grammar, BreakThen, break-then, break-cr, InComment, in-comment, Then, cell-byte, Facts, reads-coming}
 
 -- ---- fields are cells with commas between them
 
@@ -165,168 +164,67 @@ file-reads k = go 0 k Top at-top
 abbrev DerivedLines : Bytes → List (Line Bytes) → Type 0
 DerivedLines xs ls = tdif.Lines xs (map (decodedLine Tdif) ls)
 
-data BreakThen : Bytes → List (Line Bytes) → Type 0 where
-  break-then : {es zs : Bytes} {ls : List (Line Bytes)} → Linebreak es → DerivedLines zs ls → BreakThen (es ++ zs) ls
+abbrev Further : Bytes → Bytes → List Bytes → List (Line Bytes) → Type 0
+Further = After Tdif (BreakThen DerivedLines)
 
--- after a CR that ended a line
-data AfterCr : Bytes → List (Line Bytes) → Type 0 where
-  skips : {ys : Bytes} {ls : List (Line Bytes)} → DerivedLines ys ls → AfterCr (LF ∷ ys) ls
-  stays : {ys : Bytes} {ls : List (Line Bytes)} → DerivedLines ys ls → AfterCr ys ls
+abbrev coming : Grammar
+coming = record { Lines = DerivedLines; Tops = DerivedLines; First = DerivedLines; Further = Further }
 
-data InComment (c : Char) : Bytes → List (Line Bytes) → Type 0 where
-  in-comment : {cs bs ys : Bytes} {ls : List (Line Bytes)} → Finishes c cs → Remark bs → BreakThen ys ls → InComment c (cs ++ (bs ++ ys)) ls
+abbrev K : Bytes → Form → List (Line Bytes) → Type 0
+K = Then Tdif coming
 
-abbrev InField : Cell → Bytes → List (Line Bytes) → Type 0
-InField = CellThen Tdif (After Tdif BreakThen)
-
--- what is still to come, where the file stands; TDIF reaches no other states
-abbrev ToCome : Form → Bytes → List (Line Bytes) → Type 0
-ToCome Top xs ls = DerivedLines xs ls
-ToCome Begin xs ls = DerivedLines xs ls
-ToCome Ended xs ls = AfterCr xs ls
-ToCome Mark1 xs ls = Unit {0}
-ToCome Mark2 xs ls = Unit {0}
-ToCome PlainMark1 xs ls = Unit {0}
-ToCome PlainMark2 xs ls = Unit {0}
-ToCome (Comment c) xs ls = InComment c xs ls
-ToCome Blanks xs ls = Unit {0}
-ToCome Wanting xs ls = Unit {0}
-ToCome (Inside c) xs ls = InField c xs ls
-ToCome types.After xs ls = Unit {0}
-ToCome Cr xs ls = Unit {0}
-
-break-cr : {xs : Bytes} {ls : List (Line Bytes)} → AfterCr xs ls → BreakThen (CR ∷ xs) ls
-break-cr (skips k) = break-then crlf k
-break-cr (stays k) = break-then cr k
-
-record-line : {xs text : Bytes} {cells : List Bytes} {ls : List (Line Bytes)} → RecordThen Tdif BreakThen xs text cells ls → DerivedLines xs (line text cells ∷ ls)
+record-line : {xs text : Bytes} {cells : List Bytes} {ls : List (Line Bytes)} → RecordThen Tdif (BreakThen DerivedLines) xs text cells ls → DerivedLines xs (line text cells ∷ ls)
 unfolding decodedLine
 record-line (record-then {text} n (break-then {es} {zs} b k)) = rw (← (append-assoc text es zs)) (a-record (ended (cells-fields n) b) k)
 
-field-line : {xs : Bytes} {ls : List (Line Bytes)} → InField Fresh xs ls → DerivedLines xs ls
-field-line (cell-then m a) = record-line (record-of Tdif BreakThen (cell-then m a))
+field-line : {xs : Bytes} {ls : List (Line Bytes)} → CellThen Tdif Further Fresh xs ls → DerivedLines xs ls
+field-line (cell-then m a) = record-line (record-of Tdif (BreakThen DerivedLines) (cell-then m a))
 
-comment-line : {xs : Bytes} {ls : List (Line Bytes)} → InComment Whole xs ls → DerivedLines (0x23 ∷ xs) ls
+comment-line : {xs : Bytes} {ls : List (Line Bytes)} → InComment DerivedLines Whole xs ls → DerivedLines (0x23 ∷ xs) ls
 comment-line (in-comment {bs} finished m (break-then {es} {zs} b k)) = rw (← (append-assoc bs es zs)) (a-comment (comment hash m b) k)
 
-ascii-commentdata : (b : ℕ) → b ≤ 0x7F → b ≢ LF → b ≢ CR → Commentdata (b ∷ [])
-ascii-commentdata b h n m =
-    split-on (leb b 0x09) (λ p. below-lf (range (omega arith) (leb-true b 0x09 p))) λ p.
-    let i : 0x09 < b = leb-false b 0x09 p in
-    split-on (leb b 0x0C) (λ q. below-cr (range (omega arith) (leb-true b 0x0C q))) λ q.
-    let j : 0x0C < b = leb-false b 0x0C q in above-cr (range (omega arith) h)
+module _ (bs : Bytes) where
+  lf-taken : (k : Bool) {b : ℕ} {ls : List (Line Bytes)} → Takes (K bs) b (To Begin (Ends k)) ls → AfterByte Further (LF ∷ bs) k ls
+  lf-taken true (steps.ends-closing m) = ends-now (at-tail (break-then lf m))
+  lf-taken false (steps.ends m) = ended-before (at-tail (break-then lf m))
 
-more-remark : (c : Char) (b : ℕ) {xs : Bytes} {ls : List (Line Bytes)} → b ≢ LF → b ≢ CR → charStep Whole b ≡ On c → InComment c xs ls → InComment Whole (b ∷ xs) ls
-more-remark Whole b n m e (in-comment finished k t) = in-comment finished (commentdata (ascii-commentdata b (whole-ascii b e) n m) k) t
-more-remark (Within i) b n m e (in-comment {cs} {bs} {ys} f k t) =
-    rw (← (append-assoc cs bs ys)) (in-comment finished (commentdata (comment-beyond (long-data (long e f))) k) t)
+  cr-taken : (k : Bool) {b : ℕ} {ls : List (Line Bytes)} → Takes (K bs) b (To Ended (Ends k)) ls → AfterByte Further (CR ∷ bs) k ls
+  cr-taken true (steps.ends-closing m) = ends-now (at-tail (break-cr DerivedLines m))
+  cr-taken false (steps.ends m) = ended-before (at-tail (break-cr DerivedLines m))
 
-inner-remark : {i : Inner} {c : Char} {b : ℕ} {xs : Bytes} {ls : List (Line Bytes)} → charStep (Within i) b ≡ On c → InComment c xs ls → InComment (Within i) (b ∷ xs) ls
-inner-remark e (in-comment f k t) = in-comment (finishing e f) k t
+  after-byte : (k : Bool) (b : ℕ) (ls : List (Line Bytes)) → Takes (K bs) b (afterCell Tdif k b) ls → AfterByte Further (b ∷ bs) k ls
+  unfolding afterCell
+  after-byte k b ls =
+      let P : Step → Type 0 = λ s. Takes (K bs) b s ls → AfterByte Further (b ∷ bs) k ls in
+      split P (b is COMMA) (λ p t. let q = is→eq b COMMA p in rw q (delimiter-taken Tdif (BreakThen DerivedLines) (K bs) k (λ ls m. m) (rw q at t))) λ _.
+      split P (b is LF) (λ p t. rw (is→eq b LF p) (lf-taken k t)) λ _.
+      split P (b is CR) (λ p t. rw (is→eq b CR p) (cr-taken k t)) λ _ t. rejected t
 
 module _ (bs : Bytes) where
-  abbrev K : Form → List (Line Bytes) → Type 0
-  K f ls = ToCome f bs ls
-
-  comma-taken : {ls : List (Line Bytes)} → Takes K COMMA (To (Inside Fresh) (Between true)) ls → Closes (After Tdif BreakThen) (COMMA ∷ bs) ls
-  comma-taken (steps.between-closing k) = closes (at-delimiter (record-of Tdif BreakThen k))
-
-  lf-taken : {ls : List (Line Bytes)} → Takes K LF (To Begin (Ends true)) ls → Closes (After Tdif BreakThen) (LF ∷ bs) ls
-  lf-taken (steps.ends-closing k) = closes (at-tail (break-then lf k))
-
-  cr-taken : {ls : List (Line Bytes)} → Takes K CR (To Ended (Ends true)) ls → Closes (After Tdif BreakThen) (CR ∷ bs) ls
-  cr-taken (steps.ends-closing k) = closes (at-tail (break-cr k))
-
-  after-byte : (b : ℕ) (ls : List (Line Bytes)) → Takes K b (afterCell Tdif true b) ls → Closes (After Tdif BreakThen) (b ∷ bs) ls
-  unfolding afterCell
-  after-byte b ls =
-      let P : Step → Type 0 = λ s. Takes K b s ls → Closes (After Tdif BreakThen) (b ∷ bs) ls in
-      split P (b is COMMA) (λ p t. let q = is→eq b COMMA p in rw q (comma-taken (rw q at t))) λ _.
-      split P (b is LF) (λ p t. let q = is→eq b LF p in rw q (lf-taken (rw q at t))) λ _.
-      split P (b is CR) (λ p t. let q = is→eq b CR p in rw q (cr-taken (rw q at t))) λ _ t. rejected t
-
-  field-byte : (c : Cell) (b : ℕ) (ls : List (Line Bytes)) → Takes K b (inCell Tdif c b) ls → InField c (b ∷ bs) ls
-  field-byte c b ls t = in-cell-byte K c b bs ls (λ e ls k. k) (after-byte b) t
-
-  hash-taken : {b : ℕ} {ls : List (Line Bytes)} → Takes K b (To (Comment Whole) Outside) ls → DerivedLines (0x23 ∷ bs) ls
+  hash-taken : {b : ℕ} {ls : List (Line Bytes)} → Takes (K bs) b (To (Comment Whole) Outside) ls → DerivedLines (0x23 ∷ bs) ls
   hash-taken (steps.outside k) = comment-line k
 
-  line-byte : (b : ℕ) (ls : List (Line Bytes)) → Takes K b (beginRecord Tdif b) ls → DerivedLines (b ∷ bs) ls
+  line-byte : (b : ℕ) (ls : List (Line Bytes)) → Takes (K bs) b (beginRecord Tdif b) ls → DerivedLines (b ∷ bs) ls
   unfolding beginRecord
   line-byte b ls =
-      let P : Step → Type 0 = λ s. Takes K b s ls → DerivedLines (b ∷ bs) ls in
-      split P (b is 0x23) (λ p t. rw (is→eq b 0x23 p) (hash-taken t)) λ _ t. field-line (field-byte Fresh b ls t)
+      let P : Step → Type 0 = λ s. Takes (K bs) b s ls → DerivedLines (b ∷ bs) ls in
+      split P (b is 0x23) (λ p t. rw (is→eq b 0x23 p) (hash-taken t)) λ _ t. field-line (cell-byte Tdif coming after-byte bs Fresh b ls t)
 
-  skip-taken : {b : ℕ} {ls : List (Line Bytes)} → Takes K b (To Begin Passed) ls → AfterCr (LF ∷ bs) ls
-  skip-taken (steps.passed k) = skips k
-
-  comment-lf : {b : ℕ} {ls : List (Line Bytes)} → Takes K b (To Begin Passed) ls → InComment Whole (LF ∷ bs) ls
-  comment-lf (steps.passed k) = in-comment finished no-remark (break-then lf k)
-
-  comment-cr : {b : ℕ} {ls : List (Line Bytes)} → Takes K b (To Ended Passed) ls → InComment Whole (CR ∷ bs) ls
-  comment-cr (steps.passed k) = in-comment finished no-remark (break-cr k)
-
-  char-taken : {b : ℕ} {c : Char} {ls : List (Line Bytes)} → Takes K b (To (Comment c) Outside) ls → InComment c bs ls
-  char-taken (steps.outside k) = k
-
-  comment-byte : (c : Char) (b : ℕ) (ls : List (Line Bytes)) → Takes K b (formStep Tdif (Comment c) b) ls → InComment c (b ∷ bs) ls
-  unfolding formStep
-  comment-byte Whole b ls =
-      let P : Step → Type 0 = λ s. Takes K b s ls → InComment Whole (b ∷ bs) ls in
-      split P (b is LF) (λ p t. rw (is→eq b LF p) (comment-lf t)) λ n.
-      split P (b is CR) (λ p t. rw (is→eq b CR p) (comment-cr t)) λ m t.
-      other (eqb-false b LF n) (eqb-false b CR m) (charStep Whole b) refl t
-    where
-      other : b ≢ LF → b ≢ CR → (o : Advance) → charStep Whole b ≡ o → Takes K b (commented o) ls → InComment Whole (b ∷ bs) ls
-      other n m Broken e t = rejected t
-      other n m (On c) e t = more-remark c b n m e (char-taken t)
-  comment-byte (Within i) b ls = go (charStep (Within i) b) refl
-    where
-      go : (o : Advance) → charStep (Within i) b ≡ o → Takes K b (commented o) ls → InComment (Within i) (b ∷ bs) ls
-      go Broken e t = rejected t
-      go (On c) e t = inner-remark e (char-taken t)
-
-  step-byte : (f : Form) (b : ℕ) (ls : List (Line Bytes)) → Takes K b (formStep Tdif f b) ls → ToCome f (b ∷ bs) ls
-  unfolding formStep beginFile
-  step-byte Top b ls t = line-byte b ls t
-  step-byte Begin b ls t = line-byte b ls t
-  step-byte Ended b ls t =
-      split (λ s. Takes K b s ls → AfterCr (b ∷ bs) ls) (b is LF) (λ p t. rw (is→eq b LF p) (skip-taken t)) (λ _ t. stays (line-byte b ls t)) t
-  step-byte Mark1 b ls t = tt
-  step-byte Mark2 b ls t = tt
-  step-byte PlainMark1 b ls t = tt
-  step-byte PlainMark2 b ls t = tt
-  step-byte (Comment c) b ls t = comment-byte c b ls t
-  step-byte Blanks b ls t = tt
-  step-byte Wanting b ls t = tt
-  step-byte (Inside c) b ls t = field-byte c b ls t
-  step-byte types.After b ls t = tt
-  step-byte Cr b ls t = tt
-
-no-lines : {ls : List (Line Bytes)} → steps.Finishes types.Clean ls → DerivedLines [] ls
-no-lines clean = no-line
-
-end-byte : (f : Form) (ls : List (Line Bytes)) → steps.Finishes (formEnd Tdif f) ls → ToCome f [] ls
-unfolding formEnd
-end-byte Top ls t = no-lines t
-end-byte Begin ls t = no-lines t
-end-byte Ended ls t = stays (no-lines t)
-end-byte Mark1 ls t = tt
-end-byte Mark2 ls t = tt
-end-byte PlainMark1 ls t = tt
-end-byte PlainMark2 ls t = tt
-end-byte (Comment c) ls t = cut-off t
-end-byte Blanks ls t = tt
-end-byte Wanting ls t = tt
-end-byte (Inside c) ls t = cut-off t
-end-byte types.After ls t = tt
-end-byte Cr ls t = tt
-
-reads-lines : (xs : Bytes) (f : Form) (ls : List (Line Bytes)) → Reads Tdif f xs ls → ToCome f xs ls
-reads-lines = by-bytes Tdif ToCome end-byte step-byte
+facts : Facts Tdif coming
+unfolding beginFile
+facts =
+    record {
+      after-byte = after-byte;
+      first-byte = line-byte;
+      first-line = λ bs b ls k. k;
+      top-byte = line-byte;
+      no-line = no-line;
+      no-top = no-line;
+      last-cell = λ c ls t. cut-off t;
+    }
 
 pub reads-file : {xs : Bytes} {l : Line Bytes} {ls : List (Line Bytes)} → Reads Tdif Top xs (l ∷ ls) → tdif.File xs (map (decodedLine Tdif) (l ∷ ls))
-reads-file {xs} {l} {ls} r = go (reads-lines xs Top (l ∷ ls) r)
+reads-file {xs} {l} {ls} r = go (reads-coming Tdif coming facts xs Top (l ∷ ls) r)
   where
     go : {xs : Bytes} {l : Line Derived} {ls : List (Line Derived)} → tdif.Lines xs (l ∷ ls) → tdif.File xs (l ∷ ls)
     go (a-comment c k) = comment-first c (go k)
