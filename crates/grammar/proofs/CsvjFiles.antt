@@ -1,12 +1,11 @@
 -- The grammar of CSVJ derives exactly the files that its automaton reads by form. After a value, and after a space or a tab that follows
 -- one, the same may come (`Continues`, `AfterThen`); before a record's first value the same may come as at its beginning.
 use Prim.Native.Nat.{ℕ, suc}
-use mathlib.Core.Path.{_≡_, refl}
+use mathlib.Core.Path.{_≡_, refl, _∙_}
 use mathlib.Core.Bool.{Bool, true, false}
 use mathlib.Core.List.{List, [], _∷_, _++_, map, append-assoc, append-nil}
 use Rattle.grammar.specs.Types.{Csvj, Cell, Fresh, More}
 use Rattle.grammar.specs.Types.{Form, Top, Begin, Mark1, Blanks, Wanting, Inside, After, Cr, Outside, Between, Tail, Ends, Step, To}
-use Rattle.grammar.specs.Types as types
 use Rattle.model.specs.Base.{Bytes, _is_, if_then_else_}
 use Rattle.model.specs.Cell.{firstByte, cellStep, isWhole}
 use Rattle.model.specs.Form.{isBlank, afterCell, beginRecord, beginFile, formStep, formEnd}
@@ -19,7 +18,7 @@ use Rattle.grammar.specs.Csvj.{File, unmarked, marked, Csvj-file, csvj-f
 use Rattle.grammar.specs.Csvj as csvj
 use Rattle.grammar.proofs.Spelling.{Spells}
 use Rattle.grammar.proofs.CellGrammar.{derived-spells, spells-derived}
-use Rattle.grammar.proofs.Separators.{by-delimiter, by-cr, by-lf, by-space, by-tab}
+use Rattle.grammar.proofs.Separators.{Separates, by-delimiter, by-cr, by-lf, by-space, by-tab}
 use Rattle.grammar.proofs.Steps.{Takes, rejected, cut-off}
 use Rattle.grammar.proofs.Steps as steps
 use Rattle.grammar.proofs.Walks.{Walks, ends-clean, outside, passed, between, between-closing, tail, tail-closing, ends, ends-closing, from-state, past-append}
@@ -33,32 +32,26 @@ record Continues (o : ℕ) (ys text : Bytes) (cells : List Bytes) (ls : List (Li
   after-value : Follows Csvj o ys text cells ls ps ss
   after-blank : Walks Csvj After o o ys (line text cells ∷ ls) (ps ∷ ss)
 
-space-continues :
-    {o : ℕ} {ys text : Bytes} {cells : List Bytes} {ls : List (Line Bytes)} {ps : List Stretch} {ss : List (List Stretch)} → Continues (suc o) ys text cells ls ps ss →
-    Continues o (0x20 ∷ ys) (0x20 ∷ text) cells ls ps ss
-unfolding formStep afterCell if_then_else_
-space-continues k =
-    record {
-      after-value = λ c p r w. between-closing (after-whole Csvj c 0x20 r w by-space) (k .after-blank);
-      after-blank = between refl (k .after-blank);
-    }
+blank-step : (k : Bool) (b : ℕ) → isBlank b ≡ true → afterCell Csvj k b ≡ To After (Between k)
+unfolding afterCell if_then_else_
+blank-step k b q = rw q
 
-tab-continues :
-    {o : ℕ} {ys text : Bytes} {cells : List Bytes} {ls : List (Line Bytes)} {ps : List Stretch} {ss : List (List Stretch)} → Continues (suc o) ys text cells ls ps ss →
-    Continues o (0x09 ∷ ys) (0x09 ∷ text) cells ls ps ss
-unfolding formStep afterCell if_then_else_
-tab-continues k =
+blank-continues :
+    (b : ℕ) {o : ℕ} {ys text : Bytes} {cells : List Bytes} {ls : List (Line Bytes)} {ps : List Stretch} {ss : List (List Stretch)} →
+    Separates Csvj b → isBlank b ≡ true → Continues (suc o) ys text cells ls ps ss → Continues o (b ∷ ys) (b ∷ text) cells ls ps ss
+unfolding formStep
+blank-continues b x q k =
     record {
-      after-value = λ c p r w. between-closing (after-whole Csvj c 0x09 r w by-tab) (k .after-blank);
-      after-blank = between refl (k .after-blank);
+      after-value = λ c p r w. between-closing (after-whole Csvj c b r w x ∙ blank-step true b q) (k .after-blank);
+      after-blank = between (blank-step false b q) (k .after-blank);
     }
 
 ws-continues :
     {o : ℕ} {ws ys text : Bytes} {cells : List Bytes} {ls : List (Line Bytes)} {ps : List Stretch} {ss : List (List Stretch)} → Ws ws → Continues (past ws o) ys text cells ls ps ss →
     Continues o (ws ++ ys) (ws ++ text) cells ls ps ss
 ws-continues no-ws k = k
-ws-continues (space w) k = space-continues (ws-continues w k)
-ws-continues (tab w) k = tab-continues (ws-continues w k)
+ws-continues (space w) k = blank-continues 0x20 by-space refl (ws-continues w k)
+ws-continues (tab w) k = blank-continues 0x09 by-tab refl (ws-continues w k)
 
 comma-continues :
     {o : ℕ} {ys text : Bytes} {cells : List Bytes} {ls : List (Line Bytes)} {ps : List Stretch} {ss : List (List Stretch)} → Walks Csvj Wanting (suc o) (suc o) ys (line text cells ∷ ls) (ps ∷ ss) →

@@ -7,7 +7,6 @@ use mathlib.Core.List.{List, [], _∷_, _++_, map, append-nil}
 use borrow.Author.Tests.{eqb-false}
 use Rattle.grammar.specs.Types.{Delimiter, Comma, Semicolon, Tab, Bar, Settings, CsvPlus, Cell, Fresh}
 use Rattle.grammar.specs.Types.{Form, Top, Begin, PlainMark1, PlainMark2, Inside, Cr, OfCell, Tail, Ends, Step, To, Final}
-use Rattle.grammar.specs.Types as types
 use Rattle.model.specs.Base.{Bytes, _is_, if_then_else_}
 use Rattle.model.specs.Dialect.{delimiterByte}
 use Rattle.model.specs.Cell.{isWhole}

@@ -9,7 +9,6 @@ use mathlib.Core.List.{List, [], _∷_, _++_, map, append-assoc}
 use borrow.Author.Tests.{ne-eqb}
 use Rattle.grammar.specs.Types.{Tdif, Char, Whole, Cell, Fresh, More}
 use Rattle.grammar.specs.Types.{Form, Top, Begin, Ended, Comment, Inside, Outside, Ends, Step, To}
-use Rattle.grammar.specs.Types as types
 use Rattle.model.specs.Base.{Bytes, COMMA, _is_, if_then_else_}
 use Rattle.model.specs.Utf8.{charStep}
 use Rattle.model.specs.Cell.{firstByte, cellStep, isWhole}
