@@ -18,7 +18,8 @@ use Rattle.grammar.specs.Csvj as csvj
 use Rattle.grammar.specs.Tdif as tdif
 use Rattle.grammar.specs.CsvPlus as plus
 use Rattle.grammar.specs.Accepted.{a-name, WithinLimits, ChecksHold, checks-hold}
-use Rattle.grammar.specs.Mistakes.{Mistakes, nameA, twoNames, tooLong}
+use Rattle.grammar.specs.NextByte.{GoesOn}
+use Rattle.grammar.specs.Mistakes.{Mistakes, Misplacements, nameA, twoNames, tooLong}
 
 -- ---- TDIF: a line begins with #, a quote or a backslash
 
@@ -233,6 +234,23 @@ space-after (plus.a-non-escaped m) = go (plain-clear m)
     go : {bs : Bytes} → Every (λ b. b ≢ 0x22) (0x22 ∷ bs) → ⊥
     go (every-cons n k) = n refl
 
+-- ---- a CSVJ file may begin with a quote: two of them and LF
+
+begun : ¬ ¬ GoesOn Csvj [] 0x22
+begun n =
+    n (
+      0x22 ∷ 0x0A ∷ [],
+      _,
+      csvj.unmarked
+          (csvj.csvj-file
+          (csvj.header-line
+          (csvj.ended
+          (csvj.filled csvj.no-ws
+          (csvj.value (csvj.a-string (json.string json.a-quotation-mark json.no-char json.a-quotation-mark json.nothing))) csvj.no-ws)
+          csvj.lf))
+          csvj.no-line),
+    )
+
 -- ---- none of the mistakes
 
 blank-text : (l : Line Derived) → 3 ≤ length (textIn l) + 2 → textIn l ≢ []
@@ -255,4 +273,8 @@ absent =
       blanks-uncounted = λ l k. blank-text l (blanks-uncounted k);
       repeated-name = repeated-name;
       long-record = long-record;
+      begun = begun;
     }
+
+pub absent-places : Misplacements
+absent-places = record { equal-cells = λ n x a. refl }

@@ -186,7 +186,7 @@ count-cells (each-cons {x = r} {xs = rs} {y = l} {ys = ls} s k) =
     a ∙ ap₂ _+_ e q
 
 -- a report of 10
-ten : {A : Type 0} → refusal 10 ≡ accepted → A
+pub ten : {A : Type 0} → refusal 10 ≡ accepted → A
 ten e = let k : _≡_ {A = ℕ} 10 0 = ap (λ (z : Report). z .number) e in absurd (omega arith)
 
 -- an accepted file is reported so exactly where its cells have room

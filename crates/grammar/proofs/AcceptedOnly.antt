@@ -35,7 +35,7 @@ use Rattle.grammar.proofs.Accepting.{Some, some}
 data HasLine : List (Line Bytes) → Type 0 where
   has-line : {t : Bytes} {cs : List Bytes} {ls : List (Line Bytes)} → HasLine (line t cs ∷ ls)
 
-data HasCell : List (Line Bytes) → Type 0 where
+pub data HasCell : List (Line Bytes) → Type 0 where
   has-cell : {t c : Bytes} {cs : List Bytes} {ls : List (Line Bytes)} → HasCell (line t (c ∷ cs) ∷ ls)
 
 -- the end does not stand clean in a record
@@ -91,7 +91,7 @@ cell-ends : {A : Type 0} {d : Dialect} {f h : Form} {b : ℕ} → Moves d f b in
 cell-ends (completes c n r) = cell-left n
 
 module _ (d : Dialect) where
-  its-moves : (f : Form) (b : ℕ) (s : Step) → formStep d f b ≡ s → Moves d f b (stageOf d f) s
+  pub its-moves : (f : Form) (b : ℕ) (s : Step) → formStep d f b ≡ s → Moves d f b (stageOf d f) s
   its-moves f b s e = rw e at (step-moves d f b)
 
   reads-line : {f : Form} {xs : Bytes} {ls : List (Line Bytes)} → Reads d f xs ls → Recording (stageOf d f) → HasLine ls
@@ -107,7 +107,7 @@ module _ (d : Dialect) where
   reads-line (reading.ends e k) g = has-line
   reads-line (reading.ends-closing e k) g = has-line
 
-  reads-cell : {f : Form} {xs : Bytes} {ls : List (Line Bytes)} → Reads d f xs ls → stageOf d f ≡ in-cell → HasCell ls
+  pub reads-cell : {f : Form} {xs : Bytes} {ls : List (Line Bytes)} → Reads d f xs ls → stageOf d f ≡ in-cell → HasCell ls
   reads-cell (reading.ends-clean {f} e) g = not-clean (rw g cell-open) (rw e at (form-ends d f))
   reads-cell (reading.ends-final e) g = has-cell
   reads-cell (reading.outside {f} {b} e k) g = not-outside (rw g cell-open) (its-moves f b _ e)
@@ -126,13 +126,13 @@ some-last (x ∷ pre) l = some
 
 -- ---- a fault does not go on
 
-not-going : {A : Type 0} (d : Dialect) (e : Fault) (r : Read) (xs : Bytes) {end : Read} → readEnd d none (readFrom d none (stopped e r) xs) ≡ going end → A
+pub not-going : {A : Type 0} (d : Dialect) (e : Fault) (r : Read) (xs : Bytes) {end : Read} → readEnd d none (readFrom d none (stopped e r) xs) ≡ going end → A
 unfolding readEnd
 not-going d e r xs {end} q =
     let z : stopped e r ≡ going end = rw (read-stopped d none e r xs) at q in
     let o : _≡_ {A = ℕ} 0 1 = cc in absurd (omega arith)
 
-same-going : {r end : Read} → going r ≡ going end → r ≡ end
+pub same-going : {r end : Read} → going r ≡ going end → r ≡ end
 same-going e = cc
 
 pub stopped-going : {A : Type 0} {e : Fault} {r end : Read} → stopped e r ≡ going end → A

@@ -2,7 +2,7 @@
 use Prim.Native.Nat.{ℕ, suc, _+_, _≤_, _<_}
 use native.Mathlib.Omega.{arith}
 use mathlib.Core.Path.{_≡_, refl, sym, ap, _∙_}
-use mathlib.Core.Bool.{Bool, true, false, _&&_}
+use mathlib.Core.Bool.{true, false, and-false}
 use mathlib.Core.Option.{none}
 use mathlib.Core.List.{List, [], _∷_, _++_, append-assoc, append-nil}
 use lib.ListN.{length, length-append}
@@ -26,10 +26,6 @@ use Rattle.grammar.proofs.Standing.{moved-outside, moved-passed, moved-
 -- at least one line
 pub data Some : List (Line Derived) → Type 0 where
   some : {l : Line Derived} {ls : List (Line Derived)} → Some (l ∷ ls)
-
-and-false : (t : Bool) → (t && false) ≡ false
-and-false true = refl
-and-false false = refl
 
 checks-line : {d : Dialect} {pre ls : List (Line Derived)} {t : Bytes} {cs : List Derived} → ChecksFrom d pre (line t cs ∷ ls) → LineSound d pre cs × ChecksFrom d (pre ++ (line t cs ∷ [])) ls
 checks-line (checks-next l k) = (l, k)

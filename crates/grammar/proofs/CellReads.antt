@@ -3,7 +3,7 @@
 -- (`in-cell-byte`).
 use Prim.Native.Nat.{ℕ}
 use mathlib.Core.Path.{_≡_, refl, sym, _∙_}
-use mathlib.Core.Bool.{true, false}
+use mathlib.Core.Bool.{Bool, true, false}
 use mathlib.Core.List.{List, [], _∷_, _++_}
 use Rattle.grammar.specs.Types.{Dialect, Cell, Fresh, Added, More, Stop, Refuse, Syntax, Form, Inside, OfCell, To}
 use borrow.Author.Tests.{ne-eqb}
@@ -13,26 +13,30 @@ use Rattle.model.specs.Form.{afterCell, grow, inCell, formStep}
 use Rattle.model.proofs.Tests.{impossible}
 use Rattle.model.proofs.CellContent.{no-more}
 use Rattle.grammar.specs.Derived.{Line, line}
-use Rattle.grammar.specs.Reading.{Reads, of-cell}
+use Rattle.grammar.specs.Stretches.{Stretch, stretch, past}
 use Rattle.grammar.proofs.Spelling.{Spells, whole, byte}
 use Rattle.grammar.proofs.Separators.{Separates, Reached, reached-step, stops}
+use Rattle.grammar.proofs.Walks.{Walks, of-cell}
 use Rattle.grammar.proofs.Steps.{Takes, rejected, stop-whole}
 use Rattle.grammar.proofs.Steps as steps
 
 -- ---- a cell is read
 
--- after any whole cell these bytes are read, with the rest of the record's text and the cells after that one
-abbrev pub Follows : Dialect → Bytes → (text : Bytes) (cells : List Bytes) (ls : List (Line Bytes)) → Type 0
-Follows d ys text cells ls = (c : Cell) → Reached d c → isWhole d c ≡ true → Reads d (Inside c) ys (line text ([] ∷ cells) ∷ ls)
+-- after any whole cell, which ends at o, these bytes are read, with the rest of the record's text, the cells after that one and their
+-- stretches
+abbrev pub Follows : Dialect → (o : ℕ) → Bytes → (text : Bytes) (cells : List Bytes) (ls : List (Line Bytes)) (ps : List Stretch) (ss : List (List Stretch)) → Type 0
+Follows d o ys text cells ls ps ss =
+    (c : Cell) (p : ℕ) → Reached d c → isWhole d c ≡ true → Walks d (Inside c) o p ys (line text ([] ∷ cells) ∷ ls) ((stretch p o ∷ ps) ∷ ss)
 
-cell-step : (d : Dialect) (c e : Cell) (b : ℕ) → cellStep d c b ≡ More e → formStep d (Inside c) b ≡ To (Inside e) OfCell
+pub cell-step : (d : Dialect) (c e : Cell) (b : ℕ) → cellStep d c b ≡ More e → formStep d (Inside c) b ≡ To (Inside e) OfCell
 unfolding formStep inCell
 cell-step d c e b s = rw s
 
 pub cell-reads :
-    {d : Dialect} {c : Cell} {raw ys text : Bytes} {cells : List Bytes} {ls : List (Line Bytes)} → Spells d c raw → Reached d c →
-    Follows d ys text cells ls → Reads d (Inside c) (raw ++ ys) (line (raw ++ text) (raw ∷ cells) ∷ ls)
-cell-reads {c} (whole w) r k = k c r w
+    {d : Dialect} {c : Cell} {o p : ℕ} {raw ys text : Bytes} {cells : List Bytes} {ls : List (Line Bytes)} {ps : List Stretch} {ss : List (List Stretch)} →
+    Spells d c raw → Reached d c → Follows d (past raw o) ys text cells ls ps ss →
+    Walks d (Inside c) o p (raw ++ ys) (line (raw ++ text) (raw ∷ cells) ∷ ls) ((stretch p (past raw o) ∷ ps) ∷ ss)
+cell-reads {c} {p} (whole w) r k = k c p r w
 cell-reads {d} (byte {c} {e} {b} s m) r k = of-cell (cell-step d c e b s) (cell-reads m (reached-step d c e b r s) k)
 
 -- the byte after a whole cell
@@ -61,9 +65,10 @@ pub data CellThen (d : Dialect) (After : Bytes → Bytes → List Bytes → List
       {raw ys text : Bytes} {cells : List Bytes} {ls : List (Line Bytes)} → Spells d c raw → After ys text cells ls →
       CellThen d After c (raw ++ ys) (line (raw ++ text) (raw ∷ cells) ∷ ls)
 
--- these bytes follow a cell that ends before them
-pub data Closes (After : Bytes → Bytes → List Bytes → List (Line Bytes) → Type 0) (ys : Bytes) : List (Line Bytes) → Type 0 where
-  closes : {text : Bytes} {cells : List Bytes} {ls : List (Line Bytes)} → After ys text cells ls → Closes After ys (line text ([] ∷ cells) ∷ ls)
+-- what After says of these bytes, where the cell ends before them or has ended
+pub data AfterByte (After : Bytes → Bytes → List Bytes → List (Line Bytes) → Type 0) (ys : Bytes) : (ends-here : Bool) → List (Line Bytes) → Type 0 where
+  ended-before : {text : Bytes} {cells : List Bytes} {ls : List (Line Bytes)} → After ys text cells ls → AfterByte After ys false (line text cells ∷ ls)
+  ends-now : {text : Bytes} {cells : List Bytes} {ls : List (Line Bytes)} → After ys text cells ls → AfterByte After ys true (line text ([] ∷ cells) ∷ ls)
 
 module _ {d : Dialect} {After : Bytes → Bytes → List Bytes → List (Line Bytes) → Type 0} where
   pub more-cell :
@@ -71,14 +76,14 @@ module _ {d : Dialect} {After : Bytes → Bytes → List Bytes → List (Line By
       CellThen d After e bs (line text (raw ∷ cells) ∷ ls) → CellThen d After c (b ∷ bs) (line (b ∷ text) ((b ∷ raw) ∷ cells) ∷ ls)
   more-cell s (cell-then m a) = cell-then (byte s m) a
 
-  close-cell : {c : Cell} {ys : Bytes} {ls : List (Line Bytes)} → isWhole d c ≡ true → Closes After ys ls → CellThen d After c ys ls
-  close-cell w (closes a) = cell-then (whole w) a
+  close-cell : {c : Cell} {ys : Bytes} {ls : List (Line Bytes)} → isWhole d c ≡ true → AfterByte After ys true ls → CellThen d After c ys ls
+  close-cell w (ends-now a) = cell-then (whole w) a
 
   -- a byte of the cell's file, where K says of each later state what the later bytes are
   pub in-cell-byte :
       (K : Form → List (Line Bytes) → Type 0) (c : Cell) (b : ℕ) (bs : Bytes) (ls : List (Line Bytes)) →
       ((e : Cell) (ls : List (Line Bytes)) → K (Inside e) ls → CellThen d After e bs ls) →
-      ((ls : List (Line Bytes)) → Takes K b (afterCell d true b) ls → Closes After (b ∷ bs) ls) →
+      ((ls : List (Line Bytes)) → Takes K b (afterCell d true b) ls → AfterByte After (b ∷ bs) true ls) →
       Takes K b (inCell d c b) ls → CellThen d After c (b ∷ bs) ls
   unfolding inCell
   in-cell-byte K c b bs ls inside after t = go (cellStep d c b) refl t

@@ -5,21 +5,16 @@ use native.Mathlib.Omega.{arith}
 use mathlib.Core.Path.{_≡_, refl, sym}
 use mathlib.Core.Bool.{Bool, true, false}
 use mathlib.Core.List.{List, [], _∷_}
-use Rattle.grammar.specs.Types.{Lead, C2ToDf, E0, E1ToEc, Ed, EeToEf, F0, F1ToF3, F4, Inner, Second, LastTwo, Last, Char, Whole, Within, Advance, On, Broken}
+use Rattle.grammar.specs.Types.{Lead, C2ToDf, E0, E1ToEc, Ed, EeToEf, F0, F1ToF3, F4, Inner, Second, LastTwo, Last, Char, Whole, Within, On}
 use Rattle.model.specs.Base.{Bytes, within, if_then_else_}
 use Rattle.model.specs.Utf8.{rowOf, leads, leadByte, afterSecond, innerStep, charStep}
+use Rattle.model.proofs.Utf8.{broken-on, same-on}
 use Rattle.model.proofs.Tests.{split-on, within-true}
 use Rattle.grammar.specs.Rfc5234.{_from_to_}
 use Rattle.grammar.specs.Rfc3629.{UTF8-tail, tail, c2-df, UTF8-3, e0, e1-ec, ed, ee-ef, UTF8-4, f0, f1-f3, f4, UTF8-data, of-two, of-three, of-four}
 use Rattle.grammar.proofs.Ranges.{range, within-range, range-within, above-within}
 
 -- ---- what a step of a character says
-
-pub no-step : {A : Type 0} {c : Char} → Broken ≡ On c → A
-no-step e = let z : _≡_ {A = ℕ} 0 1 = cc in absurd (omega arith)
-
-pub same-step : {x y : Char} {o : Advance} → o ≡ On x → o ≡ On y → x ≡ y
-same-step p q = cc
 
 -- bytes that finish a character
 pub data Finishes : Char → Bytes → Type 0 where
@@ -104,8 +99,8 @@ finish-one : {bs : Bytes} → Finishes (Within Last) bs → Tail bs
 unfolding charStep innerStep if_then_else_
 finish-one (finishing {c} {b} {bs} e k) =
     split-on (within 0x80 0xBF b)
-    (λ p. let w : Whole ≡ c = same-step refl (rw p at e) in rw (finish-none (rw (← w) at k)) (a-tail (tail (within-range 0x80 0xBF b p)))) λ p.
-    no-step (rw p at e)
+    (λ p. let w : Whole ≡ c = same-on refl (rw p at e) in rw (finish-none (rw (← w) at k)) (a-tail (tail (within-range 0x80 0xBF b p)))) λ p.
+    broken-on (rw p at e)
 
 tail-after : {b : ℕ} {bs : Bytes} → UTF8-tail b → Tail bs → TwoTails (b ∷ bs)
 tail-after r (a-tail s) = tails r s
@@ -114,15 +109,15 @@ finish-two : {bs : Bytes} → Finishes (Within LastTwo) bs → TwoTails bs
 unfolding charStep innerStep if_then_else_
 finish-two (finishing {c} {b} {bs} e k) =
     split-on (within 0x80 0xBF b)
-    (λ p. let w : Within Last ≡ c = same-step refl (rw p at e) in tail-after (tail (within-range 0x80 0xBF b p)) (finish-one (rw (← w) at k))) λ p.
-    no-step (rw p at e)
+    (λ p. let w : Within Last ≡ c = same-on refl (rw p at e) in tail-after (tail (within-range 0x80 0xBF b p)) (finish-one (rw (← w) at k))) λ p.
+    broken-on (rw p at e)
 
 finish-row : (l : Lead) {bs : Bytes} → Finishes (Within (Second l)) bs → RowRest l bs
 unfolding charStep innerStep if_then_else_
 finish-row l (finishing {c} {b} {bs} e k) =
     split-on (within (rowOf l .lo2) (rowOf l .hi2) b)
-    (λ p. let w : afterSecond (rowOf l .size) ≡ c = same-step refl (rw p at e) in row-rest (within-range (rowOf l .lo2) (rowOf l .hi2) b p) (rw (← w) at k)) λ p.
-    no-step (rw p at e)
+    (λ p. let w : afterSecond (rowOf l .size) ≡ c = same-on refl (rw p at e) in row-rest (within-range (rowOf l .lo2) (rowOf l .hi2) b p) (rw (← w) at k)) λ p.
+    broken-on (rw p at e)
 
 equals : {b n : ℕ} → b from n to n → b ≡ n
 equals r = let h = r .low in let k = r .high in omega arith
@@ -151,17 +146,17 @@ data FirstOf (b : ℕ) (c : Char) : Type 0 where
 
 among-rows : (ls : List Lead) (b : ℕ) (c : Char) → leadByte ls b ≡ On c → FirstOf b c
 unfolding leadByte if_then_else_
-among-rows [] b c e = no-step e
+among-rows [] b c e = broken-on e
 among-rows (l ∷ ls) b c e = go (within (rowOf l .lo) (rowOf l .hi) b) refl (among-rows ls b c)
   where
     go : (t : Bool) → within (rowOf l .lo) (rowOf l .hi) b ≡ t → (leadByte ls b ≡ On c → FirstOf b c) → FirstOf b c
-    go true p ih = of-row l (within-range (rowOf l .lo) (rowOf l .hi) b p) (same-step refl (rw p at e))
+    go true p ih = of-row l (within-range (rowOf l .lo) (rowOf l .hi) b p) (same-on refl (rw p at e))
     go false p ih = ih (rw p at e)
 
 first-of : (b : ℕ) (c : Char) → charStep Whole b ≡ On c → FirstOf b c
 unfolding charStep if_then_else_
 first-of b c e =
-    split-on (within 0x00 0x7F b) (λ p. of-ascii (within-true 0x00 0x7F b p .1) (same-step refl (rw p at e))) λ p.
+    split-on (within 0x00 0x7F b) (λ p. of-ascii (within-true 0x00 0x7F b p .1) (same-on refl (rw p at e))) λ p.
     among-rows leads b c (rw p at e)
 
 within-whole : {A : Type 0} {i : Inner} → Within i ≡ Whole → A

@@ -11,11 +11,11 @@ use Rattle.grammar.specs.Types.{Dialect, Inner, Char, Whole, Within, On,
 use Rattle.model.specs.Base.{Bytes, _is_, if_then_else_}
 use Rattle.model.specs.Dialect.{quoteOf}
 use Rattle.model.specs.Utf8.{charStep}
-use Rattle.model.specs.Cell.{textByte, quotedByte, cellStep, isWhole}
+use Rattle.model.specs.Cell.{textByte, cellStep, isWhole}
 use Rattle.model.specs.Decode.{undouble}
 use Rattle.model.proofs.Tests.{impossible, is→eq, same-byte}
 use Rattle.model.proofs.Utf8.{ascii-whole, quote-ascii, inner-high}
-use Rattle.model.proofs.CellContent.{no-stop, same-more, char-on, Doubles, d-tdif, d-plus}
+use Rattle.model.proofs.CellContent.{no-stop, same-more, char-on, Doubles, quoted-is}
 use Rattle.grammar.proofs.Chars.{Finishes, finished, finishing, Long, long, whole-ascii, first-high}
 use Rattle.grammar.proofs.Spelling.{Spells, whole, byte, TextState, long-spells}
 
@@ -25,11 +25,6 @@ pub data Doubled (q : ℕ) : (raw content : Bytes) → Type 0 where
   ascii-char : {b : ℕ} {bs ts : Bytes} → b ≤ 0x7F → b ≢ q → Doubled q bs ts → Doubled q (b ∷ bs) (b ∷ ts)
   long-char : {cs bs ts : Bytes} → Long cs → Doubled q bs ts → Doubled q (cs ++ bs) (cs ++ ts)
   two-quotes : {bs ts : Bytes} → Doubled q bs ts → Doubled q (q ∷ q ∷ bs) (q ∷ ts)
-
-quoted-is : {d : Dialect} → Doubles d → (b : ℕ) → cellStep d (Quoted Whole) b ≡ (if b is quoteOf d then More Closed else textByte Quoted (charStep Whole b))
-unfolding cellStep quotedByte
-quoted-is d-tdif b = refl
-quoted-is d-plus b = refl
 
 pub quoted-state : (d : Dialect) → TextState d Quoted
 unfolding cellStep isWhole

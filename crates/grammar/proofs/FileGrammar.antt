@@ -8,11 +8,13 @@ use Rattle.model.specs.Base.{Bytes}
 use Rattle.grammar.specs.Derived.{Derived, rawOf, Line, line, spelling, Every, every-none, every-cons}
 use Rattle.grammar.specs.Derives.{DerivesCell, Derives}
 use Rattle.grammar.specs.Reading.{Reads, decoded, decodedLine, ReadByForm, read-by-form}
+use Rattle.grammar.specs.Stretches.{stretches}
 use Rattle.grammar.specs.Csvj as csvj
 use Rattle.grammar.specs.Tdif as tdif
 use Rattle.grammar.specs.CsvPlus as plus
 use Rattle.grammar.proofs.CellGrammar.{derived-content}
 use Rattle.grammar.proofs.Steps.{reads-once}
+use Rattle.grammar.proofs.Walks.{Walks, reads}
 use Rattle.grammar.proofs.CsvjFiles as csvj-files
 use Rattle.grammar.proofs.TdifFiles as tdif-files
 use Rattle.grammar.proofs.PlusFiles as plus-files
@@ -101,10 +103,14 @@ lines-decoded d (every-cons {x = l} {xs = ls} v k) = rw (line-decoded v, lines-d
 
 -- ---- the theorem
 
+-- what is derived is read, and each cell stands where the derivation has it
+pub derived-walks : (d : Dialect) (xs : Bytes) (ls : List (Line Derived)) (k : Derives d xs ls) → Walks d Top 0 0 xs (map spelling ls) (stretches d xs ls k)
+derived-walks Csvj xs ls k = csvj-files.file-reads k
+derived-walks Tdif xs ls k = tdif-files.file-reads k
+derived-walks (CsvPlus s) xs ls k = plus-files.file-reads s k
+
 pub derived-reads : (d : Dialect) (xs : Bytes) (ls : List (Line Derived)) → Derives d xs ls → Reads d Top xs (map spelling ls)
-derived-reads Csvj xs ls k = csvj-files.file-reads k
-derived-reads Tdif xs ls k = tdif-files.file-reads k
-derived-reads (CsvPlus s) xs ls k = plus-files.file-reads s k
+derived-reads d xs ls k = reads (derived-walks d xs ls k)
 
 pub reads-derived : (d : Dialect) {xs : Bytes} {l : Line Bytes} {ls : List (Line Bytes)} → Reads d Top xs (l ∷ ls) → Derives d xs (map (decodedLine d) (l ∷ ls))
 reads-derived Csvj r = csvj-files.reads-file r

@@ -13,8 +13,10 @@ pub mod CsvjCells
 pub mod CellGrammar
 pub mod Steps
 pub mod Separators
+pub mod Walks
 pub mod CellReads
 pub mod Delimited
+pub mod Coming
 pub mod TdifFiles
 pub mod PlusFiles
 pub mod CsvjFiles
@@ -25,5 +27,7 @@ pub mod Standing
 pub mod Accepting
 pub mod AcceptedOnly
 pub mod Acceptance
+pub mod Placed
+pub mod GoingOn
 pub mod Refused
 pub mod Theorems

@@ -91,6 +91,15 @@ pub data Recording : Stage → Type 0 where
   record-open : Recording in-record
   cell-open : Recording in-cell
 
+-- a record has ended, and nothing after it has come
+pub data RecordEnded : Form → Type 0 where
+  then-begin : RecordEnded Begin
+  then-ended : RecordEnded Ended
+
+pub ended-rests : (d : Dialect) {f : Form} → RecordEnded f → stageOf d f ≡ at-rest
+ended-rests d then-begin = refl
+ended-rests d then-ended = refl
+
 -- in no cell
 pub data NoCell : Stage → Type 0 where
   none-at-rest : NoCell at-rest
@@ -107,8 +116,8 @@ pub data Moves (d : Dialect) (f : Form) (b : ℕ) : Stage → Step → Type 0 wh
   parts-closing : {g : Stage} {h : Form} → counts f b ≡ true → Recording (stageOf d h) → Moves d f b g (To h (Between true))
   turns : {g : Stage} {h : Form} → counts f b ≡ false → NoCell g → Recording (stageOf d h) → Moves d f b g (To h (Tail false))
   turns-closing : {g : Stage} {h : Form} → counts f b ≡ false → Recording (stageOf d h) → Moves d f b g (To h (Tail true))
-  completes : {g : Stage} {h : Form} → counts f b ≡ false → NoCell g → stageOf d h ≡ at-rest → Moves d f b g (To h (Ends false))
-  completes-closing : {g : Stage} {h : Form} → counts f b ≡ false → stageOf d h ≡ at-rest → Moves d f b g (To h (Ends true))
+  completes : {g : Stage} {h : Form} → counts f b ≡ false → NoCell g → RecordEnded h → Moves d f b g (To h (Ends false))
+  completes-closing : {g : Stage} {h : Form} → counts f b ≡ false → RecordEnded h → Moves d f b g (To h (Ends true))
 
 -- a cell closes before the byte, or none is in hand
 abbrev MayLeave : Stage → Bool → Type 0
@@ -124,7 +133,7 @@ module _ (d : Dialect) (f : Form) (b : ℕ) (g : Stage) where
   turns-with true m c r = turns-closing c r
   turns-with false m c r = turns c m r
 
-  completes-with : {h : Form} (k : Bool) → MayLeave g k → counts f b ≡ false → stageOf d h ≡ at-rest → Moves d f b g (To h (Ends k))
+  completes-with : {h : Form} (k : Bool) → MayLeave g k → counts f b ≡ false → RecordEnded h → Moves d f b g (To h (Ends k))
   completes-with true m c r = completes-closing c r
   completes-with false m c r = completes c m r
 
@@ -141,17 +150,17 @@ module _ (f : Form) (b : ℕ) (g : Stage) (q : quotesOpen f ≡ false) where
       let P : Step → Type 0 = Moves Csvj f b g in
       split P (isBlank b) (λ p. parts-with Csvj f b g {h = After} k m (blank-counted f b p) record-open) λ _.
       split P (b is COMMA) (λ p. parts-with Csvj f b g {h = Wanting} k m (delimiter-counted Csvj f b p) record-open) λ _.
-      split P (b is LF) (λ p. completes-with Csvj f b g {h = Begin} k m (lf-is-uncounted f b q p) refl) λ _.
+      split P (b is LF) (λ p. completes-with Csvj f b g k m (lf-is-uncounted f b q p) then-begin) λ _.
       split P (b is CR) (λ p. turns-with Csvj f b g {h = Cr} k m (cr-is-uncounted f b q p) record-open) λ _. rejects
   after-moves Tdif k m =
       let P : Step → Type 0 = Moves Tdif f b g in
       split P (b is COMMA) (λ p. parts-with Tdif f b g {h = Inside Fresh} k m (delimiter-counted Tdif f b p) cell-open) λ _.
-      split P (b is LF) (λ p. completes-with Tdif f b g {h = Begin} k m (lf-is-uncounted f b q p) refl) λ _.
-      split P (b is CR) (λ p. completes-with Tdif f b g {h = Ended} k m (cr-is-uncounted f b q p) refl) λ _. rejects
+      split P (b is LF) (λ p. completes-with Tdif f b g k m (lf-is-uncounted f b q p) then-begin) λ _.
+      split P (b is CR) (λ p. completes-with Tdif f b g k m (cr-is-uncounted f b q p) then-ended) λ _. rejects
   after-moves (CsvPlus s) k m =
       let P : Step → Type 0 = Moves (CsvPlus s) f b g in
       split P (b is delimiterOf (CsvPlus s)) (λ p. parts-with (CsvPlus s) f b g {h = Inside Fresh} k m (delimiter-counted (CsvPlus s) f b p) cell-open) λ _.
-      split P (b is LF) (λ p. completes-with (CsvPlus s) f b g {h = Begin} k m (lf-is-uncounted f b q p) refl) λ _.
+      split P (b is LF) (λ p. completes-with (CsvPlus s) f b g k m (lf-is-uncounted f b q p) then-begin) λ _.
       split P (b is CR) (λ p. turns-with (CsvPlus s) f b g {h = Cr} k m (cr-is-uncounted f b q p) record-open) λ _. rejects
 
 in-cell-moves : (d : Dialect) (f : Form) (c : Cell) (b : ℕ) (g : Stage) → quotesOpen f ≡ inQuotes c → Moves d f b g (inCell d c b)
@@ -186,7 +195,7 @@ module _ (f : Form) (b : ℕ) (q : quotesOpen f ≡ false) where
   begin-moves Csvj g i =
       let P : Step → Type 0 = Moves Csvj f b g in
       split P (isBlank b) (λ p. parts (blank-counted f b p) (starts-no-cell i) record-open) λ _.
-      split P (b is LF) (λ p. completes (lf-is-uncounted f b q p) (starts-no-cell i) refl) λ _.
+      split P (b is LF) (λ p. completes (lf-is-uncounted f b q p) (starts-no-cell i) then-begin) λ _.
       split P (b is CR) (λ p. turns (cr-is-uncounted f b q p) (starts-no-cell i) record-open) λ _. fresh-moves Csvj g
   begin-moves Tdif g i = split (Moves Tdif f b g) (b is 0x23) (λ _. comment-moves i) λ _. fresh-moves Tdif g
   begin-moves (CsvPlus s) g i = fresh-moves (CsvPlus s) g
@@ -233,4 +242,4 @@ step-moves d Wanting b =
     fresh-moves Wanting b refl d in-record
 step-moves d (Inside c) b = in-cell-moves d (Inside c) c b in-cell refl
 step-moves d After b = after-moves After b in-record refl d false none-in-record
-step-moves d Cr b = split (Moves d Cr b in-record) (b is LF) (λ p. completes (lf-is-uncounted Cr b refl p) none-in-record refl) λ _. rejects
+step-moves d Cr b = split (Moves d Cr b in-record) (b is LF) (λ p. completes (lf-is-uncounted Cr b refl p) none-in-record then-begin) λ _. rejects

@@ -1,11 +1,12 @@
 -- The fields of RFC 4180 with the settings of CSV+ are exactly the cells that its automaton reads, with the decoder's kind and content.
-use Prim.Native.Nat.{ℕ, _≤_}
+use Prim.Native.Nat.{ℕ, _≤_, _<_}
 use native.Mathlib.Omega.{arith}
 use mathlib.Core.Path.{_≡_, refl, sym, ap, _∙_}
-use mathlib.Core.Logic.{_≢_}
+use mathlib.Core.Logic.{_≢_, _↔_}
 use mathlib.Core.Bool.{Bool, true, false, _||_}
 use mathlib.Core.List.{[], _∷_, _++_}
-use borrow.Author.Tests.{ne-eqb, eqb-false}
+use lib.Dec.{leb}
+use borrow.Author.Tests.{ne-eqb, eqb-false, leb-true, leb-false}
 use Rattle.grammar.specs.Types.{Text, Delimiter, Comma, Semicolon, Tab, Bar, Quote, Double, Single, Settings, CsvPlus, Char, Whole, Within, On, Cell, Fresh, Quoted, Plain, More}
 use Rattle.model.specs.Base.{Bytes, _is_, if_then_else_}
 use Rattle.model.specs.Dialect.{standard, delimiterByte, quoteByte}
@@ -15,7 +16,8 @@ use Rattle.model.specs.Decode.{kindOf, undouble, contentOf}
 use Rattle.model.proofs.Tests.{split-on, impossible, is→eq, same-byte}
 use Rattle.model.proofs.Utf8.{ascii-whole, quote-ascii, delimiter-ascii}
 use Rattle.model.proofs.CellContent.{no-more, no-stop, same-more, char-on, d-plus}
-use Rattle.grammar.specs.Rfc5234.{LF, CR}
+use Rattle.grammar.specs.Rfc5234.{_from_to_, LF, CR}
+use Rattle.grammar.specs.Rfc3629.{of-two, of-three, of-four}
 use Rattle.grammar.specs.Derived.{Derived, cell, rawOf}
 use Rattle.grammar.specs.Reading.{decoded}
 use Rattle.grammar.specs.CsvPlus.{Field, an-escaped, a-non-escaped, escaped, Inner, nothing, inner-textdata, inner-comma, inner-cr, inner-lf, Non-escaped, no-textdata, textdata, comma, dquote, TEXTDATA, ascii, utf8-data}
@@ -210,18 +212,30 @@ module _ (s : Settings) where
   spells-field (whole w) = derived-from (a-non-escaped no-textdata)
   spells-field (byte {b} {bs} k m) = first-field b bs k m
 
--- ---- what RFC 4180 calls TEXTDATA is TEXTDATA of dialect 3
+-- ---- what RFC 4180 calls TEXTDATA is the TEXTDATA of dialect 3 among the bytes 20 to 7E
 
-pub narrow-textdata : {cs : Bytes} → NarrowTEXTDATA cs → TEXTDATA standard cs
-narrow-textdata (below-quote {b} r) =
-    let h : 0x20 ≤ b = r .low in
-    let k : b ≤ 0x21 = r .high in
-    ascii {b = b} (range (omega arith) (omega arith)) (λ e. omega arith) (λ e. omega arith) (λ e. omega arith) (λ e. omega arith)
-narrow-textdata (below-comma {b} r) =
-    let h : 0x23 ≤ b = r .low in
-    let k : b ≤ 0x2B = r .high in
-    ascii {b = b} (range (omega arith) (omega arith)) (λ e. omega arith) (λ e. omega arith) (λ e. omega arith) (λ e. omega arith)
-narrow-textdata (above-comma {b} r) =
-    let h : 0x2D ≤ b = r .low in
-    let k : b ≤ 0x7E = r .high in
-    ascii {b = b} (range (omega arith) (omega arith)) (λ e. omega arith) (λ e. omega arith) (λ e. omega arith) (λ e. omega arith)
+printed-byte : {b : ℕ} → 0x20 ≤ b → b ≤ 0x7E → b ≢ 0x22 → b ≢ 0x2C → TEXTDATA standard (b ∷ []) × (b from 0x20 to 0x7E)
+printed-byte {b} h k q c = (ascii {b = b} (range (omega arith) (omega arith)) q c (λ e. omega arith) (λ e. omega arith), range h k)
+
+pub textdata-exact : (b : ℕ) → NarrowTEXTDATA (b ∷ []) ↔ (TEXTDATA standard (b ∷ []) × (b from 0x20 to 0x7E))
+textdata-exact b = (wide, λ t. narrow (t .0) (t .1))
+  where
+    wide : {b : ℕ} → NarrowTEXTDATA (b ∷ []) → TEXTDATA standard (b ∷ []) × (b from 0x20 to 0x7E)
+    wide {b} (below-quote r) = let h : 0x20 ≤ b = r .low in let k : b ≤ 0x21 = r .high in printed-byte h (omega arith) (λ e. omega arith) (λ e. omega arith)
+    wide {b} (below-comma r) =
+        let h : 0x23 ≤ b = r .low in let k : b ≤ 0x2B = r .high in printed-byte (omega arith) (omega arith) (λ e. omega arith) (λ e. omega arith)
+    wide {b} (above-comma r) = let h : 0x2D ≤ b = r .low in printed-byte (omega arith) (r .high) (λ e. omega arith) (λ e. omega arith)
+
+    in-range : {b : ℕ} → b from 0x20 to 0x7E → b ≢ 0x22 → b ≢ 0x2C → NarrowTEXTDATA (b ∷ [])
+    in-range {b} w q c =
+        let l : 0x20 ≤ b = w .low in
+        split-on (leb b 0x21) (λ p. below-quote (range l (leb-true b 0x21 p))) λ p.
+        let i : 0x21 < b = leb-false b 0x21 p in
+        split-on (leb b 0x2B) (λ r. below-comma (range (omega arith) (leb-true b 0x2B r))) λ r.
+        let j : 0x2B < b = leb-false b 0x2B r in above-comma (range (omega arith) (w .high))
+
+    narrow : {b : ℕ} → TEXTDATA standard (b ∷ []) → b from 0x20 to 0x7E → NarrowTEXTDATA (b ∷ [])
+    narrow (ascii r q c x y) w = in-range w q c
+    narrow (utf8-data (of-two u)) w = elim u [ ]
+    narrow (utf8-data (of-three u)) w = elim u [ ]
+    narrow (utf8-data (of-four u)) w = elim u [ ]

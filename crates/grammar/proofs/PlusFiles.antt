@@ -1,51 +1,40 @@
 -- The grammar of CSV+ derives exactly the files that its automaton reads by form, for every delimiter and quote. At offset 0 the
 -- automaton shadows a plain cell that begins like the mark; it refuses only where the mark is complete (`top-reads`).
-use Prim.Native.Nat.{ℕ}
-use mathlib.Core.Path.{_≡_, refl, _∙_}
+use Prim.Native.Nat.{ℕ, suc}
+use mathlib.Core.Path.{_≡_, refl, ap, _∙_}
 use mathlib.Core.Bool.{Bool, true, false}
 use mathlib.Core.List.{List, [], _∷_, _++_, map, append-nil}
 use borrow.Author.Tests.{eqb-false}
-use Rattle.grammar.specs.Types.{Delimiter, Comma, Semicolon, Tab, Bar, Settings, CsvPlus, EeToEf, Second, Last, Within, Cell, Fresh, Plain, More}
-use Rattle.grammar.specs.Types.{Form, Top, Begin, Ended, Mark1, Mark2, PlainMark1, PlainMark2, Blanks, Wanting, Inside, Cr, OfCell, Between, Tail, Ends, Step, To, Clean, Final}
-use Rattle.grammar.specs.Types as types
+use Rattle.grammar.specs.Types.{Delimiter, Comma, Semicolon, Tab, Bar, Settings, CsvPlus, Cell, Fresh}
+use Rattle.grammar.specs.Types.{Form, Top, Begin, PlainMark1, PlainMark2, Inside, Cr, OfCell, Tail, Ends, Step, To, Final}
 use Rattle.model.specs.Base.{Bytes, _is_, if_then_else_}
 use Rattle.model.specs.Dialect.{delimiterByte}
-use Rattle.model.specs.Cell.{cellStep, isWhole}
-use Rattle.model.specs.Form.{afterCell, inCell, beginRecord, beginFile, formStep, formEnd}
+use Rattle.model.specs.Cell.{isWhole}
+use Rattle.model.specs.Form.{afterCell, beginRecord, beginFile, formStep, lastCell, formEnd}
 use Rattle.model.proofs.Tests.{split, is→eq}
 use Rattle.model.proofs.CellRuns.{mark-cell, mark-rest}
 use Rattle.model.proofs.CellContent.{d-plus}
 use Rattle.grammar.specs.Rfc5234.{LF, CR}
 use Rattle.grammar.specs.Derived.{Derived, rawOf, Line, line, spelling}
-use Rattle.grammar.specs.Reading.{Reads, ends-clean, ends-final, of-cell, tail-closing, ends, ends-closing, decoded, decodedLine}
+use Rattle.grammar.specs.Reading.{Reads, decoded, decodedLine}
+use Rattle.grammar.specs.Stretches.{Stretch, past, cellAt, plusHeader, plusRecord, plusRecords, plusTable, plusFile}
 use Rattle.grammar.specs.CsvPlus.{BeginsWithMark, mark, File, file, Table, header-unended, header-alone, header-then, Records, unended, last, next, Header, a-name, names, Record, field, fields, name, comma, CRLF, lf, crlf}
 use Rattle.grammar.proofs.PlusCells.{COMMA}
 use Rattle.grammar.proofs.Spelling.{whole}
 use Rattle.grammar.proofs.CellGrammar.{derived-spells, spells-derived}
 use Rattle.grammar.proofs.Separators.{by-cr, by-lf}
-use Rattle.grammar.proofs.Steps.{Takes, rejected, at-end, first-byte, by-bytes, cut-off, from-state}
+use Rattle.grammar.proofs.Steps.{Takes, rejected, at-end, cut-off}
 use Rattle.grammar.proofs.Steps as steps
-use Rattle.grammar.proofs.CellReads.{Follows, after-whole, CellThen, cell-then, Closes, closes, more-cell, in-cell-byte}
-use Rattle.grammar.proofs.Delimited.{Cells, one-cell, more-cells, cells-read, RecordThen, record-then, After, at-tail, at-delimiter, record-of}
+use Rattle.grammar.proofs.Walks.{Walks, ends-clean, ends-final, tail-closing, ends, ends-closing, reads, from-state, with-cell-byte}
+use Rattle.grammar.proofs.CellReads.{Follows, cell-step, after-whole, CellThen, cell-then, AfterByte, ended-before, ends-now, more-cell}
+use Rattle.grammar.proofs.Delimited.{Cells, one-cell, more-cells, cellsAt, cells-read, RecordThen, record-then, After, at-tail, record-of, delimiter-taken}
+use Rattle.grammar.proofs.Coming.{Grammar, AfterCr, then-lf, CompletesMark, then-bb, EndsMark, then-bf, afterEf, afterBb, Then, cell-byte, Facts, reads-coming}
 
 data NonEmpty : Bytes → Type 0 where
   some : {b : ℕ} {bs : Bytes} → NonEmpty (b ∷ bs)
 
--- the mark without its first byte, and without its second
-data MarkRest : Bytes → Type 0 where
-  mark-bb : {xs : Bytes} → MarkRest (0xBB ∷ 0xBF ∷ xs)
-
-data MarkLast : Bytes → Type 0 where
-  mark-bf : {xs : Bytes} → MarkLast (0xBF ∷ xs)
-
-begin-mark : {b : ℕ} {bs : Bytes} → BeginsWithMark (b ∷ bs) → (b ≡ 0xEF) × MarkRest bs
-begin-mark mark = (refl, mark-bb)
-
-rest-mark : {b : ℕ} {bs : Bytes} → MarkRest (b ∷ bs) → (b ≡ 0xBB) × MarkLast bs
-rest-mark mark-bb = (refl, mark-bf)
-
-last-mark : {b : ℕ} {bs : Bytes} → MarkLast (b ∷ bs) → b ≡ 0xBF
-last-mark mark-bf = refl
+begin-mark : {b : ℕ} {bs : Bytes} → BeginsWithMark (b ∷ bs) → (b ≡ 0xEF) × CompletesMark bs
+begin-mark mark = (refl, then-bb)
 
 -- LF and CR are no delimiters
 separate : (s : Settings) → ((LF is COMMA s) ≡ false) × ((CR is COMMA s) ≡ false)
@@ -63,6 +52,11 @@ module _ (s : Settings) where
   record-cells : {text : Bytes} {cells : List Derived} → Record s text cells → Cells (CsvPlus s) text (map rawOf cells)
   record-cells (field v) = one-cell (derived-spells (CsvPlus s) _ v)
   record-cells (fields v comma f) = more-cells (derived-spells (CsvPlus s) _ v) (record-cells f)
+
+  record-placed : (o : ℕ) {text : Bytes} {cells : List Derived} (r : Record s text cells) → cellsAt o (record-cells r) ≡ plusRecord s o r
+  unfolding record-cells
+  record-placed o (field v) = refl
+  record-placed o (fields {raw} v comma f) = ap (λ ps. cellAt o raw ∷ ps) (record-placed (suc (past raw o)) f)
 
   cells-record : {text : Bytes} {cells : List Bytes} → Cells (CsvPlus s) text cells → Record s text (map (decoded (CsvPlus s)) cells)
   cells-record (one-cell {raw} m) = field (spells-derived (CsvPlus s) raw m)
@@ -83,6 +77,17 @@ module _ (s : Settings) where
   table-records (header-alone h e) = last (header-record h) e
   table-records (header-then h e k) = next (header-record h) e k
 
+  header-placed : (o : ℕ) {text : Bytes} {cells : List Derived} (h : Header s text cells) → plusRecord s o (header-record h) ≡ plusHeader s o h
+  unfolding header-record
+  header-placed o (a-name (name v)) = refl
+  header-placed o (names {raw} (name v) c h) = ap (λ ps. cellAt o raw ∷ ps) (header-placed (suc (past raw o)) h)
+
+  table-placed : (o : ℕ) {xs : Bytes} {ls : List (Line Derived)} (t : Table s xs ls) → plusRecords s o (table-records t) ≡ plusTable s o t
+  unfolding table-records
+  table-placed o (header-unended h) = rw (header-placed o h)
+  table-placed o (header-alone h e) = rw (header-placed o h)
+  table-placed o (header-then h e k) = rw (header-placed o h)
+
   records-table : {xs : Bytes} {ls : List (Line Derived)} → Records s xs ls → Table s xs ls
   records-table (unended r) = header-unended (record-header r)
   records-table (last r e) = header-alone (record-header r) e
@@ -98,16 +103,17 @@ module _ (s : Settings) where
   unfolding afterCell if_then_else_
   after-cr = rw (separate s .1)
 
-  ending-follows : {es zs : Bytes} {ls : List (Line Bytes)} → CRLF s es → Reads (CsvPlus s) Begin zs ls → Follows (CsvPlus s) (es ++ zs) [] [] ls
+  ending-follows :
+      {o : ℕ} {es zs : Bytes} {ls : List (Line Bytes)} {ss : List (List Stretch)} → CRLF s es → Walks (CsvPlus s) Begin (past es o) (past es o) zs ls ss → Follows (CsvPlus s) o (es ++ zs) [] [] ls [] ss
   unfolding formStep if_then_else_
-  ending-follows lf k c r w = ends-closing (after-whole (CsvPlus s) c LF r w by-lf ∙ after-lf) k
-  ending-follows crlf k c r w = tail-closing (after-whole (CsvPlus s) c CR r w by-cr ∙ after-cr) (ends refl k)
+  ending-follows lf k c p r w = ends-closing (after-whole (CsvPlus s) c LF r w by-lf ∙ after-lf) k
+  ending-follows crlf k c p r w = tail-closing (after-whole (CsvPlus s) c CR r w by-cr ∙ after-cr) (ends refl k)
 
-  end-follows : Follows (CsvPlus s) [] [] [] []
+  end-follows : (o : ℕ) → Follows (CsvPlus s) o [] [] [] [] [] []
   unfolding formEnd if_then_else_
-  end-follows c r w = ends-final {f = Inside c} (rw w)
+  end-follows o c p r w = ends-final {f = Inside c} (rw w)
 
-  begin-reads : {xs : Bytes} {ls : List (Line Bytes)} → NonEmpty xs → Reads (CsvPlus s) (Inside Fresh) xs ls → Reads (CsvPlus s) Begin xs ls
+  begin-reads : {o : ℕ} {xs : Bytes} {ls : List (Line Bytes)} {ss : List (List Stretch)} → NonEmpty xs → Walks (CsvPlus s) (Inside Fresh) o o xs ls ss → Walks (CsvPlus s) Begin o o xs ls ss
   unfolding formStep beginRecord
   begin-reads some r = from-state refl r
 
@@ -117,101 +123,81 @@ module _ (s : Settings) where
   ending-some (b ∷ text) zs e = some
 
   -- records from the first cell on
-  data FromFresh (ls : List (Line Bytes)) (xs : Bytes) : Type 0 where
-    from-fresh : NonEmpty xs → Reads (CsvPlus s) (Inside Fresh) xs ls → FromFresh ls xs
+  data FromFresh (o : ℕ) (ls : List (Line Bytes)) (ss : List (List Stretch)) (xs : Bytes) : Type 0 where
+    from-fresh : NonEmpty xs → Walks (CsvPlus s) (Inside Fresh) o o xs ls ss → FromFresh o ls ss xs
 
-  to-begin : {xs : Bytes} {ls : List (Line Bytes)} → FromFresh ls xs → Reads (CsvPlus s) Begin xs ls
+  to-begin : {o : ℕ} {xs : Bytes} {ls : List (Line Bytes)} {ss : List (List Stretch)} → FromFresh o ls ss xs → Walks (CsvPlus s) Begin o o xs ls ss
   to-begin (from-fresh n r) = begin-reads n r
 
-  none-reads : Reads (CsvPlus s) Begin [] []
+  none-reads : (o : ℕ) → Walks (CsvPlus s) Begin o o [] [] []
   unfolding formEnd
-  none-reads = ends-clean refl
+  none-reads o = ends-clean refl
 
-  records-read : {xs : Bytes} {ls : List (Line Derived)} → Records s xs ls → FromFresh (map spelling ls) xs
+  record-reads :
+      (o : ℕ) {text ys : Bytes} {cells : List Derived} {ls : List (Line Bytes)} {ss : List (List Stretch)} (r : Record s text cells) → Follows (CsvPlus s) (past text o) ys [] [] ls [] ss →
+      Walks (CsvPlus s) (Inside Fresh) o o (text ++ ys) (line text (map rawOf cells) ∷ ls) (plusRecord s o r ∷ ss)
+  record-reads o r f = rw (← (record-placed o r)) (cells-read d-plus o (record-cells r) f)
+
+  records-read : (o : ℕ) {xs : Bytes} {ls : List (Line Derived)} (k : Records s xs ls) → FromFresh o (map spelling ls) (plusRecords s o k) xs
   unfolding spelling
-  records-read (unended {b} {text} {cells} r) =
-      let k : Reads (CsvPlus s) (Inside Fresh) ((b ∷ text) ++ []) (line (b ∷ text) (map rawOf cells) ∷ []) = cells-read d-plus (record-cells r) end-follows in
+  records-read o (unended {b} {text} {cells} r) =
+      let k : Walks (CsvPlus s) (Inside Fresh) o o ((b ∷ text) ++ []) (line (b ∷ text) (map rawOf cells) ∷ []) (plusRecord s o r ∷ []) = record-reads o r (end-follows (past (b ∷ text) o)) in
       from-fresh some (rw (append-nil (b ∷ text)) at k)
-  records-read (last {text} {es} r e) =
-      rw (← (append-nil es)) (from-fresh (ending-some text [] e) (cells-read d-plus (record-cells r) (ending-follows e none-reads)))
-  records-read (next {text} {es} {xs} r e k) =
-      from-fresh (ending-some text xs e) (cells-read d-plus (record-cells r) (ending-follows e (to-begin (records-read k))))
-
-  -- a byte that belongs to the cell in hand
-  data Took (e : Cell) (b : ℕ) (bs : Bytes) : List (Line Bytes) → Type 0 where
-    took :
-        {text raw : Bytes} {cells : List Bytes} {ls : List (Line Bytes)} → Reads (CsvPlus s) (Inside e) bs (line text (raw ∷ cells) ∷ ls) →
-        Took e b bs (line (b ∷ text) ((b ∷ raw) ∷ cells) ∷ ls)
-
-  take : {c e : Cell} (b : ℕ) {bs : Bytes} {ls : List (Line Bytes)} → cellStep (CsvPlus s) c b ≡ More e → Reads (CsvPlus s) (Inside c) (b ∷ bs) ls → Took e b bs ls
-  unfolding formStep inCell
-  take {e} b {bs} {ls} q r = go (rw q at (first-byte (λ g ls. Reads (CsvPlus s) g bs ls) (λ g ls k. k) r))
-    where
-      go : {ls : List (Line Bytes)} → Takes (λ g ls. Reads (CsvPlus s) g bs ls) b (To (Inside e) OfCell) ls → Took e b bs ls
-      go (steps.of-cell k) = took k
-
-  abbrev afterEf : Cell
-  afterEf = Plain (Within (Second EeToEf))
-
-  abbrev afterBb : Cell
-  afterBb = Plain (Within Last)
+  records-read o (last {text} {es} r e) =
+      rw (← (append-nil es)) (from-fresh (ending-some text [] e) (record-reads o r (ending-follows e (none-reads (past es (past text o))))))
+  records-read o (next {text} {es} {xs} r e k) =
+      from-fresh (ending-some text xs e) (record-reads o r (ending-follows e (to-begin (records-read (past es (past text o)) k))))
 
   unfinished : {A : Type 0} (c : Cell) {ls : List (Line Bytes)} → isWhole (CsvPlus s) c ≡ false → Reads (CsvPlus s) (Inside c) [] ls → A
   unfolding formEnd if_then_else_
   unfinished c w r = cut-off (rw w at (at-end r))
 
-  mark-last-reads : (bs : Bytes) {ls : List (Line Bytes)} → ¬ MarkLast bs → Reads (CsvPlus s) (Inside afterBb) bs ls → Reads (CsvPlus s) PlainMark2 bs ls
+  mark-last-reads : {o p : ℕ} (bs : Bytes) {ls : List (Line Bytes)} {ss : List (List Stretch)} → ¬ EndsMark bs → Walks (CsvPlus s) (Inside afterBb) o p bs ls ss → Walks (CsvPlus s) PlainMark2 o p bs ls ss
   unfolding formStep isWhole if_then_else_
-  mark-last-reads [] n r = unfinished afterBb refl r
-  mark-last-reads (b ∷ bs) {ls} n r = go (b is 0xBF) refl
+  mark-last-reads [] n r = unfinished afterBb refl (reads r)
+  mark-last-reads {o} {p} (b ∷ bs) {ls} {ss} n r = go (b is 0xBF) refl
     where
-      go : (t : Bool) → (b is 0xBF) ≡ t → Reads (CsvPlus s) PlainMark2 (b ∷ bs) ls
-      go true p = absurd (n (rw (is→eq b 0xBF p) mark-bf))
-      go false p = from-state (rw p) r
+      go : (t : Bool) → (b is 0xBF) ≡ t → Walks (CsvPlus s) PlainMark2 o p (b ∷ bs) ls ss
+      go true e = absurd (n (rw (is→eq b 0xBF e) then-bf))
+      go false e = from-state (rw e) r
 
-  mark-rest-reads : (bs : Bytes) {ls : List (Line Bytes)} → ¬ MarkRest bs → Reads (CsvPlus s) (Inside afterEf) bs ls → Reads (CsvPlus s) PlainMark1 bs ls
+  mark-rest-reads : {o p : ℕ} (bs : Bytes) {ls : List (Line Bytes)} {ss : List (List Stretch)} → ¬ CompletesMark bs → Walks (CsvPlus s) (Inside afterEf) o p bs ls ss → Walks (CsvPlus s) PlainMark1 o p bs ls ss
   unfolding formStep isWhole if_then_else_
-  mark-rest-reads [] n r = unfinished afterEf refl r
-  mark-rest-reads (b ∷ bs) {ls} n r = go (b is 0xBB) refl
+  mark-rest-reads [] n r = unfinished afterEf refl (reads r)
+  mark-rest-reads {o} {p} (b ∷ bs) {ls} {ss} n r = go (b is 0xBB) refl
     where
-      last-one : {ls : List (Line Bytes)} → ¬ MarkLast bs → Took afterBb 0xBB bs ls → Reads (CsvPlus s) PlainMark1 (0xBB ∷ bs) ls
-      last-one m (took k) = of-cell refl (mark-last-reads bs m k)
-
-      rest-of : ¬ MarkRest (0xBB ∷ bs) → ¬ MarkLast bs
+      rest-of : ¬ CompletesMark (0xBB ∷ bs) → ¬ EndsMark bs
       rest-of m q = m (add q)
         where
-          add : {bs : Bytes} → MarkLast bs → MarkRest (0xBB ∷ bs)
-          add mark-bf = mark-bb
+          add : {bs : Bytes} → EndsMark bs → CompletesMark (0xBB ∷ bs)
+          add then-bf = then-bb
 
-      go : (t : Bool) → (b is 0xBB) ≡ t → Reads (CsvPlus s) PlainMark1 (b ∷ bs) ls
-      go true p =
-          let q = is→eq b 0xBB p in
-          let k : Reads (CsvPlus s) (Inside afterEf) (0xBB ∷ bs) ls = rw q at r in
-          rw q (last-one (rest-of (rw q at n)) (take 0xBB (mark-rest (CsvPlus s)) k))
-      go false p = from-state (rw p) r
+      go : (t : Bool) → (b is 0xBB) ≡ t → Walks (CsvPlus s) PlainMark1 o p (b ∷ bs) ls ss
+      go true e =
+          let q = is→eq b 0xBB e in
+          let k : Walks (CsvPlus s) (Inside afterEf) o p (0xBB ∷ bs) ls ss = rw q at r in
+          rw q (with-cell-byte (cell-step (CsvPlus s) afterEf afterBb 0xBB (mark-rest (CsvPlus s))) refl (λ ls m. mark-last-reads bs (rest-of (rw q at n)) m) k)
+      go false e = from-state (rw e) r
 
-  top-reads : {xs : Bytes} {ls : List (Line Bytes)} → ¬ BeginsWithMark xs → FromFresh ls xs → Reads (CsvPlus s) Top xs ls
+  top-reads : {o : ℕ} {xs : Bytes} {ls : List (Line Bytes)} {ss : List (List Stretch)} → ¬ BeginsWithMark xs → FromFresh o ls ss xs → Walks (CsvPlus s) Top o o xs ls ss
   unfolding formStep beginFile beginRecord if_then_else_
-  top-reads {ls} n (from-fresh (some {b} {bs}) r) = go (b is 0xEF) refl
+  top-reads {o} {ls} {ss} n (from-fresh (some {b} {bs}) r) = go (b is 0xEF) refl
     where
-      first-one : {ls : List (Line Bytes)} → ¬ MarkRest bs → Took afterEf 0xEF bs ls → Reads (CsvPlus s) Top (0xEF ∷ bs) ls
-      first-one m (took k) = of-cell refl (mark-rest-reads bs m k)
-
-      rest-of : ¬ BeginsWithMark (0xEF ∷ bs) → ¬ MarkRest bs
+      rest-of : ¬ BeginsWithMark (0xEF ∷ bs) → ¬ CompletesMark bs
       rest-of m q = m (add q)
         where
-          add : {bs : Bytes} → MarkRest bs → BeginsWithMark (0xEF ∷ bs)
-          add mark-bb = mark
+          add : {bs : Bytes} → CompletesMark bs → BeginsWithMark (0xEF ∷ bs)
+          add then-bb = mark
 
-      go : (t : Bool) → (b is 0xEF) ≡ t → Reads (CsvPlus s) Top (b ∷ bs) ls
-      go true p =
-          let q = is→eq b 0xEF p in
-          let k : Reads (CsvPlus s) (Inside Fresh) (0xEF ∷ bs) ls = rw q at r in
-          rw q (first-one (rest-of (rw q at n)) (take 0xEF (mark-cell s) k))
-      go false p = from-state (rw p) r
+      go : (t : Bool) → (b is 0xEF) ≡ t → Walks (CsvPlus s) Top o o (b ∷ bs) ls ss
+      go true e =
+          let q = is→eq b 0xEF e in
+          let k : Walks (CsvPlus s) (Inside Fresh) o o (0xEF ∷ bs) ls ss = rw q at r in
+          rw q (with-cell-byte (cell-step (CsvPlus s) Fresh afterEf 0xEF (mark-cell s)) refl (λ ls m. mark-rest-reads bs (rest-of (rw q at n)) m) k)
+      go false e = from-state (rw e) r
 
-  pub file-reads : {xs : Bytes} {ls : List (Line Derived)} → File s xs ls → Reads (CsvPlus s) Top xs (map spelling ls)
-  file-reads (file n k) = top-reads n (records-read (table-records k))
+  pub file-reads : {xs : Bytes} {ls : List (Line Derived)} (k : File s xs ls) → Walks (CsvPlus s) Top 0 0 xs (map spelling ls) (plusFile s k)
+  file-reads (file n k) = rw (← (table-placed 0 k)) (top-reads n (records-read 0 (table-records k)))
 
   -- ---- what is read is derived
 
@@ -225,27 +211,14 @@ module _ (s : Settings) where
     at-file-end : TailThen [] []
     ending-then : {es zs : Bytes} {ls : List (Line Bytes)} → CRLF s es → Rows zs ls → TailThen (es ++ zs) ls
 
-  data AfterCr : Bytes → List (Line Bytes) → Type 0 where
-    then-lf : {zs : Bytes} {ls : List (Line Bytes)} → Rows zs ls → AfterCr (LF ∷ zs) (line [] [] ∷ ls)
+  abbrev Further : Bytes → Bytes → List Bytes → List (Line Bytes) → Type 0
+  Further = After (CsvPlus s) TailThen
 
-  abbrev InField : Cell → Bytes → List (Line Bytes) → Type 0
-  InField = CellThen (CsvPlus s) (After (CsvPlus s) TailThen)
+  abbrev coming : Grammar
+  coming = record { Lines = Rows; Tops = λ xs ls. (¬ BeginsWithMark xs) × Rows xs ls; First = Rows; Further = Further }
 
-  -- what is still to come, where the file stands; CSV+ reaches no other states
-  abbrev ToCome : Form → Bytes → List (Line Bytes) → Type 0
-  ToCome Top xs ls = (¬ BeginsWithMark xs) × Rows xs ls
-  ToCome Begin xs ls = Rows xs ls
-  ToCome Ended xs ls = Unit {0}
-  ToCome Mark1 xs ls = Unit {0}
-  ToCome Mark2 xs ls = Unit {0}
-  ToCome PlainMark1 xs ls = (¬ MarkRest xs) × InField afterEf xs ls
-  ToCome PlainMark2 xs ls = (¬ MarkLast xs) × InField afterBb xs ls
-  ToCome (types.Comment c) xs ls = Unit {0}
-  ToCome Blanks xs ls = Unit {0}
-  ToCome Wanting xs ls = Unit {0}
-  ToCome (Inside c) xs ls = InField c xs ls
-  ToCome types.After xs ls = Unit {0}
-  ToCome Cr xs ls = AfterCr xs ls
+  abbrev K : Bytes → Form → List (Line Bytes) → Type 0
+  K = Then (CsvPlus s) coming
 
   unended-rows : {text : Bytes} {cells : List Bytes} → NonEmpty text → Cells (CsvPlus s) text cells → Rows text (line text cells ∷ [])
   unfolding decodedLine
@@ -257,107 +230,63 @@ module _ (s : Settings) where
   record-rows m (record-then n (ending-then {es} e no-rows)) = rw (append-nil es) (rows (last (cells-record n) e))
   record-rows m (record-then n (ending-then e (rows k))) = rows (next (cells-record n) e k)
 
-  field-rows : {xs : Bytes} {ls : List (Line Bytes)} → NonEmpty xs → InField Fresh xs ls → Rows xs ls
+  field-rows : {xs : Bytes} {ls : List (Line Bytes)} → NonEmpty xs → CellThen (CsvPlus s) Further Fresh xs ls → Rows xs ls
   field-rows m (cell-then k a) = record-rows m (record-of (CsvPlus s) TailThen (cell-then k a))
 
+  crlf-then : {xs text : Bytes} {cells : List Bytes} {ls : List (Line Bytes)} → AfterCr Rows xs (line text cells ∷ ls) → Further (CR ∷ xs) text cells ls
+  crlf-then (then-lf k) = at-tail (ending-then crlf k)
+
   module _ (bs : Bytes) where
-    abbrev K : Form → List (Line Bytes) → Type 0
-    K f ls = ToCome f bs ls
+    lf-taken : (k : Bool) {b : ℕ} {ls : List (Line Bytes)} → Takes (K bs) b (To Begin (Ends k)) ls → AfterByte Further (LF ∷ bs) k ls
+    lf-taken true (steps.ends-closing m) = ends-now (at-tail (ending-then lf m))
+    lf-taken false (steps.ends m) = ended-before (at-tail (ending-then lf m))
 
-    comma-taken : {ls : List (Line Bytes)} → Takes K (COMMA s) (To (Inside Fresh) (Between true)) ls → Closes (After (CsvPlus s) TailThen) (COMMA s ∷ bs) ls
-    comma-taken (steps.between-closing k) = closes (at-delimiter (record-of (CsvPlus s) TailThen k))
+    cr-taken : (k : Bool) {b : ℕ} {ls : List (Line Bytes)} → Takes (K bs) b (To Cr (Tail k)) ls → AfterByte Further (CR ∷ bs) k ls
+    cr-taken true (steps.tail-closing m) = ends-now (crlf-then m)
+    cr-taken false (steps.tail m) = ended-before (crlf-then m)
 
-    lf-taken : {b : ℕ} {ls : List (Line Bytes)} → Takes K b (To Begin (Ends true)) ls → Closes (After (CsvPlus s) TailThen) (LF ∷ bs) ls
-    lf-taken (steps.ends-closing k) = closes (at-tail (ending-then lf k))
-
-    cr-taken : {b : ℕ} {ls : List (Line Bytes)} → Takes K b (To Cr (Tail true)) ls → Closes (After (CsvPlus s) TailThen) (CR ∷ bs) ls
-    cr-taken (steps.tail-closing k) = crlf-then k
-      where
-        crlf-then : {bs text : Bytes} {cells : List Bytes} {ls : List (Line Bytes)} → AfterCr bs (line text cells ∷ ls) → Closes (After (CsvPlus s) TailThen) (CR ∷ bs) (line text ([] ∷ cells) ∷ ls)
-        crlf-then (then-lf k) = closes (at-tail (ending-then crlf k))
-
-    after-byte : (b : ℕ) (ls : List (Line Bytes)) → Takes K b (afterCell (CsvPlus s) true b) ls → Closes (After (CsvPlus s) TailThen) (b ∷ bs) ls
+    after-byte : (k : Bool) (b : ℕ) (ls : List (Line Bytes)) → Takes (K bs) b (afterCell (CsvPlus s) k b) ls → AfterByte Further (b ∷ bs) k ls
     unfolding afterCell
-    after-byte b ls =
-        let P : Step → Type 0 = λ x. Takes K b x ls → Closes (After (CsvPlus s) TailThen) (b ∷ bs) ls in
-        split P (b is COMMA s) (λ p t. let q = is→eq b (COMMA s) p in rw q (comma-taken (rw q at t))) λ _.
-        split P (b is LF) (λ p t. rw (is→eq b LF p) (lf-taken t)) λ _.
-        split P (b is CR) (λ p t. rw (is→eq b CR p) (cr-taken t)) λ _ t. rejected t
+    after-byte k b ls =
+        let P : Step → Type 0 = λ x. Takes (K bs) b x ls → AfterByte Further (b ∷ bs) k ls in
+        split P (b is COMMA s) (λ p t. let q = is→eq b (COMMA s) p in rw q (delimiter-taken (CsvPlus s) TailThen (K bs) k (λ ls m. m) (rw q at t))) λ _.
+        split P (b is LF) (λ p t. rw (is→eq b LF p) (lf-taken k t)) λ _.
+        split P (b is CR) (λ p t. rw (is→eq b CR p) (cr-taken k t)) λ _ t. rejected t
 
-    field-byte : (c : Cell) (b : ℕ) (ls : List (Line Bytes)) → Takes K b (inCell (CsvPlus s) c b) ls → InField c (b ∷ bs) ls
-    field-byte c b ls t = in-cell-byte K c b bs ls (λ e ls k. k) (after-byte b) t
+  module _ (bs : Bytes) where
+    row-byte : (b : ℕ) (ls : List (Line Bytes)) → Takes (K bs) b (beginRecord (CsvPlus s) b) ls → Rows (b ∷ bs) ls
+    unfolding beginRecord
+    row-byte b ls t = field-rows some (cell-byte (CsvPlus s) coming after-byte bs Fresh b ls t)
 
-    ef-taken : {ls : List (Line Bytes)} → Takes K 0xEF (To PlainMark1 OfCell) ls → ToCome Top (0xEF ∷ bs) ls
+    ef-taken : {ls : List (Line Bytes)} → Takes (K bs) 0xEF (To PlainMark1 OfCell) ls → (¬ BeginsWithMark (0xEF ∷ bs)) × Rows (0xEF ∷ bs) ls
     ef-taken (steps.of-cell k) = ((λ m. k .0 (begin-mark m .1)), field-rows some (more-cell (mark-cell s) (k .1)))
 
-    bb-taken : {ls : List (Line Bytes)} → Takes K 0xBB (To PlainMark2 OfCell) ls → ToCome PlainMark1 (0xBB ∷ bs) ls
-    bb-taken (steps.of-cell k) = ((λ m. k .0 (rest-mark m .1)), more-cell (mark-rest (CsvPlus s)) (k .1))
-
-    top-byte : (b : ℕ) (ls : List (Line Bytes)) → Takes K b (beginFile (CsvPlus s) b) ls → ToCome Top (b ∷ bs) ls
-    unfolding beginFile beginRecord
+    top-byte : (b : ℕ) (ls : List (Line Bytes)) → Takes (K bs) b (beginFile (CsvPlus s) b) ls → (¬ BeginsWithMark (b ∷ bs)) × Rows (b ∷ bs) ls
+    unfolding beginFile
     top-byte b ls =
-        split (λ x. Takes K b x ls → ToCome Top (b ∷ bs) ls) (b is 0xEF) (λ p t. let q = is→eq b 0xEF p in rw q (ef-taken (rw q at t))) λ p t.
-        ((λ m. eqb-false b 0xEF p (begin-mark m .0)), field-rows some (field-byte Fresh b ls t))
+        split (λ x. Takes (K bs) b x ls → (¬ BeginsWithMark (b ∷ bs)) × Rows (b ∷ bs) ls) (b is 0xEF)
+        (λ p t. let q = is→eq b 0xEF p in rw q (ef-taken (rw q at t))) λ p t. ((λ m. eqb-false b 0xEF p (begin-mark m .0)), row-byte b ls t)
 
-    mark-rest-byte : (b : ℕ) (ls : List (Line Bytes)) → Takes K b (formStep (CsvPlus s) PlainMark1 b) ls → ToCome PlainMark1 (b ∷ bs) ls
-    unfolding formStep
-    mark-rest-byte b ls =
-        split (λ x. Takes K b x ls → ToCome PlainMark1 (b ∷ bs) ls) (b is 0xBB) (λ p t. let q = is→eq b 0xBB p in rw q (bb-taken (rw q at t))) λ p t.
-        ((λ m. eqb-false b 0xBB p (rest-mark m .0)), field-byte afterEf b ls t)
+  final-cell : {c : Cell} {ls : List (Line Bytes)} → isWhole (CsvPlus s) c ≡ true → steps.Finishes Final ls → CellThen (CsvPlus s) Further c [] ls
+  final-cell w steps.final = cell-then (whole w) (at-tail at-file-end)
 
-    mark-last-byte : (b : ℕ) (ls : List (Line Bytes)) → Takes K b (formStep (CsvPlus s) PlainMark2 b) ls → ToCome PlainMark2 (b ∷ bs) ls
-    unfolding formStep
-    mark-last-byte b ls =
-        split (λ x. Takes K b x ls → ToCome PlainMark2 (b ∷ bs) ls) (b is 0xBF) (λ p t. rejected t) λ p t.
-        ((λ m. eqb-false b 0xBF p (last-mark m)), field-byte afterBb b ls t)
+  last-cell : (c : Cell) (ls : List (Line Bytes)) → steps.Finishes (lastCell (CsvPlus s) c) ls → CellThen (CsvPlus s) Further c [] ls
+  last-cell c ls = split (λ x. steps.Finishes x ls → CellThen (CsvPlus s) Further c [] ls) (isWhole (CsvPlus s) c) (λ w t. final-cell w t) λ _ t. cut-off t
 
-    lf-after-cr : {b : ℕ} {ls : List (Line Bytes)} → Takes K b (To Begin (Ends false)) ls → AfterCr (LF ∷ bs) ls
-    lf-after-cr (steps.ends k) = then-lf k
-
-    step-byte : (f : Form) (b : ℕ) (ls : List (Line Bytes)) → Takes K b (formStep (CsvPlus s) f b) ls → ToCome f (b ∷ bs) ls
-    unfolding formStep beginRecord
-    step-byte Top b ls t = top-byte b ls t
-    step-byte Begin b ls t = field-rows some (field-byte Fresh b ls t)
-    step-byte Ended b ls t = tt
-    step-byte Mark1 b ls t = tt
-    step-byte Mark2 b ls t = tt
-    step-byte PlainMark1 b ls t = mark-rest-byte b ls t
-    step-byte PlainMark2 b ls t = mark-last-byte b ls t
-    step-byte (types.Comment c) b ls t = tt
-    step-byte Blanks b ls t = tt
-    step-byte Wanting b ls t = tt
-    step-byte (Inside c) b ls t = field-byte c b ls t
-    step-byte types.After b ls t = tt
-    step-byte Cr b ls t = split (λ x. Takes K b x ls → AfterCr (b ∷ bs) ls) (b is LF) (λ p t. rw (is→eq b LF p) (lf-after-cr t)) (λ _ t. rejected t) t
-
-  no-records : {ls : List (Line Bytes)} → steps.Finishes Clean ls → Rows [] ls
-  no-records steps.clean = no-rows
-
-  final-field : {c : Cell} {ls : List (Line Bytes)} → isWhole (CsvPlus s) c ≡ true → steps.Finishes Final ls → InField c [] ls
-  final-field w steps.final = cell-then (whole w) (at-tail at-file-end)
-
-  end-byte : (f : Form) (ls : List (Line Bytes)) → steps.Finishes (formEnd (CsvPlus s) f) ls → ToCome f [] ls
-  unfolding formEnd
-  end-byte Top ls t = (elim [ ], no-records t)
-  end-byte Begin ls t = no-records t
-  end-byte Ended ls t = tt
-  end-byte Mark1 ls t = tt
-  end-byte Mark2 ls t = tt
-  end-byte PlainMark1 ls t = cut-off t
-  end-byte PlainMark2 ls t = cut-off t
-  end-byte (types.Comment c) ls t = tt
-  end-byte Blanks ls t = tt
-  end-byte Wanting ls t = tt
-  end-byte (Inside c) ls t =
-      split (λ x. steps.Finishes x ls → InField c [] ls) (isWhole (CsvPlus s) c) (λ w t. final-field w t) (λ _ t. cut-off t) t
-  end-byte types.After ls t = tt
-  end-byte Cr ls t = cut-off t
-
-  reads-rows : (xs : Bytes) (f : Form) (ls : List (Line Bytes)) → Reads (CsvPlus s) f xs ls → ToCome f xs ls
-  reads-rows = by-bytes (CsvPlus s) ToCome end-byte step-byte
+  facts : Facts (CsvPlus s) coming
+  facts =
+      record {
+        after-byte = after-byte;
+        first-byte = row-byte;
+        first-line = λ bs b ls k. k;
+        top-byte = top-byte;
+        no-line = no-rows;
+        no-top = (elim [ ], no-rows);
+        last-cell = last-cell;
+      }
 
   pub reads-file : {xs : Bytes} {l : Line Bytes} {ls : List (Line Bytes)} → Reads (CsvPlus s) Top xs (l ∷ ls) → File s xs (map (decodedLine (CsvPlus s)) (l ∷ ls))
-  reads-file {xs} {l} {ls} r = let k = reads-rows xs Top (l ∷ ls) r in go (k .0) (k .1)
+  reads-file {xs} {l} {ls} r = let k = reads-coming (CsvPlus s) coming facts xs Top (l ∷ ls) r in go (k .0) (k .1)
     where
       go : {xs : Bytes} {l : Line Bytes} {ls : List (Line Bytes)} → ¬ BeginsWithMark xs → Rows xs (l ∷ ls) → File s xs (map (decodedLine (CsvPlus s)) (l ∷ ls))
       go n (rows k) = file n (records-table k)

@@ -15,7 +15,7 @@ use Rattle.model.specs.Base.{Bytes}
 use Rattle.model.specs.Dialect.{standard}
 use Rattle.model.specs.Form.{formStep, formEnd}
 use Rattle.model.specs.Report.{accepted}
-use Rattle.model.specs.Records.{readFile, reportOf}
+use Rattle.model.specs.Records.{nothingRead, readFile, reportOf}
 use Rattle.model.specs.Computes.{computes}
 use Rattle.model.proofs.Tests.{impossible}
 use Rattle.grammar.specs.Rfc5234.{HEXDIG, decimal, lower}
@@ -28,11 +28,14 @@ use Rattle.grammar.specs.Csvj as csvj
 use Rattle.grammar.specs.Tdif as tdif
 use Rattle.grammar.specs.CsvPlus as plus
 use Rattle.grammar.specs.Accepted.{no-names, a-name, WithinLimits, ChecksHold, checks-hold}
-use Rattle.grammar.specs.Exact.{Exact}
-use Rattle.grammar.specs.Mistakes.{Mistakes, nameA, twoNames, tooLong}
+use Rattle.grammar.specs.Exact.{Exact, ExactPlaces}
+use Rattle.grammar.specs.Mistakes.{Mistakes, Misplacements, nameA, twoNames, tooLong, threeLines, threeRecords, threeDerived}
+use Rattle.grammar.specs.NextByte.{GoesOn}
+use Rattle.grammar.specs.Stretches.{stretch, stretches}
 use Rattle.grammar.proofs.Ranges.{range}
 use Rattle.grammar.proofs.Steps.{Finishes, clean, final, Takes, by-bytes, reads-once}
 use Rattle.grammar.proofs.Steps as steps
+use Rattle.grammar.proofs.AcceptedOnly.{stopped-going}
 
 -- ---- a file that is read by form takes the automaton to its end
 
@@ -227,6 +230,12 @@ module _ (exact : Exact) where
       let e : reportOf (readFile (CsvPlus standard) none tooLong) ≡ accepted = exact .acceptance (CsvPlus standard) tooLong .1 (_, record { derived = long-file; limits = w; checks = checks-hold (every-cons refl every-none) (a-name every-none no-names) every-none }) in
       let z : _≡_ {A = ℕ} 8 0 = ap (λ r. r .number) e in omega arith
 
+  -- ---- by the next byte
+
+  begun : ¬ ¬ GoesOn Csvj [] 0x22
+  unfolding computes
+  begun n = stopped-going (sym (exact .next-byte Csvj none [] nothingRead 0x22 refl refl refl .refused .1 n .1))
+
   pub refused : Mistakes
   refused =
       record {
@@ -243,4 +252,17 @@ module _ (exact : Exact) where
         blanks-uncounted = blanks-uncounted;
         repeated-name = repeated-name;
         long-record = long-record;
+        begun = begun;
       }
+
+-- ---- by stretches
+
+module _ (exact : ExactPlaces) where
+  equal-cells :
+      (n : ¬ plus.BeginsWithMark threeLines) (x : plus.Non-escaped standard (0x78 ∷ [])) (a : plus.Non-escaped standard (0x61 ∷ [])) →
+      stretches (CsvPlus standard) threeLines threeRecords (threeDerived n x a) ≡ (stretch 0 1 ∷ []) ∷ (stretch 2 3 ∷ []) ∷ (stretch 4 5 ∷ []) ∷ []
+  unfolding computes
+  equal-cells n x a = sym (exact .stretches (CsvPlus standard) threeLines threeRecords (threeDerived n x a) _ refl)
+
+  pub refused-places : Misplacements
+  refused-places = record { equal-cells = equal-cells }

@@ -3,7 +3,7 @@
 use Prim.Native.Nat.{ℕ, suc, _+_, _≤_}
 use native.Mathlib.Omega.{arith}
 use mathlib.Core.Path.{_≡_, refl, sym, ap, _∙_}
-use mathlib.Core.Bool.{true, false}
+use mathlib.Core.Bool.{Bool, true, false}
 use mathlib.Core.List.{List, [], _∷_, _++_, map, append-assoc, append-nil}
 use lib.ListN.{length, length-append}
 use Rattle.grammar.specs.Types.{Dialect, Form, OfCell, Outside, Passed, Between, Tail, Ends, To}
@@ -15,7 +15,7 @@ use Rattle.model.specs.Records.{Read, cellNow, closing}
 use Rattle.grammar.specs.Derived.{Derived, Line, line, textIn, Every, every-none, every-cons, Each, each-none, each-cons}
 use Rattle.grammar.specs.Reading.{decoded, decodedLine}
 use Rattle.grammar.specs.Accepted.{ShowsCell, ShowsRecord}
-use Rattle.grammar.proofs.Parts.{Stage, at-rest, in-record, in-cell, nowhere, stageOf, Recording, record-open, cell-open, none-at-rest, none-in-record, Moves, unreached, leaves, passes, adds, parts, parts-closing, turns, turns-closing, completes, completes-closing}
+use Rattle.grammar.proofs.Parts.{Stage, at-rest, in-record, in-cell, nowhere, stageOf, Recording, record-open, cell-open, RecordEnded, ended-rests, none-at-rest, none-in-record, Moves, unreached, leaves, passes, adds, parts, parts-closing, turns, turns-closing, completes, completes-closing}
 
 pub each-snoc : {A B : Type 0} {R : A → B → Type 0} {xs : List A} {ys : List B} {x : A} {y : B} → Each R xs ys → R x y → Each R (xs ++ (x ∷ [])) (ys ++ (y ∷ []))
 each-snoc each-none r = each-cons r each-none
@@ -89,10 +89,10 @@ rest-fit (fit-line {t} {cs} h k) = every-cons {x = line t cs} (omega arith) k
 -- ---- standings
 
 -- what is in hand at each stage
-pub data Tidy : Stage → (text raw : Bytes) → List Derived → Type 0 where
+pub data Tidy {A : Type 0} : Stage → (text raw : Bytes) → List A → Type 0 where
   tidy-rest : Tidy at-rest [] [] []
-  tidy-record : {text : Bytes} {cells : List Derived} → Tidy in-record text [] cells
-  tidy-cell : {text raw : Bytes} {cells : List Derived} → Tidy in-cell text raw cells
+  tidy-record : {text : Bytes} {cells : List A} → Tidy in-record text [] cells
+  tidy-cell : {text raw : Bytes} {cells : List A} → Tidy in-cell text raw cells
 
 pub record Stands (d : Dialect) (file seen : Bytes) (r : Read) (pre : List (Line Derived)) (text raw : Bytes) (cells : List Derived) : Type 0 where
   pub done : Each (ShowsRecord file) (r .done) pre
@@ -172,11 +172,11 @@ module _ {d : Dialect} {file seen : Bytes} {r : Read} {pre : List (Line Derived)
 
 -- ---- what a step says of what is in hand
 
-no-standing : {A : Type 0} {text raw : Bytes} {cells : List Derived} → Tidy nowhere text raw cells → A
+no-standing : {A B : Type 0} {text raw : Bytes} {cells : List B} → Tidy nowhere text raw cells → A
 no-standing = elim [ ]
 
 -- nothing was in hand, and nothing is
-pub data Rested (d : Dialect) (h : Form) : (text raw : Bytes) → List Derived → Type 0 where
+pub data Rested (d : Dialect) (h : Form) {A : Type 0} : (text raw : Bytes) → List A → Type 0 where
   rested : stageOf d h ≡ at-rest → Rested d h [] [] []
 
 -- no cell was in hand, and the record goes on
@@ -187,48 +187,59 @@ pub data Parted (d : Dialect) (h : Form) (c : Type 0) (text : Bytes) : (raw : By
 pub data Ended (d : Dialect) (h : Form) (c : Type 0) (text : Bytes) : (raw : Bytes) → Type 0 where
   ended : c → stageOf d h ≡ at-rest → Ended d h c text []
 
-pub recording-tidy : {g : Stage} {text : Bytes} {cells : List Derived} → Recording g → Tidy g text [] cells
+pub recording-tidy : {A : Type 0} {g : Stage} {text : Bytes} {cells : List A} → Recording g → Tidy g text [] cells
 recording-tidy record-open = tidy-record
 recording-tidy cell-open = tidy-cell
 
-pub rest-tidy : {g : Stage} → g ≡ at-rest → Tidy g [] [] []
+pub rest-tidy : {A : Type 0} {g : Stage} → g ≡ at-rest → Tidy {A = A} g [] [] []
 rest-tidy e = rw e tidy-rest
 
-pub moved-outside : {d : Dialect} {f h : Form} {b : ℕ} {g : Stage} {text raw : Bytes} {cells : List Derived} → Moves d f b g (To h Outside) → Tidy g text raw cells → Rested d h text raw cells
+pub rested-none : {d : Dialect} {h : Form} {A : Type 0} {text raw : Bytes} {cells : List A} → Rested d h text raw cells → (cells ≡ []) × (stageOf d h ≡ at-rest)
+rested-none (rested g) = (refl, g)
+
+pub parted-tidy : {d : Dialect} {h : Form} {c A : Type 0} {text raw : Bytes} {cells : List A} → Parted d h c text raw → Tidy (stageOf d h) text [] cells
+parted-tidy (parted c g) = recording-tidy g
+
+pub moved-outside : {d : Dialect} {f h : Form} {b : ℕ} {g : Stage} {A : Type 0} {text raw : Bytes} {cells : List A} → Moves d f b g (To h Outside) → Tidy g text raw cells → Rested d h text raw cells
 moved-outside unreached t = no-standing t
 moved-outside (leaves s) tidy-rest = rested s
 
-pub moved-passed : {d : Dialect} {f h : Form} {b : ℕ} {g : Stage} {text raw : Bytes} {cells : List Derived} → Moves d f b g (To h Passed) → Tidy g text raw cells → Rested d h text raw cells
+pub moved-passed : {d : Dialect} {f h : Form} {b : ℕ} {g : Stage} {A : Type 0} {text raw : Bytes} {cells : List A} → Moves d f b g (To h Passed) → Tidy g text raw cells → Rested d h text raw cells
 moved-passed unreached t = no-standing t
 moved-passed (passes s) tidy-rest = rested s
 
-pub moved-of-cell : {d : Dialect} {f h : Form} {b : ℕ} {g : Stage} {text raw : Bytes} {cells : List Derived} → Moves d f b g (To h OfCell) → Tidy g text raw cells → (counts f b ≡ true) × (stageOf d h ≡ in-cell)
+pub moved-of-cell : {d : Dialect} {f h : Form} {b : ℕ} {g : Stage} {A : Type 0} {text raw : Bytes} {cells : List A} → Moves d f b g (To h OfCell) → Tidy g text raw cells → (counts f b ≡ true) × (stageOf d h ≡ in-cell)
 moved-of-cell unreached t = no-standing t
 moved-of-cell (adds c s) t = (c, s)
 
-pub moved-between : {d : Dialect} {f h : Form} {b : ℕ} {g : Stage} {text raw : Bytes} {cells : List Derived} → Moves d f b g (To h (Between false)) → Tidy g text raw cells → Parted d h (counts f b ≡ true) text raw
+pub moved-between : {d : Dialect} {f h : Form} {b : ℕ} {g : Stage} {A : Type 0} {text raw : Bytes} {cells : List A} → Moves d f b g (To h (Between false)) → Tidy g text raw cells → Parted d h (counts f b ≡ true) text raw
 moved-between unreached t = no-standing t
 moved-between (parts c none-at-rest r) tidy-rest = parted c r
 moved-between (parts c none-in-record r) tidy-record = parted c r
 
-pub moved-between-closing : {d : Dialect} {f h : Form} {b : ℕ} {g : Stage} {text raw : Bytes} {cells : List Derived} → Moves d f b g (To h (Between true)) → Tidy g text raw cells → (counts f b ≡ true) × Recording (stageOf d h)
+pub moved-between-closing : {d : Dialect} {f h : Form} {b : ℕ} {g : Stage} {A : Type 0} {text raw : Bytes} {cells : List A} → Moves d f b g (To h (Between true)) → Tidy g text raw cells → (counts f b ≡ true) × Recording (stageOf d h)
 moved-between-closing unreached t = no-standing t
 moved-between-closing (parts-closing c r) t = (c, r)
 
-pub moved-tail : {d : Dialect} {f h : Form} {b : ℕ} {g : Stage} {text raw : Bytes} {cells : List Derived} → Moves d f b g (To h (Tail false)) → Tidy g text raw cells → Parted d h (counts f b ≡ false) text raw
+pub moved-tail : {d : Dialect} {f h : Form} {b : ℕ} {g : Stage} {A : Type 0} {text raw : Bytes} {cells : List A} → Moves d f b g (To h (Tail false)) → Tidy g text raw cells → Parted d h (counts f b ≡ false) text raw
 moved-tail unreached t = no-standing t
 moved-tail (turns c none-at-rest r) tidy-rest = parted c r
 moved-tail (turns c none-in-record r) tidy-record = parted c r
 
-pub moved-tail-closing : {d : Dialect} {f h : Form} {b : ℕ} {g : Stage} {text raw : Bytes} {cells : List Derived} → Moves d f b g (To h (Tail true)) → Tidy g text raw cells → (counts f b ≡ false) × Recording (stageOf d h)
+pub moved-tail-closing : {d : Dialect} {f h : Form} {b : ℕ} {g : Stage} {A : Type 0} {text raw : Bytes} {cells : List A} → Moves d f b g (To h (Tail true)) → Tidy g text raw cells → (counts f b ≡ false) × Recording (stageOf d h)
 moved-tail-closing unreached t = no-standing t
 moved-tail-closing (turns-closing c r) t = (c, r)
 
-pub moved-ends : {d : Dialect} {f h : Form} {b : ℕ} {g : Stage} {text raw : Bytes} {cells : List Derived} → Moves d f b g (To h (Ends false)) → Tidy g text raw cells → Ended d h (counts f b ≡ false) text raw
+pub moved-ends : {d : Dialect} {f h : Form} {b : ℕ} {g : Stage} {A : Type 0} {text raw : Bytes} {cells : List A} → Moves d f b g (To h (Ends false)) → Tidy g text raw cells → Ended d h (counts f b ≡ false) text raw
 moved-ends unreached t = no-standing t
-moved-ends (completes c none-at-rest r) tidy-rest = ended c r
-moved-ends (completes c none-in-record r) tidy-record = ended c r
+moved-ends {d} (completes c none-at-rest r) tidy-rest = ended c (ended-rests d r)
+moved-ends {d} (completes c none-in-record r) tidy-record = ended c (ended-rests d r)
 
-pub moved-ends-closing : {d : Dialect} {f h : Form} {b : ℕ} {g : Stage} {text raw : Bytes} {cells : List Derived} → Moves d f b g (To h (Ends true)) → Tidy g text raw cells → (counts f b ≡ false) × (stageOf d h ≡ at-rest)
+pub moved-ends-closing : {d : Dialect} {f h : Form} {b : ℕ} {g : Stage} {A : Type 0} {text raw : Bytes} {cells : List A} → Moves d f b g (To h (Ends true)) → Tidy g text raw cells → (counts f b ≡ false) × (stageOf d h ≡ at-rest)
 moved-ends-closing unreached t = no-standing t
-moved-ends-closing (completes-closing c r) t = (c, r)
+moved-ends-closing {d} (completes-closing c r) t = (c, ended-rests d r)
+
+pub moved-complete : {d : Dialect} {f h : Form} {b : ℕ} {g : Stage} {k : Bool} {A : Type 0} {text raw : Bytes} {cells : List A} → Moves d f b g (To h (Ends k)) → Tidy g text raw cells → RecordEnded h
+moved-complete unreached t = no-standing t
+moved-complete (completes c n r) t = r
+moved-complete (completes-closing c r) t = r

@@ -1,6 +1,6 @@
 -- Reading by form, a byte at a time: what a byte's step says of the records that it and the bytes after it give.
 use Prim.Native.Nat.{ℕ}
-use mathlib.Core.Path.{_≡_, refl, ap, _∙_}
+use mathlib.Core.Path.{_≡_, refl, ap}
 use mathlib.Core.Bool.{true, false}
 use mathlib.Core.List.{List, [], _∷_}
 use Rattle.grammar.specs.Types.{Dialect, Csvj, Tdif, CsvPlus, Cell, Stop, ByteFault, Form, Inside, Outside, Passed, OfCell, Between, Tail, Ends, Step, To, Reject, Ending, Clean, Final, Cut}
@@ -94,18 +94,6 @@ reads-once [] f ls ms r q = finishes-once (at-end r) (at-end q)
 reads-once {d} (b ∷ bs) f ls ms r q =
     takes-once (λ g ls ms k m. reads-once bs g ls ms k m) (first-byte (λ g ls. Reads d g bs ls) (λ g ls k. k) r)
     (first-byte (λ g ls. Reads d g bs ls) (λ g ls k. k) q)
-
--- a byte's step is all that reading asks of a state
-pub from-state : {d : Dialect} {f g : Form} {b : ℕ} {bs : Bytes} {ls : List (Line Bytes)} → formStep d f b ≡ formStep d g b → Reads d g (b ∷ bs) ls → Reads d f (b ∷ bs) ls
-from-state q (reading.outside e r) = reading.outside (q ∙ e) r
-from-state q (reading.passed e r) = reading.passed (q ∙ e) r
-from-state q (reading.of-cell e r) = reading.of-cell (q ∙ e) r
-from-state q (reading.between e r) = reading.between (q ∙ e) r
-from-state q (reading.between-closing e r) = reading.between-closing (q ∙ e) r
-from-state q (reading.tail e r) = reading.tail (q ∙ e) r
-from-state q (reading.tail-closing e r) = reading.tail-closing (q ∙ e) r
-from-state q (reading.ends e r) = reading.ends (q ∙ e) r
-from-state q (reading.ends-closing e r) = reading.ends-closing (q ∙ e) r
 
 -- ---- a cell that stops at a byte which is read is whole
 

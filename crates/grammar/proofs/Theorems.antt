@@ -1,35 +1,49 @@
 -- The theorems of this crate, each by its type; the arguments stand in the files that they are taken from.
-use Prim.Native.Nat.{ℕ, _≤_}
+use Prim.Native.Nat.{ℕ, _+_, _≤_}
 use mathlib.Core.Path.{_≡_}
 use mathlib.Core.Logic.{_↔_}
-use mathlib.Core.Bool.{true}
-use mathlib.Core.Option.{none, some}
-use mathlib.Core.List.{List}
+use mathlib.Core.Bool.{true, false}
+use mathlib.Core.Option.{Option, none, some}
+use mathlib.Core.List.{List, [], _∷_, map}
+use lib.ListN.{length}
 use Rattle.grammar.specs.Types.{Dialect, Whole}
 use Rattle.model.specs.declared.Judged.the-variants.{WholeCell}
-use Rattle.model.specs.Base.{Bytes}
-use Rattle.model.specs.Dialect.{dialectOf}
+use Rattle.model.specs.Base.{Bytes, concat}
+use Rattle.model.specs.Dialect.{dialectOf, standard}
 use Rattle.model.specs.Utf8.{textFrom}
 use Rattle.model.specs.Decode.{judgeCell}
 use Rattle.model.specs.Report.{accepted}
-use Rattle.model.specs.Records.{Read, going, readFile, reportOf}
+use Rattle.model.specs.Records.{Read, going, fileFull, recordFull, readBytes, readFile, reportOf}
+use Rattle.model.specs.Viable.{CanGoOn}
 use Rattle.model.specs.Api.{reader}
+use Rattle.grammar.specs.Rfc5234.{_from_to_}
 use Rattle.grammar.specs.Rfc3629.{UTF8-octets}
+use Rattle.grammar.specs.CsvPlus.{TEXTDATA, NarrowTEXTDATA}
 use Rattle.grammar.specs.Derived.{Derived, rawOf, Line, Each}
 use Rattle.grammar.specs.Derives.{DerivesCell, Derives}
 use Rattle.grammar.specs.Reading.{decoded, ReadByForm}
+use Rattle.grammar.specs.NextByte.{GoesOn, NextByte}
+use Rattle.grammar.specs.Stretches.{past, stretches, stretchOf, shown}
 use Rattle.grammar.specs.Accepted.{Acceptable, cellCount, ShowsRecord}
 use Rattle.grammar.proofs.Texts.{text-exact}
+use Rattle.grammar.proofs.PlusCells.{textdata-exact}
 use Rattle.grammar.proofs.CellGrammar.{cell-exact, derived-content}
 use Rattle.grammar.proofs.FileGrammar.{grammar-exact, unambiguous}
-use Rattle.grammar.specs.Exact.{Exact}
-use Rattle.grammar.specs.Mistakes.{Mistakes}
+use Rattle.grammar.specs.Exact.{Exact, ExactPlaces}
+use Rattle.grammar.specs.Mistakes.{Mistakes, Misplacements}
 use Rattle.grammar.proofs.Acceptance.{acceptance, accepted-records, reader-acceptance}
-use Rattle.grammar.proofs.Refused.{refused}
+use Rattle.grammar.proofs.Walks.{past-length}
+use Rattle.grammar.proofs.Placed.{same-stretches, reader-stretches}
+use Rattle.grammar.proofs.GoingOn.{can-go-on, next-byte-exact}
+use Rattle.grammar.proofs.Refused.{refused, refused-places}
 
 -- a text by the rules' table is UTF8-octets of RFC 3629
 pub texts : (bs : Bytes) → UTF8-octets bs ↔ (textFrom Whole bs ≡ true)
 texts = text-exact
+
+-- RFC 4180's own TEXTDATA is that of dialect 3 among the bytes 20 to 7E: all others are the departure that CsvPlus names
+pub textdata : (b : ℕ) → NarrowTEXTDATA (b ∷ []) ↔ (TEXTDATA standard (b ∷ []) × (b from 0x20 to 0x7E))
+textdata = textdata-exact
 
 -- the decoder finds a raw cell sound exactly when the grammar derives it
 pub cells : (d : Dialect) (raw : Bytes) → DerivesCell d (decoded d raw) ↔ (judgeCell d raw ≡ WholeCell)
@@ -55,15 +69,47 @@ accepted-exactly = acceptance
 pub same-records : (d : Dialect) (xs : Bytes) (ls : List (Line Derived)) → Derives d xs ls → (r : Read) → readFile d none xs ≡ going r → Each (ShowsRecord xs) (r .done) ls
 same-records = accepted-records
 
+-- and each cell stands where the derivation's texts place it: one position runs through all of them
+pub stretches-exactly :
+    (d : Dialect) (xs : Bytes) (ls : List (Line Derived)) (k : Derives d xs ls) (r : Read) → readFile d none xs ≡ going r →
+    shown (r .done) ≡ stretches d xs ls k
+stretches-exactly = same-stretches
+
+-- that position moves by the length of each text
+pub positions : (xs : Bytes) (o : ℕ) → past xs o ≡ o + length xs
+positions = past-length
+
 -- the reader's call, by a dialect's number and with lists of this length
 pub reader-exactly :
     (n : ℕ) (d : Dialect) (xs : Bytes) (room : ℕ) → dialectOf n ≡ some d →
     (reader n xs room .report ≡ accepted) ↔ ((ls : List (Line Derived)) × Acceptable d xs ls × (cellCount ls ≤ room))
 reader-exactly = reader-acceptance
 
+-- and the cells that it answers stand, in file order, where the derivation's texts place them
+pub reader-places :
+    (n : ℕ) (d : Dialect) (xs : Bytes) (room : ℕ) (ls : List (Line Derived)) (k : Derives d xs ls) → dialectOf n ≡ some d →
+    reader n xs room .report ≡ accepted → map stretchOf (reader n xs room .cells) ≡ concat (stretches d xs ls k)
+reader-places = reader-stretches
+
+-- a byte can go on, by form alone, exactly when some derivation's text begins so
+pub goes-on : (d : Dialect) (xs : Bytes) (b : ℕ) → CanGoOn d xs b ↔ GoesOn d xs b
+goes-on = can-go-on
+
+-- so faults 2 and 3 are for the byte with which no derivation's text begins
+pub next-byte :
+    (d : Dialect) (target : Option Dialect) (xs : Bytes) (r : Read) (b : ℕ) → readBytes d target xs ≡ going r → fileFull r ≡ false →
+    recordFull r b ≡ false → NextByte d target xs r b
+next-byte = next-byte-exact
+
 -- so the grammars are exact, and make none of the mistakes
 pub exact : Exact
-exact = record { files = files; contents = contents; acceptance = accepted-exactly }
+exact = record { files = files; contents = contents; acceptance = accepted-exactly; next-byte = next-byte }
 
 pub mistakes : Mistakes
 mistakes = refused exact
+
+pub exact-places : ExactPlaces
+exact-places = record { stretches = stretches-exactly }
+
+pub misplacements : Misplacements
+misplacements = refused-places exact-places

@@ -9,5 +9,7 @@ pub mod CsvPlus
 pub mod Derives
 pub mod Reading
 pub mod Accepted
+pub mod NextByte
+pub mod Stretches
 pub mod Exact
 pub mod Mistakes

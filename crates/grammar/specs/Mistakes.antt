@@ -1,11 +1,12 @@
 -- The mistakes that the theorems rule out. Each field says that one is not made, at the production that would be widened to make it.
 -- `proofs/Refused.antt` proves all from the statement of the theorems (`Exact`), whatever the productions are; `proofs/Absent.antt` from
 -- the productions. So a production that is widened to make one makes the theorems false.
+use Prim.Native.Nat.{ℕ}
 use mathlib.Core.Path.{_≡_}
 use mathlib.Core.Logic.{_≢_}
 use mathlib.Core.List.{List, [], _∷_}
 use lib.ListN.{length, replicate}
-use Rattle.grammar.specs.Types.{Kind, Text, Csvj}
+use Rattle.grammar.specs.Types.{Kind, Text, Csvj, CsvPlus}
 use Rattle.model.specs.Base.{Bytes}
 use Rattle.model.specs.Dialect.{standard}
 use Rattle.grammar.specs.Rfc3629.{UTF8-3}
@@ -15,6 +16,8 @@ use Rattle.grammar.specs.Csvj as csvj
 use Rattle.grammar.specs.Tdif as tdif
 use Rattle.grammar.specs.CsvPlus as plus
 use Rattle.grammar.specs.Accepted.{WithinLimits, ChecksHold}
+use Rattle.grammar.specs.NextByte.{GoesOn}
+use Rattle.grammar.specs.Stretches.{stretch, stretches}
 
 -- `"a"`, and `"a","a"`
 abbrev pub nameA : Derived
@@ -53,3 +56,30 @@ pub record Mistakes : Type 0 where
   pub repeated-name : ¬ ChecksHold Csvj (line twoNames (nameA ∷ nameA ∷ []) ∷ [])
   -- a record of 4,097 bytes
   pub long-record : ¬ WithinLimits tooLong (line tooLong (cell tooLong Text tooLong ∷ []) ∷ [])
+  -- a byte that is refused though a file goes on with it: the quote with which a CSVJ file begins
+  pub begun : ¬ ¬ GoesOn Csvj [] 0x22
+
+-- `x`, `a` and `a`, each with LF, of plain CSV+ cells
+abbrev pub threeLines : Bytes
+threeLines = 0x78 ∷ 0x0A ∷ 0x61 ∷ 0x0A ∷ 0x61 ∷ 0x0A ∷ []
+
+abbrev pub letter : ℕ → Line Derived
+letter b = line (b ∷ []) (cell (b ∷ []) Text (b ∷ []) ∷ [])
+
+abbrev pub threeRecords : List (Line Derived)
+threeRecords = letter 0x78 ∷ letter 0x61 ∷ letter 0x61 ∷ []
+
+abbrev pub threeDerived :
+    ¬ plus.BeginsWithMark threeLines → plus.Non-escaped standard (0x78 ∷ []) → plus.Non-escaped standard (0x61 ∷ []) →
+    plus.File standard threeLines threeRecords
+threeDerived n x a =
+    plus.file n
+    (plus.header-then (plus.a-name (plus.name (plus.a-non-escaped x))) plus.lf
+    (plus.next (plus.field (plus.a-non-escaped a)) plus.lf (plus.last (plus.field (plus.a-non-escaped a)) plus.lf)))
+
+-- the same of where cells stand
+pub record Misplacements : Type 0 where
+  -- a position that starts again with each record, so that the second `a` stands at the first one's place
+  pub equal-cells :
+      (n : ¬ plus.BeginsWithMark threeLines) (x : plus.Non-escaped standard (0x78 ∷ [])) (a : plus.Non-escaped standard (0x61 ∷ [])) →
+      stretches (CsvPlus standard) threeLines threeRecords (threeDerived n x a) ≡ (stretch 0 1 ∷ []) ∷ (stretch 2 3 ∷ []) ∷ (stretch 4 5 ∷ []) ∷ []

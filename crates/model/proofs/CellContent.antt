@@ -45,7 +45,7 @@ pub data Doubles : Dialect → Type 0 where
   d-tdif : Doubles Tdif
   d-plus : {s : Settings} → Doubles (CsvPlus s)
 
-quoted-is : {d : Dialect} → Doubles d → (b : ℕ) → cellStep d (Quoted Whole) b ≡ (if b is quoteOf d then More Closed else textByte Quoted (charStep Whole b))
+pub quoted-is : {d : Dialect} → Doubles d → (b : ℕ) → cellStep d (Quoted Whole) b ≡ (if b is quoteOf d then More Closed else textByte Quoted (charStep Whole b))
 unfolding cellStep quotedByte
 quoted-is d-tdif b = refl
 quoted-is d-plus b = refl

@@ -49,7 +49,7 @@ separator-ascii d b e =
 
 -- ---- later bytes
 
-broken-on : {A : Type 0} {c : Char} → Broken ≡ On c → A
+pub broken-on : {A : Type 0} {c : Char} → Broken ≡ On c → A
 broken-on e = let z : _≡_ {A = ℕ} 0 1 = cc in absurd (omega arith)
 
 second-low : (l : Lead) → 0x80 ≤ rowOf l .lo2
@@ -129,7 +129,7 @@ pub record NearStep (c : Char) (w : Wide) (b : ℕ) : Type 0 where
   pub near : Near c wide
   pub calm : Calm wide
 
-same-on : {x y : Char} {o : Advance} → o ≡ On x → o ≡ On y → x ≡ y
+pub same-on : {x y : Char} {o : Advance} → o ≡ On x → o ≡ On y → x ≡ y
 same-on p q = cc
 
 ed-char : charStep Whole 0xED ≡ On (Within (Second Ed))

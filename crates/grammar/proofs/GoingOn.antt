@@ -1,0 +1,128 @@
+-- A byte can go on in a file, by form alone, exactly when some derivation's text begins so. Where a record is completed the bytes up to
+-- there are a file (`completes-reads`); and a file that is read can be completed by some bytes, as every state can (`reads-complete`).
+use Prim.Native.Nat.{ℕ}
+use mathlib.Core.Path.{_≡_, refl}
+use mathlib.Core.Logic.{_↔_}
+use mathlib.Core.Bool.{Bool, true, false}
+use mathlib.Core.Option.{Option}
+use mathlib.Core.List.{List, [], _∷_, _++_, map, append-assoc}
+use Rattle.grammar.specs.Types.{Dialect, Form, Top, Outside, Passed, OfCell, Between, Tail, Ends, To, Clean}
+use Rattle.model.specs.declared.Part.{Part}
+use Rattle.model.specs.Base.{Bytes}
+use Rattle.model.specs.Form.{formStep, formEnd}
+use Rattle.model.specs.Records.{Read, going, fileFull, recordFull, readBytes}
+use Rattle.model.specs.Viable.{Completes, completed, onward, CanGoOn}
+use Rattle.model.proofs.Laws.{laws}
+use Rattle.grammar.specs.Derived.{Derived, Line, line}
+use Rattle.grammar.specs.Reading.{Reads, decodedLine}
+use Rattle.grammar.specs.Reading as reading
+use Rattle.grammar.specs.NextByte.{GoesOn, NextByte}
+use Rattle.grammar.proofs.Parts.{in-cell, stageOf, RecordEnded, ended-rests, then-begin, then-ended}
+use Rattle.grammar.proofs.Standing.{Tidy, tidy-rest, tidy-cell, Rested, rested, recording-tidy, rest-tidy, parted-tidy}
+use Rattle.grammar.proofs.Standing.{moved-outside, moved-passed, moved-of-cell, moved-between, moved-between-closing, moved-tail, moved-tail-closing, moved-complete}
+use Rattle.grammar.proofs.AcceptedOnly.{HasCell, has-cell, its-moves, reads-cell}
+use Rattle.grammar.proofs.FileGrammar.{derived-reads, reads-derived}
+
+-- these bytes are read to the end of the file, with a record
+data Recorded (d : Dialect) (f : Form) (xs : Bytes) : Type 0 where
+  recorded : (l : Line Bytes) (ls : List (Line Bytes)) → Reads d f xs (l ∷ ls) → Recorded d f xs
+
+ended-clean : (d : Dialect) {f : Form} → RecordEnded f → formEnd d f ≡ Clean
+unfolding formEnd
+ended-clean d then-begin = refl
+ended-clean d then-ended = refl
+
+module _ (d : Dialect) where
+  -- ---- where a record is completed, the bytes so far are a file
+
+  -- a record that goes on from h, after the byte b, is told from f, before it
+  abbrev Told : (f h : Form) (b : ℕ) (bs : Bytes) → Type 0
+  Told f h b bs = (text : Bytes) (cells : List Bytes) (ls : List (Line Bytes)) → Reads d h bs (line text cells ∷ ls) → Recorded d f (b ∷ bs)
+
+  module _ {f h : Form} (b : ℕ) (bs : Bytes) where
+    of-cell-reads : formStep d f b ≡ To h OfCell → stageOf d h ≡ in-cell → Recorded d h bs → Recorded d f (b ∷ bs)
+    of-cell-reads e g (recorded l ls r) = go r (reads-cell d r g)
+      where
+        go : {ls : List (Line Bytes)} → Reads d h bs ls → HasCell ls → Recorded d f (b ∷ bs)
+        go r has-cell = recorded _ _ (reading.of-cell e r)
+
+    last-reads : (k : Bool) → formStep d f b ≡ To h (Ends k) → RecordEnded h → Recorded d f (b ∷ [])
+    last-reads true e n = recorded _ _ (reading.ends-closing e (reading.ends-clean (ended-clean d n)))
+    last-reads false e n = recorded _ _ (reading.ends e (reading.ends-clean (ended-clean d n)))
+
+    record-reads : Told f h b bs → Recorded d h bs → Recorded d f (b ∷ bs)
+    record-reads k (recorded (line text cells) ls r) = k text cells ls r
+
+    next-reads : (k : Bool) → formStep d f b ≡ To h (Ends k) → Recorded d h bs → Recorded d f (b ∷ bs)
+    next-reads true e (recorded l ls r) = recorded _ _ (reading.ends-closing e r)
+    next-reads false e (recorded l ls r) = recorded _ _ (reading.ends e r)
+
+    rest-reads : {text raw : Bytes} {cells : List Derived} → Rested d h text raw cells → ((t : Tidy {A = Derived} (stageOf d h) [] [] []) → Recorded d h bs) → ((ls : List (Line Bytes)) → Reads d h bs ls → Reads d f (b ∷ bs) ls) → Recorded d f (b ∷ bs)
+    rest-reads (rested g) ih k = go (ih (rest-tidy g))
+      where
+        go : Recorded d h bs → Recorded d f (b ∷ bs)
+        go (recorded l ls r) = recorded l ls (k (l ∷ ls) r)
+
+  completes-reads : {f : Form} {xs text raw : Bytes} {cells : List Derived} → Completes d f xs → Tidy (stageOf d f) text raw cells → Recorded d f xs
+  completes-reads (completed {f} {k = k} {b} e) t = last-reads b [] k e (moved-complete (its-moves d f b _ e) t)
+  completes-reads (onward {f} {p = Outside} {b} {bs} e k) t =
+      rest-reads b bs (moved-outside (its-moves d f b _ e) t) (λ t. completes-reads k t) (λ ls r. reading.outside e r)
+  completes-reads (onward {f} {p = Passed} {b} {bs} e k) t =
+      rest-reads b bs (moved-passed (its-moves d f b _ e) t) (λ t. completes-reads k t) (λ ls r. reading.passed e r)
+  completes-reads {text} {raw} {cells} (onward {f} {f′ = h} {p = OfCell} {b} {bs} e k) t =
+      let g = moved-of-cell (its-moves d f b _ e) t .1 in
+      let s : Tidy (stageOf d h) text raw cells = rw g tidy-cell in of-cell-reads b bs e g (completes-reads k s)
+  completes-reads {cells} (onward {f} {p = Between false} {b} {bs} e k) t =
+      record-reads b bs (λ text cells ls r. recorded _ _ (reading.between e r)) (completes-reads k (parted-tidy {cells = cells} (moved-between (its-moves d f b _ e) t)))
+  completes-reads {text} {cells} (onward {f} {p = Between true} {b} {bs} e k) t =
+      record-reads b bs (λ text cells ls r. recorded _ _ (reading.between-closing e r)) (completes-reads k (recording-tidy {text = text} {cells = cells} (moved-between-closing (its-moves d f b _ e) t .1)))
+  completes-reads {cells} (onward {f} {p = Tail false} {b} {bs} e k) t =
+      record-reads b bs (λ text cells ls r. recorded _ _ (reading.tail e r)) (completes-reads k (parted-tidy {cells = cells} (moved-tail (its-moves d f b _ e) t)))
+  completes-reads {text} {cells} (onward {f} {p = Tail true} {b} {bs} e k) t =
+      record-reads b bs (λ text cells ls r. recorded _ _ (reading.tail-closing e r)) (completes-reads k (recording-tidy {text = text} {cells = cells} (moved-tail-closing (its-moves d f b _ e) t .1)))
+  completes-reads (onward {f} {p = Ends k} {b} {bs} e m) t =
+      next-reads b bs k e (completes-reads m (rest-tidy (ended-rests d (moved-complete (its-moves d f b _ e) t))))
+
+  -- ---- what is read can be completed
+
+  data Completed (f : Form) (xs : Bytes) : Type 0 where
+    by-adding : (ws : Bytes) → Completes d f (xs ++ ws) → Completed f xs
+
+  next : {f g : Form} {p : Part} {b : ℕ} {bs : Bytes} → formStep d f b ≡ To g p → Completed g bs → Completed f (b ∷ bs)
+  next e (by-adding ws k) = by-adding ws (onward e k)
+
+  any-state : (f : Form) → Completed f []
+  any-state f = let c = laws .completion d f in by-adding (c .0) (c .1)
+
+  reads-complete : {f : Form} {xs : Bytes} {ls : List (Line Bytes)} → Reads d f xs ls → Completed f xs
+  reads-complete (reading.ends-clean {f} e) = any-state f
+  reads-complete (reading.ends-final {f} e) = any-state f
+  reads-complete (reading.outside e k) = next e (reads-complete k)
+  reads-complete (reading.passed e k) = next e (reads-complete k)
+  reads-complete (reading.of-cell e k) = next e (reads-complete k)
+  reads-complete (reading.between e k) = next e (reads-complete k)
+  reads-complete (reading.between-closing e k) = next e (reads-complete k)
+  reads-complete (reading.tail e k) = next e (reads-complete k)
+  reads-complete (reading.tail-closing e k) = next e (reads-complete k)
+  reads-complete (reading.ends e k) = next e (reads-complete k)
+  reads-complete (reading.ends-closing e k) = next e (reads-complete k)
+
+  -- ---- so a byte can go on exactly when a derivation's text begins so
+
+  pub can-go-on : (xs : Bytes) (b : ℕ) → CanGoOn d xs b ↔ GoesOn d xs b
+  can-go-on xs b = (λ g. derived (g .0) (completes-reads (g .1) tidy-rest), λ g. completed-from (g .0) (reads-complete (derived-reads d (xs ++ (b ∷ (g .0))) (g .1) (g .2))))
+    where
+      derived : (ys : Bytes) → Recorded d Top (xs ++ (b ∷ ys)) → GoesOn d xs b
+      derived ys (recorded l ls r) = (ys, map (decodedLine d) (l ∷ ls), reads-derived d r)
+
+      completed-from : (ys : Bytes) → Completed Top (xs ++ (b ∷ ys)) → CanGoOn d xs b
+      completed-from ys (by-adding ws k) = (ys ++ ws, rw (append-assoc xs (b ∷ ys) ws) at k)
+
+  pub next-byte-exact : (target : Option Dialect) (xs : Bytes) (r : Read) (b : ℕ) → readBytes d target xs ≡ going r → fileFull r ≡ false → recordFull r b ≡ false → NextByte d target xs r b
+  next-byte-exact target xs r b read file size =
+      let m = laws .next-byte d target xs r b read file size in
+      let g = can-go-on xs b in
+      record {
+        refused = (λ h n. m .refused .0 h (g .1 n), λ n. m .refused .1 (λ c. n (g .0 c)));
+        syntax-fault = (λ h. let x = m .syntax-fault .0 h in (λ n. x .0 (g .1 n), x .1), λ n. m .syntax-fault .1 (λ c. n .0 (g .0 c), n .1));
+      }

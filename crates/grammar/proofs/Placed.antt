@@ -1,0 +1,178 @@
+-- The stretches of the cells that were read are those of the derivation. The reader keeps the next byte's offset and the offset at which
+-- the cell in hand was opened, as `Walks` does, so each step of one is a step of the other.
+use Prim.Native.Nat.{ℕ, suc}
+use mathlib.Core.Path.{_≡_, refl, sym, ap, _∙_}
+use mathlib.Core.Bool.{Bool, true, false}
+use mathlib.Core.Option.{none, some}
+use mathlib.Core.List.{List, [], _∷_, _++_, map, map-append, append-assoc, append-nil}
+use lib.ListN.{length}
+use lib.Dec.{ltb}
+use Rattle.grammar.specs.Types.{Dialect, Form, Begin, OfCell, Outside, Passed, Between, Tail, Ends, Step, To, Clean, Final, Verdict, Sound, Faulty}
+use Rattle.grammar.specs.Types as types
+use Rattle.model.specs.Base.{Bytes, if_then_else_, concat}
+use Rattle.model.specs.Dialect.{dialectOf}
+use Rattle.model.specs.Form.{formStep, formEnd}
+use Rattle.model.specs.Report.{accepted}
+use Rattle.model.specs.Records.{Rec, rows, Progress, stopped, Read, going, nothingRead, between-records, cellNow, closing, judged, complete, move, fileFull, recordFull, recordFault, readByte, readFrom, readBytes, endBetween, readEnd, readFile}
+use Rattle.model.specs.Api.{answered, answerOf, reader}
+use Rattle.grammar.specs.Derived.{Derived, Line}
+use Rattle.grammar.specs.Derives.{Derives}
+use Rattle.grammar.specs.Stretches.{Stretch, stretch, stretches, stretchOf, shown}
+use Rattle.grammar.proofs.Parts.{stageOf, ended-rests}
+use Rattle.grammar.proofs.Standing.{Tidy, tidy-rest, tidy-cell, recording-tidy, rest-tidy, rested-none, parted-tidy}
+use Rattle.grammar.proofs.Standing.{moved-outside, moved-passed, moved-of-cell, moved-between, moved-between-closing, moved-tail, moved-tail-closing, moved-complete}
+use Rattle.grammar.proofs.Walks.{Walks}
+use Rattle.grammar.proofs.Walks as walks
+use Rattle.grammar.proofs.AcceptedOnly.{its-moves, not-going, same-going, stopped-going}
+use Rattle.grammar.proofs.FileGrammar.{derived-walks}
+use Rattle.grammar.proofs.Acceptance.{accepted-going, ten}
+
+-- the complete cells of the record in hand stand before the rest of it
+onto : List Stretch → List (List Stretch) → List (List Stretch)
+onto cs [] = []
+onto cs (ps ∷ ss) = (cs ++ ps) ∷ ss
+
+onto-none : (ss : List (List Stretch)) → onto [] ss ≡ ss
+unfolding onto
+onto-none [] = refl
+onto-none (ps ∷ ss) = refl
+
+module _ (d : Dialect) (end : Read) where
+  -- reading on from r comes to the end
+  abbrev Comes : Read → Bytes → Type 0
+  Comes r xs = readEnd d none (readFrom d none (going r) xs) ≡ going end
+
+  -- the records are then those that were complete, and these
+  abbrev Shows : Read → List (List Stretch) → Type 0
+  Shows r ss = shown (end .done) ≡ shown (r .done) ++ onto (map stretchOf (r .cells)) ss
+
+  byte-read :
+      (r : Read) (b : ℕ) (bs : Bytes) (s : Step) → formStep d (r .form) b ≡ s → Comes r (b ∷ bs) →
+      readEnd d none (readFrom d none (move d none r b s) bs) ≡ going end
+  unfolding readFrom readByte if_then_else_
+  byte-read r b bs s e q = go (fileFull r) (recordFull r b) refl refl
+    where
+      go : (x y : Bool) → fileFull r ≡ x → recordFull r b ≡ y → readEnd d none (readFrom d none (move d none r b s) bs) ≡ going end
+      go true y f z = not-going d types.FileTooLong r bs (rw f at q)
+      go false true f z = not-going d types.RecordTooLong r bs (rw (f, z) at q)
+      go false false f z = rw (f, z, e) at q
+
+  verdict-read :
+      (r next : Read) (bs : Bytes) (v : Verdict) → readEnd d none (readFrom d none (judged r next v) bs) ≡ going end → Comes next bs
+  verdict-read r next bs Sound q = q
+  verdict-read r next bs (Faulty x) q = not-going d x r bs q
+
+  -- the cell in hand closes where the walk has it
+  closing-onto :
+      (r : Read) {o p : ℕ} (ps : List Stretch) (ss : List (List Stretch)) → r .offset ≡ o → r .opened ≡ p →
+      onto (map stretchOf (closing d true r)) (ps ∷ ss) ≡ onto (map stretchOf (r .cells)) ((stretch p o ∷ ps) ∷ ss)
+  unfolding onto
+  closing-onto r ps ss po pp =
+      rw (map-append stretchOf (r .cells) (cellNow d r ∷ []), append-assoc (map stretchOf (r .cells)) (stretchOf (cellNow d r) ∷ []) ps, po, pp)
+
+  -- a complete record stands behind those before it
+  record-onto :
+      (rs : List Rec) (r : Rec) (ss : List (List Stretch)) → shown (rs ++ (r ∷ [])) ++ onto [] ss ≡ shown rs ++ onto (map stretchOf (r .cells)) ([] ∷ ss)
+  unfolding onto
+  record-onto rs r ss =
+      rw (map-append (λ (r : Rec). map stretchOf (r .cells)) rs (r ∷ []), append-assoc (shown rs) (map stretchOf (r .cells) ∷ []) (onto [] ss), onto-none ss, append-nil (map stretchOf (r .cells)))
+
+  between-same : (r : Read) (rs : List Rec) → endBetween r rs ≡ going end → r ≡ end
+  between-same r [] q = stopped-going q
+  between-same r (h ∷ rs) q = same-going q
+
+  judged-same : (r next : Read) (v : Verdict) → judged r next v ≡ going end → next ≡ end
+  judged-same r next Sound q = same-going q
+  judged-same r next (Faulty x) q = stopped-going q
+
+  stepped : (r : Read) {f : Form} (b : ℕ) (s : Step) → r .form ≡ f → formStep d f b ≡ s → formStep d (r .form) b ≡ s
+  stepped r b s p e = ap (λ z. formStep d z b) p ∙ e
+
+  walk-shows :
+      {f : Form} {o p : ℕ} {xs text raw : Bytes} {ls : List (Line Bytes)} {ss : List (List Stretch)} → Walks d f o p xs ls ss →
+      (r : Read) → r .form ≡ f → r .offset ≡ o → r .opened ≡ p → Tidy (stageOf d (r .form)) text raw (r .cells) → Comes r xs → Shows r ss
+  unfolding move complete readFrom readEnd onto
+  walk-shows (walks.ends-clean {f} e) r pf po pp t q =
+      let c : formEnd d (r .form) ≡ Clean = ap (formEnd d) pf ∙ e in
+      let z : r ≡ end = between-same r (r .done) (rw c at q) in
+      sym (ap (λ (x : Read). shown (x .done)) z) ∙ sym (append-nil (shown (r .done)))
+  walk-shows (walks.ends-final {f} e) r pf po pp t q =
+      let c : formEnd d (r .form) ≡ Final = ap (formEnd d) pf ∙ e in
+      let made : Rec = record { start = r .start; size = r .size; cells = closing d true r } in
+      let next : Read = between-records (r .done ++ (made ∷ [])) Begin (r .offset) in
+      let z : next ≡ end = judged-same r next (recordFault d none (r .done) (closing d true r)) (rw c at q) in
+      let a : shown (r .done ++ (made ∷ [])) ≡ shown (r .done ++ (made ∷ [])) ++ [] = sym (append-nil (shown (r .done ++ (made ∷ [])))) in
+      sym (ap (λ (x : Read). shown (x .done)) z) ∙ a ∙ record-onto (r .done) made [] ∙ ap (λ z. shown (r .done) ++ z) (closing-onto r [] [] po pp)
+  walk-shows (walks.outside {g} {b} {bs} e k) r pf po pp t q =
+      let s = stepped r b (To g Outside) pf e in
+      let m = rested-none (moved-outside (its-moves d (r .form) b (To g Outside) s) t) in
+      rw (m .0) (walk-shows k _ refl (ap suc po) (ap suc po) (rest-tidy (m .1)) (byte-read r b bs (To g Outside) s q))
+  walk-shows (walks.passed {g} {b} {bs} e k) r pf po pp t q =
+      let s = stepped r b (To g Passed) pf e in
+      let m = rested-none (moved-passed (its-moves d (r .form) b (To g Passed) s) t) in
+      rw (m .0) (walk-shows k _ refl (ap suc po) (ap suc po) (rest-tidy (m .1)) (byte-read r b bs (To g Passed) s q))
+  walk-shows {text} {raw} (walks.of-cell {g} {b} {bs} e k) r pf po pp t q =
+      let s = stepped r b (To g OfCell) pf e in
+      let m : Tidy (stageOf d g) text raw (r .cells) = rw (moved-of-cell (its-moves d (r .form) b (To g OfCell) s) t .1) tidy-cell in
+      walk-shows k _ refl (ap suc po) pp m (byte-read r b bs (To g OfCell) s q)
+  walk-shows (walks.between {g} {b} {bs} e k) r pf po pp t q =
+      let s = stepped r b (To g (Between false)) pf e in
+      walk-shows k _ refl (ap suc po) (ap suc po) (parted-tidy (moved-between (its-moves d (r .form) b (To g (Between false)) s) t)) (byte-read r b bs (To g (Between false)) s q)
+  walk-shows {text} (walks.between-closing {g} {b} {bs} {ps} {ss} e k) r pf po pp t q =
+      let s = stepped r b (To g (Between true)) pf e in
+      let m = recording-tidy {text = text} (moved-between-closing (its-moves d (r .form) b (To g (Between true)) s) t .1) in
+      walk-shows k _ refl (ap suc po) (ap suc po) m (byte-read r b bs (To g (Between true)) s q) ∙ ap (λ z. shown (r .done) ++ z) (closing-onto r ps ss po pp)
+  walk-shows (walks.tail {g} {b} {bs} e k) r pf po pp t q =
+      let s = stepped r b (To g (Tail false)) pf e in
+      walk-shows k _ refl (ap suc po) (ap suc po) (parted-tidy (moved-tail (its-moves d (r .form) b (To g (Tail false)) s) t)) (byte-read r b bs (To g (Tail false)) s q)
+  walk-shows {text} (walks.tail-closing {g} {b} {bs} {ps} {ss} e k) r pf po pp t q =
+      let s = stepped r b (To g (Tail true)) pf e in
+      let m = recording-tidy {text = text} (moved-tail-closing (its-moves d (r .form) b (To g (Tail true)) s) t .1) in
+      walk-shows k _ refl (ap suc po) (ap suc po) m (byte-read r b bs (To g (Tail true)) s q) ∙ ap (λ z. shown (r .done) ++ z) (closing-onto r ps ss po pp)
+  walk-shows (walks.ends {g} {b} {bs} {ss} e k) r pf po pp t q =
+      let s = stepped r b (To g (Ends false)) pf e in
+      let made : Rec = record { start = r .start; size = r .size; cells = r .cells } in
+      let next : Read = between-records (r .done ++ (made ∷ [])) g (suc (r .offset)) in
+      let m = rest-tidy (ended-rests d (moved-complete (its-moves d (r .form) b (To g (Ends false)) s) t)) in
+      walk-shows k next refl (ap suc po) (ap suc po) m (verdict-read r next bs (recordFault d none (r .done) (r .cells)) (byte-read r b bs (To g (Ends false)) s q)) ∙ record-onto (r .done) made ss
+  walk-shows (walks.ends-closing {g} {b} {bs} {ss} e k) r pf po pp t q =
+      let s = stepped r b (To g (Ends true)) pf e in
+      let made : Rec = record { start = r .start; size = r .size; cells = closing d true r } in
+      let next : Read = between-records (r .done ++ (made ∷ [])) g (suc (r .offset)) in
+      let m = rest-tidy (ended-rests d (moved-complete (its-moves d (r .form) b (To g (Ends true)) s) t)) in
+      walk-shows k next refl (ap suc po) (ap suc po) m (verdict-read r next bs (recordFault d none (r .done) (closing d true r)) (byte-read r b bs (To g (Ends true)) s q)) ∙
+      record-onto (r .done) made ss ∙ ap (λ z. shown (r .done) ++ z) (closing-onto r [] ss po pp)
+
+-- the reader's stretches are those of every derivation
+pub same-stretches : (d : Dialect) (xs : Bytes) (ls : List (Line Derived)) (k : Derives d xs ls) (r : Read) → readFile d none xs ≡ going r → shown (r .done) ≡ stretches d xs ls k
+unfolding readFile readBytes nothingRead
+same-stretches d xs ls k r e = walk-shows d r (derived-walks d xs ls k) nothingRead refl refl refl tidy-rest e ∙ onto-none (stretches d xs ls k)
+
+-- ---- the reader's call
+
+rows-stretches : (rs : List Rec) → map stretchOf (concat (rows rs)) ≡ concat (shown rs)
+unfolding rows concat
+rows-stretches [] = refl
+rows-stretches (r ∷ rs) = map-append stretchOf (r .cells) (concat (rows rs)) ∙ ap (λ z. map stretchOf (r .cells) ++ z) (rows-stretches rs)
+
+-- an accepted file is answered with all its cells
+answered-cells : (rs : List Rec) (room : ℕ) → answered rs (concat (rows rs)) room .report ≡ accepted → answered rs (concat (rows rs)) room .cells ≡ concat (rows rs)
+unfolding rows concat if_then_else_
+answered-cells [] room e = refl
+answered-cells (h ∷ rs) room e = go (ltb room (length (concat (rows (h ∷ rs))))) refl
+  where
+    go : (t : Bool) → ltb room (length (concat (rows (h ∷ rs)))) ≡ t → answered (h ∷ rs) (concat (rows (h ∷ rs))) room .cells ≡ concat (rows (h ∷ rs))
+    go true p = ten (rw p at e)
+    go false p = rw p
+
+-- the cells that it answers stand, in file order, where every derivation has them
+pub reader-stretches :
+    (n : ℕ) (d : Dialect) (xs : Bytes) (room : ℕ) (ls : List (Line Derived)) (k : Derives d xs ls) → dialectOf n ≡ some d →
+    reader n xs room .report ≡ accepted → map stretchOf (reader n xs room .cells) ≡ concat (stretches d xs ls k)
+unfolding reader
+reader-stretches n d xs room ls k dialect e = rw (dialect, reader) (go (readFile d none xs) refl (rw (dialect, reader) at e))
+  where
+    go : (p : Progress) → readFile d none xs ≡ p → answerOf p room .report ≡ accepted → map stretchOf (answerOf p room .cells) ≡ concat (stretches d xs ls k)
+    go (going r) q e =
+        ap (map stretchOf) (answered-cells (r .done) room e) ∙ rows-stretches (r .done) ∙ ap concat (same-stretches d xs ls k r q)
+    go (stopped x r) q e = stopped-going (accepted-going (stopped x r) e .1)
