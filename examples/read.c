@@ -48,7 +48,7 @@ int main(int argc, char **argv) {
 
     for (size_t i = 0; i < table.cells; i++) {
         struct hk_decode_answer cell = hk_decode(dialect, file + starts[i], ends[i] - starts[i], content, sizeof content);
-        printf("%zu.%zu %s ", i / table.columns + 1, i % table.columns + 1, kinds[cell.kind]);
+        printf("%zu.%zu %s%s", i / table.columns + 1, i % table.columns + 1, kinds[cell.kind], cell.length > 0 ? " " : "");
         fwrite(content, 1, cell.length, stdout);
         putchar('\n');
     }

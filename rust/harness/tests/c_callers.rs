@@ -101,7 +101,7 @@ fn the_c_example_reads_a_table() {
     let told = succeeded(&run(&program, &["csvj"], table));
     assert_eq!(
         told,
-        "1.1 text stop\n1.2 text fare\n2.1 text Harbour\n2.2 number 2.40\n3.1 text Old \"Mint\"\n3.2 null \n"
+        "1.1 text stop\n1.2 text fare\n2.1 text Harbour\n2.2 number 2.40\n3.1 text Old \"Mint\"\n3.2 null\n"
     );
     let many = "\\N\n".repeat(100_000);
     let told = succeeded(&run(
@@ -109,7 +109,7 @@ fn the_c_example_reads_a_table() {
         &["tdif"],
         format!("\"a\"\n{many}").as_bytes(),
     ));
-    assert!(told.ends_with("\n100001.1 null \n"));
+    assert!(told.ends_with("\n100001.1 null\n"));
     let refused = run(&program, &["csv+"], b"a,b\n1\n");
     assert_eq!(refused.status.code(), Some(1));
     assert_eq!(
