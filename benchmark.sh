@@ -10,12 +10,11 @@ if [[ $# -gt 0 ]]; then
 fi
 cd "$(dirname "$0")"
 
-rt staticlib tables >&2
-rt staticlib cells >&2
+make >&2
 
 registry=/usr/share/cargo/registry
 if compgen -G "$registry/csv-core-*" >/dev/null && compgen -G "$registry/serde_json-*" >/dev/null; then
-  cargo build --release --offline --quiet --manifest-path benchmark/peers/Cargo.toml --target-dir target/peers \
+  cargo build --release --offline --quiet --manifest-path rust/benchmark/peers/Cargo.toml --target-dir target/peers \
     --config 'source.crates-io.replace-with="system"' --config "source.system.directory=\"$registry\""
   program=target/peers/release/peers
   (cd "$registry" && echo 'with' csv-core-* serde_json-*)

@@ -1,0 +1,10 @@
+-- `c_files::answer_of` meets its contract: each field is the reader's.
+use mathlib.Core.Path.{refl}
+use Rattle.c_files.proofs.answer_of.Statement.{statement}
+use Rattle.c_files.proofs.answer_of.Tie as tie
+
+returns : tie.Need-returns
+returns c = refl
+
+pub answer-of-spec : {M : Type 1} → statement M
+answer-of-spec = tie.close (tie.spec returns)

@@ -1,0 +1,98 @@
+/* Hemakuliwi: tables in CSVJ, TDIF and CSV+, read by proved code. `make` builds libhemakuliwi.a, `make install` installs it.
+   docs/RULES.md has the rules, docs/GUARANTEES.md what is proved.
+
+   Every call
+   - asks that each pointer leads to as many elements as the length beside it says (with length 0 it may be NULL), and that no lent
+     list overlaps another or what is read. It asks nothing else: every number and all bytes have an answer.
+   - ends, and writes to what it was lent and nowhere else. On refusal every lent element is as it was.
+   - keeps nothing and allocates nothing, so that threads may call at the same time, each with what it lends itself.
+   - takes stack: hk_read about 10 KB at most, hk_decode about 0.3 KB. This is measured by the tests and not proved. */
+#ifndef HEMAKULIWI_H
+#define HEMAKULIWI_H
+
+#include <stddef.h>
+#include <stdint.h>
+
+#define HK_VERSION "0.1.0"
+#define HK_VERSION_MAJOR 0
+#define HK_VERSION_MINOR 1
+#define HK_VERSION_PATCH 0
+
+/* The limits of a file. A room of HK_RECORD_BYTES holds any cell's content. */
+#define HK_FILE_BYTES 16777215
+#define HK_RECORD_BYTES 4096
+#define HK_COLUMNS 64
+
+#ifdef __cplusplus
+extern "C" {
+#endif
+
+enum hk_dialect {
+    HK_CSVJ = 1,
+    HK_TDIF = 2,
+    HK_CSV_PLUS = 3
+};
+
+enum hk_kind {
+    HK_TEXT = 1,
+    HK_NUMBER = 2,
+    HK_TRUE = 3,
+    HK_FALSE = 4,
+    HK_NULL = 5
+};
+
+/* The numbers of a report. 9 and 12 belong to converting and writing. */
+enum hk_report_number {
+    HK_ACCEPTED = 0,
+    HK_NO_RECORD = 1,      /* the file ends before a record begins */
+    HK_ENCODING = 2,       /* a byte breaks UTF-8 */
+    HK_SYNTAX = 3,         /* a byte that can't stand here */
+    HK_CUT_SHORT = 4,      /* the file ends too early */
+    HK_UNEVEN = 5,         /* the cell count is not the header's */
+    HK_REPEATED_NAME = 6,  /* a header name repeats an earlier one */
+    HK_NOT_TEXT = 7,       /* a header cell is not text */
+    HK_LIMIT = 8,          /* more bytes or columns than the limits allow */
+    HK_NOT_CARRIED = 9,    /* the target can't carry the record */
+    HK_ROOM = 10,          /* what was lent is too short, and nothing else is wrong */
+    HK_WRONG_CALL = 11,    /* an unknown dialect number */
+    HK_NO_TABLE = 12       /* what is to be written is no table */
+};
+
+/* Acceptance is all 0. Records and columns count from 1, the header being record 1; 0 means that none is named. Offsets count from 0. */
+struct hk_report {
+    size_t number;
+    size_t record_number;
+    size_t column;
+    size_t offset;
+};
+
+/* On refusal all but the report is 0. */
+struct hk_read_answer {
+    struct hk_report report;
+    size_t columns;
+    size_t records; /* data records: the header is not counted */
+    size_t cells;   /* the header's too */
+};
+
+/* The cells of a whole file: cell i stands from starts[i] up to ends[i], raw, with its quotes, and its kind is kinds[i]. Cells come in
+   file order, so that cell i is in record i / columns. Elements past the cells are left as they were. Accepted, or refused with the
+   first fault; HK_ROOM only if the file is accepted and has more cells than the shortest list has elements. */
+struct hk_read_answer hk_read(uint32_t dialect, const uint8_t *file, size_t file_length, size_t *starts, size_t starts_length,
+                              size_t *ends, size_t ends_length, uint8_t *kinds, size_t kinds_length);
+
+/* On refusal all but the report is 0, and the report names no record or column: its offset counts from the cell's start. */
+struct hk_decode_answer {
+    struct hk_report report;
+    size_t length;
+    size_t kind;
+};
+
+/* The raw bytes of one cell to its content, in `room`: a text without quotes and escapes, a number as spelt, else nothing. Bytes past
+   the content are left as they were. Every cell that hk_read finds is sound; HK_ROOM only if the content is longer than the room. */
+struct hk_decode_answer hk_decode(uint32_t dialect, const uint8_t *raw, size_t raw_length, uint8_t *room, size_t room_length);
+
+#ifdef __cplusplus
+}
+#endif
+
+#endif

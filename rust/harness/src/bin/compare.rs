@@ -1,0 +1,29 @@
+//! Compares the proved calls with the reference on random inputs until they differ or it is stopped: `compare SEED`.
+
+use harness::compare::{decode_random, proved_reader, read_random};
+use std::process::ExitCode;
+
+/// How many cells and how many files are compared with each seed.
+const COUNT: usize = 200_000;
+
+fn main() -> ExitCode {
+    let Some(Ok(first)) = std::env::args().nth(1).map(|seed| seed.parse::<u64>()) else {
+        eprintln!("usage: compare SEED");
+        return ExitCode::from(2);
+    };
+    for seed in first.. {
+        if let Err(difference) = compare(seed) {
+            eprintln!("seed {seed}: {difference}");
+            return ExitCode::FAILURE;
+        }
+    }
+    ExitCode::SUCCESS
+}
+
+fn compare(seed: u64) -> Result<(), String> {
+    let cells = decode_random(seed, COUNT)?;
+    cells.print(&format!("seed {seed}: {COUNT} raw cells agree"));
+    let files = read_random(proved_reader, seed, COUNT)?;
+    files.print(&format!("seed {seed}: {COUNT} files agree"));
+    Ok(())
+}

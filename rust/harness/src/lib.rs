@@ -1,0 +1,40 @@
+//! Runs the vectors, the CSVJ conformance set and random tests against the reference, holds the proved calls to the reference, and
+//! states the vectors for the prover.
+
+pub mod antt;
+#[cfg(feature = "proved")]
+pub mod compare;
+pub mod conformance;
+pub mod counts;
+pub mod generate;
+pub mod json;
+pub mod ledger;
+pub mod lists;
+pub mod rng;
+pub mod runner;
+pub mod sampled;
+pub mod vectors;
+pub mod whole;
+
+use reference::Dialect;
+use std::path::{Path, PathBuf};
+
+/// The dialects with their numbers.
+pub const DIALECTS: [(u32, Dialect); 3] = [
+    (1, Dialect::Csvj),
+    (2, Dialect::Tdif),
+    (3, Dialect::CsvPlus),
+];
+
+/// Numbers of no dialect; one of them has the low byte of a dialect's.
+pub const UNKNOWN: [u32; 4] = [0, 4, 257, u32::MAX];
+
+/// The repository's root folder.
+pub fn repository() -> PathBuf {
+    Path::new(env!("CARGO_MANIFEST_DIR")).join("../..")
+}
+
+/// The folder of the vectors.
+pub fn vectors_folder() -> PathBuf {
+    repository().join("vectors")
+}

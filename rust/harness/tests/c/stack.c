@@ -1,0 +1,104 @@
+/* Prints how many bytes of stack each call takes at most, on files that lead through all of the reader: wide headers of escaped
+   names, long records, and a name that repeats. A call runs on a stack that was filled before, and what it changed is what it took. */
+#define _XOPEN_SOURCE 700
+#include <hemakuliwi.h>
+#include <pthread.h>
+#include <stdio.h>
+#include <stdlib.h>
+#include <string.h>
+
+enum { STACK = 1 << 18, FILL = 0xA5, PLACES = 1024 };
+
+static uint8_t file[1 << 16];
+static size_t file_length, starts[PLACES], ends[PLACES];
+static uint8_t kinds[PLACES], room[HK_RECORD_BYTES];
+static uint32_t dialect;
+static uint8_t *stack;
+static size_t cells, taken;
+
+static void read_file(void) {
+    cells = hk_read(dialect, file, file_length, starts, PLACES, ends, PLACES, kinds, PLACES).cells;
+}
+
+static void decode_cells(void) {
+    for (size_t i = 0; i < cells; i++) {
+        hk_decode(dialect, file + starts[i], ends[i] - starts[i], room, sizeof room);
+    }
+}
+
+static void (*call)(void);
+
+static void *measure(void *unused) {
+    (void)unused;
+    volatile uint8_t here = 0;
+    call();
+    size_t untouched = 0;
+    while (stack[untouched] == FILL) {
+        untouched++;
+    }
+    size_t used = (size_t)((uintptr_t)&here - (uintptr_t)(stack + untouched));
+    taken = used > taken ? used : taken;
+    return NULL;
+}
+
+static void on_filled_stack(void (*one)(void)) {
+    pthread_attr_t attributes;
+    pthread_t thread;
+    memset(stack, FILL, STACK);
+    call = one;
+    if (pthread_attr_init(&attributes) != 0 || pthread_attr_setstack(&attributes, stack, STACK) != 0 ||
+        pthread_create(&thread, &attributes, measure, NULL) != 0 || pthread_join(thread, NULL) != 0) {
+        fprintf(stderr, "stack: no thread\n");
+        exit(1);
+    }
+    pthread_attr_destroy(&attributes);
+}
+
+static void add(const char *text) {
+    memcpy(file + file_length, text, strlen(text));
+    file_length += strlen(text);
+}
+
+/* A header of 64 names, the last of which may repeat the first, and a data record. */
+static void make_file(uint32_t number, int repeats) {
+    static const char *const names[] = {NULL, "\"\\ud83d\\ude00\\n%d\"", "\"\xF0\x9F\x98\x80\"\"%d\"", "\"\xF0\x9F\x98\x80\"\"%d\""};
+    static const char *const endings[] = {NULL, "\r\n", "\r", "\r\n"};
+    dialect = number;
+    file_length = 0;
+    for (int record = 1; record <= 2; record++) {
+        for (int column = 1; column <= HK_COLUMNS; column++) {
+            char name[64];
+            snprintf(name, sizeof name, names[number], repeats && column == HK_COLUMNS ? 1 : column);
+            add(column == 1 ? "" : ",");
+            add(name);
+        }
+        add(endings[number]);
+    }
+}
+
+static size_t most(void (*one)(void)) {
+    taken = 0;
+    for (uint32_t number = HK_CSVJ; number <= HK_CSV_PLUS; number++) {
+        for (int repeats = 1; repeats >= 0; repeats--) {
+            make_file(number, repeats);
+            read_file();
+            if (cells != (repeats ? 0 : 2 * HK_COLUMNS)) {
+                fprintf(stderr, "stack: a file of dialect %u was not read as it should\n", (unsigned)number);
+                exit(1);
+            }
+            on_filled_stack(one);
+        }
+    }
+    return taken;
+}
+
+int main(void) {
+    stack = aligned_alloc(4096, STACK);
+    if (stack == NULL) {
+        return 1;
+    }
+    size_t reading = most(read_file), decoding = most(decode_cells);
+    printf("hk_read %zu hk_decode %zu\n", reading, decoding);
+    free(stack);
+    return 0;
+}

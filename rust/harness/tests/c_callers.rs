@@ -1,0 +1,184 @@
+//! The library as C and C++ have it: installed by `make install`, and found as pkg-config tells.
+
+use harness::repository;
+use reference::limits::{COLUMNS, FILE_BYTES, RECORD_BYTES};
+use std::fs;
+use std::io::Write;
+use std::path::{Path, PathBuf};
+use std::process::{Command, Output, Stdio};
+use std::sync::OnceLock;
+
+const C: [&str; 2] = ["cc", "-std=c11"];
+const CPP: [&str; 2] = ["c++", "-std=c++17"];
+const STRICT: [&str; 4] = ["-Wall", "-Wextra", "-Wpedantic", "-Werror"];
+
+/// The folder that the library is installed below, once for all tests.
+fn prefix() -> &'static Path {
+    static PREFIX: OnceLock<PathBuf> = OnceLock::new();
+    PREFIX.get_or_init(|| {
+        let prefix = Path::new(env!("CARGO_TARGET_TMPDIR")).join("installed");
+        let mut make = Command::new("make");
+        make.current_dir(repository())
+            .args(["--silent", "install"])
+            .arg(format!("PREFIX={}", prefix.display()));
+        succeeded(&make.output().expect("make starts"));
+        prefix
+    })
+}
+
+/// What pkg-config tells or, where that is not installed, what it would read.
+fn flags() -> Vec<String> {
+    let folder = prefix().join("lib/pkgconfig");
+    let told = Command::new("pkg-config")
+        .args(["--cflags", "--libs", "hemakuliwi"])
+        .env("PKG_CONFIG_PATH", &folder)
+        .output();
+    let text = match told {
+        Ok(output) => succeeded(&output),
+        Err(_) => fields(&fs::read_to_string(folder.join("hemakuliwi.pc")).expect("the file")),
+    };
+    text.split_whitespace().map(str::to_string).collect()
+}
+
+/// The flags that a pkg-config file has, with its variables replaced.
+fn fields(file: &str) -> String {
+    let mut fields = file
+        .lines()
+        .filter_map(|line| line.strip_prefix("Cflags:").or(line.strip_prefix("Libs:")))
+        .collect::<String>();
+    let variables: Vec<(&str, &str)> = file
+        .lines()
+        .filter_map(|line| line.split_once('='))
+        .collect();
+    for (name, value) in variables.iter().rev() {
+        fields = fields.replace(&format!("${{{name}}}"), value);
+    }
+    fields
+}
+
+/// Compiles a program of the repository as strictly as can be, and gives where it is.
+fn compile(compiler: [&str; 2], source: &str) -> PathBuf {
+    let source = repository().join(source);
+    let program = prefix().join(source.file_stem().expect("a file"));
+    let mut command = Command::new(compiler[0]);
+    command
+        .arg(compiler[1])
+        .args(STRICT)
+        .args(["-O2", "-pthread"])
+        .arg(&source)
+        .arg("-o")
+        .arg(&program)
+        .args(flags());
+    succeeded(&command.output().expect("the compiler starts"));
+    program
+}
+
+/// The standard output of a command that has to succeed.
+fn succeeded(output: &Output) -> String {
+    let [told, said] = [&output.stdout, &output.stderr].map(|bytes| String::from_utf8_lossy(bytes));
+    assert!(output.status.success(), "{}\n{told}{said}", output.status);
+    told.into_owned()
+}
+
+fn run(program: &Path, arguments: &[&str], input: &[u8]) -> Output {
+    let mut child = Command::new(program)
+        .args(arguments)
+        .stdin(Stdio::piped())
+        .stdout(Stdio::piped())
+        .stderr(Stdio::piped())
+        .spawn()
+        .expect("the program starts");
+    let mut stdin = child.stdin.take().expect("standard input is piped");
+    stdin.write_all(input).expect("it reads all");
+    drop(stdin);
+    child.wait_with_output().expect("the program ends")
+}
+
+#[test]
+fn the_c_example_reads_a_table() {
+    let program = compile(C, "examples/read.c");
+    let table = b"\"stop\",\"fare\"\n\"Harbour\",2.40\n\"Old \\\"Mint\\\"\",null\n";
+    let told = succeeded(&run(&program, &["csvj"], table));
+    assert_eq!(
+        told,
+        "1.1 text stop\n1.2 text fare\n2.1 text Harbour\n2.2 number 2.40\n3.1 text Old \"Mint\"\n3.2 null\n"
+    );
+    let many = "\\N\n".repeat(100_000);
+    let told = succeeded(&run(
+        &program,
+        &["tdif"],
+        format!("\"a\"\n{many}").as_bytes(),
+    ));
+    assert!(told.ends_with("\n100001.1 null\n"));
+    let refused = run(&program, &["csv+"], b"a,b\n1\n");
+    assert_eq!(refused.status.code(), Some(1));
+    assert_eq!(
+        refused.stderr,
+        b"read: fault 5 in record 2, column 0, at byte 4\n"
+    );
+}
+
+#[test]
+fn the_cpp_example_counts_a_table() {
+    if Command::new(CPP[0]).arg("--version").output().is_err() {
+        eprintln!("no C++ compiler is installed, so that the header was not tried with one");
+        return;
+    }
+    let program = compile(CPP, "examples/count.cpp");
+    let told = succeeded(&run(&program, &[], b"stop,fare\nHarbour,2.40\n"));
+    assert_eq!(told, "2 columns, 1 data records, 4 cells\n");
+}
+
+#[test]
+fn nothing_may_be_lent() {
+    let program = compile(C, "rust/harness/tests/c/empty.c");
+    succeeded(&run(&program, &[], b""));
+}
+
+#[test]
+fn the_stack_is_as_small_as_the_header_says() {
+    let program = compile(C, "rust/harness/tests/c/stack.c");
+    let told = succeeded(&run(&program, &[], b""));
+    eprint!("bytes of stack: {told}");
+    let numbers: Vec<usize> = told
+        .split(' ')
+        .filter_map(|word| word.trim().parse().ok())
+        .collect();
+    assert!(matches!(numbers[..], [..=10_500, ..=500]), "{told}");
+}
+
+#[test]
+fn the_pkg_config_file_can_be_read_without_pkg_config() {
+    let file = fs::read_to_string(prefix().join("lib/pkgconfig/hemakuliwi.pc")).expect("the file");
+    let read: Vec<String> = fields(&file)
+        .split_whitespace()
+        .map(str::to_string)
+        .collect();
+    assert_eq!(read, flags());
+}
+
+#[test]
+fn the_header_has_the_version_and_the_limits() {
+    let header = fs::read_to_string(repository().join("include/hemakuliwi.h")).expect("the header");
+    let version = env!("CARGO_PKG_VERSION");
+    let mut parts = version.split('.');
+    let mut part = || parts.next().expect("a version has three parts");
+    for line in [
+        format!("HK_VERSION \"{version}\""),
+        format!("HK_VERSION_MAJOR {}", part()),
+        format!("HK_VERSION_MINOR {}", part()),
+        format!("HK_VERSION_PATCH {}", part()),
+        format!("HK_FILE_BYTES {FILE_BYTES}"),
+        format!("HK_RECORD_BYTES {RECORD_BYTES}"),
+        format!("HK_COLUMNS {COLUMNS}"),
+    ] {
+        let line = format!("#define {line}");
+        assert!(header.lines().any(|found| found == line), "{line}");
+    }
+    let limits = (
+        hemakuliwi::FILE_BYTES,
+        hemakuliwi::RECORD_BYTES,
+        hemakuliwi::COLUMNS,
+    );
+    assert_eq!(limits, (FILE_BYTES, RECORD_BYTES, COLUMNS));
+}

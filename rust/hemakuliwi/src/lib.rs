@@ -1,0 +1,144 @@
+//! Safe bindings to the proved library. `include/hemakuliwi.h` says what each call promises; `docs/RULES.md` has the rules.
+//!
+//! A file is read into lists that the caller lends. How many cells it has is not known before, so the lists double until they are
+//! long enough, which report 10 tells:
+//!
+//! ```
+//! let file = b"\"stop\",\"fare\"\n\"Harbour\",2.40\n";
+//! let (mut starts, mut ends, mut kinds) = (vec![0; 2], vec![0; 2], vec![0; 2]);
+//! let table = loop {
+//!     let answer = hemakuliwi::read(hemakuliwi::CSVJ, file, &mut starts, &mut ends, &mut kinds);
+//!     if answer.report.number != hemakuliwi::ROOM {
+//!         break answer;
+//!     }
+//!     let doubled = 2 * starts.len();
+//!     starts.resize(doubled, 0);
+//!     ends.resize(doubled, 0);
+//!     kinds.resize(doubled, 0);
+//! };
+//! assert_eq!((table.report.number, table.columns, table.records, table.cells), (0, 2, 1, 4));
+//!
+//! let mut room = [0; hemakuliwi::RECORD_BYTES];
+//! let cell = hemakuliwi::decode(hemakuliwi::CSVJ, &file[starts[2]..ends[2]], &mut room);
+//! assert_eq!(&room[..cell.length], b"Harbour");
+//! ```
+
+/// Dialect 1.
+pub const CSVJ: u32 = 1;
+/// Dialect 2.
+pub const TDIF: u32 = 2;
+/// Dialect 3.
+pub const CSV_PLUS: u32 = 3;
+
+/// The report number of acceptance.
+pub const ACCEPTED: usize = 0;
+/// The report number that says that something lent was too short. Nothing else was wrong.
+pub const ROOM: usize = 10;
+
+/// The most bytes in a file.
+pub const FILE_BYTES: usize = 16_777_215;
+/// The most bytes in a record, so that a room of as many holds any cell's content.
+pub const RECORD_BYTES: usize = 4_096;
+/// The most columns in a table.
+pub const COLUMNS: usize = 64;
+
+/// What a call says: acceptance, which is all 0, or which fault and where.
+#[repr(C)]
+#[derive(Clone, Copy, Debug, PartialEq, Eq)]
+pub struct Report {
+    /// The number of the fault; 0 is acceptance.
+    pub number: usize,
+    /// The record, counted from 1 (the header); 0 if none is named.
+    pub record_number: usize,
+    /// The column, counted from 1; 0 if none is named.
+    pub column: usize,
+    /// The offset in what was read, counted from 0.
+    pub offset: usize,
+}
+
+/// What the reader answers. All but the report is 0 on refusal.
+#[repr(C)]
+#[derive(Clone, Copy, Debug, PartialEq, Eq)]
+pub struct ReadAnswer {
+    /// Acceptance, or the first fault.
+    pub report: Report,
+    /// The number of columns.
+    pub columns: usize,
+    /// The number of data records.
+    pub records: usize,
+    /// The number of cells, the header's too.
+    pub cells: usize,
+}
+
+/// What the decoder answers. All but the report is 0 on refusal.
+#[repr(C)]
+#[derive(Clone, Copy, Debug, PartialEq, Eq)]
+pub struct DecodeAnswer {
+    /// Acceptance, or the fault; its record and column are 0.
+    pub report: Report,
+    /// The content's length.
+    pub length: usize,
+    /// The number of the content's kind: 1 text, 2 number, 3 true, 4 false, 5 null.
+    pub kind: usize,
+}
+
+extern "C" {
+    fn hk_read(
+        dialect: u32,
+        file: *const u8,
+        file_length: usize,
+        starts: *mut usize,
+        starts_length: usize,
+        ends: *mut usize,
+        ends_length: usize,
+        kinds: *mut u8,
+        kinds_length: usize,
+    ) -> ReadAnswer;
+
+    fn hk_decode(
+        dialect: u32,
+        raw: *const u8,
+        raw_length: usize,
+        room: *mut u8,
+        room_length: usize,
+    ) -> DecodeAnswer;
+}
+
+/// The cells of a whole file: cell `i` stands from `starts[i]` up to `ends[i]`, and the number of its kind is `kinds[i]`. Past the
+/// cells, and on refusal, the lists are left as they were.
+pub fn read(
+    dialect: u32,
+    file: &[u8],
+    starts: &mut [usize],
+    ends: &mut [usize],
+    kinds: &mut [u8],
+) -> ReadAnswer {
+    // SAFETY: the slices are alive for the call and do not overlap, and the call is proved to stay inside them.
+    unsafe {
+        hk_read(
+            dialect,
+            file.as_ptr(),
+            file.len(),
+            starts.as_mut_ptr(),
+            starts.len(),
+            ends.as_mut_ptr(),
+            ends.len(),
+            kinds.as_mut_ptr(),
+            kinds.len(),
+        )
+    }
+}
+
+/// The raw bytes of one cell to its content, in `room`. Past the content, and on refusal, the room is left as it was.
+pub fn decode(dialect: u32, raw: &[u8], room: &mut [u8]) -> DecodeAnswer {
+    // SAFETY: both slices are alive for the call and do not overlap, and the call is proved to stay inside them.
+    unsafe {
+        hk_decode(
+            dialect,
+            raw.as_ptr(),
+            raw.len(),
+            room.as_mut_ptr(),
+            room.len(),
+        )
+    }
+}
