@@ -12,6 +12,7 @@ use lib.Seq.{drop-drop}
 use borrow.Author.Tests.{lt-leb}
 use Rattle.model.specs.declared.Dialect.{Dialect}
 use Rattle.model.specs.declared.Dialect.the-variants.{Csvj, Tdif, CsvPlus}
+use Rattle.model.specs.declared.Target.{Target}
 use Rattle.model.specs.declared.Lead.the-variants.{EeToEf}
 use Rattle.model.specs.declared.Inner.the-variants.{Second, Last}
 use Rattle.model.specs.declared.Char.{Char}
@@ -77,7 +78,7 @@ all-ordinary p q b xs e = go (ordinary p q b) e
     go true h = (refl, omega arith)
     go false h = absurd (omega arith)
 
-module _ (d : Dialect) (target : Option Dialect) where
+module _ (d : Dialect) (target : Option Target) where
   of-cell : (c : Cell) (r : Read) (b : ℕ) → formStep d (r .form) b ≡ To (r .form) OfCell → r .offset < MAXFILE → r .size < MAXRECORD → readByte d target r b ≡ going (ranAt (in-cell c) r (b ∷ []))
   unfolding readByte fileFull recordFull move ranAt if_then_else_
   of-cell c r b e h k =
@@ -181,7 +182,7 @@ run-take d (in-comment Whole) n bs h = leading-take 0 0 n bs h
 run-take d (in-comment (Within i)) n bs h = take-none n bs h
 run-take d elsewhere n bs h = take-none n bs h
 
-module _ (d : Dialect) (target : Option Dialect) where
+module _ (d : Dialect) (target : Option Target) where
   pub rest : (r : Read) (n : ℕ) (bs : Bytes) → Stands r → n ≤ runIn d (r .form) bs → InLimits (ran r (take n bs)) → readFrom d target (going r) bs ≡ readFrom d target (going (ran r (take n bs))) (drop n bs)
   rest r n bs s h l =
       ap (readFrom d target (going r)) (sym (take-append-drop n bs))
@@ -211,7 +212,7 @@ run-fewer d (in-comment Whole) n bs = leading-fewer 0 0 n bs
 run-fewer d (in-comment (Within i)) n bs = omega arith
 run-fewer d elsewhere n bs = omega arith
 
-module _ (d : Dialect) (target : Option Dialect) (r : Read) (s : Bytes) (at stop m : ℕ) where
+module _ (d : Dialect) (target : Option Target) (r : Read) (s : Bytes) (at stop m : ℕ) where
   -- reading a slice on from `at` is reading it on from m, where the run that begins at `at` ends before `stop`
   pub rest-of-slice : Stands r → m ≡ at + runIn d (r .form) (part s at stop) → InLimits (ran r (part s at m)) → readFrom d target (going r) (drop at s) ≡ readFrom d target (going (ran r (part s at m))) (drop m s)
   rest-of-slice w e l =
@@ -308,7 +309,7 @@ resting (in-cell c) rs f o s = let n : o + 0 ≡ o = omega arith in cc
 resting (in-comment t) rs f o s = let n : o + 0 ≡ o = omega arith in cc
 resting elsewhere rs f o s = refl
 
-module _ (d : Dialect) (target : Option Dialect) where
+module _ (d : Dialect) (target : Option Target) where
   judged-stands : (r : Read) (rs : List Rec) (f : Form) (o : ℕ) (v : Verdict) → StandsAfter (judged r (between-records rs f o) v)
   judged-stands r rs f o Sound = goes-on (resting (placeIn f) rs f o o)
   judged-stands r rs f o (Faulty e) = stops
@@ -345,5 +346,5 @@ module _ (d : Dialect) (target : Option Dialect) where
 
 -- ---- the law
 
-pub run-law : (d : Dialect) (target : Option Dialect) → RunLaw d target
+pub run-law : (d : Dialect) (target : Option Target) → RunLaw d target
 run-law d target = record { run = run d target; rest = rest d target; stands = stands d target }

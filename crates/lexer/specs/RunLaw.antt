@@ -6,6 +6,7 @@ use mathlib.Core.Option.{Option}
 use mathlib.Core.List.{[], _++_}
 use lib.ListN.{length, take, drop}
 use Rattle.model.specs.declared.Dialect.{Dialect}
+use Rattle.model.specs.declared.Target.{Target}
 use Rattle.model.specs.declared.Char.{Char}
 use Rattle.model.specs.declared.Char.the-variants.{Whole, Within}
 use Rattle.model.specs.declared.Cell.{Cell}
@@ -70,7 +71,7 @@ pub record InLimits (r : Read) : Type 0 where
   pub file : r .offset ≤ MAXFILE
   pub size : r .size ≤ MAXRECORD
 
-pub record RunLaw (d : Dialect) (target : Option Dialect) : Type 0 where
+pub record RunLaw (d : Dialect) (target : Option Target) : Type 0 where
   -- the law: xs is a run, or the beginning of one, and ends within the limits
   pub run : (r : Read) (xs : Bytes) → Stands r → runIn d (r .form) xs ≡ length xs → InLimits (ran r xs) → readFrom d target (going r) xs ≡ going (ran r xs)
   -- so a reader may pass over the first n bytes of a run
