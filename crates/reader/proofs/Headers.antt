@@ -88,8 +88,8 @@ module _ (d : Dialect) (file : Bytes) where
   unfolding readFile readBytes nothingRead
   whole = refl
 
-  first-follows : Follows d file [] First (restOf d file [] Top 0)
-  first-follows = follows d file [] (drop 0 file) (between-records [] Top 0) refl
+  first-follows : Follows d none file [] First (restOf d file [] Top 0)
+  first-follows = follows d none file [] (drop 0 file) (between-records [] Top 0) refl
 
   -- the report of a header's fault
   header-report : (r : Read) (x : Fault) (start : ℕ) (t : Report) → r .done ≡ [] → r .start ≡ start → headerFault d (First .cells) ≡ Faulty x → t ≡ report (numberOf x) 1 (columnOf x) start → t ≡ faultReport x r
@@ -123,7 +123,7 @@ module _ (d : Dialect) (file : Bytes) where
       header-faulty start n g o w x z t te =
           let at = on-record d file [] First _ first-follows start n g o (sym ev ∙ w) in
           let p : readFile d none file ≡ stopped x (at .r) =
-          whole ∙ at .rest ∙ ap (λ (y : Progress). readEnd d none (readFrom d none y (drop o file))) (complete-faulty d (at .r) (First .cells) g o x (judged-by (at .r) u (Faulty x) (at .done) j z)) ∙ sym (stays d x (at .r) (drop o file)) in
+          whole ∙ at .rest ∙ ap (λ (y : Progress). readEnd d none (readFrom d none y (drop o file))) (complete-faulty d (at .r) (First .cells) g o x (judged-by (at .r) u (Faulty x) (at .done) j z)) ∙ sym (stays d none x (at .r) (drop o file)) in
           let q : t ≡ faultReport x (at .r) = header-report (at .r) x start t (at .done) (at .starts) (sym j ∙ z) te in
           subst (λ (k : Report). Heads d file (NoHeader k)) (sym q) (faulty x (at .r) p)
 

@@ -111,8 +111,8 @@ module _ (d : Dialect) (file : Bytes) (from : ℕ) (first : Form) (columns room 
       pub now-held : Holds room base (y .vs ++ Here .cells) s₀ e₀ k₀ s′ e′ k′
       now-held = more-held room base cells (y .vs) (Here .cells) s₀ e₀ k₀ s e k s′ e′ k′ (y .counted) (y .lists) ps pe pk
 
-      next-follows : (h : Rec) (ds : List Rec) → Follows d file (h ∷ ds) Here (restOf d file (h ∷ ds) f i)
-      next-follows h ds = follows d file (h ∷ ds) (drop i file) (between-records [] f i) refl
+      next-follows : (h : Rec) (ds : List Rec) → Follows d none file (h ∷ ds) Here (restOf d file (h ∷ ds) f i)
+      next-follows h ds = follows d none file (h ∷ ds) (drop i file) (between-records [] f i) refl
 
       number : (r : Read) (h : Rec) (ds : List Rec) → r .done ≡ h ∷ ds → length ds ≡ records → length (r .done) ≡ suc records
       number r h ds q c = ap length q ∙ ap suc c
@@ -144,7 +144,7 @@ module _ (d : Dialect) (file : Bytes) (from : ℕ) (first : Form) (columns room 
         fits-here = subst (Fits (length file) i (base + cells)) w fits
 
         pub counts-here : length (Here .cells) ≡ n
-        counts-here = on-record d file [] Here _ (follows d file [] (drop i file) (between-records [] f i) refl) start n g o here .counts
+        counts-here = on-record d file [] Here _ (follows d none file [] (drop i file) (between-records [] f i) refl) start n g o here .counts
 
         judged-here : u ≡ dataFault columns (Here .cells)
         judged-here = j (Here .cells) counts-here
@@ -189,7 +189,7 @@ module _ (d : Dialect) (file : Bytes) (from : ℕ) (first : Form) (columns room 
             out h q a =
                 let at = on-record d file (h ∷ a .ds) Here _ (next-follows h (a .ds)) start n g o here in
                 let both = faulty-outcome h (a .ds) (at .r) start g o x t q (at .done) (a .count) (at .starts) (sym judged-here ∙ z) te in
-                let p : restOf d file (h ∷ []) first from ≡ stopped x (at .r) = a .rest ∙ at .rest ∙ ap (λ (r : Progress). readEnd d none (readFrom d none r (drop o file))) (both .0) ∙ sym (stays d x (at .r) (drop o file)) in
+                let p : restOf d file (h ∷ []) first from ≡ stopped x (at .r) = a .rest ∙ at .rest ∙ ap (λ (r : Progress). readEnd d none (readFrom d none r (drop o file))) (both .0) ∙ sym (stays d none x (at .r) (drop o file)) in
                 rw (p, both .1) (refused x (at .r))
 
       -- ---- a last record
@@ -202,7 +202,7 @@ module _ (d : Dialect) (file : Bytes) (from : ℕ) (first : Form) (columns room 
         last-fits = subst (Fits (length file) i (base + cells)) w fits
 
         last-counts : length (Here .cells) ≡ n
-        last-counts = on-last d file [] Here _ (follows d file [] (drop i file) (between-records [] f i) refl) start n last-here .counts
+        last-counts = on-last d file [] Here _ (follows d none file [] (drop i file) (between-records [] f i) refl) start n last-here .counts
 
         last-judged : u ≡ dataFault columns (Here .cells)
         last-judged = j (Here .cells) last-counts

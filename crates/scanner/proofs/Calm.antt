@@ -10,7 +10,13 @@ use Rattle.model.proofs.Tests.{split}
 use Rattle.model.proofs.Counted.{blank-counted, delimiter-counted}
 use Rattle.model.proofs.FormSteps as steps
 use Rattle.model.proofs.FormSteps.{Rests, Around, Starts, Grown, Opens, Goes, step-goes}
-use Rattle.model.specs.Types.{Dialect, Csvj, Tdif, CsvPlus, ByteFault, Form, Outside, Passed, OfCell, Between, Tail, Ends, Step, To, Reject}
+use Rattle.model.specs.declared.Dialect.{Dialect}
+use Rattle.model.specs.declared.Dialect.the-variants.{Csvj, Tdif, CsvPlus}
+use Rattle.model.specs.declared.ByteFault.{ByteFault}
+use Rattle.model.specs.declared.Form.{Form}
+use Rattle.model.specs.declared.Part.the-variants.{Outside, Passed, OfCell, Between, Tail, Ends}
+use Rattle.model.specs.declared.Step.{Step}
+use Rattle.model.specs.declared.Step.the-variants.{To, Reject}
 use Rattle.scanner.specs.Ahead.{outer}
 
 pub data Calm (f : Form) (b : ℕ) : Step → Type 0 where

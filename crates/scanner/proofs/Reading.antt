@@ -3,7 +3,7 @@ use Prim.Native.Nat.{ℕ, zero, suc, _+_}
 use native.Mathlib.Numerals.{add-one}
 use mathlib.Core.Path.{_≡_, refl, sym, ap, subst, _∙_}
 use mathlib.Core.Bool.{Bool, true, false, _&&_}
-use mathlib.Core.Option.{none}
+use mathlib.Core.Option.{Option}
 use mathlib.Core.List.{List, [], _∷_}
 use lib.ListN.{drop}
 use lib.Seq.{drop-drop}
@@ -14,6 +14,7 @@ use Rattle.model.specs.Report.{MAXFILE, MAXRECORD, isAtByte}
 use Rattle.model.specs.Records.{Rec, Read, Progress, going, stopped, closing, complete, move, fileFull, recordFull, readByte, readFrom, readEnd, endAt}
 use Rattle.model.proofs.Tests.{impossible}
 use Rattle.model.specs.declared.Dialect.{Dialect}
+use Rattle.model.specs.declared.Target.{Target}
 use Rattle.model.specs.declared.Form.{Form}
 use Rattle.model.specs.declared.Part.{Part}
 use Rattle.model.specs.declared.Part.the-variants.{Outside, Passed, OfCell, Between, Tail, Ends}
@@ -31,26 +32,26 @@ pub next-drop : (xs : Bytes) (n b : ℕ) (bs : Bytes) → b ∷ bs ≡ drop n xs
 next-drop xs n b bs e = ap (drop 1) e ∙ drop-drop 1 n xs
 
 -- a fault stays
-pub stays : (d : Dialect) (e : Fault) (r : Read) (bs : Bytes) → stopped e r ≡ readEnd d none (readFrom d none (stopped e r) bs)
+pub stays : (d : Dialect) (target : Option Target) (e : Fault) (r : Read) (bs : Bytes) → stopped e r ≡ readEnd d target (readFrom d target (stopped e r) bs)
 unfolding readFrom readEnd
-stays d e r [] = refl
-stays d e r (b ∷ bs) = refl
+stays d target e r [] = refl
+stays d target e r (b ∷ bs) = refl
 
-module _ (d : Dialect) (file : Bytes) (rs : List Rec) where
+module _ (d : Dialect) (target : Option Target) (file : Bytes) (rs : List Rec) where
   abbrev Rest : Progress → Bytes → Progress
-  Rest p bs = readEnd d none (readFrom d none p bs)
+  Rest p bs = readEnd d target (readFrom d target p bs)
 
   -- the end of the file
-  at-end : (r : Read) (x : Ending) → Follows d file rs (ended d r x) (endAt d none (redone rs r) x)
+  at-end : (r : Read) (x : Ending) → Follows d target file rs (ended d r x) (endAt d target (redone rs r) x)
   at-end r Clean = after-all (redone rs r) refl
   at-end r Final = after-last (redone rs r) (closing d true r) refl
   at-end r Cut = after-fault CutShort (redone rs r) (r .cells) refl refl
 
-  faulty : (e : Fault) (r : Read) (bs : Bytes) → isAtByte e ≡ true → Follows d file rs (failed e r) (Rest (stopped e (redone rs r)) bs)
-  faulty e r bs q = subst (λ (p : Progress). Follows d file rs (failed e r) p) (stays d e (redone rs r) bs) (after-fault e (redone rs r) (r .cells) refl q)
+  faulty : (e : Fault) (r : Read) (bs : Bytes) → isAtByte e ≡ true → Follows d target file rs (failed e r) (Rest (stopped e (redone rs r)) bs)
+  faulty e r bs q = subst (λ (p : Progress). Follows d target file rs (failed e r) p) (stays d target e (redone rs r) bs) (after-fault e (redone rs r) (r .cells) refl q)
 
   -- a byte within its record
-  within-record : (r : Read) (b : ℕ) (f : Form) (p : Part) → endsRecord p ≡ false → move d none (redone rs r) b (To f p) ≡ going (redone rs (carried d r b f p))
+  within-record : (r : Read) (b : ℕ) (f : Form) (p : Part) → endsRecord p ≡ false → move d target (redone rs r) b (To f p) ≡ going (redone rs (carried d r b f p))
   unfolding move
   within-record r b f Outside e = rw (add-one (r .offset))
   within-record r b f Passed e = rw (add-one (r .offset))
@@ -62,7 +63,7 @@ module _ (d : Dialect) (file : Bytes) (rs : List Rec) where
   within-record r b f (Ends k) e = impossible (sym e)
 
   -- the byte that ends its record
-  at-ending : (r : Read) (b : ℕ) (f : Form) (k : Bool) (bs : Bytes) → bs ≡ drop (r .offset + 1) file → Follows d file rs (stepped d r b (λ r′. nextRecord d r′ bs) (To f (Ends k))) (Rest (move d none (redone rs r) b (To f (Ends k))) bs)
+  at-ending : (r : Read) (b : ℕ) (f : Form) (k : Bool) (bs : Bytes) → bs ≡ drop (r .offset + 1) file → Follows d target file rs (stepped d r b (λ r′. nextRecord d r′ bs) (To f (Ends k))) (Rest (move d target (redone rs r) b (To f (Ends k))) bs)
   unfolding stepped move if_then_else_
   at-ending r b f true bs e =
       rw (e, ← add-one (r .offset)) (after-record (redone rs r) (closing d true r) f (r .offset + 1) refl)
@@ -70,9 +71,9 @@ module _ (d : Dialect) (file : Bytes) (rs : List Rec) where
       rw (e, ← add-one (r .offset)) (after-record (redone rs r) (closing d false r) f (r .offset + 1) refl)
 
   abbrev Ih : Bytes → Type 0
-  Ih bs = (r : Read) → bs ≡ drop (r .offset) file → Follows d file rs (nextRecord d r bs) (Rest (going (redone rs r)) bs)
+  Ih bs = (r : Read) → bs ≡ drop (r .offset) file → Follows d target file rs (nextRecord d r bs) (Rest (going (redone rs r)) bs)
 
-  on-byte : (r : Read) (b : ℕ) (bs : Bytes) → bs ≡ drop (r .offset + 1) file → Ih bs → (s : Step) → Follows d file rs (stepped d r b (λ r′. nextRecord d r′ bs) s) (Rest (move d none (redone rs r) b s) bs)
+  on-byte : (r : Read) (b : ℕ) (bs : Bytes) → bs ≡ drop (r .offset + 1) file → Ih bs → (s : Step) → Follows d target file rs (stepped d r b (λ r′. nextRecord d r′ bs) s) (Rest (move d target (redone rs r) b s) bs)
   unfolding stepped if_then_else_ move
   on-byte r b bs e ih (Reject x) = faulty (Byte x) r bs refl
   on-byte r b bs e ih (To f Outside) = rw (within-record r b f Outside refl) (ih (carried d r b f Outside) e)
@@ -82,7 +83,7 @@ module _ (d : Dialect) (file : Bytes) (rs : List Rec) where
   on-byte r b bs e ih (To f (Tail k)) = rw (within-record r b f (Tail k) refl) (ih (carried d r b f (Tail k)) e)
   on-byte r b bs e ih (To f (Ends k)) = at-ending r b f k bs e
 
-  choose : (r : Read) (b : ℕ) (bs : Bytes) → bs ≡ drop (r .offset + 1) file → Ih bs → (x y : Bool) (s : Step) → Follows d file rs (if x then failed FileTooLong r else if y then failed RecordTooLong r else stepped d r b (λ r′. nextRecord d r′ bs) s) (Rest (if x then stopped FileTooLong (redone rs r) else if y then stopped RecordTooLong (redone rs r) else move d none (redone rs r) b s) bs)
+  choose : (r : Read) (b : ℕ) (bs : Bytes) → bs ≡ drop (r .offset + 1) file → Ih bs → (x y : Bool) (s : Step) → Follows d target file rs (if x then failed FileTooLong r else if y then failed RecordTooLong r else stepped d r b (λ r′. nextRecord d r′ bs) s) (Rest (if x then stopped FileTooLong (redone rs r) else if y then stopped RecordTooLong (redone rs r) else move d target (redone rs r) b s) bs)
   unfolding if_then_else_
   choose r b bs e ih true y s = faulty FileTooLong r bs refl
   choose r b bs e ih false true s = faulty RecordTooLong r bs refl

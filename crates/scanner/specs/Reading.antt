@@ -1,8 +1,8 @@
--- What reading a whole file comes to, given its next record.
+-- What reading a whole file comes to, for a target or none, given its next record.
 use Prim.Native.Nat.{ℕ}
 use mathlib.Core.Path.{_≡_}
 use mathlib.Core.Bool.{true}
-use mathlib.Core.Option.{none}
+use mathlib.Core.Option.{Option}
 use mathlib.Core.List.{List, []}
 use lib.ListN.{length, drop}
 use Rattle.model.specs.Base.{Bytes}
@@ -10,6 +10,7 @@ use Rattle.model.specs.Text.{Value}
 use Rattle.model.specs.Report.{isAtByte}
 use Rattle.model.specs.Records.{Rec, Read, Progress, stopped, complete, readFrom, readEnd, endBetween}
 use Rattle.model.specs.declared.Dialect.{Dialect}
+use Rattle.model.specs.declared.Target.{Target}
 use Rattle.model.specs.declared.Form.{Form}
 use Rattle.model.specs.declared.Form.the-variants.{Begin}
 use Rattle.model.specs.declared.Fault.{Fault}
@@ -31,15 +32,15 @@ redone rs r =
     }
 
 -- after the records rs, reading comes to this next, and in the end to that
-pub data Follows (d : Dialect) (file : Bytes) (rs : List Rec) : Next → Progress → Type 0 where
+pub data Follows (d : Dialect) (target : Option Target) (file : Bytes) (rs : List Rec) : Next → Progress → Type 0 where
   after-record :
       (r : Read) (vs : List Value) (f : Form) (o : ℕ) → r .done ≡ rs →
-      Follows d file rs (record { event = Completed (r .start) (length vs) f o; cells = vs })
-      (readEnd d none (readFrom d none (complete d none r vs f o) (drop o file)))
+      Follows d target file rs (record { event = Completed (r .start) (length vs) f o; cells = vs })
+      (readEnd d target (readFrom d target (complete d target r vs f o) (drop o file)))
   after-last :
       (r : Read) (vs : List Value) → r .done ≡ rs →
-      Follows d file rs (record { event = LastRecord (r .start) (length vs); cells = vs }) (complete d none r vs Begin (r .offset))
+      Follows d target file rs (record { event = LastRecord (r .start) (length vs); cells = vs }) (complete d target r vs Begin (r .offset))
   after-fault :
       (e : Fault) (r : Read) (vs : List Value) → r .done ≡ rs → isAtByte e ≡ true →
-      Follows d file rs (record { event = Failed e (r .offset); cells = vs }) (stopped e r)
-  after-all : (r : Read) → r .done ≡ rs → Follows d file rs (record { event = Finished (r .offset); cells = [] }) (endBetween r rs)
+      Follows d target file rs (record { event = Failed e (r .offset); cells = vs }) (stopped e r)
+  after-all : (r : Read) → r .done ≡ rs → Follows d target file rs (record { event = Finished (r .offset); cells = [] }) (endBetween r rs)
