@@ -18,9 +18,9 @@ use Rattle.model.specs.declared.Judged.the-variants.{WholeCell, Unsound}
 use Rattle.model.specs.Base.{if_then_else_, Bytes}
 use Rattle.model.specs.Cell.{cellStep, isWhole}
 use Rattle.model.specs.Decode.{judgeFrom, judgeCell}
-use Rattle.lexer.specs.declared.run.CellEnd.{CellEnd}
-use Rattle.lexer.specs.declared.run.CellEnd.the-variants.{Stopped, Refused, Open}
-use Rattle.lexer.specs.Run.{part, cellRun}
+use Rattle.runs.specs.declared.CellEnd.{CellEnd}
+use Rattle.runs.specs.declared.CellEnd.the-variants.{Stopped, Refused, Open}
+use Rattle.runs.specs.Run.{part, cellRun}
 
 -- what is said of an end, in a cell of n bytes
 abbrev pub judgedBy : Dialect → (n : ℕ) → CellEnd → Judged

@@ -14,3 +14,4 @@ pub mod ContentForm
 pub mod Lengths
 pub mod Bound
 pub mod Laws
+pub mod FormSteps

@@ -1,11 +1,14 @@
--- What a test says, for laws that go by the tests of a definition.
+-- What a test says, for laws that go by the tests of a definition, and the list of what the tests of the code say of them, for
+-- `search`.
 use Prim.Native.Nat.{ℕ, _≤_}
 use native.Mathlib.Omega.{arith}
 use mathlib.Core.Path.{_≡_, refl, sym, subst}
 use mathlib.Core.Bool.{Bool, true, false, _&&_}
 use lib.Dec.{leb, T, eqb→eq}
-use borrow.Author.Tests.{eq-eqb, leb-true}
+use borrow.Author.Tests.{eq-eqb, ne-eqb, lt-ltb, le-ltb, le-leb, lt-leb, leb-true}
 use Rattle.model.specs.Base.{if_then_else_, _is_, within}
+
+pub ruleset tests = (eq-eqb, ne-eqb, lt-ltb, le-ltb, le-leb, lt-leb)
 
 -- a choice has a property if each side has it, given what the test said
 pub split {ℓ κ} : {A : Type ℓ} (P : A → Type κ) {x y : A} (t : Bool) → (t ≡ true → P x) → (t ≡ false → P y) → P (if t then x else y)

@@ -186,7 +186,7 @@ isWhole d Complete = true
 -- ---- the next byte stands inside quotes
 
 -- the next byte is inside quotes, where CR and LF count; "outside quotes" they don't
-unfoldable pub inQuotes : Cell → Bool
+abbrev pub inQuotes : Cell → Bool
 inQuotes Fresh = false
 inQuotes (Quoted c) = true
 inQuotes Closed = false
@@ -199,5 +199,5 @@ inQuotes Complete = false
 
 -- `unfolding cell-computes` opens every definition of this module
 unfoldable pub cell-computes : Type 0
-unfolding numeralStep firstByte quotedByte plainByte cellStep isWhole inQuotes
+unfolding numeralStep firstByte quotedByte plainByte cellStep isWhole
 cell-computes = Unit {0}

@@ -55,7 +55,7 @@ module _ (f : Form) (b : ℕ) where
   commented-calm o (On c) = leaves o
 
   begin-calm : outer f ≡ true → quotesOpen f ≡ false → (d : Dialect) → Calm f b (beginRecord d b)
-  unfolding beginRecord inQuotes
+  unfolding beginRecord
   begin-calm o q Csvj =
       let P : Step → Type 0 = Calm f b in
       split P (isBlank b) (λ p. blanks (blank-counted f b p) o) λ _.
@@ -74,7 +74,7 @@ module _ (f : Form) (b : ℕ) where
   file-calm o q (CsvPlus s) = split (Calm f b) (b is 0xEF) (λ p. grows (high-counted 0xEF (omega arith) p) refl) λ _. begin-calm o q (CsvPlus s)
 
 pub step-calm : (d : Dialect) (f : Form) (b : ℕ) → Calm f b (formStep d f b)
-unfolding formStep inQuotes
+unfolding formStep
 step-calm d Top b = file-calm Top b refl refl d
 step-calm d Begin b = begin-calm Begin b refl refl d
 step-calm d Ended b = split (Calm Ended b) _ (λ _. passes refl) λ _. begin-calm Ended b refl refl d

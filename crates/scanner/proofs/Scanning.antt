@@ -18,8 +18,8 @@ use Rattle.model.specs.Cell.{isWhole}
 use Rattle.model.specs.Records.{Read, between-records, closing, cellNow, fileFull, recordFull}
 use Rattle.model.specs.Api.{startsOf, endsOf, kindsOf}
 use Rattle.model.proofs.Tests.{impossible}
-use Rattle.lexer.specs.Run.{part}
-use Rattle.lexer.proofs.Runs.{part-end}
+use Rattle.runs.specs.Run.{part}
+use Rattle.runs.proofs.Runs.{part-end}
 use Rattle.scanner.specs.Types.{Dialect, Csvj, Tdif, CsvPlus, Cell, Form, Top, Begin, Ended, Mark1, Mark2, PlainMark1, PlainMark2, Comment, Blanks, Wanting, Inside, After, Cr, Part, Outside, Passed, OfCell, Between, Tail, Ends, Step, To, Reject, Ending, Clean, Final, Cut, ByteFault, Byte, CutShort, FileTooLong, RecordTooLong, InHand, Met, Is, Skipped, AfterCell, Refused, Open, Event, Completed, LastRecord, Failed, Finished}
 use Rattle.scanner.specs.Next.{Next, closesCell, endsRecord, oneMore, handAfter, grown, cellsAfter, failed, completed, ended, stepped, nextRecord, Fits}
 use Rattle.scanner.specs.Ahead.{readAt, steppedAt, metNext, outer, Lies, Comes}

@@ -16,8 +16,8 @@ use Rattle.model.specs.Records.{Read, between-records, closing, fileFull, recor
 use Rattle.model.specs.Laws.{All, all-none}
 use Rattle.model.proofs.Tests.{split}
 use Rattle.model.proofs.Cells.{all-snoc}
-use Rattle.lexer.specs.Run.{part}
-use Rattle.lexer.proofs.Runs.{part-end}
+use Rattle.runs.specs.Run.{part}
+use Rattle.runs.proofs.Runs.{part-end}
 use Rattle.scanner.specs.Types.{Dialect, Form, Outside, Passed, OfCell, Between, Tail, Step, Ending, Clean, Final, Cut}
 use Rattle.scanner.specs.Next.{Next, carried, ended, stepped, nextRecord}
 use Rattle.scanner.specs.Stretches.{StandsIn}

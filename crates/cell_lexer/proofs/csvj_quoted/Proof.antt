@@ -1,0 +1,9 @@
+use Rattle.model.specs.Base.{if_then_else_}
+use Rattle.model.specs.Cell.{quotedByte}
+use Rattle.model.proofs.Tests.{tests}
+use Rattle.cell_lexer.proofs.csvj_quoted.Statement.{statement}
+use Rattle.cell_lexer.proofs.csvj_quoted.Tie as tie
+
+pub csvj-quoted-spec : {M : Type 1} → statement M
+unfolding quotedByte if_then_else_
+csvj-quoted-spec = tie.close (tie.spec (λ c. search tests) (λ c. search tests) (λ c. search tests) (λ c. search tests))
