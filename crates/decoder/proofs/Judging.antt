@@ -20,7 +20,8 @@ use Rattle.model.specs.Cell.{cellStep, isWhole}
 use Rattle.model.specs.Decode.{judgeFrom, judgeCell}
 use Rattle.runs.specs.declared.CellEnd.{CellEnd}
 use Rattle.runs.specs.declared.CellEnd.the-variants.{Stopped, Refused, Open}
-use Rattle.runs.specs.Run.{part, cellRun}
+use Rattle.model.specs.Api.{part}
+use Rattle.runs.specs.Run.{cellRun}
 
 -- what is said of an end, in a cell of n bytes
 abbrev pub judgedBy : Dialect → (n : ℕ) → CellEnd → Judged

@@ -32,7 +32,8 @@ use Rattle.model.proofs.Reading.{read-append}
 use Rattle.model.proofs.FormSteps.{Grown, g-inside, g-plain1, g-plain2, Opens, o-after, o-wanting, o-fresh, Goes, refuses, outside, passes, adds, blanks, parts, turns, ends, ends-cr, step-goes}
 use Rattle.runs.specs.declared.RunStop.{RunStop}
 use Rattle.runs.specs.declared.RunStop.the-variants.{At, NoRun}
-use Rattle.runs.specs.Run.{part, ordinary, leading, runStop, runLength}
+use Rattle.model.specs.Api.{part}
+use Rattle.runs.specs.Run.{ordinary, leading, runStop, runLength}
 use Rattle.runs.specs.RunLaw.{Place, in-cell, in-comment, elsewhere, placeIn, runAt, ranAt, runIn, ran, Stands, InLimits, RunLaw}
 use Rattle.runs.proofs.Runs.{run-step, comment-step}
 

@@ -7,7 +7,7 @@ use mathlib.Core.Path.{_≡_, refl, sym, ap, _∙_}
 use mathlib.Core.Bool.{Bool, true, false, not, _&&_, and-false}
 use mathlib.Core.List.{[], _∷_}
 use lib.ListN.{length, take, drop, getD, length-drop}
-use lib.Seq.{drop-cons, drop-drop, length-take-le}
+use lib.Seq.{take-nil, drop-cons, drop-drop, length-take-le}
 use borrow.Author.Tests.{eq-eqb, ne-eqb, le-leb, lt-leb, le-ltb}
 use Rattle.model.specs.declared.Dialect.{Dialect}
 use Rattle.model.specs.declared.Dialect.the-variants.{Csvj, Tdif, CsvPlus}
@@ -28,7 +28,8 @@ use Rattle.model.proofs.Utf8.{ascii-whole}
 use Rattle.runs.specs.declared.RunStop.{RunStop}
 use Rattle.runs.specs.declared.RunStop.the-variants.{At, NoRun}
 use Rattle.runs.specs.declared.CellEnd.the-variants.{Stopped, Refused, Open}
-use Rattle.runs.specs.Run.{part, ordinary, leading, runStop, runLength, cellRun}
+use Rattle.model.specs.Api.{part}
+use Rattle.runs.specs.Run.{ordinary, leading, runStop, runLength, cellRun}
 
 pub part-next : (s : Bytes) (i stop : ℕ) → i < stop → stop ≤ length s → part s i stop ≡ getD s i 0 ∷ part s (i + 1) stop
 part-next s i stop h k =
@@ -162,14 +163,10 @@ run-list d c q e i (b ∷ bs) = go (ordinary (quoteOf d) q b) refl (run-list d c
         rw (h, run-step d c q b e h, cellRun) (ih ∙ ap (λ (k : ℕ). cellRun d c k (drop (leading (quoteOf d) q bs) bs)) n)
     go false h ih = let n : i ≡ i + 0 = omega arith in rw h (ap (λ (k : ℕ). cellRun d c k (b ∷ bs)) n)
 
-take-none : (n : ℕ) → take {A = ℕ} n [] ≡ []
-take-none zero = refl
-take-none (suc n) = refl
-
 drop-take : (n m : ℕ) (xs : Bytes) → drop n (take m xs) ≡ take (m - n) (drop n xs)
 drop-take zero m xs = let e : m - 0 ≡ m = omega arith in rw e
 drop-take (suc n) zero xs = let e : 0 - suc n ≡ 0 = omega arith in rw e
-drop-take (suc n) (suc m) [] = sym (take-none (suc m - suc n))
+drop-take (suc n) (suc m) [] = sym (take-nil (suc m - suc n))
 drop-take (suc n) (suc m) (x ∷ xs) = let e : suc m - suc n ≡ m - n = omega arith in rw e (drop-take n m xs)
 
 drop-part : (s : Bytes) (i n stop : ℕ) → drop n (part s i stop) ≡ part s (i + n) stop

@@ -1,8 +1,7 @@
 -- Runs of ordinary bytes, and the rest of a cell.
-use Prim.Native.Nat.{ℕ, suc, _-_}
+use Prim.Native.Nat.{ℕ, suc}
 use mathlib.Core.Bool.{Bool, not, _&&_}
 use mathlib.Core.List.{[], _∷_}
-use lib.ListN.{take, drop}
 use Rattle.model.specs.declared.Dialect.{Dialect}
 use Rattle.model.specs.declared.Char.{Char}
 use Rattle.model.specs.declared.Char.the-variants.{Whole, Within}
@@ -16,10 +15,6 @@ use Rattle.runs.specs.declared.RunStop.{RunStop}
 use Rattle.runs.specs.declared.RunStop.the-variants.{At, NoRun}
 use Rattle.runs.specs.declared.CellEnd.{CellEnd}
 use Rattle.runs.specs.declared.CellEnd.the-variants.{Stopped, Refused, Open}
-
--- the bytes of s from i up to stop
-abbrev pub part : Bytes → (i stop : ℕ) → Bytes
-part s i stop = take (stop - i) (drop i s)
 
 -- an ordinary byte: 20 to 7E hex, and neither of these two
 unfoldable pub ordinary : (p q b : ℕ) → Bool

@@ -8,7 +8,8 @@ use model::Dialect;
 ghost use mathlib.Core.Path.{_≡_};
 ghost use Prim.Native.Nat.{_+_, _≤_};
 ghost use lib.ListN.{length};
-ghost use Rattle.runs.specs.Run.{part, leading, commentRun, textStop, runStop, runLength, cellRun};
+ghost use Rattle.model.specs.Api.{part};
+ghost use Rattle.runs.specs.Run.{leading, commentRun, textStop, runStop, runLength, cellRun};
 
 // How far a run of ordinary bytes goes from `at`, at most to `stop`. The run ends at a byte outside 20 to 7E hex, at `p` and at `q`.
 fn run(s: &[u8], at: usize, stop: usize, p: u8, q: u8) -> usize

@@ -17,7 +17,7 @@ use Rattle.model.specs.Text.{Value}
 use Rattle.model.specs.Report.{MAXFILE, MAXRECORD}
 use Rattle.model.specs.Records.{Read, fileFull, recordFull}
 use Rattle.model.proofs.Tests.{split, split-on}
-use Rattle.runs.specs.Run.{part, ordinary, leading, cellRun}
+use Rattle.runs.specs.Run.{ordinary, leading, cellRun}
 use Rattle.file_lexer.specs.Held.{stepOf}
 use Rattle.file_lexer.specs.declared.Held.{Held}
 use Rattle.file_lexer.specs.declared.Held.the-variants as held
@@ -26,7 +26,7 @@ use Rattle.runs.specs.declared.CellEnd.the-variants as cell-end
 use Rattle.runs.proofs.Runs.{part-next, part-end, part-short, leading-on, leading-ends, leading-none, rest-more, rest-stops, rest-refused, rest-open, comment-step}
 use Rattle.scanner.specs.Types.{Dialect, Whole, Within, Cell, Added, More, Stop, Refuse, Form, Top, Begin, Ended, Mark1, Mark2, PlainMark1, PlainMark2, Comment, Blanks, Wanting, Inside, After, Cr, Part, Outside, Passed, OfCell, Between, Tail, Ends, Step, To, Reject, InHand, Met, Is, Skipped, AfterCell, Refused, Open}
 use Rattle.scanner.specs.Next.{handAfter, grown, cellsAfter, carried, stepped, nextRecord, Next}
-use Rattle.model.specs.Api.{least}
+use Rattle.model.specs.Api.{least, part}
 use Rattle.scanner.specs.Ahead.{readAt, steppedAt, metNext, Free, Comes, Lies, commentEnd}
 
 -- ---- one byte

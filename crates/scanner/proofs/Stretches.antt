@@ -16,7 +16,7 @@ use Rattle.model.specs.Records.{Read, between-records, closing, fileFull, recor
 use Rattle.model.specs.Laws.{All, all-none}
 use Rattle.model.proofs.Tests.{split}
 use Rattle.model.proofs.Cells.{all-snoc}
-use Rattle.runs.specs.Run.{part}
+use Rattle.model.specs.Api.{part}
 use Rattle.runs.proofs.Runs.{part-end}
 use Rattle.scanner.specs.Types.{Dialect, Form, Outside, Passed, OfCell, Between, Tail, Step, Ending, Clean, Final, Cut}
 use Rattle.scanner.specs.Next.{Next, carried, ended, stepped, nextRecord}

@@ -10,8 +10,8 @@ use Rattle.model.specs.Form.{afterCell, formStep}
 use Rattle.model.specs.Text.{Value}
 use Rattle.model.specs.Report.{MAXFILE, MAXRECORD}
 use Rattle.model.specs.Records.{Read, recordFull}
-use Rattle.model.specs.Api.{least}
-use Rattle.runs.specs.Run.{part, leading}
+use Rattle.model.specs.Api.{least, part}
+use Rattle.runs.specs.Run.{leading}
 use Rattle.scanner.specs.Types.{Dialect, Char, Whole, Within, Form, Top, Begin, Ended, Mark1, Mark2, PlainMark1, PlainMark2, Comment, Blanks, Wanting, Inside, After, Cr, Outside, Step, Byte, InHand, Failed, Met, Is, Skipped, AfterCell, Refused, Open}
 use Rattle.scanner.specs.Next.{Next, stepped, nextRecord, handAfter, grown}
 

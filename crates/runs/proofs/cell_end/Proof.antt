@@ -7,7 +7,8 @@ use borrow.Author.Needs.{needs}
 use Rattle.model.specs.declared.Cell.{Cell}
 use Rattle.model.specs.declared.Added.the-variants.{More}
 use Rattle.model.specs.Cell.{cellStep}
-use Rattle.runs.specs.Run.{part, runStop, runLength, cellRun}
+use Rattle.model.specs.Api.{part}
+use Rattle.runs.specs.Run.{runStop, runLength, cellRun}
 use Rattle.runs.proofs.Runs.{run-rest, run-short, rest-more, rest-stops, rest-refused, rest-open}
 use Rattle.runs.proofs.cell_end.Statement.{statement}
 use Rattle.runs.proofs.cell_end.Tie as tie

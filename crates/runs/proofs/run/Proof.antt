@@ -3,7 +3,8 @@ use Prim.Native.Nat.{_+_, _-_, _≤_}
 use native.Mathlib.Omega.{arith}
 use mathlib.Core.Path.{_≡_, refl, sym, _∙_}
 use lib.ListN.{length, getD}
-use Rattle.runs.specs.Run.{part, leading}
+use Rattle.model.specs.Api.{part}
+use Rattle.runs.specs.Run.{leading}
 use Rattle.runs.proofs.Runs.{below, above, first-stop, second-stop, goes-on, leading-on, leading-ends, leading-none}
 use Rattle.runs.proofs.run.Statement.{statement}
 use Rattle.runs.proofs.run.Tie as tie
