@@ -21,9 +21,10 @@ use Rattle.model.specs.Cell.{cellStep, isWhole}
 use Rattle.model.specs.Report.{columnOf}
 use Rattle.model.specs.Decode.{judgeFrom, judgeCell}
 use Rattle.model.proofs.Tests.{split}
-use Rattle.lexer.specs.declared.run.CellEnd.{CellEnd}
-use Rattle.lexer.specs.declared.run.CellEnd.the-variants.{Stopped, Refused, Open}
-use Rattle.lexer.specs.Run.{part, cellRun}
+use Rattle.runs.specs.declared.CellEnd.{CellEnd}
+use Rattle.runs.specs.declared.CellEnd.the-variants.{Stopped, Refused, Open}
+use Rattle.runs.specs.Run.{cellRun}
+use Rattle.model.specs.Api.{part}
 
 -- what is said of an end, in a cell of n bytes
 abbrev pub judgedBy : Dialect → (n : ℕ) → CellEnd → Judged

@@ -34,7 +34,7 @@ quoted-goes Tdif b = split GoesOn _ (λ _. on-more) λ _. text-goes Quoted (char
 quoted-goes (CsvPlus s) b = split GoesOn _ (λ _. on-more) λ _. text-goes Quoted (charStep Whole b)
 
 in-quotes-goes : (d : Dialect) (c : Cell) (b : ℕ) → inQuotes c ≡ true → GoesOn (cellStep d c b)
-unfolding cellStep inQuotes
+unfolding cellStep
 in-quotes-goes d Fresh b q = impossible q
 in-quotes-goes d (Quoted Whole) b q = quoted-goes d b
 in-quotes-goes d (Quoted (Within i)) b q = text-goes Quoted (charStep (Within i) b)
@@ -184,7 +184,6 @@ starts-no-cell starts-csvj = none-in-record
 
 module _ (f : Form) (b : ℕ) (q : quotesOpen f ≡ false) where
   fresh-moves : (d : Dialect) (g : Stage) → Moves d f b g (inCell d Fresh b)
-  unfolding inQuotes
   fresh-moves d g = in-cell-moves d f Fresh b g q
 
   comment-moves : {g : Stage} → Starts Tdif g → Moves Tdif f b g (To (Comment Whole) Outside)
@@ -220,7 +219,7 @@ blanks-moves Tdif b = unreached
 blanks-moves (CsvPlus s) b = begin-moves Blanks b refl (CsvPlus s) in-record starts-plus
 
 pub step-moves : (d : Dialect) (f : Form) (b : ℕ) → Moves d f b (stageOf d f) (formStep d f b)
-unfolding formStep inQuotes
+unfolding formStep
 step-moves d Top b = top-moves d b
 step-moves d Begin b = begin-moves Begin b refl d at-rest starts-at-rest
 step-moves d Ended b = split (Moves d Ended b at-rest) (b is LF) (λ _. passes refl) λ _. begin-moves Ended b refl d at-rest starts-at-rest

@@ -111,7 +111,7 @@ unfolding cellStep if_then_else_
 word-break d w x k = no-more (rw (break-letter w x) at k)
 
 cell-break : {A : Type 0} {b : ℕ} {e : Cell} (d : Dialect) (c : Cell) → inQuotes c ≡ false → IsBreak b → cellStep d c b ≡ More e → A
-unfolding cellStep inQuotes
+unfolding cellStep
 cell-break d Fresh q x k = fresh-break d x k
 cell-break d (Quoted c) q x k = impossible (sym q)
 cell-break d Closed q x k = closed-break d x k

@@ -188,7 +188,7 @@ isWhole d Complete = true
 -- ---- the next byte stands inside quotes
 
 -- the next byte stands inside quotes, where CR and LF are counted in a record (§7.4)
-unfoldable pub inQuotes : Cell → Bool
+abbrev pub inQuotes : Cell → Bool
 inQuotes Fresh = false
 inQuotes (Quoted c) = true
 inQuotes Closed = false
@@ -201,5 +201,5 @@ inQuotes Complete = false
 
 -- helper: `unfolding cell-computes` opens every definition of this module
 unfoldable pub cell-computes : Type 0
-unfolding numeralStep firstByte quotedByte plainByte cellStep isWhole inQuotes
+unfolding numeralStep firstByte quotedByte plainByte cellStep isWhole
 cell-computes = Unit {0}

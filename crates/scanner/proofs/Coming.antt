@@ -16,13 +16,14 @@ use Rattle.model.specs.Form.{formStep, inCell, grow, afterCell, counts}
 use Rattle.model.specs.Text.{Value}
 use Rattle.model.specs.Report.{MAXFILE, MAXRECORD}
 use Rattle.model.specs.Records.{Read, fileFull, recordFull}
-use Rattle.lexer.specs.Run.{part, ordinary, leading, cellRun}
-use Rattle.lexer.specs.Met.{stepOf}
-use Rattle.lexer.specs.declared.form.Held.{Held}
-use Rattle.lexer.specs.declared.form.Held.the-variants as held
-use Rattle.lexer.specs.declared.run.CellEnd.{CellEnd}
-use Rattle.lexer.specs.declared.run.CellEnd.the-variants as cell-end
-use Rattle.lexer.proofs.Runs.{part-next, part-end, part-short, leading-on, leading-ends, leading-none, rest-more, rest-stops, rest-refused, rest-open, comment-step}
+use Rattle.runs.specs.Run.{ordinary, leading, cellRun}
+use Rattle.model.specs.Api.{part}
+use Rattle.file_lexer.specs.Held.{stepOf}
+use Rattle.file_lexer.specs.declared.Held.{Held}
+use Rattle.file_lexer.specs.declared.Held.the-variants as held
+use Rattle.runs.specs.declared.CellEnd.{CellEnd}
+use Rattle.runs.specs.declared.CellEnd.the-variants as cell-end
+use Rattle.runs.proofs.Runs.{part-next, part-end, part-short, leading-on, leading-ends, leading-none, rest-more, rest-stops, rest-refused, rest-open, comment-step}
 use Rattle.model.specs.declared.Dialect.{Dialect}
 use Rattle.model.specs.declared.Char.the-variants.{Whole, Within}
 use Rattle.model.specs.declared.Cell.{Cell}

@@ -16,10 +16,10 @@ use Rattle.model.specs.Report.{MAXFILE, MAXRECORD}
 use Rattle.model.specs.Form.{formEnd, lastCell, afterCell, counts}
 use Rattle.model.specs.Cell.{isWhole}
 use Rattle.model.specs.Records.{Read, between-records, closing, cellNow, fileFull, recordFull}
-use Rattle.model.specs.Api.{startsOf, endsOf, kindsOf}
+use Rattle.model.specs.Api.{startsOf, endsOf, kindsOf, part}
 use Rattle.model.proofs.Tests.{impossible}
-use Rattle.lexer.specs.Run.{part}
-use Rattle.lexer.proofs.Runs.{part-end}
+use Rattle.model.specs.Api.{part}
+use Rattle.runs.proofs.Runs.{part-end}
 use Rattle.model.specs.declared.Dialect.{Dialect}
 use Rattle.model.specs.declared.Dialect.the-variants.{Csvj, Tdif, CsvPlus}
 use Rattle.model.specs.declared.Cell.{Cell}

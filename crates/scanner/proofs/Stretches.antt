@@ -16,8 +16,8 @@ use Rattle.model.specs.Records.{Read, between-records, closing, fileFull, recor
 use Rattle.model.specs.Laws.{All, all-none}
 use Rattle.model.proofs.Tests.{split}
 use Rattle.model.proofs.CellRuns.{all-snoc}
-use Rattle.lexer.specs.Run.{part}
-use Rattle.lexer.proofs.Runs.{part-end}
+use Rattle.model.specs.Api.{part}
+use Rattle.runs.proofs.Runs.{part-end}
 use Rattle.model.specs.declared.Dialect.{Dialect}
 use Rattle.model.specs.declared.Form.{Form}
 use Rattle.model.specs.declared.Part.the-variants.{Outside, Passed, OfCell, Between, Tail}

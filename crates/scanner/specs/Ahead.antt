@@ -10,8 +10,8 @@ use Rattle.model.specs.Form.{afterCell, formStep}
 use Rattle.model.specs.Text.{Value}
 use Rattle.model.specs.Report.{MAXFILE, MAXRECORD}
 use Rattle.model.specs.Records.{Read, recordFull}
-use Rattle.model.specs.Api.{least}
-use Rattle.lexer.specs.Run.{part, leading}
+use Rattle.model.specs.Api.{least, part}
+use Rattle.runs.specs.Run.{leading}
 use Rattle.model.specs.declared.Dialect.{Dialect}
 use Rattle.model.specs.declared.Char.the-variants.{Whole, Within}
 use Rattle.model.specs.declared.Form.{Form}

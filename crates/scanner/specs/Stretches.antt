@@ -6,7 +6,7 @@ use Rattle.model.specs.Base.{Bytes}
 use Rattle.model.specs.Decode.{kindOf, contentOf}
 use Rattle.model.specs.Text.{Value}
 use Rattle.model.specs.Report.{MAXRECORD}
-use Rattle.lexer.specs.Run.{part}
+use Rattle.model.specs.Api.{part}
 use Rattle.model.specs.declared.Dialect.{Dialect}
 
 -- a cell that stands in a file: its kind and content are those of its stretch, which is no longer than a record may be

@@ -136,7 +136,7 @@ pub fn next_record(
             Met::AfterCell { closes, at: j } => {
                 h = hand::grown_by(h, j - i);
                 i = j;
-                match lexer::form::after_cell(d, closes, file[j]) {
+                match file_lexer::after_cell(d, closes, file[j]) {
                     Step::Reject(e) => {
                         return Event::Failed {
                             fault: Fault::Byte(e),

@@ -11,33 +11,6 @@ use Rattle.model.proofs.Utf8.{ascii-whole}
 use Rattle.utf8.proofs.char_step.Statement.{statement}
 use Rattle.utf8.proofs.char_step.Tie as tie
 
-enum-told : tie.Need-enum-told
-enum-told c = search needs
-
-lead-byte-requires : tie.Need-lead-byte-requires
-lead-byte-requires c κs = search needs
-
-enum-known-c : tie.Need-enum-known-c
-enum-known-c c = search needs
-
-enum-known-i : tie.Need-enum-known-i
-enum-known-i c = search needs
-
-second-byte-requires : tie.Need-second-byte-requires
-second-byte-requires c κs = search needs
-
-enum-told-2 : tie.Need-enum-told-2
-enum-told-2 c = search needs
-
-later-byte-requires : tie.Need-later-byte-requires
-later-byte-requires c κs = search needs
-
-enum-told-3 : tie.Need-enum-told-3
-enum-told-3 c = search needs
-
-later-byte-requires-2 : tie.Need-later-byte-requires-2
-later-byte-requires-2 c κs = search needs
-
 returns : tie.Need-returns
 unfolding charStep
 returns c = sym (rw (c .before .enum-told .given .1) (ascii-whole (c .before .before .before .args .b) (omega arith)))
@@ -62,15 +35,15 @@ pub char-step-spec : {M : Type 1} → statement M
 char-step-spec =
     tie.close
     (tie.spec
-    enum-told
-    lead-byte-requires
-    enum-known-c
-    enum-known-i
-    second-byte-requires
-    enum-told-2
-    later-byte-requires
-    enum-told-3
-    later-byte-requires-2
+    (λ c. search needs)
+    (λ c κs. search needs)
+    (λ c. search needs)
+    (λ c. search needs)
+    (λ c κs. search needs)
+    (λ c. search needs)
+    (λ c κs. search needs)
+    (λ c. search needs)
+    (λ c κs. search needs)
     returns
     returns-2
     returns-3

@@ -6,15 +6,9 @@ use Rattle.model.specs.Base.{if_then_else_}
 use Rattle.utf8.proofs.later_byte.Statement.{statement}
 use Rattle.utf8.proofs.later_byte.Tie as tie
 
-array-read-if1 : tie.Need-array-read-if1
-array-read-if1 c = search needs
-
 returns : tie.Need-returns
 unfolding if_then_else_
 returns c = rw (lt-leb 0x80 _ (c .if1 .taken))
-
-array-read-if2 : tie.Need-array-read-if2
-array-read-if2 c = search needs
 
 returns-2 : tie.Need-returns-2
 unfolding if_then_else_
@@ -25,4 +19,4 @@ unfolding if_then_else_
 returns-3 c = rw (le-leb 0x80 _ (c .before .if1 .left), le-leb _ 0xBF (c .if2 .left))
 
 pub later-byte-spec : {M : Type 1} → statement M
-later-byte-spec = tie.close (tie.spec array-read-if1 returns array-read-if2 returns-2 returns-3)
+later-byte-spec = tie.close (tie.spec (λ c. search needs) returns (λ c. search needs) returns-2 returns-3)

@@ -22,15 +22,6 @@ abbrev μ-loop : tie.MeasureT-loop
 loop-holds : tie.Need-loop-holds Inv-loop μ-loop
 loop-holds c = (omega arith, refl)
 
-array-read-if1 : tie.Need-array-read-if1 Inv-loop μ-loop
-array-read-if1 c = omega arith
-
-array-read-if2 : tie.Need-array-read-if2 Inv-loop μ-loop
-array-read-if2 c = omega arith
-
-array-copy-out-t26 : tie.Need-array-copy-out-t26 Inv-loop μ-loop
-array-copy-out-t26 c = omega arith
-
 returns : tie.Need-returns Inv-loop μ-loop
 unfolding rowOf leads if_then_else_
 returns c =
@@ -38,12 +29,6 @@ returns c =
     let from-first = le-leb (getD firsts (l .loop .row) 0) (l .before .args .b) (c .before .before .if1 .taken) in
     let to-last = le-leb (l .before .args .b) (getD lasts (l .loop .row) 0) (c .before .if2 .taken) in
     sym (l .loop .inv .1 ∙ lead-at (l .loop .row) (l .before .args .b) (omega arith) ∙ simp (from-first, to-last))
-
-add-row : tie.Need-add-row Inv-loop μ-loop
-add-row c = omega arith
-
-loop-less : tie.Need-loop-less Inv-loop μ-loop
-loop-less c = omega arith
 
 loop-again : tie.Need-loop-again Inv-loop μ-loop
 unfolding rowOf leads if_then_else_
@@ -65,11 +50,11 @@ lead-byte-spec =
     Inv-loop
     μ-loop
     loop-holds
-    array-read-if1
-    array-read-if2
-    array-copy-out-t26
+    (λ c. omega arith)
+    (λ c. omega arith)
+    (λ c. omega arith)
     returns
-    add-row
-    loop-less
+    (λ c. omega arith)
+    (λ c. omega arith)
     loop-again
     returns-2)

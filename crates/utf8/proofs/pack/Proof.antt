@@ -52,24 +52,6 @@ cast-lead-2 c = record { fits = or-lt 8 (c .before .before .before .args .u / 0x
 cast-lead-3 : tie.Need-cast-lead-3
 cast-lead-3 c = record { fits = or-lt 8 (c .before .before .before .before .args .u / 0x40000) 0xF0 (omega arith) (omega arith) }
 
-six-bits-requires : tie.Need-six-bits-requires
-six-bits-requires c κs = search needs
-
-six-bits-requires-2 : tie.Need-six-bits-requires-2
-six-bits-requires-2 c κs = search needs
-
-six-bits-requires-3 : tie.Need-six-bits-requires-3
-six-bits-requires-3 c κs = search needs
-
-six-bits-requires-4 : tie.Need-six-bits-requires-4
-six-bits-requires-4 c κs = search needs
-
-six-bits-requires-5 : tie.Need-six-bits-requires-5
-six-bits-requires-5 c κs = search needs
-
-six-bits-requires-6 : tie.Need-six-bits-requires-6
-six-bits-requires-6 c κs = search needs
-
 pub pack-spec : {M : Type 1} → statement M
 pack-spec =
     tie.close
@@ -77,15 +59,15 @@ pack-spec =
     cast-t6
     returns
     cast-lead
-    six-bits-requires
+    (λ c κs. search needs)
     returns-2
     cast-lead-2
-    six-bits-requires-2
-    six-bits-requires-3
+    (λ c κs. search needs)
+    (λ c κs. search needs)
     returns-3
     cast-lead-3
-    six-bits-requires-4
-    six-bits-requires-5
-    six-bits-requires-6
+    (λ c κs. search needs)
+    (λ c κs. search needs)
+    (λ c κs. search needs)
     returns-4
     returns-5)

@@ -30,27 +30,15 @@ to-high : (c : tie.Else2) → leb (c .before .before .before .args .b) (getD hig
 unfolding leads rowOf
 to-high c = le-leb _ _ (c .if2 .left)
 
-row-of-requires : tie.Need-row-of-requires
-row-of-requires c κs = search needs
-
-array-read-if1 : tie.Need-array-read-if1
-array-read-if1 c = search needs
-
 returns : tie.Need-returns
 unfolding leads rowOf if_then_else_
 returns c = sym (at-row (c .before) ∙ simp (lt-leb (getD lows (c .before .row-of .result) 0) (c .before .before .args .b) (c .if1 .taken)))
-
-array-read-if2 : tie.Need-array-read-if2
-array-read-if2 c = search needs
 
 returns-2 : tie.Need-returns-2
 unfolding leads rowOf if_then_else_
 returns-2 c =
     let high = lt-leb (c .before .before .before .args .b) (getD highs (c .before .before .row-of .result) 0) (c .if2 .taken) in
     sym (at-row (c .before .before) ∙ simp (from-low (c .before), high))
-
-array-read-length : tie.Need-array-read-length
-array-read-length c = search needs
 
 returns-3 : tie.Need-returns-3
 unfolding leads rowOf if_then_else_
@@ -78,12 +66,12 @@ pub second-byte-spec : {M : Type 1} → statement M
 second-byte-spec =
     tie.close
     (tie.spec
-    row-of-requires
-    array-read-if1
+    (λ c κs. search needs)
+    (λ c. search needs)
     returns
-    array-read-if2
+    (λ c. search needs)
     returns-2
-    array-read-length
+    (λ c. search needs)
     returns-3
     returns-4
     returns-5)

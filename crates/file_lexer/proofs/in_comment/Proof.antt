@@ -1,0 +1,20 @@
+use Rattle.model.specs.Base.{if_then_else_}
+use Rattle.model.specs.Form.{formStep}
+use Rattle.model.proofs.Tests.{tests}
+use borrow.Author.Needs.{needs}
+use Rattle.file_lexer.proofs.in_comment.Statement.{statement}
+use Rattle.file_lexer.proofs.in_comment.Tie as tie
+
+pub in-comment-spec : {M : Type 1} → statement M
+unfolding formStep if_then_else_
+in-comment-spec =
+    tie.close
+    (tie.spec
+    (λ c. search needs)
+    (λ c. search (tests, c .before .enum-told .given .1))
+    (λ c. search (tests, c .before .before .enum-told .given .1))
+    (λ c κs. search needs)
+    (λ c. search needs)
+    (λ c κs. search needs)
+    (λ c. search (tests, c .before .before .before .enum-told .given .1))
+    (λ c. search (tests, c .before .before .t .given .1)))

@@ -1,0 +1,14 @@
+-- What the answers of the inner functions stand for, in the definition's terms.
+use Prim.Native.Nat.{ℕ}
+use mathlib.Core.Bool.{false}
+use Rattle.model.specs.declared.Dialect.{Dialect}
+use Rattle.model.specs.declared.Step.{Step}
+use Rattle.model.specs.Form.{afterCell, inCell}
+use Rattle.file_lexer.specs.declared.Held.{Held}
+use Rattle.file_lexer.specs.declared.Held.the-variants.{Is, InCell, AfterCell}
+
+-- what a byte does to a file
+abbrev pub stepOf : Dialect → Held → ℕ → Step
+stepOf d (Is s) b = s
+stepOf d (InCell c) b = inCell d c b
+stepOf d AfterCell b = afterCell d false b

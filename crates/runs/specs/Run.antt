@@ -1,0 +1,58 @@
+-- Runs of ordinary bytes, and the rest of a cell.
+use Prim.Native.Nat.{ℕ, suc}
+use mathlib.Core.Bool.{Bool, not, _&&_}
+use mathlib.Core.List.{[], _∷_}
+use Rattle.model.specs.declared.Dialect.{Dialect}
+use Rattle.model.specs.declared.Char.{Char}
+use Rattle.model.specs.declared.Char.the-variants.{Whole, Within}
+use Rattle.model.specs.declared.Cell.{Cell}
+use Rattle.model.specs.declared.Cell.the-variants.{Fresh, Quoted, Closed, Escape, Hex, InNumber, InWord, Plain, Complete}
+use Rattle.model.specs.declared.Added.the-variants.{More, Stop, Refuse}
+use Rattle.model.specs.Base.{Bytes, if_then_else_, _is_, within}
+use Rattle.model.specs.Dialect.{delimiterOf, quoteOf}
+use Rattle.model.specs.Cell.{cellStep}
+use Rattle.runs.specs.declared.RunStop.{RunStop}
+use Rattle.runs.specs.declared.RunStop.the-variants.{At, NoRun}
+use Rattle.runs.specs.declared.CellEnd.{CellEnd}
+use Rattle.runs.specs.declared.CellEnd.the-variants.{Stopped, Refused, Open}
+
+-- an ordinary byte: 20 to 7E hex, and neither of these two
+unfoldable pub ordinary : (p q b : ℕ) → Bool
+ordinary p q b = within 0x20 0x7E b && not (b is p) && not (b is q)
+
+-- how many ordinary bytes stand at the beginning: all of these are ordinary, and the next is not or there is none
+unfoldable pub leading : (p q : ℕ) → Bytes → ℕ
+leading p q [] = 0
+leading p q (b ∷ bs) = if ordinary p q b then suc (leading p q bs) else 0
+
+-- how many ordinary bytes stand at the beginning of the rest of a comment, which has no stops of its own: no ordinary byte is 0
+abbrev pub commentRun : Bytes → ℕ
+commentRun bs = leading 0 0 bs
+
+-- the rest of a cell, up to where it stops or is refused: where, or the cell that is still open
+unfoldable pub cellRun : Dialect → Cell → (i : ℕ) → Bytes → CellEnd
+cellRun d c i [] = Open c
+cellRun d c i (b ∷ bs) =
+    elim (cellStep d c b) [ More c′ ↦ cellRun d c′ (suc i) bs | Stop ↦ Stopped c i | Refuse e ↦ Refused e i ]
+
+-- the byte beside the quote at which a run ends
+abbrev pub textStop : Char → ℕ → RunStop
+textStop Whole q = At q
+textStop (Within i) q = NoRun
+
+-- in which cells ordinary bytes run: between quotes, and in a plain cell, between characters
+abbrev pub runStop : Dialect → Cell → RunStop
+runStop d Fresh = NoRun
+runStop d (Quoted t) = textStop t 0x5C
+runStop d Closed = NoRun
+runStop d Escape = NoRun
+runStop d (Hex n) = NoRun
+runStop d (InNumber n) = NoRun
+runStop d (InWord w) = NoRun
+runStop d (Plain t) = textStop t (delimiterOf d)
+runStop d Complete = NoRun
+
+-- how many bytes run at the beginning
+abbrev pub runLength : Dialect → RunStop → Bytes → ℕ
+runLength d (At q) bs = leading (quoteOf d) q bs
+runLength d NoRun bs = 0
