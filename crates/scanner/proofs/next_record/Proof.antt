@@ -41,104 +41,100 @@ full-record v = sym (v .before .is-full .ensures) ∙ v .if2 .taken
 
 byte-step : (u : tie.After-ahead Inv-loop μ-loop) (s : Step) → u .ahead .result ≡ Is s → let a = u .before .before .before .before .before .before .before .before .before .before .before .args in let l = u .before .before .before .before .before .before .loop in Stepping (call u) (l .form) (l .i) (l .h) s (l .starts) (l .ends) (l .kinds)
 byte-step u s e =
-    let a = u .before .before .before .before .before .before .before .before .before .before .before .args in
-    let l = u .before .before .before .before .before .before .loop in
-    by-byte _ (l .inv) (u .before .before .before .before .before .loop-test .taken) (u .before .before .before .before .if1 .left) _ (u .before .before .is-full .ensures) (u .before .if2 .left) _ (u .ahead .ensures) s e
+    let at-if1 = u .before .before .before .before in
+    let l = at-if1 .before .before .loop in
+    by-byte _ (l .inv) (at-if1 .before .loop-test .taken) (at-if1 .if1 .left) _ (u .before .before .is-full .ensures) (u .before .if2 .left) _ (u .ahead .ensures) s e
 
 cell-step : (u : tie.After-ahead Inv-loop μ-loop) (closes : Bool) (j : ℕ) → u .ahead .result ≡ AfterCell closes j → let a = u .before .before .before .before .before .before .before .before .before .before .before .args in let l = u .before .before .before .before .before .before .loop in (g : InHand) → g ≡ grown (l .h) (j - l .i) → (s : Step) → s ≡ afterCell (a .d) closes (getD (a .file .now) j 0) → Stepping (call u) (l .form) j g s (l .starts) (l .ends) (l .kinds)
 cell-step u closes j e g eg s es =
-    let a = u .before .before .before .before .before .before .before .before .before .before .before .args in
-    let l = u .before .before .before .before .before .before .loop in
-    by-cell _ (l .inv) (u .before .before .before .before .before .loop-test .taken) (u .before .before .before .before .if1 .left) _ (u .before .before .is-full .ensures) (u .before .if2 .left) _ (u .ahead .ensures) closes j e g eg s es
+    let at-if1 = u .before .before .before .before in
+    let l = at-if1 .before .before .loop in
+    by-cell _ (l .inv) (at-if1 .before .loop-test .taken) (at-if1 .if1 .left) _ (u .before .before .is-full .ensures) (u .before .if2 .left) _ (u .ahead .ensures) closes j e g eg s es
 
 skip-turn : (u : tie.After-ahead Inv-loop μ-loop) (j : ℕ) → u .ahead .result ≡ Skipped j → let a = u .before .before .before .before .before .before .before .before .before .before .before .args in let l = u .before .before .before .before .before .before .loop in (g : InHand) → g ≡ handAfter Outside (j - 1) (l .h) → Scanning (call u) (l .form) j g (l .starts) (l .ends) (l .kinds)
 skip-turn u j e g eg =
-    let a = u .before .before .before .before .before .before .before .before .before .before .before .args in
-    let l = u .before .before .before .before .before .before .loop in
-    by-skip _ (l .inv) (u .before .before .before .before .before .loop-test .taken) (u .before .before .before .before .if1 .left) _ (u .before .before .is-full .ensures) (u .before .if2 .left) _ (u .ahead .ensures) j e g eg
+    let at-if1 = u .before .before .before .before in
+    let l = at-if1 .before .before .loop in
+    by-skip _ (l .inv) (at-if1 .before .loop-test .taken) (at-if1 .if1 .left) _ (u .before .before .is-full .ensures) (u .before .if2 .left) _ (u .ahead .ensures) j e g eg
 
 open-turn : (u : tie.After-ahead Inv-loop μ-loop) (c : Cell) (j : ℕ) → u .ahead .result ≡ Open c j → let a = u .before .before .before .before .before .before .before .before .before .before .before .args in let l = u .before .before .before .before .before .before .loop in (g : InHand) → g ≡ grown (l .h) (j - l .i) → Scanning (call u) (Inside c) j g (l .starts) (l .ends) (l .kinds)
 open-turn u c j e g eg =
-    let a = u .before .before .before .before .before .before .before .before .before .before .before .args in
-    let l = u .before .before .before .before .before .before .loop in
-    by-open _ (l .inv) (u .before .before .before .before .before .loop-test .taken) (u .before .before .before .before .if1 .left) _ (u .before .before .is-full .ensures) (u .before .if2 .left) _ (u .ahead .ensures) c j e g eg
+    let at-if1 = u .before .before .before .before in
+    let l = at-if1 .before .before .loop in
+    by-open _ (l .inv) (at-if1 .before .loop-test .taken) (at-if1 .if1 .left) _ (u .before .before .is-full .ensures) (u .before .if2 .left) _ (u .ahead .ensures) c j e g eg
 
 refusal : (u : tie.After-ahead Inv-loop μ-loop) (x : ByteFault) (j : ℕ) → u .ahead .result ≡ Refused x j → let a = u .before .before .before .before .before .before .before .before .before .before .before .args in let l = u .before .before .before .before .before .before .loop in Out (call u) (Failed (Byte x) j) (l .starts) (l .ends) (l .kinds)
 refusal u x j e =
-    let a = u .before .before .before .before .before .before .before .before .before .before .before .args in
-    let l = u .before .before .before .before .before .before .loop in
-    by-refusal _ (l .inv) (u .before .before .before .before .before .loop-test .taken) (u .before .before .before .before .if1 .left) _ (u .before .before .is-full .ensures) (u .before .if2 .left) _ (u .ahead .ensures) x j e
+    let at-if1 = u .before .before .before .before in
+    let l = at-if1 .before .before .loop in
+    by-refusal _ (l .inv) (at-if1 .before .loop-test .taken) (at-if1 .if1 .left) _ (u .before .before .is-full .ensures) (u .before .if2 .left) _ (u .ahead .ensures) x j e
 
 lies-cell-at : (u : tie.After-ahead Inv-loop μ-loop) (closes : Bool) (j : ℕ) → u .ahead .result ≡ AfterCell closes j → let a = u .before .before .before .before .before .before .before .before .before .before .before .args in let l = u .before .before .before .before .before .before .loop in (l .i ≤ j) × (j < length (a .file .now)) × (j < MAXFILE)
 lies-cell-at u closes j e =
-    let a = u .before .before .before .before .before .before .before .before .before .before .before .args in
-    let l = u .before .before .before .before .before .before .loop in
-    lies-cell _ (l .inv) (u .before .before .before .before .before .loop-test .taken) (u .before .before .before .before .if1 .left) _ (u .before .before .is-full .ensures) (u .before .if2 .left) _ (u .ahead .ensures) closes j e
+    let at-if1 = u .before .before .before .before in
+    let l = at-if1 .before .before .loop in
+    lies-cell _ (l .inv) (at-if1 .before .loop-test .taken) (at-if1 .if1 .left) _ (u .before .before .is-full .ensures) (u .before .if2 .left) _ (u .ahead .ensures) closes j e
 
 lies-skip-at : (u : tie.After-ahead Inv-loop μ-loop) (j : ℕ) → u .ahead .result ≡ Skipped j → let a = u .before .before .before .before .before .before .before .before .before .before .before .args in let l = u .before .before .before .before .before .before .loop in (l .i < j) × (j ≤ length (a .file .now)) × (j ≤ MAXFILE)
 lies-skip-at u j e =
-    let a = u .before .before .before .before .before .before .before .before .before .before .before .args in
-    let l = u .before .before .before .before .before .before .loop in
-    lies-skip _ (l .inv) (u .before .before .before .before .before .loop-test .taken) (u .before .before .before .before .if1 .left) _ (u .before .before .is-full .ensures) (u .before .if2 .left) _ (u .ahead .ensures) j e
+    let at-if1 = u .before .before .before .before in
+    let l = at-if1 .before .before .loop in
+    lies-skip _ (l .inv) (at-if1 .before .loop-test .taken) (at-if1 .if1 .left) _ (u .before .before .is-full .ensures) (u .before .if2 .left) _ (u .ahead .ensures) j e
 
 lies-open-at : (u : tie.After-ahead Inv-loop μ-loop) (c : Cell) (j : ℕ) → u .ahead .result ≡ Open c j → let a = u .before .before .before .before .before .before .before .before .before .before .before .args in let l = u .before .before .before .before .before .before .loop in (l .i < j) × (j ≤ length (a .file .now)) × (j ≤ MAXFILE)
 lies-open-at u c j e =
-    let a = u .before .before .before .before .before .before .before .before .before .before .before .args in
-    let l = u .before .before .before .before .before .before .loop in
-    lies-open _ (l .inv) (u .before .before .before .before .before .loop-test .taken) (u .before .before .before .before .if1 .left) _ (u .before .before .is-full .ensures) (u .before .if2 .left) _ (u .ahead .ensures) c j e
+    let at-if1 = u .before .before .before .before in
+    let l = at-if1 .before .before .loop in
+    lies-open _ (l .inv) (at-if1 .before .loop-test .taken) (at-if1 .if1 .left) _ (u .before .before .is-full .ensures) (u .before .if2 .left) _ (u .ahead .ensures) c j e
 
 loop-holds : tie.Need-loop-holds Inv-loop μ-loop
 loop-holds c =
-    let a = c .before .before .before .before .args in let q = c .before .before .before .before .pre .0 in begins _ (q .0) (q .1) (q .2)
+    let q = c .before .before .before .before .pre .0 in begins _ (q .0) (q .1) (q .2)
 
 same-length : tie.Need-same-length Inv-loop μ-loop
 same-length c =
-    let a = c .before .before .before .before .before .before .before .args in
     let l = c .before .before .loop in
     out-lengths _ (too-long-file _ (l .inv) (c .before .loop-test .taken) (c .if1 .taken)) .0
 
 same-length-2 : tie.Need-same-length-2 Inv-loop μ-loop
 same-length-2 c =
-    let a = c .before .before .before .before .before .before .before .args in
     let l = c .before .before .loop in
     out-lengths _ (too-long-file _ (l .inv) (c .before .loop-test .taken) (c .if1 .taken)) .1
 
 same-length-3 : tie.Need-same-length-3 Inv-loop μ-loop
 same-length-3 c =
-    let a = c .before .before .before .before .before .before .before .args in
     let l = c .before .before .loop in
     out-lengths _ (too-long-file _ (l .inv) (c .before .loop-test .taken) (c .if1 .taken)) .2
 
 returns : tie.Need-returns Inv-loop μ-loop
 returns c =
-    let a = c .before .before .before .before .before .before .before .args in
     let l = c .before .before .loop in
     let o = too-long-file _ (l .inv) (c .before .loop-test .taken) (c .if1 .taken) in
     (o .event, (o .at-starts, (o .at-ends, (o .at-kinds, tt))))
 
 same-length-4 : tie.Need-same-length-4 Inv-loop μ-loop
 same-length-4 c =
-    let a = c .before .before .before .before .before .before .before .before .before .before .args in
-    let l = c .before .before .before .before .before .loop in
-    out-lengths _ (too-long-record _ (l .inv) (c .before .before .before .before .loop-test .taken) (c .before .before .before .if1 .left) (full-record (c))) .0
+    let at-if1 = c .before .before .before in
+    let l = at-if1 .before .before .loop in
+    out-lengths _ (too-long-record _ (l .inv) (at-if1 .before .loop-test .taken) (at-if1 .if1 .left) (full-record c)) .0
 
 same-length-5 : tie.Need-same-length-5 Inv-loop μ-loop
 same-length-5 c =
-    let a = c .before .before .before .before .before .before .before .before .before .before .args in
-    let l = c .before .before .before .before .before .loop in
-    out-lengths _ (too-long-record _ (l .inv) (c .before .before .before .before .loop-test .taken) (c .before .before .before .if1 .left) (full-record (c))) .1
+    let at-if1 = c .before .before .before in
+    let l = at-if1 .before .before .loop in
+    out-lengths _ (too-long-record _ (l .inv) (at-if1 .before .loop-test .taken) (at-if1 .if1 .left) (full-record c)) .1
 
 same-length-6 : tie.Need-same-length-6 Inv-loop μ-loop
 same-length-6 c =
-    let a = c .before .before .before .before .before .before .before .before .before .before .args in
-    let l = c .before .before .before .before .before .loop in
-    out-lengths _ (too-long-record _ (l .inv) (c .before .before .before .before .loop-test .taken) (c .before .before .before .if1 .left) (full-record (c))) .2
+    let at-if1 = c .before .before .before in
+    let l = at-if1 .before .before .loop in
+    out-lengths _ (too-long-record _ (l .inv) (at-if1 .before .loop-test .taken) (at-if1 .if1 .left) (full-record c)) .2
 
 returns-2 : tie.Need-returns-2 Inv-loop μ-loop
 returns-2 c =
-    let a = c .before .before .before .before .before .before .before .before .before .before .args in
-    let l = c .before .before .before .before .before .loop in
-    let o = too-long-record _ (l .inv) (c .before .before .before .before .loop-test .taken) (c .before .before .before .if1 .left) (full-record (c)) in
+    let at-if1 = c .before .before .before in
+    let l = at-if1 .before .before .loop in
+    let o = too-long-record _ (l .inv) (at-if1 .before .loop-test .taken) (at-if1 .if1 .left) (full-record c) in
     (o .event, (o .at-starts, (o .at-ends, (o .at-kinds, tt))))
 
 ahead-requires : tie.Need-ahead-requires Inv-loop μ-loop
@@ -146,27 +142,23 @@ ahead-requires c κs = (c .before .before .before .before .loop-test .taken, c .
 
 same-length-7 : tie.Need-same-length-7 Inv-loop μ-loop
 same-length-7 c =
-    let a = c .before .before .before .before .before .before .before .before .before .before .before .before .before .before .before .before .before .args in
-    let l = c .before .before .before .before .before .before .before .before .before .before .before .before .loop in
-    out-lengths _ (step-refused _ (byte-step (c .before .before .before .before .before .before) _ (c .before .before .before .before .s .given .1)) _ (c .before .s2 .given .1)) .0
+    let at-s = c .before .before .before .before in
+    out-lengths _ (step-refused _ (byte-step (at-s .before .before) _ (at-s .s .given .1)) _ (c .before .s2 .given .1)) .0
 
 same-length-8 : tie.Need-same-length-8 Inv-loop μ-loop
 same-length-8 c =
-    let a = c .before .before .before .before .before .before .before .before .before .before .before .before .before .before .before .before .before .args in
-    let l = c .before .before .before .before .before .before .before .before .before .before .before .before .loop in
-    out-lengths _ (step-refused _ (byte-step (c .before .before .before .before .before .before) _ (c .before .before .before .before .s .given .1)) _ (c .before .s2 .given .1)) .1
+    let at-s = c .before .before .before .before in
+    out-lengths _ (step-refused _ (byte-step (at-s .before .before) _ (at-s .s .given .1)) _ (c .before .s2 .given .1)) .1
 
 same-length-9 : tie.Need-same-length-9 Inv-loop μ-loop
 same-length-9 c =
-    let a = c .before .before .before .before .before .before .before .before .before .before .before .before .before .before .before .before .before .args in
-    let l = c .before .before .before .before .before .before .before .before .before .before .before .before .loop in
-    out-lengths _ (step-refused _ (byte-step (c .before .before .before .before .before .before) _ (c .before .before .before .before .s .given .1)) _ (c .before .s2 .given .1)) .2
+    let at-s = c .before .before .before .before in
+    out-lengths _ (step-refused _ (byte-step (at-s .before .before) _ (at-s .s .given .1)) _ (c .before .s2 .given .1)) .2
 
 returns-3 : tie.Need-returns-3 Inv-loop μ-loop
 returns-3 c =
-    let a = c .before .before .before .before .before .before .before .before .before .before .before .before .before .before .before .before .before .args in
-    let l = c .before .before .before .before .before .before .before .before .before .before .before .before .loop in
-    let o = step-refused _ (byte-step (c .before .before .before .before .before .before) _ (c .before .before .before .before .s .given .1)) _ (c .before .s2 .given .1) in
+    let at-s = c .before .before .before .before in
+    let o = step-refused _ (byte-step (at-s .before .before) _ (at-s .s .given .1)) _ (c .before .s2 .given .1) in
     (o .event, (o .at-starts, (o .at-ends, (o .at-kinds, tt))))
 
 add-put : tie.Need-add-put Inv-loop μ-loop
@@ -179,10 +171,10 @@ add-put c =
 
 put-requires : tie.Need-put-requires Inv-loop μ-loop
 put-requires c κs =
-    let a = c .before .before .before .before .before .before .before .before .before .before .before .before .before .before .before .before .before .before .before .before .before .before .args in
-    let l = c .before .before .before .before .before .before .before .before .before .before .before .before .before .before .before .before .before .loop in
+    let at-loop = c .before .before .before .before .before .before .before .before .before .before .before .before .before .before .before .before .before in
+    let l = at-loop .loop in
     let n = lengths _ (l .inv .lists) in
-    let q = c .before .before .before .before .before .before .before .before .before .before .before .before .before .before .before .before .before .before .before .before .before .before .pre .1 in
+    let q = at-loop .before .before .before .before .before .pre .1 in
     ((l .inv .reached .opened, l .inv .reached .inside), (rw (n .0) (q .0), rw (n .1) (q .1), rw (n .2) (q .2)))
 
 moved-requires : tie.Need-moved-requires Inv-loop μ-loop
@@ -195,34 +187,40 @@ moved-requires c κs =
 
 add-i : tie.Need-add-i Inv-loop μ-loop
 add-i c =
-    let a = c .before .before .before .before .before .before .before .before .before .before .before .before .before .before .before .before .before .before .before .before .before .before .before .before .before .before .before .before .before .before .args in
     let l = c .before .before .before .before .before .before .before .before .before .before .before .before .before .before .before .before .before .before .before .before .before .before .before .before .before .loop in
     let m : l .i < MAXFILE = c .before .before .before .before .before .before .before .before .before .before .before .before .before .before .before .before .before .before .before .before .before .before .before .if1 .left in let x : l .i + 1 < 2 ^ 64 = omega arith in record { fits = x }
 
 same-length-10 : tie.Need-same-length-10 Inv-loop μ-loop
 same-length-10 c =
-    let a = c .before .before .before .before .before .before .before .before .before .before .before .before .before .before .before .before .before .before .before .before .before .before .before .before .before .before .before .before .before .before .before .before .args in
-    let l = c .before .before .before .before .before .before .before .before .before .before .before .before .before .before .before .before .before .before .before .before .before .before .before .before .before .before .before .loop in
-    out-lengths _ (step-over _ (byte-step (c .before .before .before .before .before .before .before .before .before .before .before .before .before .before .before .before .before .before .before .before .before) _ (c .before .before .before .before .before .before .before .before .before .before .before .before .before .before .before .before .before .before .before .s .given .1)) _ _ (c .before .before .before .before .before .before .before .before .before .before .before .before .before .before .before .before .s3 .given .1) _ (c .before .before .before .before .before .before .before .before .before .before .before .before .before .before .closes-cell .ensures) _ _ _ (c .before .before .before .before .before .before .before .before .before .put .ensures) _ (c .before .before .moved .ensures) _ (c .before .ends-record .ensures) (c .if3 .taken)) .0
+    let at-put = c .before .before .before .before .before .before .before .before .before in
+    let at-closes-cell = at-put .before .before .before .before .before in
+    let at-s = at-closes-cell .before .before .before .before .before in
+    out-lengths _ (step-over _ (byte-step (at-s .before .before) _ (at-s .s .given .1)) _ _ (at-closes-cell .before .before .s3 .given .1) _ (at-closes-cell .closes-cell .ensures) _ _ _ (at-put .put .ensures) _ (c .before .before .moved .ensures) _ (c .before .ends-record .ensures) (c .if3 .taken)) .0
 
 same-length-11 : tie.Need-same-length-11 Inv-loop μ-loop
 same-length-11 c =
-    let a = c .before .before .before .before .before .before .before .before .before .before .before .before .before .before .before .before .before .before .before .before .before .before .before .before .before .before .before .before .before .before .before .before .args in
-    let l = c .before .before .before .before .before .before .before .before .before .before .before .before .before .before .before .before .before .before .before .before .before .before .before .before .before .before .before .loop in
-    out-lengths _ (step-over _ (byte-step (c .before .before .before .before .before .before .before .before .before .before .before .before .before .before .before .before .before .before .before .before .before) _ (c .before .before .before .before .before .before .before .before .before .before .before .before .before .before .before .before .before .before .before .s .given .1)) _ _ (c .before .before .before .before .before .before .before .before .before .before .before .before .before .before .before .before .s3 .given .1) _ (c .before .before .before .before .before .before .before .before .before .before .before .before .before .before .closes-cell .ensures) _ _ _ (c .before .before .before .before .before .before .before .before .before .put .ensures) _ (c .before .before .moved .ensures) _ (c .before .ends-record .ensures) (c .if3 .taken)) .1
+    let at-put = c .before .before .before .before .before .before .before .before .before in
+    let at-closes-cell = at-put .before .before .before .before .before in
+    let at-s = at-closes-cell .before .before .before .before .before in
+    out-lengths _ (step-over _ (byte-step (at-s .before .before) _ (at-s .s .given .1)) _ _ (at-closes-cell .before .before .s3 .given .1) _ (at-closes-cell .closes-cell .ensures) _ _ _ (at-put .put .ensures) _ (c .before .before .moved .ensures) _ (c .before .ends-record .ensures) (c .if3 .taken)) .1
 
 same-length-12 : tie.Need-same-length-12 Inv-loop μ-loop
 same-length-12 c =
-    let a = c .before .before .before .before .before .before .before .before .before .before .before .before .before .before .before .before .before .before .before .before .before .before .before .before .before .before .before .before .before .before .before .before .args in
-    let l = c .before .before .before .before .before .before .before .before .before .before .before .before .before .before .before .before .before .before .before .before .before .before .before .before .before .before .before .loop in
-    out-lengths _ (step-over _ (byte-step (c .before .before .before .before .before .before .before .before .before .before .before .before .before .before .before .before .before .before .before .before .before) _ (c .before .before .before .before .before .before .before .before .before .before .before .before .before .before .before .before .before .before .before .s .given .1)) _ _ (c .before .before .before .before .before .before .before .before .before .before .before .before .before .before .before .before .s3 .given .1) _ (c .before .before .before .before .before .before .before .before .before .before .before .before .before .before .closes-cell .ensures) _ _ _ (c .before .before .before .before .before .before .before .before .before .put .ensures) _ (c .before .before .moved .ensures) _ (c .before .ends-record .ensures) (c .if3 .taken)) .2
+    let at-put = c .before .before .before .before .before .before .before .before .before in
+    let at-closes-cell = at-put .before .before .before .before .before in
+    let at-s = at-closes-cell .before .before .before .before .before in
+    out-lengths _ (step-over _ (byte-step (at-s .before .before) _ (at-s .s .given .1)) _ _ (at-closes-cell .before .before .s3 .given .1) _ (at-closes-cell .closes-cell .ensures) _ _ _ (at-put .put .ensures) _ (c .before .before .moved .ensures) _ (c .before .ends-record .ensures) (c .if3 .taken)) .2
 
 returns-4 : tie.Need-returns-4 Inv-loop μ-loop
 returns-4 c =
-    let a = c .before .before .before .before .before .before .before .before .before .before .before .before .before .before .before .before .before .before .before .before .before .before .before .before .before .before .before .before .before .before .before .before .args in
-    let l = c .before .before .before .before .before .before .before .before .before .before .before .before .before .before .before .before .before .before .before .before .before .before .before .before .before .before .before .loop in
-    let o = step-over _ (byte-step (c .before .before .before .before .before .before .before .before .before .before .before .before .before .before .before .before .before .before .before .before .before) _ (c .before .before .before .before .before .before .before .before .before .before .before .before .before .before .before .before .before .before .before .s .given .1)) _ _ (c .before .before .before .before .before .before .before .before .before .before .before .before .before .before .before .before .s3 .given .1) _ (c .before .before .before .before .before .before .before .before .before .before .before .before .before .before .closes-cell .ensures) _ _ _ (c .before .before .before .before .before .before .before .before .before .put .ensures) _ (c .before .before .moved .ensures) _ (c .before .ends-record .ensures) (c .if3 .taken) in
-    (o .event, (o .at-starts, (o .at-ends, (o .at-kinds, step-fits _ (byte-step (c .before .before .before .before .before .before .before .before .before .before .before .before .before .before .before .before .before .before .before .before .before) _ (c .before .before .before .before .before .before .before .before .before .before .before .before .before .before .before .before .before .before .before .s .given .1)) _ _ (c .before .before .before .before .before .before .before .before .before .before .before .before .before .before .before .before .s3 .given .1) _ (c .before .before .before .before .before .before .before .before .before .before .before .before .before .before .closes-cell .ensures) _ _ _ (c .before .before .before .before .before .before .before .before .before .put .ensures) _ (c .before .before .moved .ensures) _ (c .before .ends-record .ensures) (c .if3 .taken)))))
+    let at-moved = c .before .before in
+    let at-put = at-moved .before .before .before .before .before .before .before in
+    let at-closes-cell = at-put .before .before .before .before .before in
+    let at-s3 = at-closes-cell .before .before in
+    let at-s = at-s3 .before .before .before in
+    let u = at-s .before .before in
+    let o = step-over _ (byte-step u _ (at-s .s .given .1)) _ _ (at-s3 .s3 .given .1) _ (at-closes-cell .closes-cell .ensures) _ _ _ (at-put .put .ensures) _ (at-moved .moved .ensures) _ (c .before .ends-record .ensures) (c .if3 .taken) in
+    (o .event, (o .at-starts, (o .at-ends, (o .at-kinds, step-fits _ (byte-step u _ (at-s .s .given .1)) _ _ (at-s3 .s3 .given .1) _ (at-closes-cell .closes-cell .ensures) _ _ _ (at-put .put .ensures) _ (at-moved .moved .ensures) _ (c .before .ends-record .ensures) (c .if3 .taken)))))
 
 loop-less : tie.Need-loop-less Inv-loop μ-loop
 loop-less c =
@@ -232,9 +230,10 @@ loop-less c =
 
 loop-again : tie.Need-loop-again Inv-loop μ-loop
 loop-again c =
-    let a = c .before .before .before .before .before .before .before .before .before .before .before .before .before .before .before .before .before .before .before .before .before .before .before .before .before .before .before .before .before .before .before .before .args in
-    let l = c .before .before .before .before .before .before .before .before .before .before .before .before .before .before .before .before .before .before .before .before .before .before .before .before .before .before .before .loop in
-    step-on _ (byte-step (c .before .before .before .before .before .before .before .before .before .before .before .before .before .before .before .before .before .before .before .before .before) _ (c .before .before .before .before .before .before .before .before .before .before .before .before .before .before .before .before .before .before .before .s .given .1)) _ _ (c .before .before .before .before .before .before .before .before .before .before .before .before .before .before .before .before .s3 .given .1) _ (c .before .before .before .before .before .before .before .before .before .before .before .before .before .before .closes-cell .ensures) _ _ _ (c .before .before .before .before .before .before .before .before .before .put .ensures) _ (c .before .before .moved .ensures) _ (c .before .ends-record .ensures) (c .if3 .left)
+    let at-put = c .before .before .before .before .before .before .before .before .before in
+    let at-closes-cell = at-put .before .before .before .before .before in
+    let at-s = at-closes-cell .before .before .before .before .before in
+    step-on _ (byte-step (at-s .before .before) _ (at-s .s .given .1)) _ _ (at-closes-cell .before .before .s3 .given .1) _ (at-closes-cell .closes-cell .ensures) _ _ _ (at-put .put .ensures) _ (c .before .before .moved .ensures) _ (c .before .ends-record .ensures) (c .if3 .left)
 
 sub-moved : tie.Need-sub-moved Inv-loop μ-loop
 sub-moved c =
@@ -276,82 +275,94 @@ shared-slice-read-after-cell c =
 
 same-length-13 : tie.Need-same-length-13 Inv-loop μ-loop
 same-length-13 c =
-    let a = c .before .before .before .before .before .before .before .before .before .before .before .before .before .before .before .before .before .before .before .before .args in
-    let l = c .before .before .before .before .before .before .before .before .before .before .before .before .before .before .before .loop in
-    out-lengths _ (step-refused _ (cell-step (c .before .before .before .before .before .before .before .before .before) _ _ (c .before .before .before .before .before .before .before .closes .given .1) _ (c .before .before .before .before .before .grown-by .ensures) _ (c .before .before .before .after-cell .ensures)) _ (c .before .e .given .1)) .0
+    let at-after-cell = c .before .before .before in
+    let at-closes = at-after-cell .before .before .before .before in
+    out-lengths _ (step-refused _ (cell-step (at-closes .before .before) _ _ (at-closes .closes .given .1) _ (at-after-cell .before .before .grown-by .ensures) _ (at-after-cell .after-cell .ensures)) _ (c .before .e .given .1)) .0
 
 same-length-14 : tie.Need-same-length-14 Inv-loop μ-loop
 same-length-14 c =
-    let a = c .before .before .before .before .before .before .before .before .before .before .before .before .before .before .before .before .before .before .before .before .args in
-    let l = c .before .before .before .before .before .before .before .before .before .before .before .before .before .before .before .loop in
-    out-lengths _ (step-refused _ (cell-step (c .before .before .before .before .before .before .before .before .before) _ _ (c .before .before .before .before .before .before .before .closes .given .1) _ (c .before .before .before .before .before .grown-by .ensures) _ (c .before .before .before .after-cell .ensures)) _ (c .before .e .given .1)) .1
+    let at-after-cell = c .before .before .before in
+    let at-closes = at-after-cell .before .before .before .before in
+    out-lengths _ (step-refused _ (cell-step (at-closes .before .before) _ _ (at-closes .closes .given .1) _ (at-after-cell .before .before .grown-by .ensures) _ (at-after-cell .after-cell .ensures)) _ (c .before .e .given .1)) .1
 
 same-length-15 : tie.Need-same-length-15 Inv-loop μ-loop
 same-length-15 c =
-    let a = c .before .before .before .before .before .before .before .before .before .before .before .before .before .before .before .before .before .before .before .before .args in
-    let l = c .before .before .before .before .before .before .before .before .before .before .before .before .before .before .before .loop in
-    out-lengths _ (step-refused _ (cell-step (c .before .before .before .before .before .before .before .before .before) _ _ (c .before .before .before .before .before .before .before .closes .given .1) _ (c .before .before .before .before .before .grown-by .ensures) _ (c .before .before .before .after-cell .ensures)) _ (c .before .e .given .1)) .2
+    let at-after-cell = c .before .before .before in
+    let at-closes = at-after-cell .before .before .before .before in
+    out-lengths _ (step-refused _ (cell-step (at-closes .before .before) _ _ (at-closes .closes .given .1) _ (at-after-cell .before .before .grown-by .ensures) _ (at-after-cell .after-cell .ensures)) _ (c .before .e .given .1)) .2
 
 returns-5 : tie.Need-returns-5 Inv-loop μ-loop
 returns-5 c =
-    let a = c .before .before .before .before .before .before .before .before .before .before .before .before .before .before .before .before .before .before .before .before .args in
-    let l = c .before .before .before .before .before .before .before .before .before .before .before .before .before .before .before .loop in
-    let o = step-refused _ (cell-step (c .before .before .before .before .before .before .before .before .before) _ _ (c .before .before .before .before .before .before .before .closes .given .1) _ (c .before .before .before .before .before .grown-by .ensures) _ (c .before .before .before .after-cell .ensures)) _ (c .before .e .given .1) in
+    let at-after-cell = c .before .before .before in
+    let at-closes = at-after-cell .before .before .before .before in
+    let o = step-refused _ (cell-step (at-closes .before .before) _ _ (at-closes .closes .given .1) _ (at-after-cell .before .before .grown-by .ensures) _ (at-after-cell .after-cell .ensures)) _ (c .before .e .given .1) in
     (o .event, (o .at-starts, (o .at-ends, (o .at-kinds, tt))))
 
 add-put-2 : tie.Need-add-put-2 Inv-loop μ-loop
 add-put-2 c =
-    let a = c .before .before .before .before .before .before .before .before .before .before .before .before .before .before .before .before .before .before .before .before .before .before .args in
-    let l = c .before .before .before .before .before .before .before .before .before .before .before .before .before .before .before .before .before .loop in
-    let g = cell-step (c .before .before .before .before .before .before .before .before .before .before .before) _ _ (c .before .before .before .before .before .before .before .before .before .closes .given .1) _ (c .before .before .before .before .before .before .before .grown-by .ensures) _ (c .before .before .before .before .before .after-cell .ensures) in
+    let at-after-cell = c .before .before .before .before .before in
+    let at-closes = at-after-cell .before .before .before .before in
+    let g = cell-step (at-closes .before .before) _ _ (at-closes .closes .given .1) _ (at-after-cell .before .before .grown-by .ensures) _ (at-after-cell .after-cell .ensures) in
     let x = small-sum _ g in record { fits = x }
 
 put-requires-2 : tie.Need-put-requires-2 Inv-loop μ-loop
 put-requires-2 c κs =
-    let a = c .before .before .before .before .before .before .before .before .before .before .before .before .before .before .before .before .before .before .before .before .before .before .before .before .before .args in
-    let l = c .before .before .before .before .before .before .before .before .before .before .before .before .before .before .before .before .before .before .before .before .loop in
-    let g = cell-step (c .before .before .before .before .before .before .before .before .before .before .before .before .before .before) _ _ (c .before .before .before .before .before .before .before .before .before .before .before .before .closes .given .1) _ (c .before .before .before .before .before .before .before .before .before .before .grown-by .ensures) _ (c .before .before .before .before .before .before .before .before .after-cell .ensures) in
+    let at-after-cell = c .before .before .before .before .before .before .before .before in
+    let at-closes = at-after-cell .before .before .before .before in
+    let at-loop = at-closes .before .before .before .before .before .before .before .before in
+    let l = at-loop .loop in
+    let g = cell-step (at-closes .before .before) _ _ (at-closes .closes .given .1) _ (at-after-cell .before .before .grown-by .ensures) _ (at-after-cell .after-cell .ensures) in
     let n = lengths _ (l .inv .lists) in
-    let q = c .before .before .before .before .before .before .before .before .before .before .before .before .before .before .before .before .before .before .before .before .before .before .before .before .before .pre .1 in
+    let q = at-loop .before .before .before .before .before .pre .1 in
     ((g .reached .opened, g .reached .inside), (rw (n .0) (q .0), rw (n .1) (q .1), rw (n .2) (q .2)))
 
 moved-requires-3 : tie.Need-moved-requires-3 Inv-loop μ-loop
 moved-requires-3 c κs =
-    let a = c .before .before .before .before .before .before .before .before .before .before .before .before .before .before .before .before .before .before .before .before .before .before .before .before .before .before .before .before .before .before .before .before .args in
-    let l = c .before .before .before .before .before .before .before .before .before .before .before .before .before .before .before .before .before .before .before .before .before .before .before .before .before .before .before .loop in
-    let g = cell-step (c .before .before .before .before .before .before .before .before .before .before .before .before .before .before .before .before .before .before .before .before .before) _ _ (c .before .before .before .before .before .before .before .before .before .before .before .before .before .before .before .before .before .before .before .closes .given .1) _ (c .before .before .before .before .before .before .before .before .before .before .before .before .before .before .before .before .before .grown-by .ensures) _ (c .before .before .before .before .before .before .before .before .before .before .before .before .before .before .before .after-cell .ensures) in
+    let at-after-cell = c .before .before .before .before .before .before .before .before .before .before .before .before .before .before .before in
+    let at-closes = at-after-cell .before .before .before .before in
+    let g = cell-step (at-closes .before .before) _ _ (at-closes .closes .given .1) _ (at-after-cell .before .before .grown-by .ensures) _ (at-after-cell .after-cell .ensures) in
     small-step _ g
 
 add-i-2 : tie.Need-add-i-2 Inv-loop μ-loop
 add-i-2 c =
-    let a = c .before .before .before .before .before .before .before .before .before .before .before .before .before .before .before .before .before .before .before .before .before .before .before .before .before .before .before .before .before .before .before .before .before .args in
-    let l = c .before .before .before .before .before .before .before .before .before .before .before .before .before .before .before .before .before .before .before .before .before .before .before .before .before .before .before .before .loop in
     let n = lies-cell-at (c .before .before .before .before .before .before .before .before .before .before .before .before .before .before .before .before .before .before .before .before .before .before) _ _ (c .before .before .before .before .before .before .before .before .before .before .before .before .before .before .before .before .before .before .before .before .closes .given .1) in let j2 = n .2 in omega arith
 
 same-length-16 : tie.Need-same-length-16 Inv-loop μ-loop
 same-length-16 c =
-    let a = c .before .before .before .before .before .before .before .before .before .before .before .before .before .before .before .before .before .before .before .before .before .before .before .before .before .before .before .before .before .before .before .before .before .before .before .args in
-    let l = c .before .before .before .before .before .before .before .before .before .before .before .before .before .before .before .before .before .before .before .before .before .before .before .before .before .before .before .before .before .before .loop in
-    out-lengths _ (step-over _ (cell-step (c .before .before .before .before .before .before .before .before .before .before .before .before .before .before .before .before .before .before .before .before .before .before .before .before) _ _ (c .before .before .before .before .before .before .before .before .before .before .before .before .before .before .before .before .before .before .before .before .before .before .closes .given .1) _ (c .before .before .before .before .before .before .before .before .before .before .before .before .before .before .before .before .before .before .before .before .grown-by .ensures) _ (c .before .before .before .before .before .before .before .before .before .before .before .before .before .before .before .before .before .before .after-cell .ensures)) _ _ (c .before .before .before .before .before .before .before .before .before .before .before .before .before .before .before .before .f .given .1) _ (c .before .before .before .before .before .before .before .before .before .before .before .before .before .before .closes-cell2 .ensures) _ _ _ (c .before .before .before .before .before .before .before .before .before .put2 .ensures) _ (c .before .before .moved3 .ensures) _ (c .before .ends-record2 .ensures) (c .if4 .taken)) .0
+    let at-put2 = c .before .before .before .before .before .before .before .before .before in
+    let at-closes-cell2 = at-put2 .before .before .before .before .before in
+    let at-after-cell = at-closes-cell2 .before .before .before .before in
+    let at-closes = at-after-cell .before .before .before .before in
+    out-lengths _ (step-over _ (cell-step (at-closes .before .before) _ _ (at-closes .closes .given .1) _ (at-after-cell .before .before .grown-by .ensures) _ (at-after-cell .after-cell .ensures)) _ _ (at-closes-cell2 .before .before .f .given .1) _ (at-closes-cell2 .closes-cell2 .ensures) _ _ _ (at-put2 .put2 .ensures) _ (c .before .before .moved3 .ensures) _ (c .before .ends-record2 .ensures) (c .if4 .taken)) .0
 
 same-length-17 : tie.Need-same-length-17 Inv-loop μ-loop
 same-length-17 c =
-    let a = c .before .before .before .before .before .before .before .before .before .before .before .before .before .before .before .before .before .before .before .before .before .before .before .before .before .before .before .before .before .before .before .before .before .before .before .args in
-    let l = c .before .before .before .before .before .before .before .before .before .before .before .before .before .before .before .before .before .before .before .before .before .before .before .before .before .before .before .before .before .before .loop in
-    out-lengths _ (step-over _ (cell-step (c .before .before .before .before .before .before .before .before .before .before .before .before .before .before .before .before .before .before .before .before .before .before .before .before) _ _ (c .before .before .before .before .before .before .before .before .before .before .before .before .before .before .before .before .before .before .before .before .before .before .closes .given .1) _ (c .before .before .before .before .before .before .before .before .before .before .before .before .before .before .before .before .before .before .before .before .grown-by .ensures) _ (c .before .before .before .before .before .before .before .before .before .before .before .before .before .before .before .before .before .before .after-cell .ensures)) _ _ (c .before .before .before .before .before .before .before .before .before .before .before .before .before .before .before .before .f .given .1) _ (c .before .before .before .before .before .before .before .before .before .before .before .before .before .before .closes-cell2 .ensures) _ _ _ (c .before .before .before .before .before .before .before .before .before .put2 .ensures) _ (c .before .before .moved3 .ensures) _ (c .before .ends-record2 .ensures) (c .if4 .taken)) .1
+    let at-put2 = c .before .before .before .before .before .before .before .before .before in
+    let at-closes-cell2 = at-put2 .before .before .before .before .before in
+    let at-after-cell = at-closes-cell2 .before .before .before .before in
+    let at-closes = at-after-cell .before .before .before .before in
+    out-lengths _ (step-over _ (cell-step (at-closes .before .before) _ _ (at-closes .closes .given .1) _ (at-after-cell .before .before .grown-by .ensures) _ (at-after-cell .after-cell .ensures)) _ _ (at-closes-cell2 .before .before .f .given .1) _ (at-closes-cell2 .closes-cell2 .ensures) _ _ _ (at-put2 .put2 .ensures) _ (c .before .before .moved3 .ensures) _ (c .before .ends-record2 .ensures) (c .if4 .taken)) .1
 
 same-length-18 : tie.Need-same-length-18 Inv-loop μ-loop
 same-length-18 c =
-    let a = c .before .before .before .before .before .before .before .before .before .before .before .before .before .before .before .before .before .before .before .before .before .before .before .before .before .before .before .before .before .before .before .before .before .before .before .args in
-    let l = c .before .before .before .before .before .before .before .before .before .before .before .before .before .before .before .before .before .before .before .before .before .before .before .before .before .before .before .before .before .before .loop in
-    out-lengths _ (step-over _ (cell-step (c .before .before .before .before .before .before .before .before .before .before .before .before .before .before .before .before .before .before .before .before .before .before .before .before) _ _ (c .before .before .before .before .before .before .before .before .before .before .before .before .before .before .before .before .before .before .before .before .before .before .closes .given .1) _ (c .before .before .before .before .before .before .before .before .before .before .before .before .before .before .before .before .before .before .before .before .grown-by .ensures) _ (c .before .before .before .before .before .before .before .before .before .before .before .before .before .before .before .before .before .before .after-cell .ensures)) _ _ (c .before .before .before .before .before .before .before .before .before .before .before .before .before .before .before .before .f .given .1) _ (c .before .before .before .before .before .before .before .before .before .before .before .before .before .before .closes-cell2 .ensures) _ _ _ (c .before .before .before .before .before .before .before .before .before .put2 .ensures) _ (c .before .before .moved3 .ensures) _ (c .before .ends-record2 .ensures) (c .if4 .taken)) .2
+    let at-put2 = c .before .before .before .before .before .before .before .before .before in
+    let at-closes-cell2 = at-put2 .before .before .before .before .before in
+    let at-after-cell = at-closes-cell2 .before .before .before .before in
+    let at-closes = at-after-cell .before .before .before .before in
+    out-lengths _ (step-over _ (cell-step (at-closes .before .before) _ _ (at-closes .closes .given .1) _ (at-after-cell .before .before .grown-by .ensures) _ (at-after-cell .after-cell .ensures)) _ _ (at-closes-cell2 .before .before .f .given .1) _ (at-closes-cell2 .closes-cell2 .ensures) _ _ _ (at-put2 .put2 .ensures) _ (c .before .before .moved3 .ensures) _ (c .before .ends-record2 .ensures) (c .if4 .taken)) .2
 
 returns-6 : tie.Need-returns-6 Inv-loop μ-loop
 returns-6 c =
-    let a = c .before .before .before .before .before .before .before .before .before .before .before .before .before .before .before .before .before .before .before .before .before .before .before .before .before .before .before .before .before .before .before .before .before .before .before .args in
-    let l = c .before .before .before .before .before .before .before .before .before .before .before .before .before .before .before .before .before .before .before .before .before .before .before .before .before .before .before .before .before .before .loop in
-    let o = step-over _ (cell-step (c .before .before .before .before .before .before .before .before .before .before .before .before .before .before .before .before .before .before .before .before .before .before .before .before) _ _ (c .before .before .before .before .before .before .before .before .before .before .before .before .before .before .before .before .before .before .before .before .before .before .closes .given .1) _ (c .before .before .before .before .before .before .before .before .before .before .before .before .before .before .before .before .before .before .before .before .grown-by .ensures) _ (c .before .before .before .before .before .before .before .before .before .before .before .before .before .before .before .before .before .before .after-cell .ensures)) _ _ (c .before .before .before .before .before .before .before .before .before .before .before .before .before .before .before .before .f .given .1) _ (c .before .before .before .before .before .before .before .before .before .before .before .before .before .before .closes-cell2 .ensures) _ _ _ (c .before .before .before .before .before .before .before .before .before .put2 .ensures) _ (c .before .before .moved3 .ensures) _ (c .before .ends-record2 .ensures) (c .if4 .taken) in
-    (o .event, (o .at-starts, (o .at-ends, (o .at-kinds, step-fits _ (cell-step (c .before .before .before .before .before .before .before .before .before .before .before .before .before .before .before .before .before .before .before .before .before .before .before .before) _ _ (c .before .before .before .before .before .before .before .before .before .before .before .before .before .before .before .before .before .before .before .before .before .before .closes .given .1) _ (c .before .before .before .before .before .before .before .before .before .before .before .before .before .before .before .before .before .before .before .before .grown-by .ensures) _ (c .before .before .before .before .before .before .before .before .before .before .before .before .before .before .before .before .before .before .after-cell .ensures)) _ _ (c .before .before .before .before .before .before .before .before .before .before .before .before .before .before .before .before .f .given .1) _ (c .before .before .before .before .before .before .before .before .before .before .before .before .before .before .closes-cell2 .ensures) _ _ _ (c .before .before .before .before .before .before .before .before .before .put2 .ensures) _ (c .before .before .moved3 .ensures) _ (c .before .ends-record2 .ensures) (c .if4 .taken)))))
+    let at-moved3 = c .before .before in
+    let at-put2 = at-moved3 .before .before .before .before .before .before .before in
+    let at-closes-cell2 = at-put2 .before .before .before .before .before in
+    let at-f = at-closes-cell2 .before .before in
+    let at-after-cell = at-f .before .before in
+    let at-grown-by = at-after-cell .before .before in
+    let at-closes = at-grown-by .before .before in
+    let u = at-closes .before .before in
+    let o = step-over _ (cell-step u _ _ (at-closes .closes .given .1) _ (at-grown-by .grown-by .ensures) _ (at-after-cell .after-cell .ensures)) _ _ (at-f .f .given .1) _ (at-closes-cell2 .closes-cell2 .ensures) _ _ _ (at-put2 .put2 .ensures) _ (at-moved3 .moved3 .ensures) _ (c .before .ends-record2 .ensures) (c .if4 .taken) in
+    (o .event, (o .at-starts, (o .at-ends, (o .at-kinds, step-fits _ (cell-step u _ _ (at-closes .closes .given .1) _ (at-grown-by .grown-by .ensures) _ (at-after-cell .after-cell .ensures)) _ _ (at-f .f .given .1) _ (at-closes-cell2 .closes-cell2 .ensures) _ _ _ (at-put2 .put2 .ensures) _ (at-moved3 .moved3 .ensures) _ (c .before .ends-record2 .ensures) (c .if4 .taken)))))
 
 loop-less-3 : tie.Need-loop-less-3 Inv-loop μ-loop
 loop-less-3 c =
@@ -359,32 +370,26 @@ loop-less-3 c =
 
 loop-again-3 : tie.Need-loop-again-3 Inv-loop μ-loop
 loop-again-3 c =
-    let a = c .before .before .before .before .before .before .before .before .before .before .before .before .before .before .before .before .before .before .before .before .before .before .before .before .before .before .before .before .before .before .before .before .before .before .before .args in
-    let l = c .before .before .before .before .before .before .before .before .before .before .before .before .before .before .before .before .before .before .before .before .before .before .before .before .before .before .before .before .before .before .loop in
-    step-on _ (cell-step (c .before .before .before .before .before .before .before .before .before .before .before .before .before .before .before .before .before .before .before .before .before .before .before .before) _ _ (c .before .before .before .before .before .before .before .before .before .before .before .before .before .before .before .before .before .before .before .before .before .before .closes .given .1) _ (c .before .before .before .before .before .before .before .before .before .before .before .before .before .before .before .before .before .before .before .before .grown-by .ensures) _ (c .before .before .before .before .before .before .before .before .before .before .before .before .before .before .before .before .before .before .after-cell .ensures)) _ _ (c .before .before .before .before .before .before .before .before .before .before .before .before .before .before .before .before .f .given .1) _ (c .before .before .before .before .before .before .before .before .before .before .before .before .before .before .closes-cell2 .ensures) _ _ _ (c .before .before .before .before .before .before .before .before .before .put2 .ensures) _ (c .before .before .moved3 .ensures) _ (c .before .ends-record2 .ensures) (c .if4 .left)
+    let at-put2 = c .before .before .before .before .before .before .before .before .before in
+    let at-closes-cell2 = at-put2 .before .before .before .before .before in
+    let at-after-cell = at-closes-cell2 .before .before .before .before in
+    let at-closes = at-after-cell .before .before .before .before in
+    step-on _ (cell-step (at-closes .before .before) _ _ (at-closes .closes .given .1) _ (at-after-cell .before .before .grown-by .ensures) _ (at-after-cell .after-cell .ensures)) _ _ (at-closes-cell2 .before .before .f .given .1) _ (at-closes-cell2 .closes-cell2 .ensures) _ _ _ (at-put2 .put2 .ensures) _ (c .before .before .moved3 .ensures) _ (c .before .ends-record2 .ensures) (c .if4 .left)
 
 same-length-19 : tie.Need-same-length-19 Inv-loop μ-loop
 same-length-19 c =
-    let a = c .before .before .before .before .before .before .before .before .before .before .before .before .before .before .args in
-    let l = c .before .before .before .before .before .before .before .before .before .loop in
     out-lengths _ (refusal (c .before .before .before) _ _ (c .before .e2 .given .1)) .0
 
 same-length-20 : tie.Need-same-length-20 Inv-loop μ-loop
 same-length-20 c =
-    let a = c .before .before .before .before .before .before .before .before .before .before .before .before .before .before .args in
-    let l = c .before .before .before .before .before .before .before .before .before .loop in
     out-lengths _ (refusal (c .before .before .before) _ _ (c .before .e2 .given .1)) .1
 
 same-length-21 : tie.Need-same-length-21 Inv-loop μ-loop
 same-length-21 c =
-    let a = c .before .before .before .before .before .before .before .before .before .before .before .before .before .before .args in
-    let l = c .before .before .before .before .before .before .before .before .before .loop in
     out-lengths _ (refusal (c .before .before .before) _ _ (c .before .e2 .given .1)) .2
 
 returns-7 : tie.Need-returns-7 Inv-loop μ-loop
 returns-7 c =
-    let a = c .before .before .before .before .before .before .before .before .before .before .before .before .before .before .args in
-    let l = c .before .before .before .before .before .before .before .before .before .loop in
     let o = refusal (c .before .before .before) _ _ (c .before .e2 .given .1) in
     (o .event, (o .at-starts, (o .at-ends, (o .at-kinds, tt))))
 
@@ -418,10 +423,10 @@ add-put-3 c =
 
 put-requires-3 : tie.Need-put-requires-3 Inv-loop μ-loop
 put-requires-3 c κs =
-    let a = c .before .before .before .before .before .before .before .before .before .before .before .before .before .args in
-    let l = c .before .before .before .before .before .before .before .before .loop in
+    let at-loop = c .before .before .before .before .before .before .before .before in
+    let l = at-loop .loop in
     let n = lengths _ (l .inv .lists) in
-    let q = c .before .before .before .before .before .before .before .before .before .before .before .before .before .pre .1 in
+    let q = at-loop .before .before .before .before .before .pre .1 in
     ((l .inv .reached .opened, l .inv .reached .inside), (rw (n .0) (q .0), rw (n .1) (q .1), rw (n .2) (q .2)))
 
 add-t68 : tie.Need-add-t68 Inv-loop μ-loop
@@ -434,77 +439,85 @@ add-t68 c =
 
 same-length-22 : tie.Need-same-length-22 Inv-loop μ-loop
 same-length-22 c =
-    let a = c .before .before .before .before .before .before .before .before .before .args in
-    let l = c .before .before .before .before .loop in
-    out-lengths _ (clean-end _ (l .inv) (c .before .before .before .loop-test .left) (sym (c .before .before .file-end .ensures) ∙ c .enum-told .given .1)) .0
+    let at-loop-test = c .before .before .before in
+    let l = at-loop-test .before .loop in
+    out-lengths _ (clean-end _ (l .inv) (at-loop-test .loop-test .left) (sym (c .before .before .file-end .ensures) ∙ c .enum-told .given .1)) .0
 
 same-length-23 : tie.Need-same-length-23 Inv-loop μ-loop
 same-length-23 c =
-    let a = c .before .before .before .before .before .before .before .before .before .args in
-    let l = c .before .before .before .before .loop in
-    out-lengths _ (clean-end _ (l .inv) (c .before .before .before .loop-test .left) (sym (c .before .before .file-end .ensures) ∙ c .enum-told .given .1)) .1
+    let at-loop-test = c .before .before .before in
+    let l = at-loop-test .before .loop in
+    out-lengths _ (clean-end _ (l .inv) (at-loop-test .loop-test .left) (sym (c .before .before .file-end .ensures) ∙ c .enum-told .given .1)) .1
 
 same-length-24 : tie.Need-same-length-24 Inv-loop μ-loop
 same-length-24 c =
-    let a = c .before .before .before .before .before .before .before .before .before .args in
-    let l = c .before .before .before .before .loop in
-    out-lengths _ (clean-end _ (l .inv) (c .before .before .before .loop-test .left) (sym (c .before .before .file-end .ensures) ∙ c .enum-told .given .1)) .2
+    let at-loop-test = c .before .before .before in
+    let l = at-loop-test .before .loop in
+    out-lengths _ (clean-end _ (l .inv) (at-loop-test .loop-test .left) (sym (c .before .before .file-end .ensures) ∙ c .enum-told .given .1)) .2
 
 returns-8 : tie.Need-returns-8 Inv-loop μ-loop
 returns-8 c =
-    let a = c .before .before .before .before .before .before .before .before .before .args in
-    let l = c .before .before .before .before .loop in
-    let o = clean-end _ (l .inv) (c .before .before .before .loop-test .left) (sym (c .before .before .file-end .ensures) ∙ c .enum-told .given .1) in
+    let at-loop-test = c .before .before .before in
+    let l = at-loop-test .before .loop in
+    let o = clean-end _ (l .inv) (at-loop-test .loop-test .left) (sym (c .before .before .file-end .ensures) ∙ c .enum-told .given .1) in
     (o .event, (o .at-starts, (o .at-ends, (o .at-kinds, tt))))
 
 same-length-25 : tie.Need-same-length-25 Inv-loop μ-loop
 same-length-25 c =
-    let a = c .before .before .before .before .before .before .before .before .before .before .before .before .before .before .before .before .before .before .before .before .before .args in
-    let l = c .before .before .before .before .before .before .before .before .before .before .before .before .before .before .before .before .loop in
-    out-lengths _ (last-put _ (l .inv) (c .before .before .before .before .before .before .before .before .before .before .before .before .before .before .before .loop-test .left) (sym (c .before .before .before .before .before .before .before .before .before .before .before .before .before .before .file-end .ensures) ∙ c .before .before .before .before .before .before .before .before .before .before .before .before .enum-told2 .given .1) _ _ _ (c .before .before .before .before .before .before .before .put3 .ensures)) .0
+    let at-put3 = c .before .before .before .before .before .before .before in
+    let at-enum-told2 = at-put3 .before .before .before .before .before in
+    let at-loop-test = at-enum-told2 .before .before .before in
+    let l = at-loop-test .before .loop in
+    out-lengths _ (last-put _ (l .inv) (at-loop-test .loop-test .left) (sym (at-enum-told2 .before .before .file-end .ensures) ∙ at-enum-told2 .enum-told2 .given .1) _ _ _ (at-put3 .put3 .ensures)) .0
 
 same-length-26 : tie.Need-same-length-26 Inv-loop μ-loop
 same-length-26 c =
-    let a = c .before .before .before .before .before .before .before .before .before .before .before .before .before .before .before .before .before .before .before .before .before .args in
-    let l = c .before .before .before .before .before .before .before .before .before .before .before .before .before .before .before .before .loop in
-    out-lengths _ (last-put _ (l .inv) (c .before .before .before .before .before .before .before .before .before .before .before .before .before .before .before .loop-test .left) (sym (c .before .before .before .before .before .before .before .before .before .before .before .before .before .before .file-end .ensures) ∙ c .before .before .before .before .before .before .before .before .before .before .before .before .enum-told2 .given .1) _ _ _ (c .before .before .before .before .before .before .before .put3 .ensures)) .1
+    let at-put3 = c .before .before .before .before .before .before .before in
+    let at-enum-told2 = at-put3 .before .before .before .before .before in
+    let at-loop-test = at-enum-told2 .before .before .before in
+    let l = at-loop-test .before .loop in
+    out-lengths _ (last-put _ (l .inv) (at-loop-test .loop-test .left) (sym (at-enum-told2 .before .before .file-end .ensures) ∙ at-enum-told2 .enum-told2 .given .1) _ _ _ (at-put3 .put3 .ensures)) .1
 
 same-length-27 : tie.Need-same-length-27 Inv-loop μ-loop
 same-length-27 c =
-    let a = c .before .before .before .before .before .before .before .before .before .before .before .before .before .before .before .before .before .before .before .before .before .args in
-    let l = c .before .before .before .before .before .before .before .before .before .before .before .before .before .before .before .before .loop in
-    out-lengths _ (last-put _ (l .inv) (c .before .before .before .before .before .before .before .before .before .before .before .before .before .before .before .loop-test .left) (sym (c .before .before .before .before .before .before .before .before .before .before .before .before .before .before .file-end .ensures) ∙ c .before .before .before .before .before .before .before .before .before .before .before .before .enum-told2 .given .1) _ _ _ (c .before .before .before .before .before .before .before .put3 .ensures)) .2
+    let at-put3 = c .before .before .before .before .before .before .before in
+    let at-enum-told2 = at-put3 .before .before .before .before .before in
+    let at-loop-test = at-enum-told2 .before .before .before in
+    let l = at-loop-test .before .loop in
+    out-lengths _ (last-put _ (l .inv) (at-loop-test .loop-test .left) (sym (at-enum-told2 .before .before .file-end .ensures) ∙ at-enum-told2 .enum-told2 .given .1) _ _ _ (at-put3 .put3 .ensures)) .2
 
 returns-9 : tie.Need-returns-9 Inv-loop μ-loop
 returns-9 c =
-    let a = c .before .before .before .before .before .before .before .before .before .before .before .before .before .before .before .before .before .before .before .before .before .args in
-    let l = c .before .before .before .before .before .before .before .before .before .before .before .before .before .before .before .before .loop in
-    let o = last-put _ (l .inv) (c .before .before .before .before .before .before .before .before .before .before .before .before .before .before .before .loop-test .left) (sym (c .before .before .before .before .before .before .before .before .before .before .before .before .before .before .file-end .ensures) ∙ c .before .before .before .before .before .before .before .before .before .before .before .before .enum-told2 .given .1) _ _ _ (c .before .before .before .before .before .before .before .put3 .ensures) in
-    (o .event, (o .at-starts, (o .at-ends, (o .at-kinds, last-fits _ (l .inv) (c .before .before .before .before .before .before .before .before .before .before .before .before .before .before .before .loop-test .left)))))
+    let at-put3 = c .before .before .before .before .before .before .before in
+    let at-enum-told2 = at-put3 .before .before .before .before .before in
+    let at-loop-test = at-enum-told2 .before .before .before in
+    let l = at-loop-test .before .loop in
+    let o = last-put _ (l .inv) (at-loop-test .loop-test .left) (sym (at-enum-told2 .before .before .file-end .ensures) ∙ at-enum-told2 .enum-told2 .given .1) _ _ _ (at-put3 .put3 .ensures) in
+    (o .event, (o .at-starts, (o .at-ends, (o .at-kinds, last-fits _ (l .inv) (at-loop-test .loop-test .left)))))
 
 same-length-28 : tie.Need-same-length-28 Inv-loop μ-loop
 same-length-28 c =
-    let a = c .before .before .before .before .before .before .before .before .before .args in
-    let l = c .before .before .before .before .loop in
-    out-lengths _ (cut-short _ (l .inv) (c .before .before .before .loop-test .left) (sym (c .before .before .file-end .ensures) ∙ c .enum-told3 .given .1)) .0
+    let at-loop-test = c .before .before .before in
+    let l = at-loop-test .before .loop in
+    out-lengths _ (cut-short _ (l .inv) (at-loop-test .loop-test .left) (sym (c .before .before .file-end .ensures) ∙ c .enum-told3 .given .1)) .0
 
 same-length-29 : tie.Need-same-length-29 Inv-loop μ-loop
 same-length-29 c =
-    let a = c .before .before .before .before .before .before .before .before .before .args in
-    let l = c .before .before .before .before .loop in
-    out-lengths _ (cut-short _ (l .inv) (c .before .before .before .loop-test .left) (sym (c .before .before .file-end .ensures) ∙ c .enum-told3 .given .1)) .1
+    let at-loop-test = c .before .before .before in
+    let l = at-loop-test .before .loop in
+    out-lengths _ (cut-short _ (l .inv) (at-loop-test .loop-test .left) (sym (c .before .before .file-end .ensures) ∙ c .enum-told3 .given .1)) .1
 
 same-length-30 : tie.Need-same-length-30 Inv-loop μ-loop
 same-length-30 c =
-    let a = c .before .before .before .before .before .before .before .before .before .args in
-    let l = c .before .before .before .before .loop in
-    out-lengths _ (cut-short _ (l .inv) (c .before .before .before .loop-test .left) (sym (c .before .before .file-end .ensures) ∙ c .enum-told3 .given .1)) .2
+    let at-loop-test = c .before .before .before in
+    let l = at-loop-test .before .loop in
+    out-lengths _ (cut-short _ (l .inv) (at-loop-test .loop-test .left) (sym (c .before .before .file-end .ensures) ∙ c .enum-told3 .given .1)) .2
 
 returns-10 : tie.Need-returns-10 Inv-loop μ-loop
 returns-10 c =
-    let a = c .before .before .before .before .before .before .before .before .before .args in
-    let l = c .before .before .before .before .loop in
-    let o = cut-short _ (l .inv) (c .before .before .before .loop-test .left) (sym (c .before .before .file-end .ensures) ∙ c .enum-told3 .given .1) in
+    let at-loop-test = c .before .before .before in
+    let l = at-loop-test .before .loop in
+    let o = cut-short _ (l .inv) (at-loop-test .loop-test .left) (sym (c .before .before .file-end .ensures) ∙ c .enum-told3 .given .1) in
     (o .event, (o .at-starts, (o .at-ends, (o .at-kinds, tt))))
 
 pub next-record-spec : {M : Type 1} → statement M
