@@ -354,56 +354,65 @@ module _ (call : Call) where
     pub inside : i < length file
     pub under : i < MAXFILE
 
-  module _ {f : Form} {i : ℕ} {h : InHand} {starts ends kinds : List ℕ} (y : Scanning f i h starts ends kinds) (l : i < length file) (m : i < MAXFILE) (full : Bool) (e : full ≡ (leb MAXRECORD (h .size) && counts f (getD file i 0))) (z : full ≡ false) (met : Met) (a : Lies d file f i met × Comes d file f i (h .size) met) where
-    comes-to : Whole ≡ metNext d file f i h (y .vs) met
+  -- the byte at i is not one too many, and this stands ahead
+  pub record Asked (f : Form) (i : ℕ) (h : InHand) (starts ends kinds : List ℕ) (met : Met) : Type 0 where
+    pub scanning : Scanning f i h starts ends kinds
+    pub inside : i < length file
+    pub under : i < MAXFILE
+    pub fits : (leb MAXRECORD (h .size) && counts f (getD file i 0)) ≡ false
+    pub lies : Lies d file f i met
+    pub comes : Comes d file f i (h .size) met
+
+  module _ {f : Form} {i : ℕ} {h : InHand} {starts ends kinds : List ℕ} {met : Met} (a : Asked f i h starts ends kinds met) where
+    comes-to : Whole ≡ metNext d file f i h (a .scanning .vs) met
     unfolding recordFull
-    comes-to = y .same ∙ a .1 .comes h (y .vs) refl (y .reached .opened) (sym e ∙ z)
+    comes-to = a .scanning .same ∙ a .comes .comes h (a .scanning .vs) refl (a .scanning .reached .opened) (a .fits)
 
     pub by-byte : (s : Step) → met ≡ Is s → Stepping f i h s starts ends kinds
     unfolding metNext
     by-byte s q =
-        let n : Lies d file f i (Is s) = subst (λ (x : Met). Lies d file f i x) q (a .0) in
-        let w : Whole ≡ metNext d file f i h (y .vs) (Is s) = comes-to ∙ ap (λ (x : Met). metNext d file f i h (y .vs) x) q in
-        record { vs = y .vs; whole = w; reached = y .reached; lists = y .lists; calm = subst (λ (x : Step). Calm f (getD file i 0) x) (sym n) (step-calm d f (getD file i 0)); inside = l; under = m }
+        let n : Lies d file f i (Is s) = subst (λ (x : Met). Lies d file f i x) q (a .lies) in
+        let w : Whole ≡ metNext d file f i h (a .scanning .vs) (Is s) = comes-to ∙ ap (λ (x : Met). metNext d file f i h (a .scanning .vs) x) q in
+        record { vs = a .scanning .vs; whole = w; reached = a .scanning .reached; lists = a .scanning .lists; calm = subst (λ (x : Step). Calm f (getD file i 0) x) (sym n) (step-calm d f (getD file i 0)); inside = a .inside; under = a .under }
 
     pub by-cell : (closes : Bool) (j : ℕ) → met ≡ AfterCell closes j → (g : InHand) → g ≡ grown h (j - i) → (s : Step) → s ≡ afterCell d closes (getD file j 0) → Stepping f j g s starts ends kinds
     unfolding metNext
     by-cell closes j q g eg s es =
-        let n : Lies d file f i (AfterCell closes j) = subst (λ (x : Met). Lies d file f i x) q (a .0) in
-        let w : Whole ≡ metNext d file f i h (y .vs) (AfterCell closes j) = comes-to ∙ ap (λ (x : Met). metNext d file f i h (y .vs) x) q in
+        let n : Lies d file f i (AfterCell closes j) = subst (λ (x : Met). Lies d file f i x) q (a .lies) in
+        let w : Whole ≡ metNext d file f i h (a .scanning .vs) (AfterCell closes j) = comes-to ∙ ap (λ (x : Met). metNext d file f i h (a .scanning .vs) x) q in
         let k : j < length file = n .1 in
         let u : j < MAXFILE = n .2 in
         subst (λ (x : InHand). Stepping f j x s starts ends kinds) (sym eg)
         (subst (λ (x : Step). Stepping f j (grown h (j - i)) x starts ends kinds) (sym es)
-        (record { vs = y .vs; whole = w; reached = grows-to (n .0) (omega arith) (omega arith) (y .reached); lists = y .lists; calm = after-calm f (getD file j 0) d closes; inside = k; under = u }))
+        (record { vs = a .scanning .vs; whole = w; reached = grows-to (n .0) (omega arith) (omega arith) (a .scanning .reached); lists = a .scanning .lists; calm = after-calm f (getD file j 0) d closes; inside = k; under = u }))
 
     pub by-skip : (j : ℕ) → met ≡ Skipped j → (g : InHand) → g ≡ handAfter Outside (j - 1) h → Scanning f j g starts ends kinds
     unfolding metNext
     by-skip j q g eg =
-        let n : Lies d file f i (Skipped j) = subst (λ (x : Met). Lies d file f i x) q (a .0) in
-        let w : Whole ≡ metNext d file f i h (y .vs) (Skipped j) = comes-to ∙ ap (λ (x : Met). metNext d file f i h (y .vs) x) q in
-        subst (λ (x : InHand). Scanning f j x starts ends kinds) (sym eg) (skipped y (n .0) (n .1) (n .2) (n .3) w)
+        let n : Lies d file f i (Skipped j) = subst (λ (x : Met). Lies d file f i x) q (a .lies) in
+        let w : Whole ≡ metNext d file f i h (a .scanning .vs) (Skipped j) = comes-to ∙ ap (λ (x : Met). metNext d file f i h (a .scanning .vs) x) q in
+        subst (λ (x : InHand). Scanning f j x starts ends kinds) (sym eg) (skipped (a .scanning) (n .0) (n .1) (n .2) (n .3) w)
 
     pub by-open : (c : Cell) (j : ℕ) → met ≡ Open c j → (g : InHand) → g ≡ grown h (j - i) → Scanning (Inside c) j g starts ends kinds
     unfolding metNext
     by-open c j q g eg =
-        let n : Lies d file f i (Open c j) = subst (λ (x : Met). Lies d file f i x) q (a .0) in
-        let w : Whole ≡ metNext d file f i h (y .vs) (Open c j) = comes-to ∙ ap (λ (x : Met). metNext d file f i h (y .vs) x) q in
-        subst (λ (x : InHand). Scanning (Inside c) j x starts ends kinds) (sym eg) (still-open y (n .0) (n .1) (n .2) w)
+        let n : Lies d file f i (Open c j) = subst (λ (x : Met). Lies d file f i x) q (a .lies) in
+        let w : Whole ≡ metNext d file f i h (a .scanning .vs) (Open c j) = comes-to ∙ ap (λ (x : Met). metNext d file f i h (a .scanning .vs) x) q in
+        subst (λ (x : InHand). Scanning (Inside c) j x starts ends kinds) (sym eg) (still-open (a .scanning) (n .0) (n .1) (n .2) w)
 
     pub by-refusal : (x : ByteFault) (j : ℕ) → met ≡ Refused x j → Out (Failed (Byte x) j) starts ends kinds
     unfolding metNext
-    by-refusal x j q = gives (record { event = Failed (Byte x) j; cells = y .vs }) (comes-to ∙ ap (λ (t : Met). metNext d file f i h (y .vs) t) q) (y .lists)
+    by-refusal x j q = gives (record { event = Failed (Byte x) j; cells = a .scanning .vs }) (comes-to ∙ ap (λ (t : Met). metNext d file f i h (a .scanning .vs) t) q) (a .scanning .lists)
 
     -- where it lies
     pub lies-cell : (closes : Bool) (j : ℕ) → met ≡ AfterCell closes j → (i ≤ j) × (j < length file) × (j < MAXFILE)
-    lies-cell closes j q = subst (λ (x : Met). Lies d file f i x) q (a .0)
+    lies-cell closes j q = subst (λ (x : Met). Lies d file f i x) q (a .lies)
 
     pub lies-skip : (j : ℕ) → met ≡ Skipped j → (i < j) × (j ≤ length file) × (j ≤ MAXFILE)
-    lies-skip j q = let n : Lies d file f i (Skipped j) = subst (λ (x : Met). Lies d file f i x) q (a .0) in (n .1, n .2, n .3)
+    lies-skip j q = let n : Lies d file f i (Skipped j) = subst (λ (x : Met). Lies d file f i x) q (a .lies) in (n .1, n .2, n .3)
 
     pub lies-open : (c : Cell) (j : ℕ) → met ≡ Open c j → (i < j) × (j ≤ length file) × (j ≤ MAXFILE)
-    lies-open c j q = subst (λ (x : Met). Lies d file f i x) q (a .0)
+    lies-open c j q = subst (λ (x : Met). Lies d file f i x) q (a .lies)
 
   -- what the code's calls say of a step
   module _ {f : Form} {i : ℕ} {h : InHand} {starts ends kinds : List ℕ} {s : Step} (y : Stepping f i h s starts ends kinds) where

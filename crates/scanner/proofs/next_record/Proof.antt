@@ -17,7 +17,7 @@ use Rattle.model.specs.declared.Fault.the-variants.{Byte}
 use Rattle.scanner.specs.Types.{InHand, Is, Skipped, AfterCell, Refused, Open, Failed}
 use Rattle.scanner.specs.Next.{handAfter, grown}
 use Rattle.scanner.specs.Ahead.{readAt}
-use Rattle.scanner.proofs.Scanning.{Call, Scanning, Stepping, Out, begins, too-long-file, too-long-record, by-byte, by-cell, by-skip, by-open, by-refusal, lies-cell, lies-skip, lies-open, step-refused, step-on, step-over, step-fits, clean-end, cut-short, last-put, last-fits, lengths, out-lengths, small-sum, small-step}
+use Rattle.scanner.proofs.Scanning.{Call, Scanning, Asked, begins, too-long-file, too-long-record, by-byte, by-cell, by-skip, by-open, by-refusal, lies-cell, lies-skip, lies-open, step-refused, step-on, step-over, step-fits, clean-end, cut-short, last-put, last-fits, lengths, out-lengths, small-sum, small-step}
 use Rattle.scanner.proofs.next_record.Statement.{statement}
 use Rattle.scanner.proofs.next_record.Tie as tie
 
@@ -39,53 +39,17 @@ full-record : (v : tie.Then2 Inv-loop μ-loop) → let a = v .before .before .be
 unfolding recordFull
 full-record v = sym (v .before .is-full .ensures) ∙ v .if2 .taken
 
-byte-step : (u : tie.After-ahead Inv-loop μ-loop) (s : Step) → u .ahead .result ≡ Is s → let a = u .before .before .before .before .before .before .before .before .before .before .before .args in let l = u .before .before .before .before .before .before .loop in Stepping (call u) (l .form) (l .i) (l .h) s (l .starts) (l .ends) (l .kinds)
-byte-step u s e =
+asked : (u : tie.After-ahead Inv-loop μ-loop) → let l = u .before .before .before .before .before .before .loop in Asked (call u) (l .form) (l .i) (l .h) (l .starts) (l .ends) (l .kinds) (u .ahead .result)
+asked u =
     let at-if1 = u .before .before .before .before in
-    let l = at-if1 .before .before .loop in
-    by-byte _ (l .inv) (at-if1 .before .loop-test .taken) (at-if1 .if1 .left) _ (u .before .before .is-full .ensures) (u .before .if2 .left) _ (u .ahead .ensures) s e
-
-cell-step : (u : tie.After-ahead Inv-loop μ-loop) (closes : Bool) (j : ℕ) → u .ahead .result ≡ AfterCell closes j → let a = u .before .before .before .before .before .before .before .before .before .before .before .args in let l = u .before .before .before .before .before .before .loop in (g : InHand) → g ≡ grown (l .h) (j - l .i) → (s : Step) → s ≡ afterCell (a .d) closes (getD (a .file .now) j 0) → Stepping (call u) (l .form) j g s (l .starts) (l .ends) (l .kinds)
-cell-step u closes j e g eg s es =
-    let at-if1 = u .before .before .before .before in
-    let l = at-if1 .before .before .loop in
-    by-cell _ (l .inv) (at-if1 .before .loop-test .taken) (at-if1 .if1 .left) _ (u .before .before .is-full .ensures) (u .before .if2 .left) _ (u .ahead .ensures) closes j e g eg s es
-
-skip-turn : (u : tie.After-ahead Inv-loop μ-loop) (j : ℕ) → u .ahead .result ≡ Skipped j → let a = u .before .before .before .before .before .before .before .before .before .before .before .args in let l = u .before .before .before .before .before .before .loop in (g : InHand) → g ≡ handAfter Outside (j - 1) (l .h) → Scanning (call u) (l .form) j g (l .starts) (l .ends) (l .kinds)
-skip-turn u j e g eg =
-    let at-if1 = u .before .before .before .before in
-    let l = at-if1 .before .before .loop in
-    by-skip _ (l .inv) (at-if1 .before .loop-test .taken) (at-if1 .if1 .left) _ (u .before .before .is-full .ensures) (u .before .if2 .left) _ (u .ahead .ensures) j e g eg
-
-open-turn : (u : tie.After-ahead Inv-loop μ-loop) (c : Cell) (j : ℕ) → u .ahead .result ≡ Open c j → let a = u .before .before .before .before .before .before .before .before .before .before .before .args in let l = u .before .before .before .before .before .before .loop in (g : InHand) → g ≡ grown (l .h) (j - l .i) → Scanning (call u) (Inside c) j g (l .starts) (l .ends) (l .kinds)
-open-turn u c j e g eg =
-    let at-if1 = u .before .before .before .before in
-    let l = at-if1 .before .before .loop in
-    by-open _ (l .inv) (at-if1 .before .loop-test .taken) (at-if1 .if1 .left) _ (u .before .before .is-full .ensures) (u .before .if2 .left) _ (u .ahead .ensures) c j e g eg
-
-refusal : (u : tie.After-ahead Inv-loop μ-loop) (x : ByteFault) (j : ℕ) → u .ahead .result ≡ Refused x j → let a = u .before .before .before .before .before .before .before .before .before .before .before .args in let l = u .before .before .before .before .before .before .loop in Out (call u) (Failed (Byte x) j) (l .starts) (l .ends) (l .kinds)
-refusal u x j e =
-    let at-if1 = u .before .before .before .before in
-    let l = at-if1 .before .before .loop in
-    by-refusal _ (l .inv) (at-if1 .before .loop-test .taken) (at-if1 .if1 .left) _ (u .before .before .is-full .ensures) (u .before .if2 .left) _ (u .ahead .ensures) x j e
-
-lies-cell-at : (u : tie.After-ahead Inv-loop μ-loop) (closes : Bool) (j : ℕ) → u .ahead .result ≡ AfterCell closes j → let a = u .before .before .before .before .before .before .before .before .before .before .before .args in let l = u .before .before .before .before .before .before .loop in (l .i ≤ j) × (j < length (a .file .now)) × (j < MAXFILE)
-lies-cell-at u closes j e =
-    let at-if1 = u .before .before .before .before in
-    let l = at-if1 .before .before .loop in
-    lies-cell _ (l .inv) (at-if1 .before .loop-test .taken) (at-if1 .if1 .left) _ (u .before .before .is-full .ensures) (u .before .if2 .left) _ (u .ahead .ensures) closes j e
-
-lies-skip-at : (u : tie.After-ahead Inv-loop μ-loop) (j : ℕ) → u .ahead .result ≡ Skipped j → let a = u .before .before .before .before .before .before .before .before .before .before .before .args in let l = u .before .before .before .before .before .before .loop in (l .i < j) × (j ≤ length (a .file .now)) × (j ≤ MAXFILE)
-lies-skip-at u j e =
-    let at-if1 = u .before .before .before .before in
-    let l = at-if1 .before .before .loop in
-    lies-skip _ (l .inv) (at-if1 .before .loop-test .taken) (at-if1 .if1 .left) _ (u .before .before .is-full .ensures) (u .before .if2 .left) _ (u .ahead .ensures) j e
-
-lies-open-at : (u : tie.After-ahead Inv-loop μ-loop) (c : Cell) (j : ℕ) → u .ahead .result ≡ Open c j → let a = u .before .before .before .before .before .before .before .before .before .before .before .args in let l = u .before .before .before .before .before .before .loop in (l .i < j) × (j ≤ length (a .file .now)) × (j ≤ MAXFILE)
-lies-open-at u c j e =
-    let at-if1 = u .before .before .before .before in
-    let l = at-if1 .before .before .loop in
-    lies-open _ (l .inv) (at-if1 .before .loop-test .taken) (at-if1 .if1 .left) _ (u .before .before .is-full .ensures) (u .before .if2 .left) _ (u .ahead .ensures) c j e
+    record {
+      scanning = at-if1 .before .before .loop .inv;
+      inside = at-if1 .before .loop-test .taken;
+      under = at-if1 .if1 .left;
+      fits = sym (u .before .before .is-full .ensures) ∙ u .before .if2 .left;
+      lies = u .ahead .ensures .0;
+      comes = u .ahead .ensures .1;
+    }
 
 loop-holds : tie.Need-loop-holds Inv-loop μ-loop
 loop-holds c =
@@ -143,22 +107,22 @@ ahead-requires c κs = (c .before .before .before .before .loop-test .taken, c .
 same-length-7 : tie.Need-same-length-7 Inv-loop μ-loop
 same-length-7 c =
     let at-s = c .before .before .before .before in
-    out-lengths _ (step-refused _ (byte-step (at-s .before .before) _ (at-s .s .given .1)) _ (c .before .s2 .given .1)) .0
+    out-lengths _ (step-refused _ (by-byte _ (asked (at-s .before .before)) _ (at-s .s .given .1)) _ (c .before .s2 .given .1)) .0
 
 same-length-8 : tie.Need-same-length-8 Inv-loop μ-loop
 same-length-8 c =
     let at-s = c .before .before .before .before in
-    out-lengths _ (step-refused _ (byte-step (at-s .before .before) _ (at-s .s .given .1)) _ (c .before .s2 .given .1)) .1
+    out-lengths _ (step-refused _ (by-byte _ (asked (at-s .before .before)) _ (at-s .s .given .1)) _ (c .before .s2 .given .1)) .1
 
 same-length-9 : tie.Need-same-length-9 Inv-loop μ-loop
 same-length-9 c =
     let at-s = c .before .before .before .before in
-    out-lengths _ (step-refused _ (byte-step (at-s .before .before) _ (at-s .s .given .1)) _ (c .before .s2 .given .1)) .2
+    out-lengths _ (step-refused _ (by-byte _ (asked (at-s .before .before)) _ (at-s .s .given .1)) _ (c .before .s2 .given .1)) .2
 
 returns-3 : tie.Need-returns-3 Inv-loop μ-loop
 returns-3 c =
     let at-s = c .before .before .before .before in
-    let o = step-refused _ (byte-step (at-s .before .before) _ (at-s .s .given .1)) _ (c .before .s2 .given .1) in
+    let o = step-refused _ (by-byte _ (asked (at-s .before .before)) _ (at-s .s .given .1)) _ (c .before .s2 .given .1) in
     (o .event, (o .at-starts, (o .at-ends, (o .at-kinds, tt))))
 
 add-put : tie.Need-add-put Inv-loop μ-loop
@@ -195,21 +159,21 @@ same-length-10 c =
     let at-put = c .before .before .before .before .before .before .before .before .before in
     let at-closes-cell = at-put .before .before .before .before .before in
     let at-s = at-closes-cell .before .before .before .before .before in
-    out-lengths _ (step-over _ (byte-step (at-s .before .before) _ (at-s .s .given .1)) _ _ (at-closes-cell .before .before .s3 .given .1) _ (at-closes-cell .closes-cell .ensures) _ _ _ (at-put .put .ensures) _ (c .before .before .moved .ensures) _ (c .before .ends-record .ensures) (c .if3 .taken)) .0
+    out-lengths _ (step-over _ (by-byte _ (asked (at-s .before .before)) _ (at-s .s .given .1)) _ _ (at-closes-cell .before .before .s3 .given .1) _ (at-closes-cell .closes-cell .ensures) _ _ _ (at-put .put .ensures) _ (c .before .before .moved .ensures) _ (c .before .ends-record .ensures) (c .if3 .taken)) .0
 
 same-length-11 : tie.Need-same-length-11 Inv-loop μ-loop
 same-length-11 c =
     let at-put = c .before .before .before .before .before .before .before .before .before in
     let at-closes-cell = at-put .before .before .before .before .before in
     let at-s = at-closes-cell .before .before .before .before .before in
-    out-lengths _ (step-over _ (byte-step (at-s .before .before) _ (at-s .s .given .1)) _ _ (at-closes-cell .before .before .s3 .given .1) _ (at-closes-cell .closes-cell .ensures) _ _ _ (at-put .put .ensures) _ (c .before .before .moved .ensures) _ (c .before .ends-record .ensures) (c .if3 .taken)) .1
+    out-lengths _ (step-over _ (by-byte _ (asked (at-s .before .before)) _ (at-s .s .given .1)) _ _ (at-closes-cell .before .before .s3 .given .1) _ (at-closes-cell .closes-cell .ensures) _ _ _ (at-put .put .ensures) _ (c .before .before .moved .ensures) _ (c .before .ends-record .ensures) (c .if3 .taken)) .1
 
 same-length-12 : tie.Need-same-length-12 Inv-loop μ-loop
 same-length-12 c =
     let at-put = c .before .before .before .before .before .before .before .before .before in
     let at-closes-cell = at-put .before .before .before .before .before in
     let at-s = at-closes-cell .before .before .before .before .before in
-    out-lengths _ (step-over _ (byte-step (at-s .before .before) _ (at-s .s .given .1)) _ _ (at-closes-cell .before .before .s3 .given .1) _ (at-closes-cell .closes-cell .ensures) _ _ _ (at-put .put .ensures) _ (c .before .before .moved .ensures) _ (c .before .ends-record .ensures) (c .if3 .taken)) .2
+    out-lengths _ (step-over _ (by-byte _ (asked (at-s .before .before)) _ (at-s .s .given .1)) _ _ (at-closes-cell .before .before .s3 .given .1) _ (at-closes-cell .closes-cell .ensures) _ _ _ (at-put .put .ensures) _ (c .before .before .moved .ensures) _ (c .before .ends-record .ensures) (c .if3 .taken)) .2
 
 returns-4 : tie.Need-returns-4 Inv-loop μ-loop
 returns-4 c =
@@ -219,8 +183,8 @@ returns-4 c =
     let at-s3 = at-closes-cell .before .before in
     let at-s = at-s3 .before .before .before in
     let u = at-s .before .before in
-    let o = step-over _ (byte-step u _ (at-s .s .given .1)) _ _ (at-s3 .s3 .given .1) _ (at-closes-cell .closes-cell .ensures) _ _ _ (at-put .put .ensures) _ (at-moved .moved .ensures) _ (c .before .ends-record .ensures) (c .if3 .taken) in
-    (o .event, (o .at-starts, (o .at-ends, (o .at-kinds, step-fits _ (byte-step u _ (at-s .s .given .1)) _ _ (at-s3 .s3 .given .1) _ (at-closes-cell .closes-cell .ensures) _ _ _ (at-put .put .ensures) _ (at-moved .moved .ensures) _ (c .before .ends-record .ensures) (c .if3 .taken)))))
+    let o = step-over _ (by-byte _ (asked u) _ (at-s .s .given .1)) _ _ (at-s3 .s3 .given .1) _ (at-closes-cell .closes-cell .ensures) _ _ _ (at-put .put .ensures) _ (at-moved .moved .ensures) _ (c .before .ends-record .ensures) (c .if3 .taken) in
+    (o .event, (o .at-starts, (o .at-ends, (o .at-kinds, step-fits _ (by-byte _ (asked u) _ (at-s .s .given .1)) _ _ (at-s3 .s3 .given .1) _ (at-closes-cell .closes-cell .ensures) _ _ _ (at-put .put .ensures) _ (at-moved .moved .ensures) _ (c .before .ends-record .ensures) (c .if3 .taken)))))
 
 loop-less : tie.Need-loop-less Inv-loop μ-loop
 loop-less c =
@@ -233,31 +197,31 @@ loop-again c =
     let at-put = c .before .before .before .before .before .before .before .before .before in
     let at-closes-cell = at-put .before .before .before .before .before in
     let at-s = at-closes-cell .before .before .before .before .before in
-    step-on _ (byte-step (at-s .before .before) _ (at-s .s .given .1)) _ _ (at-closes-cell .before .before .s3 .given .1) _ (at-closes-cell .closes-cell .ensures) _ _ _ (at-put .put .ensures) _ (c .before .before .moved .ensures) _ (c .before .ends-record .ensures) (c .if3 .left)
+    step-on _ (by-byte _ (asked (at-s .before .before)) _ (at-s .s .given .1)) _ _ (at-closes-cell .before .before .s3 .given .1) _ (at-closes-cell .closes-cell .ensures) _ _ _ (at-put .put .ensures) _ (c .before .before .moved .ensures) _ (c .before .ends-record .ensures) (c .if3 .left)
 
 sub-moved : tie.Need-sub-moved Inv-loop μ-loop
 sub-moved c =
-    let n = lies-skip-at (c .before .before .before) _ (c .before .j .given .1) in let j1 = n .0 in omega arith
+    let n = lies-skip _ (asked (c .before .before .before)) _ (c .before .j .given .1) in let j1 = n .0 in omega arith
 
 moved-requires-2 : tie.Need-moved-requires-2 Inv-loop μ-loop
 moved-requires-2 c κs =
     let a = c .before .before .before .before .before .before .before .before .before .before .before .before .before .before .args in
     let l = c .before .before .before .before .before .before .before .before .before .loop in
-    let n = lies-skip-at (c .before .before .before) _ (c .before .j .given .1) in
+    let n = lies-skip _ (asked (c .before .before .before)) _ (c .before .j .given .1) in
     let few : a .base + l .h .cells ≤ l .i = l .inv .reached .few in
     let sized : l .h .size ≤ l .i = l .inv .reached .sized in
     let j1 = n .0 in let j2 = n .2 in (omega arith, omega arith, omega arith)
 
 loop-less-2 : tie.Need-loop-less-2 Inv-loop μ-loop
 loop-less-2 c =
-    let n = lies-skip-at (c .before .before .before .before) _ (c .before .before .j .given .1) in let j1 = n .0 in let j2 = n .1 in omega arith
+    let n = lies-skip _ (asked (c .before .before .before .before)) _ (c .before .before .j .given .1) in let j1 = n .0 in let j2 = n .1 in omega arith
 
 loop-again-2 : tie.Need-loop-again-2 Inv-loop μ-loop
 loop-again-2 c =
-    skip-turn (c .before .before .before .before) _ (c .before .before .j .given .1) _ (c .moved2 .ensures)
+    by-skip _ (asked (c .before .before .before .before)) _ (c .before .before .j .given .1) _ (c .moved2 .ensures)
 
 sub-grown-by : tie.Need-sub-grown-by Inv-loop μ-loop
-sub-grown-by c = lies-cell-at (c .before .before .before) _ _ (c .before .closes .given .1) .0
+sub-grown-by c = lies-cell _ (asked (c .before .before .before)) _ _ (c .before .closes .given .1) .0
 
 grown-by-requires : tie.Need-grown-by-requires Inv-loop μ-loop
 grown-by-requires c κs =
@@ -265,44 +229,44 @@ grown-by-requires c κs =
     let l = c .before .before .before .before .before .before .before .before .before .loop in
     let few : a .base + l .h .cells ≤ l .i = l .inv .reached .few in
     let sized : l .h .size ≤ l .i = l .inv .reached .sized in
-    let n = lies-cell-at (c .before .before .before) _ _ (c .before .closes .given .1) in let j1 = n .0 in let j2 = n .2 in omega arith
+    let n = lies-cell _ (asked (c .before .before .before)) _ _ (c .before .closes .given .1) in let j1 = n .0 in let j2 = n .2 in omega arith
 
 shared-slice-read-after-cell : tie.Need-shared-slice-read-after-cell Inv-loop μ-loop
 shared-slice-read-after-cell c =
     let at-closes = c .before .before .before in
     let at-place = at-closes .before .before in
-    lies-cell-at (at-place) _ _ (at-closes .closes .given .1) .1
+    lies-cell _ (asked (at-place)) _ _ (at-closes .closes .given .1) .1
 
 same-length-13 : tie.Need-same-length-13 Inv-loop μ-loop
 same-length-13 c =
     let at-after-cell = c .before .before .before in
     let at-closes = at-after-cell .before .before .before .before in
-    out-lengths _ (step-refused _ (cell-step (at-closes .before .before) _ _ (at-closes .closes .given .1) _ (at-after-cell .before .before .grown-by .ensures) _ (at-after-cell .after-cell .ensures)) _ (c .before .e .given .1)) .0
+    out-lengths _ (step-refused _ (by-cell _ (asked (at-closes .before .before)) _ _ (at-closes .closes .given .1) _ (at-after-cell .before .before .grown-by .ensures) _ (at-after-cell .after-cell .ensures)) _ (c .before .e .given .1)) .0
 
 same-length-14 : tie.Need-same-length-14 Inv-loop μ-loop
 same-length-14 c =
     let at-after-cell = c .before .before .before in
     let at-closes = at-after-cell .before .before .before .before in
-    out-lengths _ (step-refused _ (cell-step (at-closes .before .before) _ _ (at-closes .closes .given .1) _ (at-after-cell .before .before .grown-by .ensures) _ (at-after-cell .after-cell .ensures)) _ (c .before .e .given .1)) .1
+    out-lengths _ (step-refused _ (by-cell _ (asked (at-closes .before .before)) _ _ (at-closes .closes .given .1) _ (at-after-cell .before .before .grown-by .ensures) _ (at-after-cell .after-cell .ensures)) _ (c .before .e .given .1)) .1
 
 same-length-15 : tie.Need-same-length-15 Inv-loop μ-loop
 same-length-15 c =
     let at-after-cell = c .before .before .before in
     let at-closes = at-after-cell .before .before .before .before in
-    out-lengths _ (step-refused _ (cell-step (at-closes .before .before) _ _ (at-closes .closes .given .1) _ (at-after-cell .before .before .grown-by .ensures) _ (at-after-cell .after-cell .ensures)) _ (c .before .e .given .1)) .2
+    out-lengths _ (step-refused _ (by-cell _ (asked (at-closes .before .before)) _ _ (at-closes .closes .given .1) _ (at-after-cell .before .before .grown-by .ensures) _ (at-after-cell .after-cell .ensures)) _ (c .before .e .given .1)) .2
 
 returns-5 : tie.Need-returns-5 Inv-loop μ-loop
 returns-5 c =
     let at-after-cell = c .before .before .before in
     let at-closes = at-after-cell .before .before .before .before in
-    let o = step-refused _ (cell-step (at-closes .before .before) _ _ (at-closes .closes .given .1) _ (at-after-cell .before .before .grown-by .ensures) _ (at-after-cell .after-cell .ensures)) _ (c .before .e .given .1) in
+    let o = step-refused _ (by-cell _ (asked (at-closes .before .before)) _ _ (at-closes .closes .given .1) _ (at-after-cell .before .before .grown-by .ensures) _ (at-after-cell .after-cell .ensures)) _ (c .before .e .given .1) in
     (o .event, (o .at-starts, (o .at-ends, (o .at-kinds, tt))))
 
 add-put-2 : tie.Need-add-put-2 Inv-loop μ-loop
 add-put-2 c =
     let at-after-cell = c .before .before .before .before .before in
     let at-closes = at-after-cell .before .before .before .before in
-    let g = cell-step (at-closes .before .before) _ _ (at-closes .closes .given .1) _ (at-after-cell .before .before .grown-by .ensures) _ (at-after-cell .after-cell .ensures) in
+    let g = by-cell _ (asked (at-closes .before .before)) _ _ (at-closes .closes .given .1) _ (at-after-cell .before .before .grown-by .ensures) _ (at-after-cell .after-cell .ensures) in
     let x = small-sum _ g in record { fits = x }
 
 put-requires-2 : tie.Need-put-requires-2 Inv-loop μ-loop
@@ -311,7 +275,7 @@ put-requires-2 c κs =
     let at-closes = at-after-cell .before .before .before .before in
     let at-loop = at-closes .before .before .before .before .before .before .before .before in
     let l = at-loop .loop in
-    let g = cell-step (at-closes .before .before) _ _ (at-closes .closes .given .1) _ (at-after-cell .before .before .grown-by .ensures) _ (at-after-cell .after-cell .ensures) in
+    let g = by-cell _ (asked (at-closes .before .before)) _ _ (at-closes .closes .given .1) _ (at-after-cell .before .before .grown-by .ensures) _ (at-after-cell .after-cell .ensures) in
     let n = lengths _ (l .inv .lists) in
     let q = at-loop .before .before .before .before .before .pre .1 in
     ((g .reached .opened, g .reached .inside), (rw (n .0) (q .0), rw (n .1) (q .1), rw (n .2) (q .2)))
@@ -320,12 +284,12 @@ moved-requires-3 : tie.Need-moved-requires-3 Inv-loop μ-loop
 moved-requires-3 c κs =
     let at-after-cell = c .before .before .before .before .before .before .before .before .before .before .before .before .before .before .before in
     let at-closes = at-after-cell .before .before .before .before in
-    let g = cell-step (at-closes .before .before) _ _ (at-closes .closes .given .1) _ (at-after-cell .before .before .grown-by .ensures) _ (at-after-cell .after-cell .ensures) in
+    let g = by-cell _ (asked (at-closes .before .before)) _ _ (at-closes .closes .given .1) _ (at-after-cell .before .before .grown-by .ensures) _ (at-after-cell .after-cell .ensures) in
     small-step _ g
 
 add-i-2 : tie.Need-add-i-2 Inv-loop μ-loop
 add-i-2 c =
-    let n = lies-cell-at (c .before .before .before .before .before .before .before .before .before .before .before .before .before .before .before .before .before .before .before .before .before .before) _ _ (c .before .before .before .before .before .before .before .before .before .before .before .before .before .before .before .before .before .before .before .before .closes .given .1) in let j2 = n .2 in omega arith
+    let n = lies-cell _ (asked (c .before .before .before .before .before .before .before .before .before .before .before .before .before .before .before .before .before .before .before .before .before .before)) _ _ (c .before .before .before .before .before .before .before .before .before .before .before .before .before .before .before .before .before .before .before .before .closes .given .1) in let j2 = n .2 in omega arith
 
 same-length-16 : tie.Need-same-length-16 Inv-loop μ-loop
 same-length-16 c =
@@ -333,7 +297,7 @@ same-length-16 c =
     let at-closes-cell2 = at-put2 .before .before .before .before .before in
     let at-after-cell = at-closes-cell2 .before .before .before .before in
     let at-closes = at-after-cell .before .before .before .before in
-    out-lengths _ (step-over _ (cell-step (at-closes .before .before) _ _ (at-closes .closes .given .1) _ (at-after-cell .before .before .grown-by .ensures) _ (at-after-cell .after-cell .ensures)) _ _ (at-closes-cell2 .before .before .f .given .1) _ (at-closes-cell2 .closes-cell2 .ensures) _ _ _ (at-put2 .put2 .ensures) _ (c .before .before .moved3 .ensures) _ (c .before .ends-record2 .ensures) (c .if4 .taken)) .0
+    out-lengths _ (step-over _ (by-cell _ (asked (at-closes .before .before)) _ _ (at-closes .closes .given .1) _ (at-after-cell .before .before .grown-by .ensures) _ (at-after-cell .after-cell .ensures)) _ _ (at-closes-cell2 .before .before .f .given .1) _ (at-closes-cell2 .closes-cell2 .ensures) _ _ _ (at-put2 .put2 .ensures) _ (c .before .before .moved3 .ensures) _ (c .before .ends-record2 .ensures) (c .if4 .taken)) .0
 
 same-length-17 : tie.Need-same-length-17 Inv-loop μ-loop
 same-length-17 c =
@@ -341,7 +305,7 @@ same-length-17 c =
     let at-closes-cell2 = at-put2 .before .before .before .before .before in
     let at-after-cell = at-closes-cell2 .before .before .before .before in
     let at-closes = at-after-cell .before .before .before .before in
-    out-lengths _ (step-over _ (cell-step (at-closes .before .before) _ _ (at-closes .closes .given .1) _ (at-after-cell .before .before .grown-by .ensures) _ (at-after-cell .after-cell .ensures)) _ _ (at-closes-cell2 .before .before .f .given .1) _ (at-closes-cell2 .closes-cell2 .ensures) _ _ _ (at-put2 .put2 .ensures) _ (c .before .before .moved3 .ensures) _ (c .before .ends-record2 .ensures) (c .if4 .taken)) .1
+    out-lengths _ (step-over _ (by-cell _ (asked (at-closes .before .before)) _ _ (at-closes .closes .given .1) _ (at-after-cell .before .before .grown-by .ensures) _ (at-after-cell .after-cell .ensures)) _ _ (at-closes-cell2 .before .before .f .given .1) _ (at-closes-cell2 .closes-cell2 .ensures) _ _ _ (at-put2 .put2 .ensures) _ (c .before .before .moved3 .ensures) _ (c .before .ends-record2 .ensures) (c .if4 .taken)) .1
 
 same-length-18 : tie.Need-same-length-18 Inv-loop μ-loop
 same-length-18 c =
@@ -349,7 +313,7 @@ same-length-18 c =
     let at-closes-cell2 = at-put2 .before .before .before .before .before in
     let at-after-cell = at-closes-cell2 .before .before .before .before in
     let at-closes = at-after-cell .before .before .before .before in
-    out-lengths _ (step-over _ (cell-step (at-closes .before .before) _ _ (at-closes .closes .given .1) _ (at-after-cell .before .before .grown-by .ensures) _ (at-after-cell .after-cell .ensures)) _ _ (at-closes-cell2 .before .before .f .given .1) _ (at-closes-cell2 .closes-cell2 .ensures) _ _ _ (at-put2 .put2 .ensures) _ (c .before .before .moved3 .ensures) _ (c .before .ends-record2 .ensures) (c .if4 .taken)) .2
+    out-lengths _ (step-over _ (by-cell _ (asked (at-closes .before .before)) _ _ (at-closes .closes .given .1) _ (at-after-cell .before .before .grown-by .ensures) _ (at-after-cell .after-cell .ensures)) _ _ (at-closes-cell2 .before .before .f .given .1) _ (at-closes-cell2 .closes-cell2 .ensures) _ _ _ (at-put2 .put2 .ensures) _ (c .before .before .moved3 .ensures) _ (c .before .ends-record2 .ensures) (c .if4 .taken)) .2
 
 returns-6 : tie.Need-returns-6 Inv-loop μ-loop
 returns-6 c =
@@ -361,12 +325,12 @@ returns-6 c =
     let at-grown-by = at-after-cell .before .before in
     let at-closes = at-grown-by .before .before in
     let u = at-closes .before .before in
-    let o = step-over _ (cell-step u _ _ (at-closes .closes .given .1) _ (at-grown-by .grown-by .ensures) _ (at-after-cell .after-cell .ensures)) _ _ (at-f .f .given .1) _ (at-closes-cell2 .closes-cell2 .ensures) _ _ _ (at-put2 .put2 .ensures) _ (at-moved3 .moved3 .ensures) _ (c .before .ends-record2 .ensures) (c .if4 .taken) in
-    (o .event, (o .at-starts, (o .at-ends, (o .at-kinds, step-fits _ (cell-step u _ _ (at-closes .closes .given .1) _ (at-grown-by .grown-by .ensures) _ (at-after-cell .after-cell .ensures)) _ _ (at-f .f .given .1) _ (at-closes-cell2 .closes-cell2 .ensures) _ _ _ (at-put2 .put2 .ensures) _ (at-moved3 .moved3 .ensures) _ (c .before .ends-record2 .ensures) (c .if4 .taken)))))
+    let o = step-over _ (by-cell _ (asked u) _ _ (at-closes .closes .given .1) _ (at-grown-by .grown-by .ensures) _ (at-after-cell .after-cell .ensures)) _ _ (at-f .f .given .1) _ (at-closes-cell2 .closes-cell2 .ensures) _ _ _ (at-put2 .put2 .ensures) _ (at-moved3 .moved3 .ensures) _ (c .before .ends-record2 .ensures) (c .if4 .taken) in
+    (o .event, (o .at-starts, (o .at-ends, (o .at-kinds, step-fits _ (by-cell _ (asked u) _ _ (at-closes .closes .given .1) _ (at-grown-by .grown-by .ensures) _ (at-after-cell .after-cell .ensures)) _ _ (at-f .f .given .1) _ (at-closes-cell2 .closes-cell2 .ensures) _ _ _ (at-put2 .put2 .ensures) _ (at-moved3 .moved3 .ensures) _ (c .before .ends-record2 .ensures) (c .if4 .taken)))))
 
 loop-less-3 : tie.Need-loop-less-3 Inv-loop μ-loop
 loop-less-3 c =
-    let n = lies-cell-at (c .before .before .before .before .before .before .before .before .before .before .before .before .before .before .before .before .before .before .before .before .before .before .before .before) _ _ (c .before .before .before .before .before .before .before .before .before .before .before .before .before .before .before .before .before .before .before .before .before .before .closes .given .1) in let j1 = n .0 in let j2 = n .1 in omega arith
+    let n = lies-cell _ (asked (c .before .before .before .before .before .before .before .before .before .before .before .before .before .before .before .before .before .before .before .before .before .before .before .before)) _ _ (c .before .before .before .before .before .before .before .before .before .before .before .before .before .before .before .before .before .before .before .before .before .before .closes .given .1) in let j1 = n .0 in let j2 = n .1 in omega arith
 
 loop-again-3 : tie.Need-loop-again-3 Inv-loop μ-loop
 loop-again-3 c =
@@ -374,28 +338,28 @@ loop-again-3 c =
     let at-closes-cell2 = at-put2 .before .before .before .before .before in
     let at-after-cell = at-closes-cell2 .before .before .before .before in
     let at-closes = at-after-cell .before .before .before .before in
-    step-on _ (cell-step (at-closes .before .before) _ _ (at-closes .closes .given .1) _ (at-after-cell .before .before .grown-by .ensures) _ (at-after-cell .after-cell .ensures)) _ _ (at-closes-cell2 .before .before .f .given .1) _ (at-closes-cell2 .closes-cell2 .ensures) _ _ _ (at-put2 .put2 .ensures) _ (c .before .before .moved3 .ensures) _ (c .before .ends-record2 .ensures) (c .if4 .left)
+    step-on _ (by-cell _ (asked (at-closes .before .before)) _ _ (at-closes .closes .given .1) _ (at-after-cell .before .before .grown-by .ensures) _ (at-after-cell .after-cell .ensures)) _ _ (at-closes-cell2 .before .before .f .given .1) _ (at-closes-cell2 .closes-cell2 .ensures) _ _ _ (at-put2 .put2 .ensures) _ (c .before .before .moved3 .ensures) _ (c .before .ends-record2 .ensures) (c .if4 .left)
 
 same-length-19 : tie.Need-same-length-19 Inv-loop μ-loop
 same-length-19 c =
-    out-lengths _ (refusal (c .before .before .before) _ _ (c .before .e2 .given .1)) .0
+    out-lengths _ (by-refusal _ (asked (c .before .before .before)) _ _ (c .before .e2 .given .1)) .0
 
 same-length-20 : tie.Need-same-length-20 Inv-loop μ-loop
 same-length-20 c =
-    out-lengths _ (refusal (c .before .before .before) _ _ (c .before .e2 .given .1)) .1
+    out-lengths _ (by-refusal _ (asked (c .before .before .before)) _ _ (c .before .e2 .given .1)) .1
 
 same-length-21 : tie.Need-same-length-21 Inv-loop μ-loop
 same-length-21 c =
-    out-lengths _ (refusal (c .before .before .before) _ _ (c .before .e2 .given .1)) .2
+    out-lengths _ (by-refusal _ (asked (c .before .before .before)) _ _ (c .before .e2 .given .1)) .2
 
 returns-7 : tie.Need-returns-7 Inv-loop μ-loop
 returns-7 c =
-    let o = refusal (c .before .before .before) _ _ (c .before .e2 .given .1) in
+    let o = by-refusal _ (asked (c .before .before .before)) _ _ (c .before .e2 .given .1) in
     (o .event, (o .at-starts, (o .at-ends, (o .at-kinds, tt))))
 
 sub-grown-by-2 : tie.Need-sub-grown-by-2 Inv-loop μ-loop
 sub-grown-by-2 c =
-    let n = lies-open-at (c .before .before .before) _ _ (c .before .c .given .1) in let j1 = n .0 in omega arith
+    let n = lies-open _ (asked (c .before .before .before)) _ _ (c .before .c .given .1) in let j1 = n .0 in omega arith
 
 grown-by-requires-2 : tie.Need-grown-by-requires-2 Inv-loop μ-loop
 grown-by-requires-2 c κs =
@@ -403,15 +367,15 @@ grown-by-requires-2 c κs =
     let l = c .before .before .before .before .before .before .before .before .before .loop in
     let few : a .base + l .h .cells ≤ l .i = l .inv .reached .few in
     let sized : l .h .size ≤ l .i = l .inv .reached .sized in
-    let n = lies-open-at (c .before .before .before) _ _ (c .before .c .given .1) in let j1 = n .0 in let j2 = n .2 in omega arith
+    let n = lies-open _ (asked (c .before .before .before)) _ _ (c .before .c .given .1) in let j1 = n .0 in let j2 = n .2 in omega arith
 
 loop-less-4 : tie.Need-loop-less-4 Inv-loop μ-loop
 loop-less-4 c =
-    let n = lies-open-at (c .before .before .before .before) _ _ (c .before .before .c .given .1) in let j1 = n .0 in let j2 = n .1 in omega arith
+    let n = lies-open _ (asked (c .before .before .before .before)) _ _ (c .before .before .c .given .1) in let j1 = n .0 in let j2 = n .1 in omega arith
 
 loop-again-4 : tie.Need-loop-again-4 Inv-loop μ-loop
 loop-again-4 c =
-    open-turn (c .before .before .before .before) _ _ (c .before .before .c .given .1) _ (c .grown-by2 .ensures)
+    by-open _ (asked (c .before .before .before .before)) _ _ (c .before .before .c .given .1) _ (c .grown-by2 .ensures)
 
 add-put-3 : tie.Need-add-put-3 Inv-loop μ-loop
 add-put-3 c =
