@@ -1,6 +1,7 @@
 -- The invariant: after the header and so many data records, with the cells that the lists hold, reading stands at i.
 use Prim.Native.Nat.{_+_, _-_, _^_, _≤_, _<_}
 use native.Mathlib.Omega.{arith}
+use mathlib.Core.Path.{_≡_}
 use lib.ListN.{length}
 use borrow.Author.Needs.{needs}
 use Rattle.model.specs.Report.{MAXFILE}
@@ -15,6 +16,15 @@ Inv-loop d file from columns room base starts₀ ends₀ kinds₀ form₀ i₀ c
 abbrev μ-loop : tie.MeasureT-loop
 μ-loop d file from columns room base starts₀ ends₀ kinds₀ form₀ i₀ cells₀ records₀ starts ends kinds form i cells records =
     length file - i
+
+-- the scanner leaves the lists as long as they were
+long : (u : tie.After-next-record Inv-loop μ-loop)
+    → let a = u .before .before .before .before .before .before .before .before .before .args in
+    let after = u .next-record in
+    (length (after .last .1 .1 .1 .1 .1 .1 .0) ≡ length (a .starts .now)) × (length (after .last .1 .1 .1 .1 .1 .1 .1 .0) ≡ length (a .ends .now)) × (length (after .last .1 .1 .1 .1 .1 .1 .1 .1 .0) ≡ length (a .kinds .now))
+long u =
+    let n = u .next-record .ensures in
+    held-lengths (now-held _ (u .before .before .before .before .loop .inv) (n .0) (n .1 .0) (n .1 .1 .0) (n .1 .1 .1 .0))
 
 loop-holds : tie.Need-loop-holds Inv-loop μ-loop
 loop-holds c =
@@ -92,30 +102,6 @@ add-on-record c =
     let many : l .records ≤ l .i = l .inv .many in
     omega arith
 
-same-length : tie.Need-same-length Inv-loop μ-loop
-same-length c =
-    let at-next-record = c .before .before .before .before .before .before .before .before .before .before .before .before .before .before in
-    let at-loop = at-next-record .before .before .before .before in
-    let l = at-loop .loop in
-    let n = at-next-record .next-record .ensures in
-    held-lengths (now-held _ (l .inv) (n .0) (n .1 .0) (n .1 .1 .0) (n .1 .1 .1 .0)) .0
-
-same-length-2 : tie.Need-same-length-2 Inv-loop μ-loop
-same-length-2 c =
-    let at-next-record = c .before .before .before .before .before .before .before .before .before .before .before .before .before .before in
-    let at-loop = at-next-record .before .before .before .before in
-    let l = at-loop .loop in
-    let n = at-next-record .next-record .ensures in
-    held-lengths (now-held _ (l .inv) (n .0) (n .1 .0) (n .1 .1 .0) (n .1 .1 .1 .0)) .1
-
-same-length-3 : tie.Need-same-length-3 Inv-loop μ-loop
-same-length-3 c =
-    let at-next-record = c .before .before .before .before .before .before .before .before .before .before .before .before .before .before in
-    let at-loop = at-next-record .before .before .before .before in
-    let l = at-loop .loop in
-    let n = at-next-record .next-record .ensures in
-    held-lengths (now-held _ (l .inv) (n .0) (n .1 .0) (n .1 .1 .0) (n .1 .1 .1 .0)) .2
-
 returns : tie.Need-returns Inv-loop μ-loop
 returns c =
     let u = c .before .before .before .before in
@@ -142,30 +128,6 @@ add-t38 c =
     let m0 = m .0 in let m1 = m .1 in
     omega arith
 
-same-length-4 : tie.Need-same-length-4 Inv-loop μ-loop
-same-length-4 c =
-    let at-next-record = c .before .before .before .before .before .before .before .before .before .before .before .before in
-    let at-loop = at-next-record .before .before .before .before in
-    let l = at-loop .loop in
-    let n = at-next-record .next-record .ensures in
-    held-lengths (now-held _ (l .inv) (n .0) (n .1 .0) (n .1 .1 .0) (n .1 .1 .1 .0)) .0
-
-same-length-5 : tie.Need-same-length-5 Inv-loop μ-loop
-same-length-5 c =
-    let at-next-record = c .before .before .before .before .before .before .before .before .before .before .before .before in
-    let at-loop = at-next-record .before .before .before .before in
-    let l = at-loop .loop in
-    let n = at-next-record .next-record .ensures in
-    held-lengths (now-held _ (l .inv) (n .0) (n .1 .0) (n .1 .1 .0) (n .1 .1 .1 .0)) .1
-
-same-length-6 : tie.Need-same-length-6 Inv-loop μ-loop
-same-length-6 c =
-    let at-next-record = c .before .before .before .before .before .before .before .before .before .before .before .before in
-    let at-loop = at-next-record .before .before .before .before in
-    let l = at-loop .loop in
-    let n = at-next-record .next-record .ensures in
-    held-lengths (now-held _ (l .inv) (n .0) (n .1 .0) (n .1 .1 .0) (n .1 .1 .1 .0)) .2
-
 returns-2 : tie.Need-returns-2 Inv-loop μ-loop
 returns-2 c =
     let at-start2 = c .before .before .before .before in
@@ -183,30 +145,6 @@ add-on-record-2 c =
     let under : l .i ≤ MAXFILE = l .inv .under in
     let many : l .records ≤ l .i = l .inv .many in
     omega arith
-
-same-length-7 : tie.Need-same-length-7 Inv-loop μ-loop
-same-length-7 c =
-    let at-next-record = c .before .before .before .before .before .before .before .before .before .before .before .before .before .before in
-    let at-loop = at-next-record .before .before .before .before in
-    let l = at-loop .loop in
-    let n = at-next-record .next-record .ensures in
-    held-lengths (now-held _ (l .inv) (n .0) (n .1 .0) (n .1 .1 .0) (n .1 .1 .1 .0)) .0
-
-same-length-8 : tie.Need-same-length-8 Inv-loop μ-loop
-same-length-8 c =
-    let at-next-record = c .before .before .before .before .before .before .before .before .before .before .before .before .before .before in
-    let at-loop = at-next-record .before .before .before .before in
-    let l = at-loop .loop in
-    let n = at-next-record .next-record .ensures in
-    held-lengths (now-held _ (l .inv) (n .0) (n .1 .0) (n .1 .1 .0) (n .1 .1 .1 .0)) .1
-
-same-length-9 : tie.Need-same-length-9 Inv-loop μ-loop
-same-length-9 c =
-    let at-next-record = c .before .before .before .before .before .before .before .before .before .before .before .before .before .before in
-    let at-loop = at-next-record .before .before .before .before in
-    let l = at-loop .loop in
-    let n = at-next-record .next-record .ensures in
-    held-lengths (now-held _ (l .inv) (n .0) (n .1 .0) (n .1 .1 .0) (n .1 .1 .1 .0)) .2
 
 returns-3 : tie.Need-returns-3 Inv-loop μ-loop
 returns-3 c =
@@ -226,30 +164,6 @@ add-on-record-3 c =
     let many : l .records ≤ l .i = l .inv .many in
     omega arith
 
-same-length-10 : tie.Need-same-length-10 Inv-loop μ-loop
-same-length-10 c =
-    let at-next-record = c .before .before .before .before .before .before .before .before .before .before in
-    let at-loop = at-next-record .before .before .before .before in
-    let l = at-loop .loop in
-    let n = at-next-record .next-record .ensures in
-    held-lengths (now-held _ (l .inv) (n .0) (n .1 .0) (n .1 .1 .0) (n .1 .1 .1 .0)) .0
-
-same-length-11 : tie.Need-same-length-11 Inv-loop μ-loop
-same-length-11 c =
-    let at-next-record = c .before .before .before .before .before .before .before .before .before .before in
-    let at-loop = at-next-record .before .before .before .before in
-    let l = at-loop .loop in
-    let n = at-next-record .next-record .ensures in
-    held-lengths (now-held _ (l .inv) (n .0) (n .1 .0) (n .1 .1 .0) (n .1 .1 .1 .0)) .1
-
-same-length-12 : tie.Need-same-length-12 Inv-loop μ-loop
-same-length-12 c =
-    let at-next-record = c .before .before .before .before .before .before .before .before .before .before in
-    let at-loop = at-next-record .before .before .before .before in
-    let l = at-loop .loop in
-    let n = at-next-record .next-record .ensures in
-    held-lengths (now-held _ (l .inv) (n .0) (n .1 .0) (n .1 .1 .0) (n .1 .1 .1 .0)) .2
-
 returns-4 : tie.Need-returns-4 Inv-loop μ-loop
 returns-4 c =
     let at-next-record = c .before .before .before .before .before .before .before .before .before .before in
@@ -257,30 +171,6 @@ returns-4 c =
     let l = at-loop .loop in
     let n = at-next-record .next-record .ensures in
     fault-refused _ (l .inv) (n .0) (n .1 .0) (n .1 .1 .0) (n .1 .1 .1 .0) _ _ (c .before .before .fault .given .1) _ (c .on-record3 .ensures)
-
-same-length-13 : tie.Need-same-length-13 Inv-loop μ-loop
-same-length-13 c =
-    let at-next-record = c .before .before .before .before .before .before .before .before in
-    let at-loop = at-next-record .before .before .before .before in
-    let l = at-loop .loop in
-    let n = at-next-record .next-record .ensures in
-    held-lengths (now-held _ (l .inv) (n .0) (n .1 .0) (n .1 .1 .0) (n .1 .1 .1 .0)) .0
-
-same-length-14 : tie.Need-same-length-14 Inv-loop μ-loop
-same-length-14 c =
-    let at-next-record = c .before .before .before .before .before .before .before .before in
-    let at-loop = at-next-record .before .before .before .before in
-    let l = at-loop .loop in
-    let n = at-next-record .next-record .ensures in
-    held-lengths (now-held _ (l .inv) (n .0) (n .1 .0) (n .1 .1 .0) (n .1 .1 .1 .0)) .1
-
-same-length-15 : tie.Need-same-length-15 Inv-loop μ-loop
-same-length-15 c =
-    let at-next-record = c .before .before .before .before .before .before .before .before in
-    let at-loop = at-next-record .before .before .before .before in
-    let l = at-loop .loop in
-    let n = at-next-record .next-record .ensures in
-    held-lengths (now-held _ (l .inv) (n .0) (n .1 .0) (n .1 .1 .0) (n .1 .1 .1 .0)) .2
 
 returns-5 : tie.Need-returns-5 Inv-loop μ-loop
 returns-5 c =
@@ -309,35 +199,35 @@ data-records-spec =
     (λ c. search needs)
     add-on-record
     (λ c κs. search needs)
-    same-length
-    same-length-2
-    same-length-3
+    (λ c. long (c .before .before .before .before .before .before .before .before .before .before .before .before .before .before) .0)
+    (λ c. long (c .before .before .before .before .before .before .before .before .before .before .before .before .before .before) .1)
+    (λ c. long (c .before .before .before .before .before .before .before .before .before .before .before .before .before .before) .2)
     returns
     (λ c. search needs)
     (λ c κs. search needs)
     (λ c. search needs)
     add-t37
     add-t38
-    same-length-4
-    same-length-5
-    same-length-6
+    (λ c. long (c .before .before .before .before .before .before .before .before .before .before .before .before) .0)
+    (λ c. long (c .before .before .before .before .before .before .before .before .before .before .before .before) .1)
+    (λ c. long (c .before .before .before .before .before .before .before .before .before .before .before .before) .2)
     returns-2
     (λ c. search needs)
     add-on-record-2
     (λ c κs. search needs)
-    same-length-7
-    same-length-8
-    same-length-9
+    (λ c. long (c .before .before .before .before .before .before .before .before .before .before .before .before .before .before) .0)
+    (λ c. long (c .before .before .before .before .before .before .before .before .before .before .before .before .before .before) .1)
+    (λ c. long (c .before .before .before .before .before .before .before .before .before .before .before .before .before .before) .2)
     returns-3
     (λ c. search needs)
     add-on-record-3
     (λ c κs. search needs)
-    same-length-10
-    same-length-11
-    same-length-12
+    (λ c. long (c .before .before .before .before .before .before .before .before .before .before) .0)
+    (λ c. long (c .before .before .before .before .before .before .before .before .before .before) .1)
+    (λ c. long (c .before .before .before .before .before .before .before .before .before .before) .2)
     returns-4
     (λ c. search needs)
-    same-length-13
-    same-length-14
-    same-length-15
+    (λ c. long (c .before .before .before .before .before .before .before .before) .0)
+    (λ c. long (c .before .before .before .before .before .before .before .before) .1)
+    (λ c. long (c .before .before .before .before .before .before .before .before) .2)
     returns-5)
