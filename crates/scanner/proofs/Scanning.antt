@@ -37,7 +37,7 @@ use Rattle.scanner.specs.Types.{InHand, Met, Is, Skipped, AfterCell, Ref
 use Rattle.scanner.specs.Next.{Next, closesCell, endsRecord, oneMore, handAfter, grown, cellsAfter, failed, completed, ended, stepped, nextRecord, Fits}
 use Rattle.scanner.specs.Ahead.{readAt, steppedAt, metNext, outer, Lies, Comes}
 use Rattle.scanner.specs.Placed.{putAt, putIf, placed}
-use Rattle.scanner.proofs.Placing.{placed-snoc, length-placed}
+use Rattle.scanner.proofs.Placing.{placed-snoc, length-put-if, length-placed}
 use Rattle.scanner.proofs.Coming.{carried-at}
 use Rattle.scanner.proofs.Calm.{Calm, step-calm, after-calm, leaves, passes, grows, blanks, parts, tails, finishes}
 
@@ -336,12 +336,14 @@ module _ (call : Call) where
     ap length (y .at-kinds) ∙ length-placed room base (map numberOf vs) kinds₀,
   )
 
-  pub out-lengths : {e : Event} {starts ends kinds : List ℕ} → Out e starts ends kinds → (length starts ≡ length starts₀) × (length ends ≡ length ends₀) × (length kinds ≡ length kinds₀)
-  out-lengths y = (
-    ap length (y .at-starts) ∙ length-placed room base (startsOf (Whole .cells)) starts₀,
-    ap length (y .at-ends) ∙ length-placed room base (endsOf (Whole .cells)) ends₀,
-    ap length (y .at-kinds) ∙ length-placed room base (kindsOf (Whole .cells)) kinds₀,
-  )
+  -- and after a cell was put or not
+  pub put-lengths : {vs : List Value} {starts ends kinds starts′ ends′ kinds′ : List ℕ} → Holds vs starts ends kinds → (closes : Bool) (m x y z : ℕ) → (starts′ ≡ putIf closes room m x starts) × ((ends′ ≡ putIf closes room m y ends) × (kinds′ ≡ putIf closes room m z kinds)) → (length starts′ ≡ length starts₀) × (length ends′ ≡ length ends₀) × (length kinds′ ≡ length kinds₀)
+  put-lengths {starts = ss} {ends = es} {kinds = ks} y closes m x u z put =
+      let n : (length ss ≡ length starts₀) × (length es ≡ length ends₀) × (length ks ≡ length kinds₀) = lengths y in (
+        ap length (put .0) ∙ length-put-if closes room m x ss ∙ n .0,
+        ap length (put .1 .0) ∙ length-put-if closes room m u es ∙ n .1,
+        ap length (put .1 .1) ∙ length-put-if closes room m z ks ∙ n .2,
+      )
 
   -- ---- the step of one byte, as the code takes it
 

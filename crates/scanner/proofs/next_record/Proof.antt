@@ -17,7 +17,7 @@ use Rattle.model.specs.declared.Fault.the-variants.{Byte}
 use Rattle.scanner.specs.Types.{InHand, Is, Skipped, AfterCell, Refused, Open, Failed}
 use Rattle.scanner.specs.Next.{handAfter, grown}
 use Rattle.scanner.specs.Ahead.{readAt}
-use Rattle.scanner.proofs.Scanning.{Call, Scanning, Asked, begins, too-long-file, too-long-record, by-byte, by-cell, by-skip, by-open, by-refusal, lies-cell, lies-skip, lies-open, step-refused, step-on, step-over, step-fits, clean-end, cut-short, last-put, last-fits, lengths, out-lengths, small-sum, small-step}
+use Rattle.scanner.proofs.Scanning.{Call, Scanning, Asked, begins, too-long-file, too-long-record, by-byte, by-cell, by-skip, by-open, by-refusal, lies-cell, lies-skip, lies-open, step-refused, step-on, step-over, step-fits, clean-end, cut-short, last-put, last-fits, lengths, put-lengths, small-sum, small-step}
 use Rattle.scanner.proofs.next_record.Statement.{statement}
 use Rattle.scanner.proofs.next_record.Tie as tie
 
@@ -55,44 +55,11 @@ loop-holds : tie.Need-loop-holds Inv-loop μ-loop
 loop-holds c =
     let q = c .before .before .before .before .pre .0 in begins _ (q .0) (q .1) (q .2)
 
-same-length : tie.Need-same-length Inv-loop μ-loop
-same-length c =
-    let l = c .before .before .loop in
-    out-lengths _ (too-long-file _ (l .inv) (c .before .loop-test .taken) (c .if1 .taken)) .0
-
-same-length-2 : tie.Need-same-length-2 Inv-loop μ-loop
-same-length-2 c =
-    let l = c .before .before .loop in
-    out-lengths _ (too-long-file _ (l .inv) (c .before .loop-test .taken) (c .if1 .taken)) .1
-
-same-length-3 : tie.Need-same-length-3 Inv-loop μ-loop
-same-length-3 c =
-    let l = c .before .before .loop in
-    out-lengths _ (too-long-file _ (l .inv) (c .before .loop-test .taken) (c .if1 .taken)) .2
-
 returns : tie.Need-returns Inv-loop μ-loop
 returns c =
     let l = c .before .before .loop in
     let o = too-long-file _ (l .inv) (c .before .loop-test .taken) (c .if1 .taken) in
     (o .event, (o .at-starts, (o .at-ends, (o .at-kinds, tt))))
-
-same-length-4 : tie.Need-same-length-4 Inv-loop μ-loop
-same-length-4 c =
-    let at-if1 = c .before .before .before in
-    let l = at-if1 .before .before .loop in
-    out-lengths _ (too-long-record _ (l .inv) (at-if1 .before .loop-test .taken) (at-if1 .if1 .left) (full-record c)) .0
-
-same-length-5 : tie.Need-same-length-5 Inv-loop μ-loop
-same-length-5 c =
-    let at-if1 = c .before .before .before in
-    let l = at-if1 .before .before .loop in
-    out-lengths _ (too-long-record _ (l .inv) (at-if1 .before .loop-test .taken) (at-if1 .if1 .left) (full-record c)) .1
-
-same-length-6 : tie.Need-same-length-6 Inv-loop μ-loop
-same-length-6 c =
-    let at-if1 = c .before .before .before in
-    let l = at-if1 .before .before .loop in
-    out-lengths _ (too-long-record _ (l .inv) (at-if1 .before .loop-test .taken) (at-if1 .if1 .left) (full-record c)) .2
 
 returns-2 : tie.Need-returns-2 Inv-loop μ-loop
 returns-2 c =
@@ -103,21 +70,6 @@ returns-2 c =
 
 ahead-requires : tie.Need-ahead-requires Inv-loop μ-loop
 ahead-requires c κs = (c .before .before .before .before .loop-test .taken, c .before .before .before .if1 .left)
-
-same-length-7 : tie.Need-same-length-7 Inv-loop μ-loop
-same-length-7 c =
-    let at-s = c .before .before .before .before in
-    out-lengths _ (step-refused _ (by-byte _ (asked (at-s .before .before)) _ (at-s .s .given .1)) _ (c .before .s2 .given .1)) .0
-
-same-length-8 : tie.Need-same-length-8 Inv-loop μ-loop
-same-length-8 c =
-    let at-s = c .before .before .before .before in
-    out-lengths _ (step-refused _ (by-byte _ (asked (at-s .before .before)) _ (at-s .s .given .1)) _ (c .before .s2 .given .1)) .1
-
-same-length-9 : tie.Need-same-length-9 Inv-loop μ-loop
-same-length-9 c =
-    let at-s = c .before .before .before .before in
-    out-lengths _ (step-refused _ (by-byte _ (asked (at-s .before .before)) _ (at-s .s .given .1)) _ (c .before .s2 .given .1)) .2
 
 returns-3 : tie.Need-returns-3 Inv-loop μ-loop
 returns-3 c =
@@ -153,27 +105,6 @@ add-i : tie.Need-add-i Inv-loop μ-loop
 add-i c =
     let l = c .before .before .before .before .before .before .before .before .before .before .before .before .before .before .before .before .before .before .before .before .before .before .before .before .before .loop in
     let m : l .i < MAXFILE = c .before .before .before .before .before .before .before .before .before .before .before .before .before .before .before .before .before .before .before .before .before .before .before .if1 .left in let x : l .i + 1 < 2 ^ 64 = omega arith in record { fits = x }
-
-same-length-10 : tie.Need-same-length-10 Inv-loop μ-loop
-same-length-10 c =
-    let at-put = c .before .before .before .before .before .before .before .before .before in
-    let at-closes-cell = at-put .before .before .before .before .before in
-    let at-s = at-closes-cell .before .before .before .before .before in
-    out-lengths _ (step-over _ (by-byte _ (asked (at-s .before .before)) _ (at-s .s .given .1)) _ _ (at-closes-cell .before .before .s3 .given .1) _ (at-closes-cell .closes-cell .ensures) _ _ _ (at-put .put .ensures) _ (c .before .before .moved .ensures) _ (c .before .ends-record .ensures) (c .if3 .taken)) .0
-
-same-length-11 : tie.Need-same-length-11 Inv-loop μ-loop
-same-length-11 c =
-    let at-put = c .before .before .before .before .before .before .before .before .before in
-    let at-closes-cell = at-put .before .before .before .before .before in
-    let at-s = at-closes-cell .before .before .before .before .before in
-    out-lengths _ (step-over _ (by-byte _ (asked (at-s .before .before)) _ (at-s .s .given .1)) _ _ (at-closes-cell .before .before .s3 .given .1) _ (at-closes-cell .closes-cell .ensures) _ _ _ (at-put .put .ensures) _ (c .before .before .moved .ensures) _ (c .before .ends-record .ensures) (c .if3 .taken)) .1
-
-same-length-12 : tie.Need-same-length-12 Inv-loop μ-loop
-same-length-12 c =
-    let at-put = c .before .before .before .before .before .before .before .before .before in
-    let at-closes-cell = at-put .before .before .before .before .before in
-    let at-s = at-closes-cell .before .before .before .before .before in
-    out-lengths _ (step-over _ (by-byte _ (asked (at-s .before .before)) _ (at-s .s .given .1)) _ _ (at-closes-cell .before .before .s3 .given .1) _ (at-closes-cell .closes-cell .ensures) _ _ _ (at-put .put .ensures) _ (c .before .before .moved .ensures) _ (c .before .ends-record .ensures) (c .if3 .taken)) .2
 
 returns-4 : tie.Need-returns-4 Inv-loop μ-loop
 returns-4 c =
@@ -237,24 +168,6 @@ shared-slice-read-after-cell c =
     let at-place = at-closes .before .before in
     lies-cell _ (asked (at-place)) _ _ (at-closes .closes .given .1) .1
 
-same-length-13 : tie.Need-same-length-13 Inv-loop μ-loop
-same-length-13 c =
-    let at-after-cell = c .before .before .before in
-    let at-closes = at-after-cell .before .before .before .before in
-    out-lengths _ (step-refused _ (by-cell _ (asked (at-closes .before .before)) _ _ (at-closes .closes .given .1) _ (at-after-cell .before .before .grown-by .ensures) _ (at-after-cell .after-cell .ensures)) _ (c .before .e .given .1)) .0
-
-same-length-14 : tie.Need-same-length-14 Inv-loop μ-loop
-same-length-14 c =
-    let at-after-cell = c .before .before .before in
-    let at-closes = at-after-cell .before .before .before .before in
-    out-lengths _ (step-refused _ (by-cell _ (asked (at-closes .before .before)) _ _ (at-closes .closes .given .1) _ (at-after-cell .before .before .grown-by .ensures) _ (at-after-cell .after-cell .ensures)) _ (c .before .e .given .1)) .1
-
-same-length-15 : tie.Need-same-length-15 Inv-loop μ-loop
-same-length-15 c =
-    let at-after-cell = c .before .before .before in
-    let at-closes = at-after-cell .before .before .before .before in
-    out-lengths _ (step-refused _ (by-cell _ (asked (at-closes .before .before)) _ _ (at-closes .closes .given .1) _ (at-after-cell .before .before .grown-by .ensures) _ (at-after-cell .after-cell .ensures)) _ (c .before .e .given .1)) .2
-
 returns-5 : tie.Need-returns-5 Inv-loop μ-loop
 returns-5 c =
     let at-after-cell = c .before .before .before in
@@ -291,30 +204,6 @@ add-i-2 : tie.Need-add-i-2 Inv-loop μ-loop
 add-i-2 c =
     let n = lies-cell _ (asked (c .before .before .before .before .before .before .before .before .before .before .before .before .before .before .before .before .before .before .before .before .before .before)) _ _ (c .before .before .before .before .before .before .before .before .before .before .before .before .before .before .before .before .before .before .before .before .closes .given .1) in let j2 = n .2 in omega arith
 
-same-length-16 : tie.Need-same-length-16 Inv-loop μ-loop
-same-length-16 c =
-    let at-put2 = c .before .before .before .before .before .before .before .before .before in
-    let at-closes-cell2 = at-put2 .before .before .before .before .before in
-    let at-after-cell = at-closes-cell2 .before .before .before .before in
-    let at-closes = at-after-cell .before .before .before .before in
-    out-lengths _ (step-over _ (by-cell _ (asked (at-closes .before .before)) _ _ (at-closes .closes .given .1) _ (at-after-cell .before .before .grown-by .ensures) _ (at-after-cell .after-cell .ensures)) _ _ (at-closes-cell2 .before .before .f .given .1) _ (at-closes-cell2 .closes-cell2 .ensures) _ _ _ (at-put2 .put2 .ensures) _ (c .before .before .moved3 .ensures) _ (c .before .ends-record2 .ensures) (c .if4 .taken)) .0
-
-same-length-17 : tie.Need-same-length-17 Inv-loop μ-loop
-same-length-17 c =
-    let at-put2 = c .before .before .before .before .before .before .before .before .before in
-    let at-closes-cell2 = at-put2 .before .before .before .before .before in
-    let at-after-cell = at-closes-cell2 .before .before .before .before in
-    let at-closes = at-after-cell .before .before .before .before in
-    out-lengths _ (step-over _ (by-cell _ (asked (at-closes .before .before)) _ _ (at-closes .closes .given .1) _ (at-after-cell .before .before .grown-by .ensures) _ (at-after-cell .after-cell .ensures)) _ _ (at-closes-cell2 .before .before .f .given .1) _ (at-closes-cell2 .closes-cell2 .ensures) _ _ _ (at-put2 .put2 .ensures) _ (c .before .before .moved3 .ensures) _ (c .before .ends-record2 .ensures) (c .if4 .taken)) .1
-
-same-length-18 : tie.Need-same-length-18 Inv-loop μ-loop
-same-length-18 c =
-    let at-put2 = c .before .before .before .before .before .before .before .before .before in
-    let at-closes-cell2 = at-put2 .before .before .before .before .before in
-    let at-after-cell = at-closes-cell2 .before .before .before .before in
-    let at-closes = at-after-cell .before .before .before .before in
-    out-lengths _ (step-over _ (by-cell _ (asked (at-closes .before .before)) _ _ (at-closes .closes .given .1) _ (at-after-cell .before .before .grown-by .ensures) _ (at-after-cell .after-cell .ensures)) _ _ (at-closes-cell2 .before .before .f .given .1) _ (at-closes-cell2 .closes-cell2 .ensures) _ _ _ (at-put2 .put2 .ensures) _ (c .before .before .moved3 .ensures) _ (c .before .ends-record2 .ensures) (c .if4 .taken)) .2
-
 returns-6 : tie.Need-returns-6 Inv-loop μ-loop
 returns-6 c =
     let at-moved3 = c .before .before in
@@ -339,18 +228,6 @@ loop-again-3 c =
     let at-after-cell = at-closes-cell2 .before .before .before .before in
     let at-closes = at-after-cell .before .before .before .before in
     step-on _ (by-cell _ (asked (at-closes .before .before)) _ _ (at-closes .closes .given .1) _ (at-after-cell .before .before .grown-by .ensures) _ (at-after-cell .after-cell .ensures)) _ _ (at-closes-cell2 .before .before .f .given .1) _ (at-closes-cell2 .closes-cell2 .ensures) _ _ _ (at-put2 .put2 .ensures) _ (c .before .before .moved3 .ensures) _ (c .before .ends-record2 .ensures) (c .if4 .left)
-
-same-length-19 : tie.Need-same-length-19 Inv-loop μ-loop
-same-length-19 c =
-    out-lengths _ (by-refusal _ (asked (c .before .before .before)) _ _ (c .before .e2 .given .1)) .0
-
-same-length-20 : tie.Need-same-length-20 Inv-loop μ-loop
-same-length-20 c =
-    out-lengths _ (by-refusal _ (asked (c .before .before .before)) _ _ (c .before .e2 .given .1)) .1
-
-same-length-21 : tie.Need-same-length-21 Inv-loop μ-loop
-same-length-21 c =
-    out-lengths _ (by-refusal _ (asked (c .before .before .before)) _ _ (c .before .e2 .given .1)) .2
 
 returns-7 : tie.Need-returns-7 Inv-loop μ-loop
 returns-7 c =
@@ -401,54 +278,12 @@ add-t68 c =
     let sized : l .h .size ≤ l .i = l .inv .reached .sized in
     let under : l .i ≤ MAXFILE = l .inv .reached .under in omega arith
 
-same-length-22 : tie.Need-same-length-22 Inv-loop μ-loop
-same-length-22 c =
-    let at-loop-test = c .before .before .before in
-    let l = at-loop-test .before .loop in
-    out-lengths _ (clean-end _ (l .inv) (at-loop-test .loop-test .left) (sym (c .before .before .file-end .ensures) ∙ c .enum-told .given .1)) .0
-
-same-length-23 : tie.Need-same-length-23 Inv-loop μ-loop
-same-length-23 c =
-    let at-loop-test = c .before .before .before in
-    let l = at-loop-test .before .loop in
-    out-lengths _ (clean-end _ (l .inv) (at-loop-test .loop-test .left) (sym (c .before .before .file-end .ensures) ∙ c .enum-told .given .1)) .1
-
-same-length-24 : tie.Need-same-length-24 Inv-loop μ-loop
-same-length-24 c =
-    let at-loop-test = c .before .before .before in
-    let l = at-loop-test .before .loop in
-    out-lengths _ (clean-end _ (l .inv) (at-loop-test .loop-test .left) (sym (c .before .before .file-end .ensures) ∙ c .enum-told .given .1)) .2
-
 returns-8 : tie.Need-returns-8 Inv-loop μ-loop
 returns-8 c =
     let at-loop-test = c .before .before .before in
     let l = at-loop-test .before .loop in
     let o = clean-end _ (l .inv) (at-loop-test .loop-test .left) (sym (c .before .before .file-end .ensures) ∙ c .enum-told .given .1) in
     (o .event, (o .at-starts, (o .at-ends, (o .at-kinds, tt))))
-
-same-length-25 : tie.Need-same-length-25 Inv-loop μ-loop
-same-length-25 c =
-    let at-put3 = c .before .before .before .before .before .before .before in
-    let at-enum-told2 = at-put3 .before .before .before .before .before in
-    let at-loop-test = at-enum-told2 .before .before .before in
-    let l = at-loop-test .before .loop in
-    out-lengths _ (last-put _ (l .inv) (at-loop-test .loop-test .left) (sym (at-enum-told2 .before .before .file-end .ensures) ∙ at-enum-told2 .enum-told2 .given .1) _ _ _ (at-put3 .put3 .ensures)) .0
-
-same-length-26 : tie.Need-same-length-26 Inv-loop μ-loop
-same-length-26 c =
-    let at-put3 = c .before .before .before .before .before .before .before in
-    let at-enum-told2 = at-put3 .before .before .before .before .before in
-    let at-loop-test = at-enum-told2 .before .before .before in
-    let l = at-loop-test .before .loop in
-    out-lengths _ (last-put _ (l .inv) (at-loop-test .loop-test .left) (sym (at-enum-told2 .before .before .file-end .ensures) ∙ at-enum-told2 .enum-told2 .given .1) _ _ _ (at-put3 .put3 .ensures)) .1
-
-same-length-27 : tie.Need-same-length-27 Inv-loop μ-loop
-same-length-27 c =
-    let at-put3 = c .before .before .before .before .before .before .before in
-    let at-enum-told2 = at-put3 .before .before .before .before .before in
-    let at-loop-test = at-enum-told2 .before .before .before in
-    let l = at-loop-test .before .loop in
-    out-lengths _ (last-put _ (l .inv) (at-loop-test .loop-test .left) (sym (at-enum-told2 .before .before .file-end .ensures) ∙ at-enum-told2 .enum-told2 .given .1) _ _ _ (at-put3 .put3 .ensures)) .2
 
 returns-9 : tie.Need-returns-9 Inv-loop μ-loop
 returns-9 c =
@@ -458,24 +293,6 @@ returns-9 c =
     let l = at-loop-test .before .loop in
     let o = last-put _ (l .inv) (at-loop-test .loop-test .left) (sym (at-enum-told2 .before .before .file-end .ensures) ∙ at-enum-told2 .enum-told2 .given .1) _ _ _ (at-put3 .put3 .ensures) in
     (o .event, (o .at-starts, (o .at-ends, (o .at-kinds, last-fits _ (l .inv) (at-loop-test .loop-test .left)))))
-
-same-length-28 : tie.Need-same-length-28 Inv-loop μ-loop
-same-length-28 c =
-    let at-loop-test = c .before .before .before in
-    let l = at-loop-test .before .loop in
-    out-lengths _ (cut-short _ (l .inv) (at-loop-test .loop-test .left) (sym (c .before .before .file-end .ensures) ∙ c .enum-told3 .given .1)) .0
-
-same-length-29 : tie.Need-same-length-29 Inv-loop μ-loop
-same-length-29 c =
-    let at-loop-test = c .before .before .before in
-    let l = at-loop-test .before .loop in
-    out-lengths _ (cut-short _ (l .inv) (at-loop-test .loop-test .left) (sym (c .before .before .file-end .ensures) ∙ c .enum-told3 .given .1)) .1
-
-same-length-30 : tie.Need-same-length-30 Inv-loop μ-loop
-same-length-30 c =
-    let at-loop-test = c .before .before .before in
-    let l = at-loop-test .before .loop in
-    out-lengths _ (cut-short _ (l .inv) (at-loop-test .loop-test .left) (sym (c .before .before .file-end .ensures) ∙ c .enum-told3 .given .1)) .2
 
 returns-10 : tie.Need-returns-10 Inv-loop μ-loop
 returns-10 c =
@@ -491,22 +308,22 @@ next-record-spec =
     Inv-loop
     μ-loop
     loop-holds
-    same-length
-    same-length-2
-    same-length-3
+    (λ c. lengths _ (c .before .before .loop .inv .lists) .0)
+    (λ c. lengths _ (c .before .before .loop .inv .lists) .1)
+    (λ c. lengths _ (c .before .before .loop .inv .lists) .2)
     returns
     (λ c. omega arith)
     (λ c κs. search needs)
-    same-length-4
-    same-length-5
-    same-length-6
+    (λ c. lengths _ (c .before .before .before .before .before .loop .inv .lists) .0)
+    (λ c. lengths _ (c .before .before .before .before .before .loop .inv .lists) .1)
+    (λ c. lengths _ (c .before .before .before .before .before .loop .inv .lists) .2)
     returns-2
     ahead-requires
     (λ c. search needs)
     (λ c. search needs)
-    same-length-7
-    same-length-8
-    same-length-9
+    (λ c. lengths _ (asked (c .before .before .before .before .before .before) .scanning .lists) .0)
+    (λ c. lengths _ (asked (c .before .before .before .before .before .before) .scanning .lists) .1)
+    (λ c. lengths _ (asked (c .before .before .before .before .before .before) .scanning .lists) .2)
     returns-3
     (λ c. search needs)
     (λ c κs. search needs)
@@ -515,9 +332,9 @@ next-record-spec =
     moved-requires
     add-i
     (λ c κs. search needs)
-    same-length-10
-    same-length-11
-    same-length-12
+    (λ c. put-lengths _ (asked (c .before .before .before .before .before .before .before .before .before .before .before .before .before .before .before .before .before .before .before .before .before) .scanning .lists) _ _ _ _ _ (c .before .before .before .before .before .before .before .before .before .put .ensures) .0)
+    (λ c. put-lengths _ (asked (c .before .before .before .before .before .before .before .before .before .before .before .before .before .before .before .before .before .before .before .before .before) .scanning .lists) _ _ _ _ _ (c .before .before .before .before .before .before .before .before .before .put .ensures) .1)
+    (λ c. put-lengths _ (asked (c .before .before .before .before .before .before .before .before .before .before .before .before .before .before .before .before .before .before .before .before .before) .scanning .lists) _ _ _ _ _ (c .before .before .before .before .before .before .before .before .before .put .ensures) .2)
     returns-4
     loop-less
     loop-again
@@ -532,9 +349,9 @@ next-record-spec =
     shared-slice-read-after-cell
     (λ c κs. search needs)
     (λ c. search needs)
-    same-length-13
-    same-length-14
-    same-length-15
+    (λ c. lengths _ (asked (c .before .before .before .before .before .before .before .before .before) .scanning .lists) .0)
+    (λ c. lengths _ (asked (c .before .before .before .before .before .before .before .before .before) .scanning .lists) .1)
+    (λ c. lengths _ (asked (c .before .before .before .before .before .before .before .before .before) .scanning .lists) .2)
     returns-5
     (λ c. search needs)
     (λ c κs. search needs)
@@ -543,16 +360,16 @@ next-record-spec =
     moved-requires-3
     add-i-2
     (λ c κs. search needs)
-    same-length-16
-    same-length-17
-    same-length-18
+    (λ c. put-lengths _ (asked (c .before .before .before .before .before .before .before .before .before .before .before .before .before .before .before .before .before .before .before .before .before .before .before .before) .scanning .lists) _ _ _ _ _ (c .before .before .before .before .before .before .before .before .before .put2 .ensures) .0)
+    (λ c. put-lengths _ (asked (c .before .before .before .before .before .before .before .before .before .before .before .before .before .before .before .before .before .before .before .before .before .before .before .before) .scanning .lists) _ _ _ _ _ (c .before .before .before .before .before .before .before .before .before .put2 .ensures) .1)
+    (λ c. put-lengths _ (asked (c .before .before .before .before .before .before .before .before .before .before .before .before .before .before .before .before .before .before .before .before .before .before .before .before) .scanning .lists) _ _ _ _ _ (c .before .before .before .before .before .before .before .before .before .put2 .ensures) .2)
     returns-6
     loop-less-3
     loop-again-3
     (λ c. search needs)
-    same-length-19
-    same-length-20
-    same-length-21
+    (λ c. lengths _ (asked (c .before .before .before) .scanning .lists) .0)
+    (λ c. lengths _ (asked (c .before .before .before) .scanning .lists) .1)
+    (λ c. lengths _ (asked (c .before .before .before) .scanning .lists) .2)
     returns-7
     (λ c. search needs)
     sub-grown-by-2
@@ -566,15 +383,15 @@ next-record-spec =
     put-requires-3
     add-t68
     (λ c. search needs)
-    same-length-22
-    same-length-23
-    same-length-24
+    (λ c. lengths _ (c .before .before .before .before .loop .inv .lists) .0)
+    (λ c. lengths _ (c .before .before .before .before .loop .inv .lists) .1)
+    (λ c. lengths _ (c .before .before .before .before .loop .inv .lists) .2)
     returns-8
-    same-length-25
-    same-length-26
-    same-length-27
+    (λ c. put-lengths _ (c .before .before .before .before .before .before .before .before .before .before .before .before .before .before .before .before .loop .inv .lists) _ _ _ _ _ (c .before .before .before .before .before .before .before .put3 .ensures) .0)
+    (λ c. put-lengths _ (c .before .before .before .before .before .before .before .before .before .before .before .before .before .before .before .before .loop .inv .lists) _ _ _ _ _ (c .before .before .before .before .before .before .before .put3 .ensures) .1)
+    (λ c. put-lengths _ (c .before .before .before .before .before .before .before .before .before .before .before .before .before .before .before .before .loop .inv .lists) _ _ _ _ _ (c .before .before .before .before .before .before .before .put3 .ensures) .2)
     returns-9
-    same-length-28
-    same-length-29
-    same-length-30
+    (λ c. lengths _ (c .before .before .before .before .loop .inv .lists) .0)
+    (λ c. lengths _ (c .before .before .before .before .loop .inv .lists) .1)
+    (λ c. lengths _ (c .before .before .before .before .loop .inv .lists) .2)
     returns-10)
