@@ -70,7 +70,22 @@ length-snoc ds r = length-append ds (r ∷ [])
 
 -- ---- the invariant
 
-module _ (d : Dialect) (file : Bytes) (from : ℕ) (first : Form) (columns room base : ℕ) (s₀ e₀ k₀ : List ℕ) where
+-- what a pass is given: where it begins, the header's columns, the place of the first cell and the lists as they were
+pub record Call : Type 0 where
+  pub d : Dialect
+  pub file : Bytes
+  pub from : ℕ
+  pub first : Form
+  pub columns : ℕ
+  pub room : ℕ
+  pub base : ℕ
+  pub s₀ : List ℕ
+  pub e₀ : List ℕ
+  pub k₀ : List ℕ
+
+module _ (call : Call) where
+  open Call call using (d, file, from, first, columns, room, base, s₀, e₀, k₀)
+
   -- after the header h and so many data records with these cells, reading stands at i
   pub record Turned (h : Rec) (vs : List Value) (f : Form) (i records : ℕ) : Type 0 where
     pub ds : List Rec
@@ -102,12 +117,12 @@ module _ (d : Dialect) (file : Bytes) (from : ℕ) (first : Form) (columns room 
         turn = λ h q. record { ds = []; cells = refl; count = refl; rest = refl };
       }
 
-  module _ (f : Form) (i cells records : ℕ) (s e k : List ℕ) (y : Going f i cells records s e k) where
+  module _ {f : Form} {i cells records : ℕ} {s e k : List ℕ} (y : Going f i cells records s e k) where
     abbrev Here : Next
     Here = nextRecord d (between-records [] f i) (drop i file)
 
     -- the scanner's answer
-    module _ (v : Event) (ev : v ≡ Here .event) (s′ e′ k′ : List ℕ) (ps : s′ ≡ placed room (base + cells) (startsOf (Here .cells)) s) (pe : e′ ≡ placed room (base + cells) (endsOf (Here .cells)) e) (pk : k′ ≡ placed room (base + cells) (kindsOf (Here .cells)) k) where
+    module _ {v : Event} (ev : v ≡ Here .event) {s′ e′ k′ : List ℕ} (ps : s′ ≡ placed room (base + cells) (startsOf (Here .cells)) s) (pe : e′ ≡ placed room (base + cells) (endsOf (Here .cells)) e) (pk : k′ ≡ placed room (base + cells) (kindsOf (Here .cells)) k) where
       pub now-held : Holds room base (y .vs ++ Here .cells) s₀ e₀ k₀ s′ e′ k′
       now-held = more-held room base cells (y .vs) (Here .cells) s₀ e₀ k₀ s e k s′ e′ k′ (y .counted) (y .lists) ps pe pk
 

@@ -29,6 +29,10 @@ pub length-put : (room k x : ℕ) (old : List ℕ) → length (putAt room k x ol
 unfolding putAt
 length-put room k x old = split (λ (xs : List ℕ). length xs ≡ length old) _ (λ _. length-set old k x) λ _. refl
 
+pub length-put-if : (closes : Bool) (room k x : ℕ) (old : List ℕ) → length (putIf closes room k x old) ≡ length old
+unfolding putIf
+length-put-if closes room k x old = split (λ (xs : List ℕ). length xs ≡ length old) closes (λ _. length-put room k x old) λ _. refl
+
 pub length-placed : (room k : ℕ) (xs old : List ℕ) → length (placed room k xs old) ≡ length old
 unfolding placed
 length-placed room k [] old = refl

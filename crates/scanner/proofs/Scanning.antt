@@ -37,7 +37,7 @@ use Rattle.scanner.specs.Types.{InHand, Met, Is, Skipped, AfterCell, Ref
 use Rattle.scanner.specs.Next.{Next, closesCell, endsRecord, oneMore, handAfter, grown, cellsAfter, failed, completed, ended, stepped, nextRecord, Fits}
 use Rattle.scanner.specs.Ahead.{readAt, steppedAt, metNext, outer, Lies, Comes}
 use Rattle.scanner.specs.Placed.{putAt, putIf, placed}
-use Rattle.scanner.proofs.Placing.{placed-snoc, length-placed}
+use Rattle.scanner.proofs.Placing.{placed-snoc, length-put-if, length-placed}
 use Rattle.scanner.proofs.Coming.{carried-at}
 use Rattle.scanner.proofs.Calm.{Calm, step-calm, after-calm, leaves, passes, grows, blanks, parts, tails, finishes}
 
@@ -101,7 +101,21 @@ clean-outer d Cr e = cut-unclean e
 
 -- ---- the invariant
 
-module _ (d : Dialect) (file : Bytes) (first : Form) (from room base : ℕ) (starts₀ ends₀ kinds₀ : List ℕ) where
+-- what a call is given: where reading begins, the place of the first cell and the lists as they were
+pub record Call : Type 0 where
+  pub d : Dialect
+  pub file : Bytes
+  pub first : Form
+  pub from : ℕ
+  pub room : ℕ
+  pub base : ℕ
+  pub starts₀ : List ℕ
+  pub ends₀ : List ℕ
+  pub kinds₀ : List ℕ
+
+module _ (call : Call) where
+  open Call call using (d, file, first, from, room, base, starts₀, ends₀, kinds₀)
+
   abbrev Whole : Next
   Whole = nextRecord d (between-records [] first from) (drop from file)
 
@@ -140,7 +154,7 @@ module _ (d : Dialect) (file : Bytes) (first : Form) (from room base : ℕ) (sta
 
   -- ---- one byte
 
-  module _ (f : Form) (i : ℕ) (h : InHand) (vs : List Value) (q : Reached f i h vs) where
+  module _ {f : Form} {i : ℕ} {h : InHand} {vs : List Value} (q : Reached f i h vs) where
     abbrev Here : Read
     Here = readAt file f i h vs
 
@@ -228,7 +242,7 @@ module _ (d : Dialect) (file : Bytes) (first : Form) (from room base : ℕ) (sta
         at-kinds = y .at-kinds ∙ ap (λ (x : Next). placed room base (kindsOf (x .cells)) kinds₀) (sym w);
       }
 
-  module _ (f : Form) (i : ℕ) (h : InHand) {starts ends kinds : List ℕ} (y : Scanning f i h starts ends kinds) where
+  module _ {f : Form} {i : ℕ} {h : InHand} {starts ends kinds : List ℕ} (y : Scanning f i h starts ends kinds) where
     abbrev There : Read
     There = readAt file f i h (y .vs)
 
@@ -262,13 +276,13 @@ module _ (d : Dialect) (file : Bytes) (first : Form) (from room base : ℕ) (sta
     last-record l e =
         let n : length (closing d true There) ≡ h .cells + 1 = closing-one d There (h .cells) (y .reached .counted) in
         subst (λ (k : ℕ). Out (LastRecord (h .start) k) (putIf true room (base + h .cells) (h .opened) starts) (putIf true room (base + h .cells) i ends) (putIf true room (base + h .cells) (kindNumber (kindOf d (part file (h .opened) i))) kinds)) n
-        (gives (ended d There Final) (at-end l ∙ ap (λ (x : Ending). ended d There x) e) (put-closing f i h (y .vs) (y .reached) true (y .lists)))
+        (gives (ended d There Final) (at-end l ∙ ap (λ (x : Ending). ended d There x) e) (put-closing (y .reached) true (y .lists)))
       where
         closing-one : (d′ : Dialect) (r : Read) (n : ℕ) → length (r .cells) ≡ n → length (closing d′ true r) ≡ n + 1
         closing-one d′ r n c = length-append (r .cells) (cellNow d′ r ∷ []) ∙ ap (λ (m : ℕ). m + 1) c
 
   -- a byte that ends its record, or that no record goes on with
-  module _ (f : Form) (i : ℕ) (h : InHand) (vs : List Value) (q : Reached f i h vs) {starts ends kinds : List ℕ} (y : Holds vs starts ends kinds) where
+  module _ {f : Form} {i : ℕ} {h : InHand} {vs : List Value} (q : Reached f i h vs) {starts ends kinds : List ℕ} (y : Holds vs starts ends kinds) where
     pub refused : (x : ByteFault) → Whole ≡ steppedAt d file f i h vs (Reject x) → Out (Failed (Byte x) i) starts ends kinds
     unfolding stepped
     refused x w = gives (failed (Byte x) (readAt file f i h vs)) w y
@@ -279,7 +293,7 @@ module _ (d : Dialect) (file : Bytes) (first : Form) (from room base : ℕ) (sta
         let r : Read = readAt file f i h vs in
         let n : length (closing d k r) ≡ oneMore k (h .cells) = closing-counts d k r (h .cells) (q .counted) in
         subst (λ (m : ℕ). Out (Completed (h .start) m g (i + 1)) (putIf k room (base + h .cells) (h .opened) starts) (putIf k room (base + h .cells) i ends) (putIf k room (base + h .cells) (kindNumber (kindOf d (part file (h .opened) i))) kinds)) n
-        (gives (completed r (closing d k r) g (i + 1)) w (put-closing f i h vs q k y))
+        (gives (completed r (closing d k r) g (i + 1)) w (put-closing q k y))
 
     pub completes : (g : Form) (p : Part) → endsRecord p ≡ true → Whole ≡ steppedAt d file f i h vs (To g p) → Out (Completed (handAfter p i h .start) (handAfter p i h .cells) g (i + 1)) (putIf (closesCell p) room (base + h .cells) (h .opened) starts) (putIf (closesCell p) room (base + h .cells) i ends) (putIf (closesCell p) room (base + h .cells) (kindNumber (kindOf d (part file (h .opened) i))) kinds)
     completes g Outside e w = impossible e
@@ -291,24 +305,24 @@ module _ (d : Dialect) (file : Bytes) (first : Form) (from room base : ℕ) (sta
 
   -- ---- without a step
 
-  pub grows-to : (f : Form) (i j : ℕ) (h : InHand) (vs : List Value) → i ≤ j → j ≤ length file → j ≤ MAXFILE → Reached f i h vs → Reached f j (grown h (j - i)) vs
-  grows-to f i j h vs l m n q =
+  pub grows-to : {f : Form} {i j : ℕ} {h : InHand} {vs : List Value} → i ≤ j → j ≤ length file → j ≤ MAXFILE → Reached f i h vs → Reached f j (grown h (j - i)) vs
+  grows-to {i = i} {j = j} {h = h} l m n q =
       let b : base + h .cells ≤ i = q .few in
       let w′ : from ≤ i = q .onward in
       let s : h .size ≤ i = q .sized in
       let o : h .opened ≤ i = q .opened in
       record { onward = omega arith; inside = m; under = n; counted = q .counted; few = omega arith; sized = omega arith; opened = omega arith; rest = q .rest }
 
-  pub still-open : (f : Form) (c : Cell) (i j : ℕ) (h : InHand) {starts ends kinds : List ℕ} (y : Scanning f i h starts ends kinds) → i < j → j ≤ length file → j ≤ MAXFILE → Whole ≡ nextRecord d (readAt file (Inside c) j (grown h (j - i)) (y .vs)) (drop j file) → Scanning (Inside c) j (grown h (j - i)) starts ends kinds
-  still-open f c i j h y l m n w =
+  pub still-open : {f : Form} {c : Cell} {i j : ℕ} {h : InHand} {starts ends kinds : List ℕ} (y : Scanning f i h starts ends kinds) → i < j → j ≤ length file → j ≤ MAXFILE → Whole ≡ nextRecord d (readAt file (Inside c) j (grown h (j - i)) (y .vs)) (drop j file) → Scanning (Inside c) j (grown h (j - i)) starts ends kinds
+  still-open {i = i} {j = j} {h = h} y l m n w =
       let b : base + h .cells ≤ i = y .reached .few in
       let w′ : from ≤ i = y .reached .onward in
       let s : h .size ≤ i = y .reached .sized in
       let o : h .opened ≤ i = y .reached .opened in
       record { vs = y .vs; same = w; reached = record { onward = omega arith; inside = m; under = n; counted = y .reached .counted; few = omega arith; sized = omega arith; opened = omega arith; rest = λ t. impossible t }; lists = y .lists }
 
-  pub skipped : (f : Form) (i j : ℕ) (h : InHand) {starts ends kinds : List ℕ} (y : Scanning f i h starts ends kinds) → outer f ≡ true → i < j → j ≤ length file → j ≤ MAXFILE → Whole ≡ nextRecord d (readAt file f j (handAfter Outside (j - 1) h) []) (drop j file) → Scanning f j (handAfter Outside (j - 1) h) starts ends kinds
-  skipped f i j h {starts = ss} {ends = es} {kinds = ks} y o l m n w =
+  pub skipped : {f : Form} {i j : ℕ} {h : InHand} {starts ends kinds : List ℕ} (y : Scanning f i h starts ends kinds) → outer f ≡ true → i < j → j ≤ length file → j ≤ MAXFILE → Whole ≡ nextRecord d (readAt file f j (handAfter Outside (j - 1) h) []) (drop j file) → Scanning f j (handAfter Outside (j - 1) h) starts ends kinds
+  skipped {i = i} {j = j} {h = h} {starts = ss} {ends = es} {kinds = ks} y o l m n w =
       let b : base + h .cells ≤ i = y .reached .few in
       let w′ : from ≤ i = y .reached .onward in
       record { vs = []; same = w; reached = record { onward = omega arith; inside = m; under = n; counted = refl; few = omega arith; sized = omega arith; opened = omega arith; rest = λ _. refl }; lists = subst (λ (ws : List Value). Holds ws ss es ks) (y .reached .rest o) (y .lists) }
@@ -322,12 +336,14 @@ module _ (d : Dialect) (file : Bytes) (first : Form) (from room base : ℕ) (sta
     ap length (y .at-kinds) ∙ length-placed room base (map numberOf vs) kinds₀,
   )
 
-  pub out-lengths : {e : Event} {starts ends kinds : List ℕ} → Out e starts ends kinds → (length starts ≡ length starts₀) × (length ends ≡ length ends₀) × (length kinds ≡ length kinds₀)
-  out-lengths y = (
-    ap length (y .at-starts) ∙ length-placed room base (startsOf (Whole .cells)) starts₀,
-    ap length (y .at-ends) ∙ length-placed room base (endsOf (Whole .cells)) ends₀,
-    ap length (y .at-kinds) ∙ length-placed room base (kindsOf (Whole .cells)) kinds₀,
-  )
+  -- and after a cell was put or not
+  pub put-lengths : {vs : List Value} {starts ends kinds starts′ ends′ kinds′ : List ℕ} → Holds vs starts ends kinds → (closes : Bool) (m x y z : ℕ) → (starts′ ≡ putIf closes room m x starts) × ((ends′ ≡ putIf closes room m y ends) × (kinds′ ≡ putIf closes room m z kinds)) → (length starts′ ≡ length starts₀) × (length ends′ ≡ length ends₀) × (length kinds′ ≡ length kinds₀)
+  put-lengths {starts = ss} {ends = es} {kinds = ks} y closes m x u z put =
+      let n : (length ss ≡ length starts₀) × (length es ≡ length ends₀) × (length ks ≡ length kinds₀) = lengths y in (
+        ap length (put .0) ∙ length-put-if closes room m x ss ∙ n .0,
+        ap length (put .1 .0) ∙ length-put-if closes room m u es ∙ n .1,
+        ap length (put .1 .1) ∙ length-put-if closes room m z ks ∙ n .2,
+      )
 
   -- ---- the step of one byte, as the code takes it
 
@@ -340,61 +356,70 @@ module _ (d : Dialect) (file : Bytes) (first : Form) (from room base : ℕ) (sta
     pub inside : i < length file
     pub under : i < MAXFILE
 
-  module _ (f : Form) (i : ℕ) (h : InHand) (starts ends kinds : List ℕ) (y : Scanning f i h starts ends kinds) (l : i < length file) (m : i < MAXFILE) (full : Bool) (e : full ≡ (leb MAXRECORD (h .size) && counts f (getD file i 0))) (z : full ≡ false) (met : Met) (a : Lies d file f i met × Comes d file f i (h .size) met) where
-    comes-to : Whole ≡ metNext d file f i h (y .vs) met
+  -- the byte at i is not one too many, and this stands ahead
+  pub record Asked (f : Form) (i : ℕ) (h : InHand) (starts ends kinds : List ℕ) (met : Met) : Type 0 where
+    pub scanning : Scanning f i h starts ends kinds
+    pub inside : i < length file
+    pub under : i < MAXFILE
+    pub fits : (leb MAXRECORD (h .size) && counts f (getD file i 0)) ≡ false
+    pub lies : Lies d file f i met
+    pub comes : Comes d file f i (h .size) met
+
+  module _ {f : Form} {i : ℕ} {h : InHand} {starts ends kinds : List ℕ} {met : Met} (a : Asked f i h starts ends kinds met) where
+    comes-to : Whole ≡ metNext d file f i h (a .scanning .vs) met
     unfolding recordFull
-    comes-to = y .same ∙ a .1 .comes h (y .vs) refl (y .reached .opened) (sym e ∙ z)
+    comes-to = a .scanning .same ∙ a .comes .comes h (a .scanning .vs) refl (a .scanning .reached .opened) (a .fits)
 
     pub by-byte : (s : Step) → met ≡ Is s → Stepping f i h s starts ends kinds
     unfolding metNext
     by-byte s q =
-        let n : Lies d file f i (Is s) = subst (λ (x : Met). Lies d file f i x) q (a .0) in
-        let w : Whole ≡ metNext d file f i h (y .vs) (Is s) = comes-to ∙ ap (λ (x : Met). metNext d file f i h (y .vs) x) q in
-        record { vs = y .vs; whole = w; reached = y .reached; lists = y .lists; calm = subst (λ (x : Step). Calm f (getD file i 0) x) (sym n) (step-calm d f (getD file i 0)); inside = l; under = m }
+        let n : Lies d file f i (Is s) = subst (λ (x : Met). Lies d file f i x) q (a .lies) in
+        let w : Whole ≡ metNext d file f i h (a .scanning .vs) (Is s) = comes-to ∙ ap (λ (x : Met). metNext d file f i h (a .scanning .vs) x) q in
+        record { vs = a .scanning .vs; whole = w; reached = a .scanning .reached; lists = a .scanning .lists; calm = subst (λ (x : Step). Calm f (getD file i 0) x) (sym n) (step-calm d f (getD file i 0)); inside = a .inside; under = a .under }
 
     pub by-cell : (closes : Bool) (j : ℕ) → met ≡ AfterCell closes j → (g : InHand) → g ≡ grown h (j - i) → (s : Step) → s ≡ afterCell d closes (getD file j 0) → Stepping f j g s starts ends kinds
     unfolding metNext
     by-cell closes j q g eg s es =
-        let n : Lies d file f i (AfterCell closes j) = subst (λ (x : Met). Lies d file f i x) q (a .0) in
-        let w : Whole ≡ metNext d file f i h (y .vs) (AfterCell closes j) = comes-to ∙ ap (λ (x : Met). metNext d file f i h (y .vs) x) q in
+        let n : Lies d file f i (AfterCell closes j) = subst (λ (x : Met). Lies d file f i x) q (a .lies) in
+        let w : Whole ≡ metNext d file f i h (a .scanning .vs) (AfterCell closes j) = comes-to ∙ ap (λ (x : Met). metNext d file f i h (a .scanning .vs) x) q in
         let k : j < length file = n .1 in
         let u : j < MAXFILE = n .2 in
         subst (λ (x : InHand). Stepping f j x s starts ends kinds) (sym eg)
         (subst (λ (x : Step). Stepping f j (grown h (j - i)) x starts ends kinds) (sym es)
-        (record { vs = y .vs; whole = w; reached = grows-to f i j h (y .vs) (n .0) (omega arith) (omega arith) (y .reached); lists = y .lists; calm = after-calm f (getD file j 0) d closes; inside = k; under = u }))
+        (record { vs = a .scanning .vs; whole = w; reached = grows-to (n .0) (omega arith) (omega arith) (a .scanning .reached); lists = a .scanning .lists; calm = after-calm f (getD file j 0) d closes; inside = k; under = u }))
 
     pub by-skip : (j : ℕ) → met ≡ Skipped j → (g : InHand) → g ≡ handAfter Outside (j - 1) h → Scanning f j g starts ends kinds
     unfolding metNext
     by-skip j q g eg =
-        let n : Lies d file f i (Skipped j) = subst (λ (x : Met). Lies d file f i x) q (a .0) in
-        let w : Whole ≡ metNext d file f i h (y .vs) (Skipped j) = comes-to ∙ ap (λ (x : Met). metNext d file f i h (y .vs) x) q in
-        subst (λ (x : InHand). Scanning f j x starts ends kinds) (sym eg) (skipped f i j h y (n .0) (n .1) (n .2) (n .3) w)
+        let n : Lies d file f i (Skipped j) = subst (λ (x : Met). Lies d file f i x) q (a .lies) in
+        let w : Whole ≡ metNext d file f i h (a .scanning .vs) (Skipped j) = comes-to ∙ ap (λ (x : Met). metNext d file f i h (a .scanning .vs) x) q in
+        subst (λ (x : InHand). Scanning f j x starts ends kinds) (sym eg) (skipped (a .scanning) (n .0) (n .1) (n .2) (n .3) w)
 
     pub by-open : (c : Cell) (j : ℕ) → met ≡ Open c j → (g : InHand) → g ≡ grown h (j - i) → Scanning (Inside c) j g starts ends kinds
     unfolding metNext
     by-open c j q g eg =
-        let n : Lies d file f i (Open c j) = subst (λ (x : Met). Lies d file f i x) q (a .0) in
-        let w : Whole ≡ metNext d file f i h (y .vs) (Open c j) = comes-to ∙ ap (λ (x : Met). metNext d file f i h (y .vs) x) q in
-        subst (λ (x : InHand). Scanning (Inside c) j x starts ends kinds) (sym eg) (still-open f c i j h y (n .0) (n .1) (n .2) w)
+        let n : Lies d file f i (Open c j) = subst (λ (x : Met). Lies d file f i x) q (a .lies) in
+        let w : Whole ≡ metNext d file f i h (a .scanning .vs) (Open c j) = comes-to ∙ ap (λ (x : Met). metNext d file f i h (a .scanning .vs) x) q in
+        subst (λ (x : InHand). Scanning (Inside c) j x starts ends kinds) (sym eg) (still-open (a .scanning) (n .0) (n .1) (n .2) w)
 
     pub by-refusal : (x : ByteFault) (j : ℕ) → met ≡ Refused x j → Out (Failed (Byte x) j) starts ends kinds
     unfolding metNext
-    by-refusal x j q = gives (record { event = Failed (Byte x) j; cells = y .vs }) (comes-to ∙ ap (λ (t : Met). metNext d file f i h (y .vs) t) q) (y .lists)
+    by-refusal x j q = gives (record { event = Failed (Byte x) j; cells = a .scanning .vs }) (comes-to ∙ ap (λ (t : Met). metNext d file f i h (a .scanning .vs) t) q) (a .scanning .lists)
 
     -- where it lies
     pub lies-cell : (closes : Bool) (j : ℕ) → met ≡ AfterCell closes j → (i ≤ j) × (j < length file) × (j < MAXFILE)
-    lies-cell closes j q = subst (λ (x : Met). Lies d file f i x) q (a .0)
+    lies-cell closes j q = subst (λ (x : Met). Lies d file f i x) q (a .lies)
 
     pub lies-skip : (j : ℕ) → met ≡ Skipped j → (i < j) × (j ≤ length file) × (j ≤ MAXFILE)
-    lies-skip j q = let n : Lies d file f i (Skipped j) = subst (λ (x : Met). Lies d file f i x) q (a .0) in (n .1, n .2, n .3)
+    lies-skip j q = let n : Lies d file f i (Skipped j) = subst (λ (x : Met). Lies d file f i x) q (a .lies) in (n .1, n .2, n .3)
 
     pub lies-open : (c : Cell) (j : ℕ) → met ≡ Open c j → (i < j) × (j ≤ length file) × (j ≤ MAXFILE)
-    lies-open c j q = subst (λ (x : Met). Lies d file f i x) q (a .0)
+    lies-open c j q = subst (λ (x : Met). Lies d file f i x) q (a .lies)
 
   -- what the code's calls say of a step
-  module _ (f : Form) (i : ℕ) (h : InHand) (starts ends kinds : List ℕ) (s : Step) (y : Stepping f i h s starts ends kinds) where
+  module _ {f : Form} {i : ℕ} {h : InHand} {starts ends kinds : List ℕ} {s : Step} (y : Stepping f i h s starts ends kinds) where
     pub step-refused : (x : ByteFault) → s ≡ Reject x → Out (Failed (Byte x) i) starts ends kinds
-    step-refused x q = refused f i h (y .vs) (y .reached) (y .lists) x (y .whole ∙ ap (λ (t : Step). steppedAt d file f i h (y .vs) t) q)
+    step-refused x q = refused (y .reached) (y .lists) x (y .whole ∙ ap (λ (t : Step). steppedAt d file f i h (y .vs) t) q)
 
     module _ (g : Form) (p : Part) (q : s ≡ To g p) (closes : Bool) (c : closes ≡ closesCell p) (starts′ ends′ kinds′ : List ℕ) (put : (starts′ ≡ putIf closes room (base + h .cells) (h .opened) starts) × ((ends′ ≡ putIf closes room (base + h .cells) i ends) × (kinds′ ≡ putIf closes room (base + h .cells) (kindNumber (kindOf d (part file (h .opened) i))) kinds))) (h′ : InHand) (eh : h′ ≡ handAfter p i h) (over : Bool) (eo : over ≡ endsRecord p) where
       stepped-to : Whole ≡ steppedAt d file f i h (y .vs) (To g p)
@@ -412,12 +437,12 @@ module _ (d : Dialect) (file : Bytes) (first : Form) (from room base : ℕ) (sta
       pub step-on : over ≡ false → Scanning g (i + 1) h′ starts′ ends′ kinds′
       step-on z =
           rw (eh, put-starts, put-ends, put-kinds)
-          (on f i h (y .vs) (y .reached) g (y .inside) (y .under) p (subst (λ (t : Step). Calm f (getD file i 0) t) q (y .calm)) (sym eo ∙ z) stepped-to (y .lists))
+          (on (y .reached) g (y .inside) (y .under) p (subst (λ (t : Step). Calm f (getD file i 0) t) q (y .calm)) (sym eo ∙ z) stepped-to (y .lists))
 
       pub step-over : over ≡ true → Out (Completed (h′ .start) (h′ .cells) g (i + 1)) starts′ ends′ kinds′
       step-over z =
           rw (eh, put-starts, put-ends, put-kinds)
-          (completes f i h (y .vs) (y .reached) (y .lists) g p (sym eo ∙ z) stepped-to)
+          (completes (y .reached) (y .lists) g p (sym eo ∙ z) stepped-to)
 
       pub step-fits : over ≡ true → Fits (length file) from base (Completed (h′ .start) (h′ .cells) g (i + 1))
       step-fits z =
@@ -438,11 +463,11 @@ module _ (d : Dialect) (file : Bytes) (first : Form) (from room base : ℕ) (sta
 
   -- ---- the last record, and numbers that stay small
 
-  pub last-put : (f : Form) (i : ℕ) (h : InHand) (starts ends kinds : List ℕ) → Scanning f i h starts ends kinds → length file ≤ i → formEnd d f ≡ Final → (starts′ ends′ kinds′ : List ℕ) → (starts′ ≡ putIf true room (base + h .cells) (h .opened) starts) × ((ends′ ≡ putIf true room (base + h .cells) i ends) × (kinds′ ≡ putIf true room (base + h .cells) (kindNumber (kindOf d (part file (h .opened) i))) kinds)) → Out (LastRecord (h .start) (h .cells + 1)) starts′ ends′ kinds′
-  last-put f i h starts ends kinds y l e starts′ ends′ kinds′ put = rw (put .0, put .1 .0, put .1 .1) (last-record f i h y l e)
+  pub last-put : {f : Form} {i : ℕ} {h : InHand} {starts ends kinds : List ℕ} → Scanning f i h starts ends kinds → length file ≤ i → formEnd d f ≡ Final → (starts′ ends′ kinds′ : List ℕ) → (starts′ ≡ putIf true room (base + h .cells) (h .opened) starts) × ((ends′ ≡ putIf true room (base + h .cells) i ends) × (kinds′ ≡ putIf true room (base + h .cells) (kindNumber (kindOf d (part file (h .opened) i))) kinds)) → Out (LastRecord (h .start) (h .cells + 1)) starts′ ends′ kinds′
+  last-put y l e starts′ ends′ kinds′ put = rw (put .0, put .1 .0, put .1 .1) (last-record y l e)
 
-  pub last-fits : (f : Form) (i : ℕ) (h : InHand) {starts ends kinds : List ℕ} → Scanning f i h starts ends kinds → length file ≤ i → Fits (length file) from base (LastRecord (h .start) (h .cells + 1))
-  last-fits f i h y l =
+  pub last-fits : {f : Form} {i : ℕ} {h : InHand} {starts ends kinds : List ℕ} → Scanning f i h starts ends kinds → length file ≤ i → Fits (length file) from base (LastRecord (h .start) (h .cells + 1))
+  last-fits {i = i} {h = h} y l =
       let b : base + h .cells ≤ i = y .reached .few in
       let u : i ≤ MAXFILE = y .reached .under in
       let n : i ≤ length file = y .reached .inside in

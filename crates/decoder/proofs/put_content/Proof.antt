@@ -14,8 +14,9 @@ use Rattle.decoder.proofs.put_content.Tie as tie
 spelt : (c : tie.After-spelling-by)
     → contentIn (c .spelling-by .result) (c .before .before .before .before .args .raw .now) ≡ contentOf (c .before .before .before .before .args .d) (c .before .before .before .before .args .raw .now)
 spelt c =
-    let raw = c .before .before .before .before .args .raw .now in
-    ap (λ (s : Spelling). contentIn s raw) (c .spelling-by .ensures ∙ ap (spellingBy (c .before .before .before .before .args .d)) (c .before .first-of .ensures)) ∙ content-first (c .before .before .before .before .args .d) raw
+    let start = c .before .before .before .before in
+    let raw = start .args .raw .now in
+    ap (λ (s : Spelling). contentIn s raw) (c .spelling-by .ensures ∙ ap (spellingBy (start .args .d)) (c .before .first-of .ensures)) ∙ content-first (start .args .d) raw
 
 returns : tie.Need-returns
 returns c =

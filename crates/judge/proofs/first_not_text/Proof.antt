@@ -26,7 +26,9 @@ at-n : (c : tie.After-shared-slice-known5 Inv-loop μ-loop)
     → let s = c .before .before .before .before .before .before .before .args in
     let n = c .before .before .before .loop .n in
     Stretch (length (s .file .now)) (getD (s .starts .now) n 0) (getD (s .ends .now) n 0)
-at-n c = c .before .before .before .before .before .before .before .pre .each (c .before .before .before .loop .n) (c .before .before .loop-test .taken)
+at-n c =
+    let at-loop = c .before .before .before in
+    at-loop .before .before .before .before .pre .each (at-loop .loop .n) (c .before .before .loop-test .taken)
 
 sub-kind-of : tie.Need-sub-kind-of Inv-loop μ-loop
 sub-kind-of c = at-n c .forward
@@ -39,9 +41,10 @@ part-kind-of-end c = at-n c .within
 
 returns : tie.Need-returns Inv-loop μ-loop
 returns c =
-    let s = c .before .before .before .before .before .before .before .before .before .before .before in
-    let l = c .before .before .before .before .before .before .before .loop in
-    sym (l .inv .1 ∙ not-text-here (s .args .d) (s .args .file .now) (s .args .starts .now) (s .args .ends .now) (s .pre .paired) (l .n) (c .before .before .before .before .before .before .loop-test .taken) (sym (c .before .is-text .ensures ∙ ap isText (c .before .before .kind-of .ensures)) ∙ not-true (c .before .is-text .result) (c .if1 .taken)))
+    let at-loop-test = c .before .before .before .before .before .before in
+    let s = at-loop-test .before .before .before .before .before in
+    let l = at-loop-test .before .loop in
+    sym (l .inv .1 ∙ not-text-here (s .args .d) (s .args .file .now) (s .args .starts .now) (s .args .ends .now) (s .pre .paired) (l .n) (at-loop-test .loop-test .taken) (sym (c .before .is-text .ensures ∙ ap isText (c .before .before .kind-of .ensures)) ∙ not-true (c .before .is-text .result) (c .if1 .taken)))
 
 loop-again : tie.Need-loop-again Inv-loop μ-loop
 loop-again c =

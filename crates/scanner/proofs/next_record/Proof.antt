@@ -17,207 +17,99 @@ use Rattle.model.specs.declared.Fault.the-variants.{Byte}
 use Rattle.scanner.specs.Types.{InHand, Is, Skipped, AfterCell, Refused, Open, Failed}
 use Rattle.scanner.specs.Next.{handAfter, grown}
 use Rattle.scanner.specs.Ahead.{readAt}
-use Rattle.scanner.proofs.Scanning.{Scanning, Stepping, Out, begins, too-long-file, too-long-record, by-byte, by-cell, by-skip, by-open, by-refusal, lies-cell, lies-skip, lies-open, step-refused, step-on, step-over, step-fits, clean-end, cut-short, last-put, last-fits, lengths, out-lengths, small-sum, small-step}
+use Rattle.scanner.proofs.Scanning.{Call, Scanning, Asked, begins, too-long-file, too-long-record, by-byte, by-cell, by-skip, by-open, by-refusal, lies-cell, lies-skip, lies-open, step-refused, step-on, step-over, step-fits, clean-end, cut-short, last-put, last-fits, lengths, put-lengths, small-sum, small-step}
 use Rattle.scanner.proofs.next_record.Statement.{statement}
 use Rattle.scanner.proofs.next_record.Tie as tie
 
 abbrev Inv-loop : tie.InvT-loop
 Inv-loop d file from room base starts₀ ends₀ kinds₀ form₀ i₀ h₀ starts ends kinds form i h =
-    Scanning d file form₀ from room base starts₀ ends₀ kinds₀ form i h starts ends kinds
+    Scanning (record { d = d; file = file; first = form₀; from = from; room = room; base = base; starts₀ = starts₀; ends₀ = ends₀; kinds₀ = kinds₀ }) form i h starts ends kinds
 
 abbrev μ-loop : tie.MeasureT-loop
 μ-loop d file from room base starts₀ ends₀ kinds₀ form₀ i₀ h₀ starts ends kinds form i h = length file - i
 
 -- what the code knows once it has asked what stands ahead
 
+abbrev call : tie.After-ahead Inv-loop μ-loop → Call
+call u =
+    let a = u .before .before .before .before .before .before .before .before .before .before .before .args in
+    record { d = a .d; file = a .file .now; first = a .first; from = a .from; room = a .room; base = a .base; starts₀ = a .starts .now; ends₀ = a .ends .now; kinds₀ = a .kinds .now }
+
 full-record : (v : tie.Then2 Inv-loop μ-loop) → let a = v .before .before .before .before .before .before .before .before .before .before .args in let l = v .before .before .before .before .before .loop in recordFull (readAt (a .file .now) (l .form) (l .i) (l .h) (l .inv .vs)) (getD (a .file .now) (l .i) 0) ≡ true
 unfolding recordFull
 full-record v = sym (v .before .is-full .ensures) ∙ v .if2 .taken
 
-byte-step : (u : tie.After-ahead Inv-loop μ-loop) (s : Step) → u .ahead .result ≡ Is s → let a = u .before .before .before .before .before .before .before .before .before .before .before .args in let l = u .before .before .before .before .before .before .loop in Stepping (a .d) (a .file .now) (a .first) (a .from) (a .room) (a .base) (a .starts .now) (a .ends .now) (a .kinds .now) (l .form) (l .i) (l .h) s (l .starts) (l .ends) (l .kinds)
-byte-step u s e =
-    let a = u .before .before .before .before .before .before .before .before .before .before .before .args in
-    let l = u .before .before .before .before .before .before .loop in
-    by-byte (a .d) (a .file .now) (a .first) (a .from) (a .room) (a .base) (a .starts .now) (a .ends .now) (a .kinds .now) (l .form) (l .i) (l .h) (l .starts) (l .ends) (l .kinds) (l .inv) (u .before .before .before .before .before .loop-test .taken) (u .before .before .before .before .if1 .left) _ (u .before .before .is-full .ensures) (u .before .if2 .left) _ (u .ahead .ensures) s e
-
-cell-step : (u : tie.After-ahead Inv-loop μ-loop) (closes : Bool) (j : ℕ) → u .ahead .result ≡ AfterCell closes j → let a = u .before .before .before .before .before .before .before .before .before .before .before .args in let l = u .before .before .before .before .before .before .loop in (g : InHand) → g ≡ grown (l .h) (j - l .i) → (s : Step) → s ≡ afterCell (a .d) closes (getD (a .file .now) j 0) → Stepping (a .d) (a .file .now) (a .first) (a .from) (a .room) (a .base) (a .starts .now) (a .ends .now) (a .kinds .now) (l .form) j g s (l .starts) (l .ends) (l .kinds)
-cell-step u closes j e g eg s es =
-    let a = u .before .before .before .before .before .before .before .before .before .before .before .args in
-    let l = u .before .before .before .before .before .before .loop in
-    by-cell (a .d) (a .file .now) (a .first) (a .from) (a .room) (a .base) (a .starts .now) (a .ends .now) (a .kinds .now) (l .form) (l .i) (l .h) (l .starts) (l .ends) (l .kinds) (l .inv) (u .before .before .before .before .before .loop-test .taken) (u .before .before .before .before .if1 .left) _ (u .before .before .is-full .ensures) (u .before .if2 .left) _ (u .ahead .ensures) closes j e g eg s es
-
-skip-turn : (u : tie.After-ahead Inv-loop μ-loop) (j : ℕ) → u .ahead .result ≡ Skipped j → let a = u .before .before .before .before .before .before .before .before .before .before .before .args in let l = u .before .before .before .before .before .before .loop in (g : InHand) → g ≡ handAfter Outside (j - 1) (l .h) → Scanning (a .d) (a .file .now) (a .first) (a .from) (a .room) (a .base) (a .starts .now) (a .ends .now) (a .kinds .now) (l .form) j g (l .starts) (l .ends) (l .kinds)
-skip-turn u j e g eg =
-    let a = u .before .before .before .before .before .before .before .before .before .before .before .args in
-    let l = u .before .before .before .before .before .before .loop in
-    by-skip (a .d) (a .file .now) (a .first) (a .from) (a .room) (a .base) (a .starts .now) (a .ends .now) (a .kinds .now) (l .form) (l .i) (l .h) (l .starts) (l .ends) (l .kinds) (l .inv) (u .before .before .before .before .before .loop-test .taken) (u .before .before .before .before .if1 .left) _ (u .before .before .is-full .ensures) (u .before .if2 .left) _ (u .ahead .ensures) j e g eg
-
-open-turn : (u : tie.After-ahead Inv-loop μ-loop) (c : Cell) (j : ℕ) → u .ahead .result ≡ Open c j → let a = u .before .before .before .before .before .before .before .before .before .before .before .args in let l = u .before .before .before .before .before .before .loop in (g : InHand) → g ≡ grown (l .h) (j - l .i) → Scanning (a .d) (a .file .now) (a .first) (a .from) (a .room) (a .base) (a .starts .now) (a .ends .now) (a .kinds .now) (Inside c) j g (l .starts) (l .ends) (l .kinds)
-open-turn u c j e g eg =
-    let a = u .before .before .before .before .before .before .before .before .before .before .before .args in
-    let l = u .before .before .before .before .before .before .loop in
-    by-open (a .d) (a .file .now) (a .first) (a .from) (a .room) (a .base) (a .starts .now) (a .ends .now) (a .kinds .now) (l .form) (l .i) (l .h) (l .starts) (l .ends) (l .kinds) (l .inv) (u .before .before .before .before .before .loop-test .taken) (u .before .before .before .before .if1 .left) _ (u .before .before .is-full .ensures) (u .before .if2 .left) _ (u .ahead .ensures) c j e g eg
-
-refusal : (u : tie.After-ahead Inv-loop μ-loop) (x : ByteFault) (j : ℕ) → u .ahead .result ≡ Refused x j → let a = u .before .before .before .before .before .before .before .before .before .before .before .args in let l = u .before .before .before .before .before .before .loop in Out (a .d) (a .file .now) (a .first) (a .from) (a .room) (a .base) (a .starts .now) (a .ends .now) (a .kinds .now) (Failed (Byte x) j) (l .starts) (l .ends) (l .kinds)
-refusal u x j e =
-    let a = u .before .before .before .before .before .before .before .before .before .before .before .args in
-    let l = u .before .before .before .before .before .before .loop in
-    by-refusal (a .d) (a .file .now) (a .first) (a .from) (a .room) (a .base) (a .starts .now) (a .ends .now) (a .kinds .now) (l .form) (l .i) (l .h) (l .starts) (l .ends) (l .kinds) (l .inv) (u .before .before .before .before .before .loop-test .taken) (u .before .before .before .before .if1 .left) _ (u .before .before .is-full .ensures) (u .before .if2 .left) _ (u .ahead .ensures) x j e
-
-lies-cell-at : (u : tie.After-ahead Inv-loop μ-loop) (closes : Bool) (j : ℕ) → u .ahead .result ≡ AfterCell closes j → let a = u .before .before .before .before .before .before .before .before .before .before .before .args in let l = u .before .before .before .before .before .before .loop in (l .i ≤ j) × (j < length (a .file .now)) × (j < MAXFILE)
-lies-cell-at u closes j e =
-    let a = u .before .before .before .before .before .before .before .before .before .before .before .args in
-    let l = u .before .before .before .before .before .before .loop in
-    lies-cell (a .d) (a .file .now) (a .first) (a .from) (a .room) (a .base) (a .starts .now) (a .ends .now) (a .kinds .now) (l .form) (l .i) (l .h) (l .starts) (l .ends) (l .kinds) (l .inv) (u .before .before .before .before .before .loop-test .taken) (u .before .before .before .before .if1 .left) _ (u .before .before .is-full .ensures) (u .before .if2 .left) _ (u .ahead .ensures) closes j e
-
-lies-skip-at : (u : tie.After-ahead Inv-loop μ-loop) (j : ℕ) → u .ahead .result ≡ Skipped j → let a = u .before .before .before .before .before .before .before .before .before .before .before .args in let l = u .before .before .before .before .before .before .loop in (l .i < j) × (j ≤ length (a .file .now)) × (j ≤ MAXFILE)
-lies-skip-at u j e =
-    let a = u .before .before .before .before .before .before .before .before .before .before .before .args in
-    let l = u .before .before .before .before .before .before .loop in
-    lies-skip (a .d) (a .file .now) (a .first) (a .from) (a .room) (a .base) (a .starts .now) (a .ends .now) (a .kinds .now) (l .form) (l .i) (l .h) (l .starts) (l .ends) (l .kinds) (l .inv) (u .before .before .before .before .before .loop-test .taken) (u .before .before .before .before .if1 .left) _ (u .before .before .is-full .ensures) (u .before .if2 .left) _ (u .ahead .ensures) j e
-
-lies-open-at : (u : tie.After-ahead Inv-loop μ-loop) (c : Cell) (j : ℕ) → u .ahead .result ≡ Open c j → let a = u .before .before .before .before .before .before .before .before .before .before .before .args in let l = u .before .before .before .before .before .before .loop in (l .i < j) × (j ≤ length (a .file .now)) × (j ≤ MAXFILE)
-lies-open-at u c j e =
-    let a = u .before .before .before .before .before .before .before .before .before .before .before .args in
-    let l = u .before .before .before .before .before .before .loop in
-    lies-open (a .d) (a .file .now) (a .first) (a .from) (a .room) (a .base) (a .starts .now) (a .ends .now) (a .kinds .now) (l .form) (l .i) (l .h) (l .starts) (l .ends) (l .kinds) (l .inv) (u .before .before .before .before .before .loop-test .taken) (u .before .before .before .before .if1 .left) _ (u .before .before .is-full .ensures) (u .before .if2 .left) _ (u .ahead .ensures) c j e
+asked : (u : tie.After-ahead Inv-loop μ-loop) → let l = u .before .before .before .before .before .before .loop in Asked (call u) (l .form) (l .i) (l .h) (l .starts) (l .ends) (l .kinds) (u .ahead .result)
+asked u =
+    let at-if1 = u .before .before .before .before in
+    record {
+      scanning = at-if1 .before .before .loop .inv;
+      inside = at-if1 .before .loop-test .taken;
+      under = at-if1 .if1 .left;
+      fits = sym (u .before .before .is-full .ensures) ∙ u .before .if2 .left;
+      lies = u .ahead .ensures .0;
+      comes = u .ahead .ensures .1;
+    }
 
 loop-holds : tie.Need-loop-holds Inv-loop μ-loop
 loop-holds c =
-    let a = c .before .before .before .before .args in let q = c .before .before .before .before .pre .0 in begins (a .d) (a .file .now) (a .first) (a .from) (a .room) (a .base) (a .starts .now) (a .ends .now) (a .kinds .now) (q .0) (q .1) (q .2)
-
-same-length : tie.Need-same-length Inv-loop μ-loop
-same-length c =
-    let a = c .before .before .before .before .before .before .before .args in
-    let l = c .before .before .loop in
-    out-lengths (a .d) (a .file .now) (a .first) (a .from) (a .room) (a .base) (a .starts .now) (a .ends .now) (a .kinds .now) (too-long-file (a .d) (a .file .now) (a .first) (a .from) (a .room) (a .base) (a .starts .now) (a .ends .now) (a .kinds .now) (l .form) (l .i) (l .h) (l .inv) (c .before .loop-test .taken) (c .if1 .taken)) .0
-
-same-length-2 : tie.Need-same-length-2 Inv-loop μ-loop
-same-length-2 c =
-    let a = c .before .before .before .before .before .before .before .args in
-    let l = c .before .before .loop in
-    out-lengths (a .d) (a .file .now) (a .first) (a .from) (a .room) (a .base) (a .starts .now) (a .ends .now) (a .kinds .now) (too-long-file (a .d) (a .file .now) (a .first) (a .from) (a .room) (a .base) (a .starts .now) (a .ends .now) (a .kinds .now) (l .form) (l .i) (l .h) (l .inv) (c .before .loop-test .taken) (c .if1 .taken)) .1
-
-same-length-3 : tie.Need-same-length-3 Inv-loop μ-loop
-same-length-3 c =
-    let a = c .before .before .before .before .before .before .before .args in
-    let l = c .before .before .loop in
-    out-lengths (a .d) (a .file .now) (a .first) (a .from) (a .room) (a .base) (a .starts .now) (a .ends .now) (a .kinds .now) (too-long-file (a .d) (a .file .now) (a .first) (a .from) (a .room) (a .base) (a .starts .now) (a .ends .now) (a .kinds .now) (l .form) (l .i) (l .h) (l .inv) (c .before .loop-test .taken) (c .if1 .taken)) .2
+    let q = c .before .before .before .before .pre .0 in begins _ (q .0) (q .1) (q .2)
 
 returns : tie.Need-returns Inv-loop μ-loop
 returns c =
-    let a = c .before .before .before .before .before .before .before .args in
     let l = c .before .before .loop in
-    let o = too-long-file (a .d) (a .file .now) (a .first) (a .from) (a .room) (a .base) (a .starts .now) (a .ends .now) (a .kinds .now) (l .form) (l .i) (l .h) (l .inv) (c .before .loop-test .taken) (c .if1 .taken) in
+    let o = too-long-file _ (l .inv) (c .before .loop-test .taken) (c .if1 .taken) in
     (o .event, (o .at-starts, (o .at-ends, (o .at-kinds, tt))))
-
-same-length-4 : tie.Need-same-length-4 Inv-loop μ-loop
-same-length-4 c =
-    let a = c .before .before .before .before .before .before .before .before .before .before .args in
-    let l = c .before .before .before .before .before .loop in
-    out-lengths (a .d) (a .file .now) (a .first) (a .from) (a .room) (a .base) (a .starts .now) (a .ends .now) (a .kinds .now) (too-long-record (a .d) (a .file .now) (a .first) (a .from) (a .room) (a .base) (a .starts .now) (a .ends .now) (a .kinds .now) (l .form) (l .i) (l .h) (l .inv) (c .before .before .before .before .loop-test .taken) (c .before .before .before .if1 .left) (full-record (c))) .0
-
-same-length-5 : tie.Need-same-length-5 Inv-loop μ-loop
-same-length-5 c =
-    let a = c .before .before .before .before .before .before .before .before .before .before .args in
-    let l = c .before .before .before .before .before .loop in
-    out-lengths (a .d) (a .file .now) (a .first) (a .from) (a .room) (a .base) (a .starts .now) (a .ends .now) (a .kinds .now) (too-long-record (a .d) (a .file .now) (a .first) (a .from) (a .room) (a .base) (a .starts .now) (a .ends .now) (a .kinds .now) (l .form) (l .i) (l .h) (l .inv) (c .before .before .before .before .loop-test .taken) (c .before .before .before .if1 .left) (full-record (c))) .1
-
-same-length-6 : tie.Need-same-length-6 Inv-loop μ-loop
-same-length-6 c =
-    let a = c .before .before .before .before .before .before .before .before .before .before .args in
-    let l = c .before .before .before .before .before .loop in
-    out-lengths (a .d) (a .file .now) (a .first) (a .from) (a .room) (a .base) (a .starts .now) (a .ends .now) (a .kinds .now) (too-long-record (a .d) (a .file .now) (a .first) (a .from) (a .room) (a .base) (a .starts .now) (a .ends .now) (a .kinds .now) (l .form) (l .i) (l .h) (l .inv) (c .before .before .before .before .loop-test .taken) (c .before .before .before .if1 .left) (full-record (c))) .2
 
 returns-2 : tie.Need-returns-2 Inv-loop μ-loop
 returns-2 c =
-    let a = c .before .before .before .before .before .before .before .before .before .before .args in
-    let l = c .before .before .before .before .before .loop in
-    let o = too-long-record (a .d) (a .file .now) (a .first) (a .from) (a .room) (a .base) (a .starts .now) (a .ends .now) (a .kinds .now) (l .form) (l .i) (l .h) (l .inv) (c .before .before .before .before .loop-test .taken) (c .before .before .before .if1 .left) (full-record (c)) in
+    let at-if1 = c .before .before .before in
+    let l = at-if1 .before .before .loop in
+    let o = too-long-record _ (l .inv) (at-if1 .before .loop-test .taken) (at-if1 .if1 .left) (full-record c) in
     (o .event, (o .at-starts, (o .at-ends, (o .at-kinds, tt))))
 
 ahead-requires : tie.Need-ahead-requires Inv-loop μ-loop
 ahead-requires c κs = (c .before .before .before .before .loop-test .taken, c .before .before .before .if1 .left)
 
-same-length-7 : tie.Need-same-length-7 Inv-loop μ-loop
-same-length-7 c =
-    let a = c .before .before .before .before .before .before .before .before .before .before .before .before .before .before .before .before .before .args in
-    let l = c .before .before .before .before .before .before .before .before .before .before .before .before .loop in
-    out-lengths (a .d) (a .file .now) (a .first) (a .from) (a .room) (a .base) (a .starts .now) (a .ends .now) (a .kinds .now) (step-refused (a .d) (a .file .now) (a .first) (a .from) (a .room) (a .base) (a .starts .now) (a .ends .now) (a .kinds .now) (l .form) (l .i) (l .h) (l .starts) (l .ends) (l .kinds) _ (byte-step (c .before .before .before .before .before .before) _ (c .before .before .before .before .s .given .1)) _ (c .before .s2 .given .1)) .0
-
-same-length-8 : tie.Need-same-length-8 Inv-loop μ-loop
-same-length-8 c =
-    let a = c .before .before .before .before .before .before .before .before .before .before .before .before .before .before .before .before .before .args in
-    let l = c .before .before .before .before .before .before .before .before .before .before .before .before .loop in
-    out-lengths (a .d) (a .file .now) (a .first) (a .from) (a .room) (a .base) (a .starts .now) (a .ends .now) (a .kinds .now) (step-refused (a .d) (a .file .now) (a .first) (a .from) (a .room) (a .base) (a .starts .now) (a .ends .now) (a .kinds .now) (l .form) (l .i) (l .h) (l .starts) (l .ends) (l .kinds) _ (byte-step (c .before .before .before .before .before .before) _ (c .before .before .before .before .s .given .1)) _ (c .before .s2 .given .1)) .1
-
-same-length-9 : tie.Need-same-length-9 Inv-loop μ-loop
-same-length-9 c =
-    let a = c .before .before .before .before .before .before .before .before .before .before .before .before .before .before .before .before .before .args in
-    let l = c .before .before .before .before .before .before .before .before .before .before .before .before .loop in
-    out-lengths (a .d) (a .file .now) (a .first) (a .from) (a .room) (a .base) (a .starts .now) (a .ends .now) (a .kinds .now) (step-refused (a .d) (a .file .now) (a .first) (a .from) (a .room) (a .base) (a .starts .now) (a .ends .now) (a .kinds .now) (l .form) (l .i) (l .h) (l .starts) (l .ends) (l .kinds) _ (byte-step (c .before .before .before .before .before .before) _ (c .before .before .before .before .s .given .1)) _ (c .before .s2 .given .1)) .2
-
 returns-3 : tie.Need-returns-3 Inv-loop μ-loop
 returns-3 c =
-    let a = c .before .before .before .before .before .before .before .before .before .before .before .before .before .before .before .before .before .args in
-    let l = c .before .before .before .before .before .before .before .before .before .before .before .before .loop in
-    let o = step-refused (a .d) (a .file .now) (a .first) (a .from) (a .room) (a .base) (a .starts .now) (a .ends .now) (a .kinds .now) (l .form) (l .i) (l .h) (l .starts) (l .ends) (l .kinds) _ (byte-step (c .before .before .before .before .before .before) _ (c .before .before .before .before .s .given .1)) _ (c .before .s2 .given .1) in
+    let at-s = c .before .before .before .before in
+    let o = step-refused _ (by-byte _ (asked (at-s .before .before)) _ (at-s .s .given .1)) _ (c .before .s2 .given .1) in
     (o .event, (o .at-starts, (o .at-ends, (o .at-kinds, tt))))
 
 add-put : tie.Need-add-put Inv-loop μ-loop
 add-put c =
-    let a = c .before .before .before .before .before .before .before .before .before .before .before .before .before .before .before .before .before .before .before .args in
-    let l = c .before .before .before .before .before .before .before .before .before .before .before .before .before .before .loop in
-    let few : a .base + l .h .cells ≤ l .i = l .inv .reached .few in
-    let sized : l .h .size ≤ l .i = l .inv .reached .sized in
-    omega arith
+    let at-s = c .before .before .before .before .before .before in
+    record { fits = small-sum _ (by-byte _ (asked (at-s .before .before)) _ (at-s .s .given .1)) }
 
 put-requires : tie.Need-put-requires Inv-loop μ-loop
 put-requires c κs =
-    let a = c .before .before .before .before .before .before .before .before .before .before .before .before .before .before .before .before .before .before .before .before .before .before .args in
-    let l = c .before .before .before .before .before .before .before .before .before .before .before .before .before .before .before .before .before .loop in
-    let n = lengths (a .d) (a .file .now) (a .first) (a .from) (a .room) (a .base) (a .starts .now) (a .ends .now) (a .kinds .now) (l .inv .lists) in
-    let q = c .before .before .before .before .before .before .before .before .before .before .before .before .before .before .before .before .before .before .before .before .before .before .pre .1 in
+    let at-loop = c .before .before .before .before .before .before .before .before .before .before .before .before .before .before .before .before .before in
+    let l = at-loop .loop in
+    let n = lengths _ (l .inv .lists) in
+    let q = at-loop .before .before .before .before .before .pre .1 in
     ((l .inv .reached .opened, l .inv .reached .inside), (rw (n .0) (q .0), rw (n .1) (q .1), rw (n .2) (q .2)))
 
 moved-requires : tie.Need-moved-requires Inv-loop μ-loop
 moved-requires c κs =
-    let a = c .before .before .before .before .before .before .before .before .before .before .before .before .before .before .before .before .before .before .before .before .before .before .before .before .before .before .before .before .before .args in
-    let l = c .before .before .before .before .before .before .before .before .before .before .before .before .before .before .before .before .before .before .before .before .before .before .before .before .loop in
-    let few : a .base + l .h .cells ≤ l .i = l .inv .reached .few in
-    let sized : l .h .size ≤ l .i = l .inv .reached .sized in
-    (omega arith, omega arith, omega arith)
+    let at-s = c .before .before .before .before .before .before .before .before .before .before .before .before .before .before .before .before in
+    small-step _ (by-byte _ (asked (at-s .before .before)) _ (at-s .s .given .1))
 
 add-i : tie.Need-add-i Inv-loop μ-loop
 add-i c =
-    let a = c .before .before .before .before .before .before .before .before .before .before .before .before .before .before .before .before .before .before .before .before .before .before .before .before .before .before .before .before .before .before .args in
-    let l = c .before .before .before .before .before .before .before .before .before .before .before .before .before .before .before .before .before .before .before .before .before .before .before .before .before .loop in
-    let m : l .i < MAXFILE = c .before .before .before .before .before .before .before .before .before .before .before .before .before .before .before .before .before .before .before .before .before .before .before .if1 .left in let x : l .i + 1 < 2 ^ 64 = omega arith in record { fits = x }
-
-same-length-10 : tie.Need-same-length-10 Inv-loop μ-loop
-same-length-10 c =
-    let a = c .before .before .before .before .before .before .before .before .before .before .before .before .before .before .before .before .before .before .before .before .before .before .before .before .before .before .before .before .before .before .before .before .args in
-    let l = c .before .before .before .before .before .before .before .before .before .before .before .before .before .before .before .before .before .before .before .before .before .before .before .before .before .before .before .loop in
-    out-lengths (a .d) (a .file .now) (a .first) (a .from) (a .room) (a .base) (a .starts .now) (a .ends .now) (a .kinds .now) (step-over (a .d) (a .file .now) (a .first) (a .from) (a .room) (a .base) (a .starts .now) (a .ends .now) (a .kinds .now) (l .form) (l .i) (l .h) (l .starts) (l .ends) (l .kinds) _ (byte-step (c .before .before .before .before .before .before .before .before .before .before .before .before .before .before .before .before .before .before .before .before .before) _ (c .before .before .before .before .before .before .before .before .before .before .before .before .before .before .before .before .before .before .before .s .given .1)) _ _ (c .before .before .before .before .before .before .before .before .before .before .before .before .before .before .before .before .s3 .given .1) _ (c .before .before .before .before .before .before .before .before .before .before .before .before .before .before .closes-cell .ensures) _ _ _ (c .before .before .before .before .before .before .before .before .before .put .ensures) _ (c .before .before .moved .ensures) _ (c .before .ends-record .ensures) (c .if3 .taken)) .0
-
-same-length-11 : tie.Need-same-length-11 Inv-loop μ-loop
-same-length-11 c =
-    let a = c .before .before .before .before .before .before .before .before .before .before .before .before .before .before .before .before .before .before .before .before .before .before .before .before .before .before .before .before .before .before .before .before .args in
-    let l = c .before .before .before .before .before .before .before .before .before .before .before .before .before .before .before .before .before .before .before .before .before .before .before .before .before .before .before .loop in
-    out-lengths (a .d) (a .file .now) (a .first) (a .from) (a .room) (a .base) (a .starts .now) (a .ends .now) (a .kinds .now) (step-over (a .d) (a .file .now) (a .first) (a .from) (a .room) (a .base) (a .starts .now) (a .ends .now) (a .kinds .now) (l .form) (l .i) (l .h) (l .starts) (l .ends) (l .kinds) _ (byte-step (c .before .before .before .before .before .before .before .before .before .before .before .before .before .before .before .before .before .before .before .before .before) _ (c .before .before .before .before .before .before .before .before .before .before .before .before .before .before .before .before .before .before .before .s .given .1)) _ _ (c .before .before .before .before .before .before .before .before .before .before .before .before .before .before .before .before .s3 .given .1) _ (c .before .before .before .before .before .before .before .before .before .before .before .before .before .before .closes-cell .ensures) _ _ _ (c .before .before .before .before .before .before .before .before .before .put .ensures) _ (c .before .before .moved .ensures) _ (c .before .ends-record .ensures) (c .if3 .taken)) .1
-
-same-length-12 : tie.Need-same-length-12 Inv-loop μ-loop
-same-length-12 c =
-    let a = c .before .before .before .before .before .before .before .before .before .before .before .before .before .before .before .before .before .before .before .before .before .before .before .before .before .before .before .before .before .before .before .before .args in
-    let l = c .before .before .before .before .before .before .before .before .before .before .before .before .before .before .before .before .before .before .before .before .before .before .before .before .before .before .before .loop in
-    out-lengths (a .d) (a .file .now) (a .first) (a .from) (a .room) (a .base) (a .starts .now) (a .ends .now) (a .kinds .now) (step-over (a .d) (a .file .now) (a .first) (a .from) (a .room) (a .base) (a .starts .now) (a .ends .now) (a .kinds .now) (l .form) (l .i) (l .h) (l .starts) (l .ends) (l .kinds) _ (byte-step (c .before .before .before .before .before .before .before .before .before .before .before .before .before .before .before .before .before .before .before .before .before) _ (c .before .before .before .before .before .before .before .before .before .before .before .before .before .before .before .before .before .before .before .s .given .1)) _ _ (c .before .before .before .before .before .before .before .before .before .before .before .before .before .before .before .before .s3 .given .1) _ (c .before .before .before .before .before .before .before .before .before .before .before .before .before .before .closes-cell .ensures) _ _ _ (c .before .before .before .before .before .before .before .before .before .put .ensures) _ (c .before .before .moved .ensures) _ (c .before .ends-record .ensures) (c .if3 .taken)) .2
+    let at-s = c .before .before .before .before .before .before .before .before .before .before .before .before .before .before .before .before .before in
+    record { fits = small-step _ (by-byte _ (asked (at-s .before .before)) _ (at-s .s .given .1)) .0 }
 
 returns-4 : tie.Need-returns-4 Inv-loop μ-loop
 returns-4 c =
-    let a = c .before .before .before .before .before .before .before .before .before .before .before .before .before .before .before .before .before .before .before .before .before .before .before .before .before .before .before .before .before .before .before .before .args in
-    let l = c .before .before .before .before .before .before .before .before .before .before .before .before .before .before .before .before .before .before .before .before .before .before .before .before .before .before .before .loop in
-    let o = step-over (a .d) (a .file .now) (a .first) (a .from) (a .room) (a .base) (a .starts .now) (a .ends .now) (a .kinds .now) (l .form) (l .i) (l .h) (l .starts) (l .ends) (l .kinds) _ (byte-step (c .before .before .before .before .before .before .before .before .before .before .before .before .before .before .before .before .before .before .before .before .before) _ (c .before .before .before .before .before .before .before .before .before .before .before .before .before .before .before .before .before .before .before .s .given .1)) _ _ (c .before .before .before .before .before .before .before .before .before .before .before .before .before .before .before .before .s3 .given .1) _ (c .before .before .before .before .before .before .before .before .before .before .before .before .before .before .closes-cell .ensures) _ _ _ (c .before .before .before .before .before .before .before .before .before .put .ensures) _ (c .before .before .moved .ensures) _ (c .before .ends-record .ensures) (c .if3 .taken) in
-    (o .event, (o .at-starts, (o .at-ends, (o .at-kinds, step-fits (a .d) (a .file .now) (a .first) (a .from) (a .room) (a .base) (a .starts .now) (a .ends .now) (a .kinds .now) (l .form) (l .i) (l .h) (l .starts) (l .ends) (l .kinds) _ (byte-step (c .before .before .before .before .before .before .before .before .before .before .before .before .before .before .before .before .before .before .before .before .before) _ (c .before .before .before .before .before .before .before .before .before .before .before .before .before .before .before .before .before .before .before .s .given .1)) _ _ (c .before .before .before .before .before .before .before .before .before .before .before .before .before .before .before .before .s3 .given .1) _ (c .before .before .before .before .before .before .before .before .before .before .before .before .before .before .closes-cell .ensures) _ _ _ (c .before .before .before .before .before .before .before .before .before .put .ensures) _ (c .before .before .moved .ensures) _ (c .before .ends-record .ensures) (c .if3 .taken)))))
+    let at-moved = c .before .before in
+    let at-put = at-moved .before .before .before .before .before .before .before in
+    let at-closes-cell = at-put .before .before .before .before .before in
+    let at-s3 = at-closes-cell .before .before in
+    let at-s = at-s3 .before .before .before in
+    let u = at-s .before .before in
+    let o = step-over _ (by-byte _ (asked u) _ (at-s .s .given .1)) _ _ (at-s3 .s3 .given .1) _ (at-closes-cell .closes-cell .ensures) _ _ _ (at-put .put .ensures) _ (at-moved .moved .ensures) _ (c .before .ends-record .ensures) (c .if3 .taken) in
+    (o .event, (o .at-starts, (o .at-ends, (o .at-kinds, step-fits _ (by-byte _ (asked u) _ (at-s .s .given .1)) _ _ (at-s3 .s3 .given .1) _ (at-closes-cell .closes-cell .ensures) _ _ _ (at-put .put .ensures) _ (at-moved .moved .ensures) _ (c .before .ends-record .ensures) (c .if3 .taken)))))
 
 loop-less : tie.Need-loop-less Inv-loop μ-loop
 loop-less c =
@@ -227,33 +119,34 @@ loop-less c =
 
 loop-again : tie.Need-loop-again Inv-loop μ-loop
 loop-again c =
-    let a = c .before .before .before .before .before .before .before .before .before .before .before .before .before .before .before .before .before .before .before .before .before .before .before .before .before .before .before .before .before .before .before .before .args in
-    let l = c .before .before .before .before .before .before .before .before .before .before .before .before .before .before .before .before .before .before .before .before .before .before .before .before .before .before .before .loop in
-    step-on (a .d) (a .file .now) (a .first) (a .from) (a .room) (a .base) (a .starts .now) (a .ends .now) (a .kinds .now) (l .form) (l .i) (l .h) (l .starts) (l .ends) (l .kinds) _ (byte-step (c .before .before .before .before .before .before .before .before .before .before .before .before .before .before .before .before .before .before .before .before .before) _ (c .before .before .before .before .before .before .before .before .before .before .before .before .before .before .before .before .before .before .before .s .given .1)) _ _ (c .before .before .before .before .before .before .before .before .before .before .before .before .before .before .before .before .s3 .given .1) _ (c .before .before .before .before .before .before .before .before .before .before .before .before .before .before .closes-cell .ensures) _ _ _ (c .before .before .before .before .before .before .before .before .before .put .ensures) _ (c .before .before .moved .ensures) _ (c .before .ends-record .ensures) (c .if3 .left)
+    let at-put = c .before .before .before .before .before .before .before .before .before in
+    let at-closes-cell = at-put .before .before .before .before .before in
+    let at-s = at-closes-cell .before .before .before .before .before in
+    step-on _ (by-byte _ (asked (at-s .before .before)) _ (at-s .s .given .1)) _ _ (at-closes-cell .before .before .s3 .given .1) _ (at-closes-cell .closes-cell .ensures) _ _ _ (at-put .put .ensures) _ (c .before .before .moved .ensures) _ (c .before .ends-record .ensures) (c .if3 .left)
 
 sub-moved : tie.Need-sub-moved Inv-loop μ-loop
 sub-moved c =
-    let n = lies-skip-at (c .before .before .before) _ (c .before .j .given .1) in let j1 = n .0 in omega arith
+    let n = lies-skip _ (asked (c .before .before .before)) _ (c .before .j .given .1) in let j1 = n .0 in omega arith
 
 moved-requires-2 : tie.Need-moved-requires-2 Inv-loop μ-loop
 moved-requires-2 c κs =
     let a = c .before .before .before .before .before .before .before .before .before .before .before .before .before .before .args in
     let l = c .before .before .before .before .before .before .before .before .before .loop in
-    let n = lies-skip-at (c .before .before .before) _ (c .before .j .given .1) in
+    let n = lies-skip _ (asked (c .before .before .before)) _ (c .before .j .given .1) in
     let few : a .base + l .h .cells ≤ l .i = l .inv .reached .few in
     let sized : l .h .size ≤ l .i = l .inv .reached .sized in
     let j1 = n .0 in let j2 = n .2 in (omega arith, omega arith, omega arith)
 
 loop-less-2 : tie.Need-loop-less-2 Inv-loop μ-loop
 loop-less-2 c =
-    let n = lies-skip-at (c .before .before .before .before) _ (c .before .before .j .given .1) in let j1 = n .0 in let j2 = n .1 in omega arith
+    let n = lies-skip _ (asked (c .before .before .before .before)) _ (c .before .before .j .given .1) in let j1 = n .0 in let j2 = n .1 in omega arith
 
 loop-again-2 : tie.Need-loop-again-2 Inv-loop μ-loop
 loop-again-2 c =
-    skip-turn (c .before .before .before .before) _ (c .before .before .j .given .1) _ (c .moved2 .ensures)
+    by-skip _ (asked (c .before .before .before .before)) _ (c .before .before .j .given .1) _ (c .moved2 .ensures)
 
 sub-grown-by : tie.Need-sub-grown-by Inv-loop μ-loop
-sub-grown-by c = lies-cell-at (c .before .before .before) _ _ (c .before .closes .given .1) .0
+sub-grown-by c = lies-cell _ (asked (c .before .before .before)) _ _ (c .before .closes .given .1) .0
 
 grown-by-requires : tie.Need-grown-by-requires Inv-loop μ-loop
 grown-by-requires c κs =
@@ -261,131 +154,83 @@ grown-by-requires c κs =
     let l = c .before .before .before .before .before .before .before .before .before .loop in
     let few : a .base + l .h .cells ≤ l .i = l .inv .reached .few in
     let sized : l .h .size ≤ l .i = l .inv .reached .sized in
-    let n = lies-cell-at (c .before .before .before) _ _ (c .before .closes .given .1) in let j1 = n .0 in let j2 = n .2 in omega arith
+    let n = lies-cell _ (asked (c .before .before .before)) _ _ (c .before .closes .given .1) in let j1 = n .0 in let j2 = n .2 in omega arith
 
 shared-slice-read-after-cell : tie.Need-shared-slice-read-after-cell Inv-loop μ-loop
 shared-slice-read-after-cell c =
     let at-closes = c .before .before .before in
     let at-place = at-closes .before .before in
-    lies-cell-at (at-place) _ _ (at-closes .closes .given .1) .1
-
-same-length-13 : tie.Need-same-length-13 Inv-loop μ-loop
-same-length-13 c =
-    let a = c .before .before .before .before .before .before .before .before .before .before .before .before .before .before .before .before .before .before .before .before .args in
-    let l = c .before .before .before .before .before .before .before .before .before .before .before .before .before .before .before .loop in
-    out-lengths (a .d) (a .file .now) (a .first) (a .from) (a .room) (a .base) (a .starts .now) (a .ends .now) (a .kinds .now) (step-refused (a .d) (a .file .now) (a .first) (a .from) (a .room) (a .base) (a .starts .now) (a .ends .now) (a .kinds .now) (l .form) _ _ (l .starts) (l .ends) (l .kinds) _ (cell-step (c .before .before .before .before .before .before .before .before .before) _ _ (c .before .before .before .before .before .before .before .closes .given .1) _ (c .before .before .before .before .before .grown-by .ensures) _ (c .before .before .before .after-cell .ensures)) _ (c .before .e .given .1)) .0
-
-same-length-14 : tie.Need-same-length-14 Inv-loop μ-loop
-same-length-14 c =
-    let a = c .before .before .before .before .before .before .before .before .before .before .before .before .before .before .before .before .before .before .before .before .args in
-    let l = c .before .before .before .before .before .before .before .before .before .before .before .before .before .before .before .loop in
-    out-lengths (a .d) (a .file .now) (a .first) (a .from) (a .room) (a .base) (a .starts .now) (a .ends .now) (a .kinds .now) (step-refused (a .d) (a .file .now) (a .first) (a .from) (a .room) (a .base) (a .starts .now) (a .ends .now) (a .kinds .now) (l .form) _ _ (l .starts) (l .ends) (l .kinds) _ (cell-step (c .before .before .before .before .before .before .before .before .before) _ _ (c .before .before .before .before .before .before .before .closes .given .1) _ (c .before .before .before .before .before .grown-by .ensures) _ (c .before .before .before .after-cell .ensures)) _ (c .before .e .given .1)) .1
-
-same-length-15 : tie.Need-same-length-15 Inv-loop μ-loop
-same-length-15 c =
-    let a = c .before .before .before .before .before .before .before .before .before .before .before .before .before .before .before .before .before .before .before .before .args in
-    let l = c .before .before .before .before .before .before .before .before .before .before .before .before .before .before .before .loop in
-    out-lengths (a .d) (a .file .now) (a .first) (a .from) (a .room) (a .base) (a .starts .now) (a .ends .now) (a .kinds .now) (step-refused (a .d) (a .file .now) (a .first) (a .from) (a .room) (a .base) (a .starts .now) (a .ends .now) (a .kinds .now) (l .form) _ _ (l .starts) (l .ends) (l .kinds) _ (cell-step (c .before .before .before .before .before .before .before .before .before) _ _ (c .before .before .before .before .before .before .before .closes .given .1) _ (c .before .before .before .before .before .grown-by .ensures) _ (c .before .before .before .after-cell .ensures)) _ (c .before .e .given .1)) .2
+    lies-cell _ (asked (at-place)) _ _ (at-closes .closes .given .1) .1
 
 returns-5 : tie.Need-returns-5 Inv-loop μ-loop
 returns-5 c =
-    let a = c .before .before .before .before .before .before .before .before .before .before .before .before .before .before .before .before .before .before .before .before .args in
-    let l = c .before .before .before .before .before .before .before .before .before .before .before .before .before .before .before .loop in
-    let o = step-refused (a .d) (a .file .now) (a .first) (a .from) (a .room) (a .base) (a .starts .now) (a .ends .now) (a .kinds .now) (l .form) _ _ (l .starts) (l .ends) (l .kinds) _ (cell-step (c .before .before .before .before .before .before .before .before .before) _ _ (c .before .before .before .before .before .before .before .closes .given .1) _ (c .before .before .before .before .before .grown-by .ensures) _ (c .before .before .before .after-cell .ensures)) _ (c .before .e .given .1) in
+    let at-after-cell = c .before .before .before in
+    let at-closes = at-after-cell .before .before .before .before in
+    let o = step-refused _ (by-cell _ (asked (at-closes .before .before)) _ _ (at-closes .closes .given .1) _ (at-after-cell .before .before .grown-by .ensures) _ (at-after-cell .after-cell .ensures)) _ (c .before .e .given .1) in
     (o .event, (o .at-starts, (o .at-ends, (o .at-kinds, tt))))
 
 add-put-2 : tie.Need-add-put-2 Inv-loop μ-loop
 add-put-2 c =
-    let a = c .before .before .before .before .before .before .before .before .before .before .before .before .before .before .before .before .before .before .before .before .before .before .args in
-    let l = c .before .before .before .before .before .before .before .before .before .before .before .before .before .before .before .before .before .loop in
-    let g = cell-step (c .before .before .before .before .before .before .before .before .before .before .before) _ _ (c .before .before .before .before .before .before .before .before .before .closes .given .1) _ (c .before .before .before .before .before .before .before .grown-by .ensures) _ (c .before .before .before .before .before .after-cell .ensures) in
-    let x = small-sum (a .d) (a .file .now) (a .first) (a .from) (a .room) (a .base) (a .starts .now) (a .ends .now) (a .kinds .now) g in record { fits = x }
+    let at-after-cell = c .before .before .before .before .before in
+    let at-closes = at-after-cell .before .before .before .before in
+    let g = by-cell _ (asked (at-closes .before .before)) _ _ (at-closes .closes .given .1) _ (at-after-cell .before .before .grown-by .ensures) _ (at-after-cell .after-cell .ensures) in
+    let x = small-sum _ g in record { fits = x }
 
 put-requires-2 : tie.Need-put-requires-2 Inv-loop μ-loop
 put-requires-2 c κs =
-    let a = c .before .before .before .before .before .before .before .before .before .before .before .before .before .before .before .before .before .before .before .before .before .before .before .before .before .args in
-    let l = c .before .before .before .before .before .before .before .before .before .before .before .before .before .before .before .before .before .before .before .before .loop in
-    let g = cell-step (c .before .before .before .before .before .before .before .before .before .before .before .before .before .before) _ _ (c .before .before .before .before .before .before .before .before .before .before .before .before .closes .given .1) _ (c .before .before .before .before .before .before .before .before .before .before .grown-by .ensures) _ (c .before .before .before .before .before .before .before .before .after-cell .ensures) in
-    let n = lengths (a .d) (a .file .now) (a .first) (a .from) (a .room) (a .base) (a .starts .now) (a .ends .now) (a .kinds .now) (l .inv .lists) in
-    let q = c .before .before .before .before .before .before .before .before .before .before .before .before .before .before .before .before .before .before .before .before .before .before .before .before .before .pre .1 in
+    let at-after-cell = c .before .before .before .before .before .before .before .before in
+    let at-closes = at-after-cell .before .before .before .before in
+    let at-loop = at-closes .before .before .before .before .before .before .before .before in
+    let l = at-loop .loop in
+    let g = by-cell _ (asked (at-closes .before .before)) _ _ (at-closes .closes .given .1) _ (at-after-cell .before .before .grown-by .ensures) _ (at-after-cell .after-cell .ensures) in
+    let n = lengths _ (l .inv .lists) in
+    let q = at-loop .before .before .before .before .before .pre .1 in
     ((g .reached .opened, g .reached .inside), (rw (n .0) (q .0), rw (n .1) (q .1), rw (n .2) (q .2)))
 
 moved-requires-3 : tie.Need-moved-requires-3 Inv-loop μ-loop
 moved-requires-3 c κs =
-    let a = c .before .before .before .before .before .before .before .before .before .before .before .before .before .before .before .before .before .before .before .before .before .before .before .before .before .before .before .before .before .before .before .before .args in
-    let l = c .before .before .before .before .before .before .before .before .before .before .before .before .before .before .before .before .before .before .before .before .before .before .before .before .before .before .before .loop in
-    let g = cell-step (c .before .before .before .before .before .before .before .before .before .before .before .before .before .before .before .before .before .before .before .before .before) _ _ (c .before .before .before .before .before .before .before .before .before .before .before .before .before .before .before .before .before .before .before .closes .given .1) _ (c .before .before .before .before .before .before .before .before .before .before .before .before .before .before .before .before .before .grown-by .ensures) _ (c .before .before .before .before .before .before .before .before .before .before .before .before .before .before .before .after-cell .ensures) in
-    small-step (a .d) (a .file .now) (a .first) (a .from) (a .room) (a .base) (a .starts .now) (a .ends .now) (a .kinds .now) g
+    let at-after-cell = c .before .before .before .before .before .before .before .before .before .before .before .before .before .before .before in
+    let at-closes = at-after-cell .before .before .before .before in
+    let g = by-cell _ (asked (at-closes .before .before)) _ _ (at-closes .closes .given .1) _ (at-after-cell .before .before .grown-by .ensures) _ (at-after-cell .after-cell .ensures) in
+    small-step _ g
 
 add-i-2 : tie.Need-add-i-2 Inv-loop μ-loop
 add-i-2 c =
-    let a = c .before .before .before .before .before .before .before .before .before .before .before .before .before .before .before .before .before .before .before .before .before .before .before .before .before .before .before .before .before .before .before .before .before .args in
-    let l = c .before .before .before .before .before .before .before .before .before .before .before .before .before .before .before .before .before .before .before .before .before .before .before .before .before .before .before .before .loop in
-    let n = lies-cell-at (c .before .before .before .before .before .before .before .before .before .before .before .before .before .before .before .before .before .before .before .before .before .before) _ _ (c .before .before .before .before .before .before .before .before .before .before .before .before .before .before .before .before .before .before .before .before .closes .given .1) in let j2 = n .2 in omega arith
-
-same-length-16 : tie.Need-same-length-16 Inv-loop μ-loop
-same-length-16 c =
-    let a = c .before .before .before .before .before .before .before .before .before .before .before .before .before .before .before .before .before .before .before .before .before .before .before .before .before .before .before .before .before .before .before .before .before .before .before .args in
-    let l = c .before .before .before .before .before .before .before .before .before .before .before .before .before .before .before .before .before .before .before .before .before .before .before .before .before .before .before .before .before .before .loop in
-    out-lengths (a .d) (a .file .now) (a .first) (a .from) (a .room) (a .base) (a .starts .now) (a .ends .now) (a .kinds .now) (step-over (a .d) (a .file .now) (a .first) (a .from) (a .room) (a .base) (a .starts .now) (a .ends .now) (a .kinds .now) (l .form) _ _ (l .starts) (l .ends) (l .kinds) _ (cell-step (c .before .before .before .before .before .before .before .before .before .before .before .before .before .before .before .before .before .before .before .before .before .before .before .before) _ _ (c .before .before .before .before .before .before .before .before .before .before .before .before .before .before .before .before .before .before .before .before .before .before .closes .given .1) _ (c .before .before .before .before .before .before .before .before .before .before .before .before .before .before .before .before .before .before .before .before .grown-by .ensures) _ (c .before .before .before .before .before .before .before .before .before .before .before .before .before .before .before .before .before .before .after-cell .ensures)) _ _ (c .before .before .before .before .before .before .before .before .before .before .before .before .before .before .before .before .f .given .1) _ (c .before .before .before .before .before .before .before .before .before .before .before .before .before .before .closes-cell2 .ensures) _ _ _ (c .before .before .before .before .before .before .before .before .before .put2 .ensures) _ (c .before .before .moved3 .ensures) _ (c .before .ends-record2 .ensures) (c .if4 .taken)) .0
-
-same-length-17 : tie.Need-same-length-17 Inv-loop μ-loop
-same-length-17 c =
-    let a = c .before .before .before .before .before .before .before .before .before .before .before .before .before .before .before .before .before .before .before .before .before .before .before .before .before .before .before .before .before .before .before .before .before .before .before .args in
-    let l = c .before .before .before .before .before .before .before .before .before .before .before .before .before .before .before .before .before .before .before .before .before .before .before .before .before .before .before .before .before .before .loop in
-    out-lengths (a .d) (a .file .now) (a .first) (a .from) (a .room) (a .base) (a .starts .now) (a .ends .now) (a .kinds .now) (step-over (a .d) (a .file .now) (a .first) (a .from) (a .room) (a .base) (a .starts .now) (a .ends .now) (a .kinds .now) (l .form) _ _ (l .starts) (l .ends) (l .kinds) _ (cell-step (c .before .before .before .before .before .before .before .before .before .before .before .before .before .before .before .before .before .before .before .before .before .before .before .before) _ _ (c .before .before .before .before .before .before .before .before .before .before .before .before .before .before .before .before .before .before .before .before .before .before .closes .given .1) _ (c .before .before .before .before .before .before .before .before .before .before .before .before .before .before .before .before .before .before .before .before .grown-by .ensures) _ (c .before .before .before .before .before .before .before .before .before .before .before .before .before .before .before .before .before .before .after-cell .ensures)) _ _ (c .before .before .before .before .before .before .before .before .before .before .before .before .before .before .before .before .f .given .1) _ (c .before .before .before .before .before .before .before .before .before .before .before .before .before .before .closes-cell2 .ensures) _ _ _ (c .before .before .before .before .before .before .before .before .before .put2 .ensures) _ (c .before .before .moved3 .ensures) _ (c .before .ends-record2 .ensures) (c .if4 .taken)) .1
-
-same-length-18 : tie.Need-same-length-18 Inv-loop μ-loop
-same-length-18 c =
-    let a = c .before .before .before .before .before .before .before .before .before .before .before .before .before .before .before .before .before .before .before .before .before .before .before .before .before .before .before .before .before .before .before .before .before .before .before .args in
-    let l = c .before .before .before .before .before .before .before .before .before .before .before .before .before .before .before .before .before .before .before .before .before .before .before .before .before .before .before .before .before .before .loop in
-    out-lengths (a .d) (a .file .now) (a .first) (a .from) (a .room) (a .base) (a .starts .now) (a .ends .now) (a .kinds .now) (step-over (a .d) (a .file .now) (a .first) (a .from) (a .room) (a .base) (a .starts .now) (a .ends .now) (a .kinds .now) (l .form) _ _ (l .starts) (l .ends) (l .kinds) _ (cell-step (c .before .before .before .before .before .before .before .before .before .before .before .before .before .before .before .before .before .before .before .before .before .before .before .before) _ _ (c .before .before .before .before .before .before .before .before .before .before .before .before .before .before .before .before .before .before .before .before .before .before .closes .given .1) _ (c .before .before .before .before .before .before .before .before .before .before .before .before .before .before .before .before .before .before .before .before .grown-by .ensures) _ (c .before .before .before .before .before .before .before .before .before .before .before .before .before .before .before .before .before .before .after-cell .ensures)) _ _ (c .before .before .before .before .before .before .before .before .before .before .before .before .before .before .before .before .f .given .1) _ (c .before .before .before .before .before .before .before .before .before .before .before .before .before .before .closes-cell2 .ensures) _ _ _ (c .before .before .before .before .before .before .before .before .before .put2 .ensures) _ (c .before .before .moved3 .ensures) _ (c .before .ends-record2 .ensures) (c .if4 .taken)) .2
+    let n = lies-cell _ (asked (c .before .before .before .before .before .before .before .before .before .before .before .before .before .before .before .before .before .before .before .before .before .before)) _ _ (c .before .before .before .before .before .before .before .before .before .before .before .before .before .before .before .before .before .before .before .before .closes .given .1) in let j2 = n .2 in omega arith
 
 returns-6 : tie.Need-returns-6 Inv-loop μ-loop
 returns-6 c =
-    let a = c .before .before .before .before .before .before .before .before .before .before .before .before .before .before .before .before .before .before .before .before .before .before .before .before .before .before .before .before .before .before .before .before .before .before .before .args in
-    let l = c .before .before .before .before .before .before .before .before .before .before .before .before .before .before .before .before .before .before .before .before .before .before .before .before .before .before .before .before .before .before .loop in
-    let o = step-over (a .d) (a .file .now) (a .first) (a .from) (a .room) (a .base) (a .starts .now) (a .ends .now) (a .kinds .now) (l .form) _ _ (l .starts) (l .ends) (l .kinds) _ (cell-step (c .before .before .before .before .before .before .before .before .before .before .before .before .before .before .before .before .before .before .before .before .before .before .before .before) _ _ (c .before .before .before .before .before .before .before .before .before .before .before .before .before .before .before .before .before .before .before .before .before .before .closes .given .1) _ (c .before .before .before .before .before .before .before .before .before .before .before .before .before .before .before .before .before .before .before .before .grown-by .ensures) _ (c .before .before .before .before .before .before .before .before .before .before .before .before .before .before .before .before .before .before .after-cell .ensures)) _ _ (c .before .before .before .before .before .before .before .before .before .before .before .before .before .before .before .before .f .given .1) _ (c .before .before .before .before .before .before .before .before .before .before .before .before .before .before .closes-cell2 .ensures) _ _ _ (c .before .before .before .before .before .before .before .before .before .put2 .ensures) _ (c .before .before .moved3 .ensures) _ (c .before .ends-record2 .ensures) (c .if4 .taken) in
-    (o .event, (o .at-starts, (o .at-ends, (o .at-kinds, step-fits (a .d) (a .file .now) (a .first) (a .from) (a .room) (a .base) (a .starts .now) (a .ends .now) (a .kinds .now) (l .form) _ _ (l .starts) (l .ends) (l .kinds) _ (cell-step (c .before .before .before .before .before .before .before .before .before .before .before .before .before .before .before .before .before .before .before .before .before .before .before .before) _ _ (c .before .before .before .before .before .before .before .before .before .before .before .before .before .before .before .before .before .before .before .before .before .before .closes .given .1) _ (c .before .before .before .before .before .before .before .before .before .before .before .before .before .before .before .before .before .before .before .before .grown-by .ensures) _ (c .before .before .before .before .before .before .before .before .before .before .before .before .before .before .before .before .before .before .after-cell .ensures)) _ _ (c .before .before .before .before .before .before .before .before .before .before .before .before .before .before .before .before .f .given .1) _ (c .before .before .before .before .before .before .before .before .before .before .before .before .before .before .closes-cell2 .ensures) _ _ _ (c .before .before .before .before .before .before .before .before .before .put2 .ensures) _ (c .before .before .moved3 .ensures) _ (c .before .ends-record2 .ensures) (c .if4 .taken)))))
+    let at-moved3 = c .before .before in
+    let at-put2 = at-moved3 .before .before .before .before .before .before .before in
+    let at-closes-cell2 = at-put2 .before .before .before .before .before in
+    let at-f = at-closes-cell2 .before .before in
+    let at-after-cell = at-f .before .before in
+    let at-grown-by = at-after-cell .before .before in
+    let at-closes = at-grown-by .before .before in
+    let u = at-closes .before .before in
+    let o = step-over _ (by-cell _ (asked u) _ _ (at-closes .closes .given .1) _ (at-grown-by .grown-by .ensures) _ (at-after-cell .after-cell .ensures)) _ _ (at-f .f .given .1) _ (at-closes-cell2 .closes-cell2 .ensures) _ _ _ (at-put2 .put2 .ensures) _ (at-moved3 .moved3 .ensures) _ (c .before .ends-record2 .ensures) (c .if4 .taken) in
+    (o .event, (o .at-starts, (o .at-ends, (o .at-kinds, step-fits _ (by-cell _ (asked u) _ _ (at-closes .closes .given .1) _ (at-grown-by .grown-by .ensures) _ (at-after-cell .after-cell .ensures)) _ _ (at-f .f .given .1) _ (at-closes-cell2 .closes-cell2 .ensures) _ _ _ (at-put2 .put2 .ensures) _ (at-moved3 .moved3 .ensures) _ (c .before .ends-record2 .ensures) (c .if4 .taken)))))
 
 loop-less-3 : tie.Need-loop-less-3 Inv-loop μ-loop
 loop-less-3 c =
-    let n = lies-cell-at (c .before .before .before .before .before .before .before .before .before .before .before .before .before .before .before .before .before .before .before .before .before .before .before .before) _ _ (c .before .before .before .before .before .before .before .before .before .before .before .before .before .before .before .before .before .before .before .before .before .before .closes .given .1) in let j1 = n .0 in let j2 = n .1 in omega arith
+    let n = lies-cell _ (asked (c .before .before .before .before .before .before .before .before .before .before .before .before .before .before .before .before .before .before .before .before .before .before .before .before)) _ _ (c .before .before .before .before .before .before .before .before .before .before .before .before .before .before .before .before .before .before .before .before .before .before .closes .given .1) in let j1 = n .0 in let j2 = n .1 in omega arith
 
 loop-again-3 : tie.Need-loop-again-3 Inv-loop μ-loop
 loop-again-3 c =
-    let a = c .before .before .before .before .before .before .before .before .before .before .before .before .before .before .before .before .before .before .before .before .before .before .before .before .before .before .before .before .before .before .before .before .before .before .before .args in
-    let l = c .before .before .before .before .before .before .before .before .before .before .before .before .before .before .before .before .before .before .before .before .before .before .before .before .before .before .before .before .before .before .loop in
-    step-on (a .d) (a .file .now) (a .first) (a .from) (a .room) (a .base) (a .starts .now) (a .ends .now) (a .kinds .now) (l .form) _ _ (l .starts) (l .ends) (l .kinds) _ (cell-step (c .before .before .before .before .before .before .before .before .before .before .before .before .before .before .before .before .before .before .before .before .before .before .before .before) _ _ (c .before .before .before .before .before .before .before .before .before .before .before .before .before .before .before .before .before .before .before .before .before .before .closes .given .1) _ (c .before .before .before .before .before .before .before .before .before .before .before .before .before .before .before .before .before .before .before .before .grown-by .ensures) _ (c .before .before .before .before .before .before .before .before .before .before .before .before .before .before .before .before .before .before .after-cell .ensures)) _ _ (c .before .before .before .before .before .before .before .before .before .before .before .before .before .before .before .before .f .given .1) _ (c .before .before .before .before .before .before .before .before .before .before .before .before .before .before .closes-cell2 .ensures) _ _ _ (c .before .before .before .before .before .before .before .before .before .put2 .ensures) _ (c .before .before .moved3 .ensures) _ (c .before .ends-record2 .ensures) (c .if4 .left)
-
-same-length-19 : tie.Need-same-length-19 Inv-loop μ-loop
-same-length-19 c =
-    let a = c .before .before .before .before .before .before .before .before .before .before .before .before .before .before .args in
-    let l = c .before .before .before .before .before .before .before .before .before .loop in
-    out-lengths (a .d) (a .file .now) (a .first) (a .from) (a .room) (a .base) (a .starts .now) (a .ends .now) (a .kinds .now) (refusal (c .before .before .before) _ _ (c .before .e2 .given .1)) .0
-
-same-length-20 : tie.Need-same-length-20 Inv-loop μ-loop
-same-length-20 c =
-    let a = c .before .before .before .before .before .before .before .before .before .before .before .before .before .before .args in
-    let l = c .before .before .before .before .before .before .before .before .before .loop in
-    out-lengths (a .d) (a .file .now) (a .first) (a .from) (a .room) (a .base) (a .starts .now) (a .ends .now) (a .kinds .now) (refusal (c .before .before .before) _ _ (c .before .e2 .given .1)) .1
-
-same-length-21 : tie.Need-same-length-21 Inv-loop μ-loop
-same-length-21 c =
-    let a = c .before .before .before .before .before .before .before .before .before .before .before .before .before .before .args in
-    let l = c .before .before .before .before .before .before .before .before .before .loop in
-    out-lengths (a .d) (a .file .now) (a .first) (a .from) (a .room) (a .base) (a .starts .now) (a .ends .now) (a .kinds .now) (refusal (c .before .before .before) _ _ (c .before .e2 .given .1)) .2
+    let at-put2 = c .before .before .before .before .before .before .before .before .before in
+    let at-closes-cell2 = at-put2 .before .before .before .before .before in
+    let at-after-cell = at-closes-cell2 .before .before .before .before in
+    let at-closes = at-after-cell .before .before .before .before in
+    step-on _ (by-cell _ (asked (at-closes .before .before)) _ _ (at-closes .closes .given .1) _ (at-after-cell .before .before .grown-by .ensures) _ (at-after-cell .after-cell .ensures)) _ _ (at-closes-cell2 .before .before .f .given .1) _ (at-closes-cell2 .closes-cell2 .ensures) _ _ _ (at-put2 .put2 .ensures) _ (c .before .before .moved3 .ensures) _ (c .before .ends-record2 .ensures) (c .if4 .left)
 
 returns-7 : tie.Need-returns-7 Inv-loop μ-loop
 returns-7 c =
-    let a = c .before .before .before .before .before .before .before .before .before .before .before .before .before .before .args in
-    let l = c .before .before .before .before .before .before .before .before .before .loop in
-    let o = refusal (c .before .before .before) _ _ (c .before .e2 .given .1) in
+    let o = by-refusal _ (asked (c .before .before .before)) _ _ (c .before .e2 .given .1) in
     (o .event, (o .at-starts, (o .at-ends, (o .at-kinds, tt))))
 
 sub-grown-by-2 : tie.Need-sub-grown-by-2 Inv-loop μ-loop
 sub-grown-by-2 c =
-    let n = lies-open-at (c .before .before .before) _ _ (c .before .c .given .1) in let j1 = n .0 in omega arith
+    let n = lies-open _ (asked (c .before .before .before)) _ _ (c .before .c .given .1) in let j1 = n .0 in omega arith
 
 grown-by-requires-2 : tie.Need-grown-by-requires-2 Inv-loop μ-loop
 grown-by-requires-2 c κs =
@@ -393,15 +238,15 @@ grown-by-requires-2 c κs =
     let l = c .before .before .before .before .before .before .before .before .before .loop in
     let few : a .base + l .h .cells ≤ l .i = l .inv .reached .few in
     let sized : l .h .size ≤ l .i = l .inv .reached .sized in
-    let n = lies-open-at (c .before .before .before) _ _ (c .before .c .given .1) in let j1 = n .0 in let j2 = n .2 in omega arith
+    let n = lies-open _ (asked (c .before .before .before)) _ _ (c .before .c .given .1) in let j1 = n .0 in let j2 = n .2 in omega arith
 
 loop-less-4 : tie.Need-loop-less-4 Inv-loop μ-loop
 loop-less-4 c =
-    let n = lies-open-at (c .before .before .before .before) _ _ (c .before .before .c .given .1) in let j1 = n .0 in let j2 = n .1 in omega arith
+    let n = lies-open _ (asked (c .before .before .before .before)) _ _ (c .before .before .c .given .1) in let j1 = n .0 in let j2 = n .1 in omega arith
 
 loop-again-4 : tie.Need-loop-again-4 Inv-loop μ-loop
 loop-again-4 c =
-    open-turn (c .before .before .before .before) _ _ (c .before .before .c .given .1) _ (c .grown-by2 .ensures)
+    by-open _ (asked (c .before .before .before .before)) _ _ (c .before .before .c .given .1) _ (c .grown-by2 .ensures)
 
 add-put-3 : tie.Need-add-put-3 Inv-loop μ-loop
 add-put-3 c =
@@ -413,10 +258,10 @@ add-put-3 c =
 
 put-requires-3 : tie.Need-put-requires-3 Inv-loop μ-loop
 put-requires-3 c κs =
-    let a = c .before .before .before .before .before .before .before .before .before .before .before .before .before .args in
-    let l = c .before .before .before .before .before .before .before .before .loop in
-    let n = lengths (a .d) (a .file .now) (a .first) (a .from) (a .room) (a .base) (a .starts .now) (a .ends .now) (a .kinds .now) (l .inv .lists) in
-    let q = c .before .before .before .before .before .before .before .before .before .before .before .before .before .pre .1 in
+    let at-loop = c .before .before .before .before .before .before .before .before in
+    let l = at-loop .loop in
+    let n = lengths _ (l .inv .lists) in
+    let q = at-loop .before .before .before .before .before .pre .1 in
     ((l .inv .reached .opened, l .inv .reached .inside), (rw (n .0) (q .0), rw (n .1) (q .1), rw (n .2) (q .2)))
 
 add-t68 : tie.Need-add-t68 Inv-loop μ-loop
@@ -427,79 +272,27 @@ add-t68 c =
     let sized : l .h .size ≤ l .i = l .inv .reached .sized in
     let under : l .i ≤ MAXFILE = l .inv .reached .under in omega arith
 
-same-length-22 : tie.Need-same-length-22 Inv-loop μ-loop
-same-length-22 c =
-    let a = c .before .before .before .before .before .before .before .before .before .args in
-    let l = c .before .before .before .before .loop in
-    out-lengths (a .d) (a .file .now) (a .first) (a .from) (a .room) (a .base) (a .starts .now) (a .ends .now) (a .kinds .now) (clean-end (a .d) (a .file .now) (a .first) (a .from) (a .room) (a .base) (a .starts .now) (a .ends .now) (a .kinds .now) (l .form) (l .i) (l .h) (l .inv) (c .before .before .before .loop-test .left) (sym (c .before .before .file-end .ensures) ∙ c .enum-told .given .1)) .0
-
-same-length-23 : tie.Need-same-length-23 Inv-loop μ-loop
-same-length-23 c =
-    let a = c .before .before .before .before .before .before .before .before .before .args in
-    let l = c .before .before .before .before .loop in
-    out-lengths (a .d) (a .file .now) (a .first) (a .from) (a .room) (a .base) (a .starts .now) (a .ends .now) (a .kinds .now) (clean-end (a .d) (a .file .now) (a .first) (a .from) (a .room) (a .base) (a .starts .now) (a .ends .now) (a .kinds .now) (l .form) (l .i) (l .h) (l .inv) (c .before .before .before .loop-test .left) (sym (c .before .before .file-end .ensures) ∙ c .enum-told .given .1)) .1
-
-same-length-24 : tie.Need-same-length-24 Inv-loop μ-loop
-same-length-24 c =
-    let a = c .before .before .before .before .before .before .before .before .before .args in
-    let l = c .before .before .before .before .loop in
-    out-lengths (a .d) (a .file .now) (a .first) (a .from) (a .room) (a .base) (a .starts .now) (a .ends .now) (a .kinds .now) (clean-end (a .d) (a .file .now) (a .first) (a .from) (a .room) (a .base) (a .starts .now) (a .ends .now) (a .kinds .now) (l .form) (l .i) (l .h) (l .inv) (c .before .before .before .loop-test .left) (sym (c .before .before .file-end .ensures) ∙ c .enum-told .given .1)) .2
-
 returns-8 : tie.Need-returns-8 Inv-loop μ-loop
 returns-8 c =
-    let a = c .before .before .before .before .before .before .before .before .before .args in
-    let l = c .before .before .before .before .loop in
-    let o = clean-end (a .d) (a .file .now) (a .first) (a .from) (a .room) (a .base) (a .starts .now) (a .ends .now) (a .kinds .now) (l .form) (l .i) (l .h) (l .inv) (c .before .before .before .loop-test .left) (sym (c .before .before .file-end .ensures) ∙ c .enum-told .given .1) in
+    let at-loop-test = c .before .before .before in
+    let l = at-loop-test .before .loop in
+    let o = clean-end _ (l .inv) (at-loop-test .loop-test .left) (sym (c .before .before .file-end .ensures) ∙ c .enum-told .given .1) in
     (o .event, (o .at-starts, (o .at-ends, (o .at-kinds, tt))))
-
-same-length-25 : tie.Need-same-length-25 Inv-loop μ-loop
-same-length-25 c =
-    let a = c .before .before .before .before .before .before .before .before .before .before .before .before .before .before .before .before .before .before .before .before .before .args in
-    let l = c .before .before .before .before .before .before .before .before .before .before .before .before .before .before .before .before .loop in
-    out-lengths (a .d) (a .file .now) (a .first) (a .from) (a .room) (a .base) (a .starts .now) (a .ends .now) (a .kinds .now) (last-put (a .d) (a .file .now) (a .first) (a .from) (a .room) (a .base) (a .starts .now) (a .ends .now) (a .kinds .now) (l .form) (l .i) (l .h) (l .starts) (l .ends) (l .kinds) (l .inv) (c .before .before .before .before .before .before .before .before .before .before .before .before .before .before .before .loop-test .left) (sym (c .before .before .before .before .before .before .before .before .before .before .before .before .before .before .file-end .ensures) ∙ c .before .before .before .before .before .before .before .before .before .before .before .before .enum-told2 .given .1) _ _ _ (c .before .before .before .before .before .before .before .put3 .ensures)) .0
-
-same-length-26 : tie.Need-same-length-26 Inv-loop μ-loop
-same-length-26 c =
-    let a = c .before .before .before .before .before .before .before .before .before .before .before .before .before .before .before .before .before .before .before .before .before .args in
-    let l = c .before .before .before .before .before .before .before .before .before .before .before .before .before .before .before .before .loop in
-    out-lengths (a .d) (a .file .now) (a .first) (a .from) (a .room) (a .base) (a .starts .now) (a .ends .now) (a .kinds .now) (last-put (a .d) (a .file .now) (a .first) (a .from) (a .room) (a .base) (a .starts .now) (a .ends .now) (a .kinds .now) (l .form) (l .i) (l .h) (l .starts) (l .ends) (l .kinds) (l .inv) (c .before .before .before .before .before .before .before .before .before .before .before .before .before .before .before .loop-test .left) (sym (c .before .before .before .before .before .before .before .before .before .before .before .before .before .before .file-end .ensures) ∙ c .before .before .before .before .before .before .before .before .before .before .before .before .enum-told2 .given .1) _ _ _ (c .before .before .before .before .before .before .before .put3 .ensures)) .1
-
-same-length-27 : tie.Need-same-length-27 Inv-loop μ-loop
-same-length-27 c =
-    let a = c .before .before .before .before .before .before .before .before .before .before .before .before .before .before .before .before .before .before .before .before .before .args in
-    let l = c .before .before .before .before .before .before .before .before .before .before .before .before .before .before .before .before .loop in
-    out-lengths (a .d) (a .file .now) (a .first) (a .from) (a .room) (a .base) (a .starts .now) (a .ends .now) (a .kinds .now) (last-put (a .d) (a .file .now) (a .first) (a .from) (a .room) (a .base) (a .starts .now) (a .ends .now) (a .kinds .now) (l .form) (l .i) (l .h) (l .starts) (l .ends) (l .kinds) (l .inv) (c .before .before .before .before .before .before .before .before .before .before .before .before .before .before .before .loop-test .left) (sym (c .before .before .before .before .before .before .before .before .before .before .before .before .before .before .file-end .ensures) ∙ c .before .before .before .before .before .before .before .before .before .before .before .before .enum-told2 .given .1) _ _ _ (c .before .before .before .before .before .before .before .put3 .ensures)) .2
 
 returns-9 : tie.Need-returns-9 Inv-loop μ-loop
 returns-9 c =
-    let a = c .before .before .before .before .before .before .before .before .before .before .before .before .before .before .before .before .before .before .before .before .before .args in
-    let l = c .before .before .before .before .before .before .before .before .before .before .before .before .before .before .before .before .loop in
-    let o = last-put (a .d) (a .file .now) (a .first) (a .from) (a .room) (a .base) (a .starts .now) (a .ends .now) (a .kinds .now) (l .form) (l .i) (l .h) (l .starts) (l .ends) (l .kinds) (l .inv) (c .before .before .before .before .before .before .before .before .before .before .before .before .before .before .before .loop-test .left) (sym (c .before .before .before .before .before .before .before .before .before .before .before .before .before .before .file-end .ensures) ∙ c .before .before .before .before .before .before .before .before .before .before .before .before .enum-told2 .given .1) _ _ _ (c .before .before .before .before .before .before .before .put3 .ensures) in
-    (o .event, (o .at-starts, (o .at-ends, (o .at-kinds, last-fits (a .d) (a .file .now) (a .first) (a .from) (a .room) (a .base) (a .starts .now) (a .ends .now) (a .kinds .now) (l .form) (l .i) (l .h) (l .inv) (c .before .before .before .before .before .before .before .before .before .before .before .before .before .before .before .loop-test .left)))))
-
-same-length-28 : tie.Need-same-length-28 Inv-loop μ-loop
-same-length-28 c =
-    let a = c .before .before .before .before .before .before .before .before .before .args in
-    let l = c .before .before .before .before .loop in
-    out-lengths (a .d) (a .file .now) (a .first) (a .from) (a .room) (a .base) (a .starts .now) (a .ends .now) (a .kinds .now) (cut-short (a .d) (a .file .now) (a .first) (a .from) (a .room) (a .base) (a .starts .now) (a .ends .now) (a .kinds .now) (l .form) (l .i) (l .h) (l .inv) (c .before .before .before .loop-test .left) (sym (c .before .before .file-end .ensures) ∙ c .enum-told3 .given .1)) .0
-
-same-length-29 : tie.Need-same-length-29 Inv-loop μ-loop
-same-length-29 c =
-    let a = c .before .before .before .before .before .before .before .before .before .args in
-    let l = c .before .before .before .before .loop in
-    out-lengths (a .d) (a .file .now) (a .first) (a .from) (a .room) (a .base) (a .starts .now) (a .ends .now) (a .kinds .now) (cut-short (a .d) (a .file .now) (a .first) (a .from) (a .room) (a .base) (a .starts .now) (a .ends .now) (a .kinds .now) (l .form) (l .i) (l .h) (l .inv) (c .before .before .before .loop-test .left) (sym (c .before .before .file-end .ensures) ∙ c .enum-told3 .given .1)) .1
-
-same-length-30 : tie.Need-same-length-30 Inv-loop μ-loop
-same-length-30 c =
-    let a = c .before .before .before .before .before .before .before .before .before .args in
-    let l = c .before .before .before .before .loop in
-    out-lengths (a .d) (a .file .now) (a .first) (a .from) (a .room) (a .base) (a .starts .now) (a .ends .now) (a .kinds .now) (cut-short (a .d) (a .file .now) (a .first) (a .from) (a .room) (a .base) (a .starts .now) (a .ends .now) (a .kinds .now) (l .form) (l .i) (l .h) (l .inv) (c .before .before .before .loop-test .left) (sym (c .before .before .file-end .ensures) ∙ c .enum-told3 .given .1)) .2
+    let at-put3 = c .before .before .before .before .before .before .before in
+    let at-enum-told2 = at-put3 .before .before .before .before .before in
+    let at-loop-test = at-enum-told2 .before .before .before in
+    let l = at-loop-test .before .loop in
+    let o = last-put _ (l .inv) (at-loop-test .loop-test .left) (sym (at-enum-told2 .before .before .file-end .ensures) ∙ at-enum-told2 .enum-told2 .given .1) _ _ _ (at-put3 .put3 .ensures) in
+    (o .event, (o .at-starts, (o .at-ends, (o .at-kinds, last-fits _ (l .inv) (at-loop-test .loop-test .left)))))
 
 returns-10 : tie.Need-returns-10 Inv-loop μ-loop
 returns-10 c =
-    let a = c .before .before .before .before .before .before .before .before .before .args in
-    let l = c .before .before .before .before .loop in
-    let o = cut-short (a .d) (a .file .now) (a .first) (a .from) (a .room) (a .base) (a .starts .now) (a .ends .now) (a .kinds .now) (l .form) (l .i) (l .h) (l .inv) (c .before .before .before .loop-test .left) (sym (c .before .before .file-end .ensures) ∙ c .enum-told3 .given .1) in
+    let at-loop-test = c .before .before .before in
+    let l = at-loop-test .before .loop in
+    let o = cut-short _ (l .inv) (at-loop-test .loop-test .left) (sym (c .before .before .file-end .ensures) ∙ c .enum-told3 .given .1) in
     (o .event, (o .at-starts, (o .at-ends, (o .at-kinds, tt))))
 
 pub next-record-spec : {M : Type 1} → statement M
@@ -509,22 +302,22 @@ next-record-spec =
     Inv-loop
     μ-loop
     loop-holds
-    same-length
-    same-length-2
-    same-length-3
+    (λ c. lengths _ (c .before .before .loop .inv .lists) .0)
+    (λ c. lengths _ (c .before .before .loop .inv .lists) .1)
+    (λ c. lengths _ (c .before .before .loop .inv .lists) .2)
     returns
     (λ c. omega arith)
     (λ c κs. search needs)
-    same-length-4
-    same-length-5
-    same-length-6
+    (λ c. lengths _ (c .before .before .before .before .before .loop .inv .lists) .0)
+    (λ c. lengths _ (c .before .before .before .before .before .loop .inv .lists) .1)
+    (λ c. lengths _ (c .before .before .before .before .before .loop .inv .lists) .2)
     returns-2
     ahead-requires
     (λ c. search needs)
     (λ c. search needs)
-    same-length-7
-    same-length-8
-    same-length-9
+    (λ c. lengths _ (asked (c .before .before .before .before .before .before) .scanning .lists) .0)
+    (λ c. lengths _ (asked (c .before .before .before .before .before .before) .scanning .lists) .1)
+    (λ c. lengths _ (asked (c .before .before .before .before .before .before) .scanning .lists) .2)
     returns-3
     (λ c. search needs)
     (λ c κs. search needs)
@@ -533,9 +326,9 @@ next-record-spec =
     moved-requires
     add-i
     (λ c κs. search needs)
-    same-length-10
-    same-length-11
-    same-length-12
+    (λ c. put-lengths _ (asked (c .before .before .before .before .before .before .before .before .before .before .before .before .before .before .before .before .before .before .before .before .before) .scanning .lists) _ _ _ _ _ (c .before .before .before .before .before .before .before .before .before .put .ensures) .0)
+    (λ c. put-lengths _ (asked (c .before .before .before .before .before .before .before .before .before .before .before .before .before .before .before .before .before .before .before .before .before) .scanning .lists) _ _ _ _ _ (c .before .before .before .before .before .before .before .before .before .put .ensures) .1)
+    (λ c. put-lengths _ (asked (c .before .before .before .before .before .before .before .before .before .before .before .before .before .before .before .before .before .before .before .before .before) .scanning .lists) _ _ _ _ _ (c .before .before .before .before .before .before .before .before .before .put .ensures) .2)
     returns-4
     loop-less
     loop-again
@@ -550,9 +343,9 @@ next-record-spec =
     shared-slice-read-after-cell
     (λ c κs. search needs)
     (λ c. search needs)
-    same-length-13
-    same-length-14
-    same-length-15
+    (λ c. lengths _ (asked (c .before .before .before .before .before .before .before .before .before) .scanning .lists) .0)
+    (λ c. lengths _ (asked (c .before .before .before .before .before .before .before .before .before) .scanning .lists) .1)
+    (λ c. lengths _ (asked (c .before .before .before .before .before .before .before .before .before) .scanning .lists) .2)
     returns-5
     (λ c. search needs)
     (λ c κs. search needs)
@@ -561,16 +354,16 @@ next-record-spec =
     moved-requires-3
     add-i-2
     (λ c κs. search needs)
-    same-length-16
-    same-length-17
-    same-length-18
+    (λ c. put-lengths _ (asked (c .before .before .before .before .before .before .before .before .before .before .before .before .before .before .before .before .before .before .before .before .before .before .before .before) .scanning .lists) _ _ _ _ _ (c .before .before .before .before .before .before .before .before .before .put2 .ensures) .0)
+    (λ c. put-lengths _ (asked (c .before .before .before .before .before .before .before .before .before .before .before .before .before .before .before .before .before .before .before .before .before .before .before .before) .scanning .lists) _ _ _ _ _ (c .before .before .before .before .before .before .before .before .before .put2 .ensures) .1)
+    (λ c. put-lengths _ (asked (c .before .before .before .before .before .before .before .before .before .before .before .before .before .before .before .before .before .before .before .before .before .before .before .before) .scanning .lists) _ _ _ _ _ (c .before .before .before .before .before .before .before .before .before .put2 .ensures) .2)
     returns-6
     loop-less-3
     loop-again-3
     (λ c. search needs)
-    same-length-19
-    same-length-20
-    same-length-21
+    (λ c. lengths _ (asked (c .before .before .before) .scanning .lists) .0)
+    (λ c. lengths _ (asked (c .before .before .before) .scanning .lists) .1)
+    (λ c. lengths _ (asked (c .before .before .before) .scanning .lists) .2)
     returns-7
     (λ c. search needs)
     sub-grown-by-2
@@ -584,15 +377,15 @@ next-record-spec =
     put-requires-3
     add-t68
     (λ c. search needs)
-    same-length-22
-    same-length-23
-    same-length-24
+    (λ c. lengths _ (c .before .before .before .before .loop .inv .lists) .0)
+    (λ c. lengths _ (c .before .before .before .before .loop .inv .lists) .1)
+    (λ c. lengths _ (c .before .before .before .before .loop .inv .lists) .2)
     returns-8
-    same-length-25
-    same-length-26
-    same-length-27
+    (λ c. put-lengths _ (c .before .before .before .before .before .before .before .before .before .before .before .before .before .before .before .before .loop .inv .lists) _ _ _ _ _ (c .before .before .before .before .before .before .before .put3 .ensures) .0)
+    (λ c. put-lengths _ (c .before .before .before .before .before .before .before .before .before .before .before .before .before .before .before .before .loop .inv .lists) _ _ _ _ _ (c .before .before .before .before .before .before .before .put3 .ensures) .1)
+    (λ c. put-lengths _ (c .before .before .before .before .before .before .before .before .before .before .before .before .before .before .before .before .loop .inv .lists) _ _ _ _ _ (c .before .before .before .before .before .before .before .put3 .ensures) .2)
     returns-9
-    same-length-28
-    same-length-29
-    same-length-30
+    (λ c. lengths _ (c .before .before .before .before .loop .inv .lists) .0)
+    (λ c. lengths _ (c .before .before .before .before .loop .inv .lists) .1)
+    (λ c. lengths _ (c .before .before .before .before .loop .inv .lists) .2)
     returns-10)

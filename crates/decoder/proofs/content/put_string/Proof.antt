@@ -38,7 +38,10 @@ now-left : (c : tie.Else2 Inv-loop μ-loop)
     → let raw = c .before .before .before .before .before .before .before .args .raw .now in
     let l = c .before .before .before .before .loop in
     Writing (c .before .before .before .before .before .before .before .args .out .now) 0 (stringFrom raw 1) (l .out) (l .o) (getD raw (l .i) 0 ∷ stringFrom raw (l .i + 1))
-now-left c = rw (string-byte (c .before .before .before .before .before .before .before .args .raw .now) (c .before .before .before .before .loop .i) (c .before .before .before .loop-test .taken) (c .before .if1 .left) (c .if2 .left)) at (c .before .before .before .before .loop .inv)
+now-left c =
+    let at-loop-test = c .before .before .before in
+    let at-loop = at-loop-test .before in
+    rw (string-byte (at-loop .before .before .before .args .raw .now) (at-loop .loop .i) (at-loop-test .loop-test .taken) (c .before .if1 .left) (c .if2 .left)) at (at-loop .loop .inv)
 
 slice-write-out : tie.Need-slice-write-out Inv-loop μ-loop
 slice-write-out c = here (now-left c)

@@ -38,9 +38,11 @@ returns-5 c =
 
 returns-6 : tie.Need-returns-6
 returns-6 c =
-    let raw = c .before .before .before .before .before .before .before .before .before .args .raw .now in
-    let i = c .before .before .before .before .before .before .before .before .before .args .i in
-    low-there raw i (c .before .before .unit-at .result) (there (c .before .before)) (c .before .before .unit-at .ensures .0) (c .before .if4 .left) (c .if5 .left)
+    let at-unit-at = c .before .before in
+    let start = at-unit-at .before .before .before .before .before .before .before in
+    let raw = start .args .raw .now in
+    let i = start .args .i in
+    low-there raw i (at-unit-at .unit-at .result) (there at-unit-at) (at-unit-at .unit-at .ensures .0) (c .before .if4 .left) (c .if5 .left)
 
 pub low-at-spec : {M : Type 1} → statement M
 low-at-spec =

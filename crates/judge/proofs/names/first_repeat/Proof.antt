@@ -23,8 +23,9 @@ repeats-requires c κs = (c .before .before .before .before .before .pre, c .loo
 
 returns : tie.Need-returns Inv-loop μ-loop
 returns c =
-    let s = c .before .before .before .before .before .before .before in
-    let l = c .before .before .before .loop in
+    let at-loop = c .before .before .before in
+    let s = at-loop .before .before .before .before in
+    let l = at-loop .loop in
     sym (repeat-start (s .args .d) (s .args .file .now) (s .args .starts .now) (s .args .ends .now) ∙ l .inv .1 ∙ repeat-here (s .args .d) (s .args .file .now) (s .args .starts .now) (s .args .ends .now) (s .pre .paired) (l .n) (c .before .before .loop-test .taken) (sym (c .before .repeats .ensures) ∙ c .if1 .taken))
 
 loop-again : tie.Need-loop-again Inv-loop μ-loop

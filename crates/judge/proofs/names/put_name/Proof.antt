@@ -7,13 +7,15 @@ use Rattle.judge.proofs.names.put_name.Tie as tie
 
 returns : tie.Need-returns
 returns c =
-    let s = c .before .before .before .before .before .before .before .before in
-    never-refused (s .args .d) (s .args .raw .now) (s .args .room .now) (s .pre) (c .before .before .before .before .decode-sound .result) _ (c .enum-told .given .1) (c .before .before .before .before .decode-sound .ensures .0)
+    let at-decode-sound = c .before .before .before .before in
+    let s = at-decode-sound .before .before .before .before in
+    never-refused (s .args .d) (s .args .raw .now) (s .args .room .now) (s .pre) (at-decode-sound .decode-sound .result) _ (c .enum-told .given .1) (at-decode-sound .decode-sound .ensures .0)
 
 returns-2 : tie.Need-returns-2
 returns-2 c =
-    let s = c .before .before .before .before .before .before .before .before .before in
-    decoded (s .args .d) (s .args .raw .now) (s .args .room .now) (s .pre) (c .before .before .before .before .before .decode-sound .result) _ _ _ (c .before .length .given .1) (c .before .before .before .before .before .decode-sound .ensures)
+    let at-decode-sound = c .before .before .before .before .before in
+    let s = at-decode-sound .before .before .before .before in
+    decoded (s .args .d) (s .args .raw .now) (s .args .room .now) (s .pre) (at-decode-sound .decode-sound .result) _ _ _ (c .before .length .given .1) (at-decode-sound .decode-sound .ensures)
 
 pub put-name-spec : {M : Type 1} → statement M
 put-name-spec =

@@ -1,6 +1,7 @@
 -- The invariant: after the header and so many data records, with the cells that the lists hold, reading stands at i.
 use Prim.Native.Nat.{_+_, _-_, _^_, _≤_, _<_}
 use native.Mathlib.Omega.{arith}
+use mathlib.Core.Path.{_≡_}
 use lib.ListN.{length}
 use borrow.Author.Needs.{needs}
 use Rattle.model.specs.Report.{MAXFILE}
@@ -10,17 +11,26 @@ use Rattle.reader.proofs.records.data_records.Tie as tie
 
 abbrev Inv-loop : tie.InvT-loop
 Inv-loop d file from columns room base starts₀ ends₀ kinds₀ form₀ i₀ cells₀ records₀ starts ends kinds form i cells records =
-    Going d file from form₀ columns room base starts₀ ends₀ kinds₀ form i cells records starts ends kinds
+    Going (record { d = d; file = file; from = from; first = form₀; columns = columns; room = room; base = base; s₀ = starts₀; e₀ = ends₀; k₀ = kinds₀ }) form i cells records starts ends kinds
 
 abbrev μ-loop : tie.MeasureT-loop
 μ-loop d file from columns room base starts₀ ends₀ kinds₀ form₀ i₀ cells₀ records₀ starts ends kinds form i cells records =
     length file - i
 
+-- the scanner leaves the lists as long as they were
+long : (u : tie.After-next-record Inv-loop μ-loop)
+    → let a = u .before .before .before .before .before .before .before .before .before .args in
+    let after = u .next-record in
+    (length (after .last .1 .1 .1 .1 .1 .1 .0) ≡ length (a .starts .now)) × (length (after .last .1 .1 .1 .1 .1 .1 .1 .0) ≡ length (a .ends .now)) × (length (after .last .1 .1 .1 .1 .1 .1 .1 .1 .0) ≡ length (a .kinds .now))
+long u =
+    let n = u .next-record .ensures in
+    held-lengths (now-held _ (u .before .before .before .before .loop .inv) (n .0) (n .1 .0) (n .1 .1 .0) (n .1 .1 .1 .0))
+
 loop-holds : tie.Need-loop-holds Inv-loop μ-loop
 loop-holds c =
-    let a = c .before .before .before .before .args in
-    let q = c .before .before .before .before .pre .0 in
-    goes (a .d) (a .file .now) (a .from) (a .first) (a .columns) (a .room) (a .base) (a .starts .now) (a .ends .now) (a .kinds .now) (q .0) (q .1) (q .2)
+    let start = c .before .before .before .before in
+    let q = start .pre .0 in
+    goes _ (q .0) (q .1) (q .2)
 
 add-next-record : tie.Need-add-next-record Inv-loop μ-loop
 add-next-record c =
@@ -33,13 +43,14 @@ add-next-record c =
 
 next-record-requires : tie.Need-next-record-requires Inv-loop μ-loop
 next-record-requires c κs =
-    let a = c .before .before .before .before .before .before .before .before .args in
-    let l = c .before .before .before .loop in
+    let at-loop = c .before .before .before in
+    let start = at-loop .before .before .before .before .before in
+    let a = start .args in
+    let l = at-loop .loop in
     let few : a .base + l .cells ≤ l .i = l .inv .few in
     let under : l .i ≤ MAXFILE = l .inv .under in
-    let many : l .records ≤ l .i = l .inv .many in
     let n = held-lengths (l .inv .lists) in
-    let q = c .before .before .before .before .before .before .before .before .pre .1 in
+    let q = start .pre .1 in
     ((l .inv .inside, under, few), (rw (n .0) (q .0), rw (n .1) (q .1), rw (n .2) (q .2)))
 
 add-cells : tie.Need-add-cells Inv-loop μ-loop
@@ -49,7 +60,7 @@ add-cells c =
     let n = c .before .before .before .before .before .before .before .before .before .before .before .before .next-record .ensures in
     let few : a .base + l .cells ≤ l .i = l .inv .few in
     let under : l .i ≤ MAXFILE = l .inv .under in
-    let m = fits-here (a .d) (a .file .now) (a .from) (a .first) (a .columns) (a .room) (a .base) (a .starts .now) (a .ends .now) (a .kinds .now) (l .form) (l .i) (l .cells) (l .records) (l .starts) (l .ends) (l .kinds) (l .inv) _ (n .0) _ _ _ (n .1 .0) (n .1 .1 .0) (n .1 .1 .1 .0) _ _ _ _ (c .before .before .before .before .start .given .1) (n .1 .1 .1 .1) _ (c .before .before .«data» .ensures) in
+    let m = fits-here _ (l .inv) (n .0) (n .1 .0) (n .1 .1 .0) (n .1 .1 .1 .0) _ _ _ _ (c .before .before .before .before .start .given .1) (n .1 .1 .1 .1) _ (c .before .before .«data» .ensures) in
     let m0 = m .0 in let m1 = m .1 in let m2 = m .2 in let m3 = m .3 in
     omega arith
 
@@ -69,16 +80,18 @@ loop-less c =
     let n = c .before .before .before .before .before .before .before .before .before .before .before .before .next-record .ensures in
     let few : a .base + l .cells ≤ l .i = l .inv .few in
     let under : l .i ≤ MAXFILE = l .inv .under in
-    let m = fits-here (a .d) (a .file .now) (a .from) (a .first) (a .columns) (a .room) (a .base) (a .starts .now) (a .ends .now) (a .kinds .now) (l .form) (l .i) (l .cells) (l .records) (l .starts) (l .ends) (l .kinds) (l .inv) _ (n .0) _ _ _ (n .1 .0) (n .1 .1 .0) (n .1 .1 .1 .0) _ _ _ _ (c .before .before .before .before .start .given .1) (n .1 .1 .1 .1) _ (c .before .before .«data» .ensures) in
+    let m = fits-here _ (l .inv) (n .0) (n .1 .0) (n .1 .1 .0) (n .1 .1 .1 .0) _ _ _ _ (c .before .before .before .before .start .given .1) (n .1 .1 .1 .1) _ (c .before .before .«data» .ensures) in
     let m0 = m .0 in let m1 = m .1 in let m2 = m .2 in let m3 = m .3 in
     omega arith
 
 loop-again : tie.Need-loop-again Inv-loop μ-loop
 loop-again c =
-    let a = c .before .before .before .before .before .before .before .before .before .before .before .before .before .before .before .before .before .before .before .before .before .args in
-    let l = c .before .before .before .before .before .before .before .before .before .before .before .before .before .before .before .before .loop in
-    let n = c .before .before .before .before .before .before .before .before .before .before .before .before .next-record .ensures in
-    record-on (a .d) (a .file .now) (a .from) (a .first) (a .columns) (a .room) (a .base) (a .starts .now) (a .ends .now) (a .kinds .now) (l .form) (l .i) (l .cells) (l .records) (l .starts) (l .ends) (l .kinds) (l .inv) _ (n .0) _ _ _ (n .1 .0) (n .1 .1 .0) (n .1 .1 .1 .0) _ _ _ _ (c .before .before .before .before .start .given .1) (n .1 .1 .1 .1) _ (c .before .before .«data» .ensures) (c .enum-told .given .1)
+    let at-start = c .before .before .before .before in
+    let at-next-record = at-start .before .before .before .before .before .before .before .before in
+    let at-loop = at-next-record .before .before .before .before in
+    let l = at-loop .loop in
+    let n = at-next-record .next-record .ensures in
+    record-on _ (l .inv) (n .0) (n .1 .0) (n .1 .1 .0) (n .1 .1 .1 .0) _ _ _ _ (at-start .start .given .1) (n .1 .1 .1 .1) _ (c .before .before .«data» .ensures) (c .enum-told .given .1)
 
 add-on-record : tie.Need-add-on-record Inv-loop μ-loop
 add-on-record c =
@@ -89,33 +102,14 @@ add-on-record c =
     let many : l .records ≤ l .i = l .inv .many in
     omega arith
 
-same-length : tie.Need-same-length Inv-loop μ-loop
-same-length c =
-    let a = c .before .before .before .before .before .before .before .before .before .before .before .before .before .before .before .before .before .before .before .before .before .before .before .args in
-    let l = c .before .before .before .before .before .before .before .before .before .before .before .before .before .before .before .before .before .before .loop in
-    let n = c .before .before .before .before .before .before .before .before .before .before .before .before .before .before .next-record .ensures in
-    held-lengths (now-held (a .d) (a .file .now) (a .from) (a .first) (a .columns) (a .room) (a .base) (a .starts .now) (a .ends .now) (a .kinds .now) (l .form) (l .i) (l .cells) (l .records) (l .starts) (l .ends) (l .kinds) (l .inv) _ (n .0) _ _ _ (n .1 .0) (n .1 .1 .0) (n .1 .1 .1 .0)) .0
-
-same-length-2 : tie.Need-same-length-2 Inv-loop μ-loop
-same-length-2 c =
-    let a = c .before .before .before .before .before .before .before .before .before .before .before .before .before .before .before .before .before .before .before .before .before .before .before .args in
-    let l = c .before .before .before .before .before .before .before .before .before .before .before .before .before .before .before .before .before .before .loop in
-    let n = c .before .before .before .before .before .before .before .before .before .before .before .before .before .before .next-record .ensures in
-    held-lengths (now-held (a .d) (a .file .now) (a .from) (a .first) (a .columns) (a .room) (a .base) (a .starts .now) (a .ends .now) (a .kinds .now) (l .form) (l .i) (l .cells) (l .records) (l .starts) (l .ends) (l .kinds) (l .inv) _ (n .0) _ _ _ (n .1 .0) (n .1 .1 .0) (n .1 .1 .1 .0)) .1
-
-same-length-3 : tie.Need-same-length-3 Inv-loop μ-loop
-same-length-3 c =
-    let a = c .before .before .before .before .before .before .before .before .before .before .before .before .before .before .before .before .before .before .before .before .before .before .before .args in
-    let l = c .before .before .before .before .before .before .before .before .before .before .before .before .before .before .before .before .before .before .loop in
-    let n = c .before .before .before .before .before .before .before .before .before .before .before .before .before .before .next-record .ensures in
-    held-lengths (now-held (a .d) (a .file .now) (a .from) (a .first) (a .columns) (a .room) (a .base) (a .starts .now) (a .ends .now) (a .kinds .now) (l .form) (l .i) (l .cells) (l .records) (l .starts) (l .ends) (l .kinds) (l .inv) _ (n .0) _ _ _ (n .1 .0) (n .1 .1 .0) (n .1 .1 .1 .0)) .2
-
 returns : tie.Need-returns Inv-loop μ-loop
 returns c =
-    let a = c .before .before .before .before .before .before .before .before .before .before .before .before .before .before .before .before .before .before .before .before .before .before .before .args in
-    let l = c .before .before .before .before .before .before .before .before .before .before .before .before .before .before .before .before .before .before .loop in
-    let n = c .before .before .before .before .before .before .before .before .before .before .before .before .before .before .next-record .ensures in
-    record-refused (a .d) (a .file .now) (a .from) (a .first) (a .columns) (a .room) (a .base) (a .starts .now) (a .ends .now) (a .kinds .now) (l .form) (l .i) (l .cells) (l .records) (l .starts) (l .ends) (l .kinds) (l .inv) _ (n .0) _ _ _ (n .1 .0) (n .1 .1 .0) (n .1 .1 .1 .0) _ _ _ _ (c .before .before .before .before .before .before .start .given .1) (n .1 .1 .1 .1) _ (c .before .before .before .before .«data» .ensures) _ (c .before .before .e .given .1) _ (c .on-record .ensures)
+    let u = c .before .before .before .before in
+    let at-next-record = u .before .before .before .before .before .before .before .before .before .before in
+    let at-loop = at-next-record .before .before .before .before in
+    let l = at-loop .loop in
+    let n = at-next-record .next-record .ensures in
+    record-refused _ (l .inv) (n .0) (n .1 .0) (n .1 .1 .0) (n .1 .1 .1 .0) _ _ _ _ (u .before .before .start .given .1) (n .1 .1 .1 .1) _ (u .«data» .ensures) _ (c .before .before .e .given .1) _ (c .on-record .ensures)
 
 add-t37 : tie.Need-add-t37 Inv-loop μ-loop
 add-t37 c =
@@ -128,40 +122,20 @@ add-t37 c =
 
 add-t38 : tie.Need-add-t38 Inv-loop μ-loop
 add-t38 c =
-    let a = c .before .before .before .before .before .before .before .before .before .before .before .before .before .before .before .before .before .before .before .before .before .args in
     let l = c .before .before .before .before .before .before .before .before .before .before .before .before .before .before .before .before .loop in
     let n = c .before .before .before .before .before .before .before .before .before .before .before .before .next-record .ensures in
-    let m = last-fits (a .d) (a .file .now) (a .from) (a .first) (a .columns) (a .room) (a .base) (a .starts .now) (a .ends .now) (a .kinds .now) (l .form) (l .i) (l .cells) (l .records) (l .starts) (l .ends) (l .kinds) (l .inv) _ (n .0) _ _ _ (n .1 .0) (n .1 .1 .0) (n .1 .1 .1 .0) _ _ (c .before .before .before .before .start2 .given .1) (n .1 .1 .1 .1) _ (c .before .before .data2 .ensures) in
+    let m = last-fits _ (l .inv) (n .0) (n .1 .0) (n .1 .1 .0) (n .1 .1 .1 .0) _ _ (c .before .before .before .before .start2 .given .1) (n .1 .1 .1 .1) _ (c .before .before .data2 .ensures) in
     let m0 = m .0 in let m1 = m .1 in
     omega arith
 
-same-length-4 : tie.Need-same-length-4 Inv-loop μ-loop
-same-length-4 c =
-    let a = c .before .before .before .before .before .before .before .before .before .before .before .before .before .before .before .before .before .before .before .before .before .args in
-    let l = c .before .before .before .before .before .before .before .before .before .before .before .before .before .before .before .before .loop in
-    let n = c .before .before .before .before .before .before .before .before .before .before .before .before .next-record .ensures in
-    held-lengths (now-held (a .d) (a .file .now) (a .from) (a .first) (a .columns) (a .room) (a .base) (a .starts .now) (a .ends .now) (a .kinds .now) (l .form) (l .i) (l .cells) (l .records) (l .starts) (l .ends) (l .kinds) (l .inv) _ (n .0) _ _ _ (n .1 .0) (n .1 .1 .0) (n .1 .1 .1 .0)) .0
-
-same-length-5 : tie.Need-same-length-5 Inv-loop μ-loop
-same-length-5 c =
-    let a = c .before .before .before .before .before .before .before .before .before .before .before .before .before .before .before .before .before .before .before .before .before .args in
-    let l = c .before .before .before .before .before .before .before .before .before .before .before .before .before .before .before .before .loop in
-    let n = c .before .before .before .before .before .before .before .before .before .before .before .before .next-record .ensures in
-    held-lengths (now-held (a .d) (a .file .now) (a .from) (a .first) (a .columns) (a .room) (a .base) (a .starts .now) (a .ends .now) (a .kinds .now) (l .form) (l .i) (l .cells) (l .records) (l .starts) (l .ends) (l .kinds) (l .inv) _ (n .0) _ _ _ (n .1 .0) (n .1 .1 .0) (n .1 .1 .1 .0)) .1
-
-same-length-6 : tie.Need-same-length-6 Inv-loop μ-loop
-same-length-6 c =
-    let a = c .before .before .before .before .before .before .before .before .before .before .before .before .before .before .before .before .before .before .before .before .before .args in
-    let l = c .before .before .before .before .before .before .before .before .before .before .before .before .before .before .before .before .loop in
-    let n = c .before .before .before .before .before .before .before .before .before .before .before .before .next-record .ensures in
-    held-lengths (now-held (a .d) (a .file .now) (a .from) (a .first) (a .columns) (a .room) (a .base) (a .starts .now) (a .ends .now) (a .kinds .now) (l .form) (l .i) (l .cells) (l .records) (l .starts) (l .ends) (l .kinds) (l .inv) _ (n .0) _ _ _ (n .1 .0) (n .1 .1 .0) (n .1 .1 .1 .0)) .2
-
 returns-2 : tie.Need-returns-2 Inv-loop μ-loop
 returns-2 c =
-    let a = c .before .before .before .before .before .before .before .before .before .before .before .before .before .before .before .before .before .before .before .before .before .args in
-    let l = c .before .before .before .before .before .before .before .before .before .before .before .before .before .before .before .before .loop in
-    let n = c .before .before .before .before .before .before .before .before .before .before .before .before .next-record .ensures in
-    last-accepted (a .d) (a .file .now) (a .from) (a .first) (a .columns) (a .room) (a .base) (a .starts .now) (a .ends .now) (a .kinds .now) (l .form) (l .i) (l .cells) (l .records) (l .starts) (l .ends) (l .kinds) (l .inv) _ (n .0) _ _ _ (n .1 .0) (n .1 .1 .0) (n .1 .1 .1 .0) _ _ (c .before .before .before .before .start2 .given .1) (n .1 .1 .1 .1) _ (c .before .before .data2 .ensures) (c .enum-told2 .given .1)
+    let at-start2 = c .before .before .before .before in
+    let at-next-record = at-start2 .before .before .before .before .before .before .before .before in
+    let at-loop = at-next-record .before .before .before .before in
+    let l = at-loop .loop in
+    let n = at-next-record .next-record .ensures in
+    last-accepted _ (l .inv) (n .0) (n .1 .0) (n .1 .1 .0) (n .1 .1 .1 .0) _ _ (at-start2 .start2 .given .1) (n .1 .1 .1 .1) _ (c .before .before .data2 .ensures) (c .enum-told2 .given .1)
 
 add-on-record-2 : tie.Need-add-on-record-2 Inv-loop μ-loop
 add-on-record-2 c =
@@ -172,33 +146,14 @@ add-on-record-2 c =
     let many : l .records ≤ l .i = l .inv .many in
     omega arith
 
-same-length-7 : tie.Need-same-length-7 Inv-loop μ-loop
-same-length-7 c =
-    let a = c .before .before .before .before .before .before .before .before .before .before .before .before .before .before .before .before .before .before .before .before .before .before .before .args in
-    let l = c .before .before .before .before .before .before .before .before .before .before .before .before .before .before .before .before .before .before .loop in
-    let n = c .before .before .before .before .before .before .before .before .before .before .before .before .before .before .next-record .ensures in
-    held-lengths (now-held (a .d) (a .file .now) (a .from) (a .first) (a .columns) (a .room) (a .base) (a .starts .now) (a .ends .now) (a .kinds .now) (l .form) (l .i) (l .cells) (l .records) (l .starts) (l .ends) (l .kinds) (l .inv) _ (n .0) _ _ _ (n .1 .0) (n .1 .1 .0) (n .1 .1 .1 .0)) .0
-
-same-length-8 : tie.Need-same-length-8 Inv-loop μ-loop
-same-length-8 c =
-    let a = c .before .before .before .before .before .before .before .before .before .before .before .before .before .before .before .before .before .before .before .before .before .before .before .args in
-    let l = c .before .before .before .before .before .before .before .before .before .before .before .before .before .before .before .before .before .before .loop in
-    let n = c .before .before .before .before .before .before .before .before .before .before .before .before .before .before .next-record .ensures in
-    held-lengths (now-held (a .d) (a .file .now) (a .from) (a .first) (a .columns) (a .room) (a .base) (a .starts .now) (a .ends .now) (a .kinds .now) (l .form) (l .i) (l .cells) (l .records) (l .starts) (l .ends) (l .kinds) (l .inv) _ (n .0) _ _ _ (n .1 .0) (n .1 .1 .0) (n .1 .1 .1 .0)) .1
-
-same-length-9 : tie.Need-same-length-9 Inv-loop μ-loop
-same-length-9 c =
-    let a = c .before .before .before .before .before .before .before .before .before .before .before .before .before .before .before .before .before .before .before .before .before .before .before .args in
-    let l = c .before .before .before .before .before .before .before .before .before .before .before .before .before .before .before .before .before .before .loop in
-    let n = c .before .before .before .before .before .before .before .before .before .before .before .before .before .before .next-record .ensures in
-    held-lengths (now-held (a .d) (a .file .now) (a .from) (a .first) (a .columns) (a .room) (a .base) (a .starts .now) (a .ends .now) (a .kinds .now) (l .form) (l .i) (l .cells) (l .records) (l .starts) (l .ends) (l .kinds) (l .inv) _ (n .0) _ _ _ (n .1 .0) (n .1 .1 .0) (n .1 .1 .1 .0)) .2
-
 returns-3 : tie.Need-returns-3 Inv-loop μ-loop
 returns-3 c =
-    let a = c .before .before .before .before .before .before .before .before .before .before .before .before .before .before .before .before .before .before .before .before .before .before .before .args in
-    let l = c .before .before .before .before .before .before .before .before .before .before .before .before .before .before .before .before .before .before .loop in
-    let n = c .before .before .before .before .before .before .before .before .before .before .before .before .before .before .next-record .ensures in
-    last-refused (a .d) (a .file .now) (a .from) (a .first) (a .columns) (a .room) (a .base) (a .starts .now) (a .ends .now) (a .kinds .now) (l .form) (l .i) (l .cells) (l .records) (l .starts) (l .ends) (l .kinds) (l .inv) _ (n .0) _ _ _ (n .1 .0) (n .1 .1 .0) (n .1 .1 .1 .0) _ _ (c .before .before .before .before .before .before .start2 .given .1) (n .1 .1 .1 .1) _ (c .before .before .before .before .data2 .ensures) _ (c .before .before .e2 .given .1) _ (c .on-record2 .ensures)
+    let at-data2 = c .before .before .before .before in
+    let at-next-record = at-data2 .before .before .before .before .before .before .before .before .before .before in
+    let at-loop = at-next-record .before .before .before .before in
+    let l = at-loop .loop in
+    let n = at-next-record .next-record .ensures in
+    last-refused _ (l .inv) (n .0) (n .1 .0) (n .1 .1 .0) (n .1 .1 .1 .0) _ _ (at-data2 .before .before .start2 .given .1) (n .1 .1 .1 .1) _ (at-data2 .data2 .ensures) _ (c .before .before .e2 .given .1) _ (c .on-record2 .ensures)
 
 add-on-record-3 : tie.Need-add-on-record-3 Inv-loop μ-loop
 add-on-record-3 c =
@@ -209,61 +164,21 @@ add-on-record-3 c =
     let many : l .records ≤ l .i = l .inv .many in
     omega arith
 
-same-length-10 : tie.Need-same-length-10 Inv-loop μ-loop
-same-length-10 c =
-    let a = c .before .before .before .before .before .before .before .before .before .before .before .before .before .before .before .before .before .before .before .args in
-    let l = c .before .before .before .before .before .before .before .before .before .before .before .before .before .before .loop in
-    let n = c .before .before .before .before .before .before .before .before .before .before .next-record .ensures in
-    held-lengths (now-held (a .d) (a .file .now) (a .from) (a .first) (a .columns) (a .room) (a .base) (a .starts .now) (a .ends .now) (a .kinds .now) (l .form) (l .i) (l .cells) (l .records) (l .starts) (l .ends) (l .kinds) (l .inv) _ (n .0) _ _ _ (n .1 .0) (n .1 .1 .0) (n .1 .1 .1 .0)) .0
-
-same-length-11 : tie.Need-same-length-11 Inv-loop μ-loop
-same-length-11 c =
-    let a = c .before .before .before .before .before .before .before .before .before .before .before .before .before .before .before .before .before .before .before .args in
-    let l = c .before .before .before .before .before .before .before .before .before .before .before .before .before .before .loop in
-    let n = c .before .before .before .before .before .before .before .before .before .before .next-record .ensures in
-    held-lengths (now-held (a .d) (a .file .now) (a .from) (a .first) (a .columns) (a .room) (a .base) (a .starts .now) (a .ends .now) (a .kinds .now) (l .form) (l .i) (l .cells) (l .records) (l .starts) (l .ends) (l .kinds) (l .inv) _ (n .0) _ _ _ (n .1 .0) (n .1 .1 .0) (n .1 .1 .1 .0)) .1
-
-same-length-12 : tie.Need-same-length-12 Inv-loop μ-loop
-same-length-12 c =
-    let a = c .before .before .before .before .before .before .before .before .before .before .before .before .before .before .before .before .before .before .before .args in
-    let l = c .before .before .before .before .before .before .before .before .before .before .before .before .before .before .loop in
-    let n = c .before .before .before .before .before .before .before .before .before .before .next-record .ensures in
-    held-lengths (now-held (a .d) (a .file .now) (a .from) (a .first) (a .columns) (a .room) (a .base) (a .starts .now) (a .ends .now) (a .kinds .now) (l .form) (l .i) (l .cells) (l .records) (l .starts) (l .ends) (l .kinds) (l .inv) _ (n .0) _ _ _ (n .1 .0) (n .1 .1 .0) (n .1 .1 .1 .0)) .2
-
 returns-4 : tie.Need-returns-4 Inv-loop μ-loop
 returns-4 c =
-    let a = c .before .before .before .before .before .before .before .before .before .before .before .before .before .before .before .before .before .before .before .args in
-    let l = c .before .before .before .before .before .before .before .before .before .before .before .before .before .before .loop in
-    let n = c .before .before .before .before .before .before .before .before .before .before .next-record .ensures in
-    fault-refused (a .d) (a .file .now) (a .from) (a .first) (a .columns) (a .room) (a .base) (a .starts .now) (a .ends .now) (a .kinds .now) (l .form) (l .i) (l .cells) (l .records) (l .starts) (l .ends) (l .kinds) (l .inv) _ (n .0) _ _ _ (n .1 .0) (n .1 .1 .0) (n .1 .1 .1 .0) _ _ (c .before .before .fault .given .1) _ (c .on-record3 .ensures)
-
-same-length-13 : tie.Need-same-length-13 Inv-loop μ-loop
-same-length-13 c =
-    let a = c .before .before .before .before .before .before .before .before .before .before .before .before .before .before .before .before .before .args in
-    let l = c .before .before .before .before .before .before .before .before .before .before .before .before .loop in
-    let n = c .before .before .before .before .before .before .before .before .next-record .ensures in
-    held-lengths (now-held (a .d) (a .file .now) (a .from) (a .first) (a .columns) (a .room) (a .base) (a .starts .now) (a .ends .now) (a .kinds .now) (l .form) (l .i) (l .cells) (l .records) (l .starts) (l .ends) (l .kinds) (l .inv) _ (n .0) _ _ _ (n .1 .0) (n .1 .1 .0) (n .1 .1 .1 .0)) .0
-
-same-length-14 : tie.Need-same-length-14 Inv-loop μ-loop
-same-length-14 c =
-    let a = c .before .before .before .before .before .before .before .before .before .before .before .before .before .before .before .before .before .args in
-    let l = c .before .before .before .before .before .before .before .before .before .before .before .before .loop in
-    let n = c .before .before .before .before .before .before .before .before .next-record .ensures in
-    held-lengths (now-held (a .d) (a .file .now) (a .from) (a .first) (a .columns) (a .room) (a .base) (a .starts .now) (a .ends .now) (a .kinds .now) (l .form) (l .i) (l .cells) (l .records) (l .starts) (l .ends) (l .kinds) (l .inv) _ (n .0) _ _ _ (n .1 .0) (n .1 .1 .0) (n .1 .1 .1 .0)) .1
-
-same-length-15 : tie.Need-same-length-15 Inv-loop μ-loop
-same-length-15 c =
-    let a = c .before .before .before .before .before .before .before .before .before .before .before .before .before .before .before .before .before .args in
-    let l = c .before .before .before .before .before .before .before .before .before .before .before .before .loop in
-    let n = c .before .before .before .before .before .before .before .before .next-record .ensures in
-    held-lengths (now-held (a .d) (a .file .now) (a .from) (a .first) (a .columns) (a .room) (a .base) (a .starts .now) (a .ends .now) (a .kinds .now) (l .form) (l .i) (l .cells) (l .records) (l .starts) (l .ends) (l .kinds) (l .inv) _ (n .0) _ _ _ (n .1 .0) (n .1 .1 .0) (n .1 .1 .1 .0)) .2
+    let at-next-record = c .before .before .before .before .before .before .before .before .before .before in
+    let at-loop = at-next-record .before .before .before .before in
+    let l = at-loop .loop in
+    let n = at-next-record .next-record .ensures in
+    fault-refused _ (l .inv) (n .0) (n .1 .0) (n .1 .1 .0) (n .1 .1 .1 .0) _ _ (c .before .before .fault .given .1) _ (c .on-record3 .ensures)
 
 returns-5 : tie.Need-returns-5 Inv-loop μ-loop
 returns-5 c =
-    let a = c .before .before .before .before .before .before .before .before .before .before .before .before .before .before .before .before .before .args in
-    let l = c .before .before .before .before .before .before .before .before .before .before .before .before .loop in
-    let n = c .before .before .before .before .before .before .before .before .next-record .ensures in
-    finish-accepted (a .d) (a .file .now) (a .from) (a .first) (a .columns) (a .room) (a .base) (a .starts .now) (a .ends .now) (a .kinds .now) (l .form) (l .i) (l .cells) (l .records) (l .starts) (l .ends) (l .kinds) (l .inv) _ (n .0) _ _ _ (n .1 .0) (n .1 .1 .0) (n .1 .1 .1 .0) _ (c .enum-told3 .given .1)
+    let at-next-record = c .before .before .before .before .before .before .before .before in
+    let at-loop = at-next-record .before .before .before .before in
+    let l = at-loop .loop in
+    let n = at-next-record .next-record .ensures in
+    finish-accepted _ (l .inv) (n .0) (n .1 .0) (n .1 .1 .0) (n .1 .1 .1 .0) _ (c .enum-told3 .given .1)
 
 pub data-records-spec : {M : Type 1} → statement M
 data-records-spec =
@@ -284,35 +199,35 @@ data-records-spec =
     (λ c. search needs)
     add-on-record
     (λ c κs. search needs)
-    same-length
-    same-length-2
-    same-length-3
+    (λ c. long (c .before .before .before .before .before .before .before .before .before .before .before .before .before .before) .0)
+    (λ c. long (c .before .before .before .before .before .before .before .before .before .before .before .before .before .before) .1)
+    (λ c. long (c .before .before .before .before .before .before .before .before .before .before .before .before .before .before) .2)
     returns
     (λ c. search needs)
     (λ c κs. search needs)
     (λ c. search needs)
     add-t37
     add-t38
-    same-length-4
-    same-length-5
-    same-length-6
+    (λ c. long (c .before .before .before .before .before .before .before .before .before .before .before .before) .0)
+    (λ c. long (c .before .before .before .before .before .before .before .before .before .before .before .before) .1)
+    (λ c. long (c .before .before .before .before .before .before .before .before .before .before .before .before) .2)
     returns-2
     (λ c. search needs)
     add-on-record-2
     (λ c κs. search needs)
-    same-length-7
-    same-length-8
-    same-length-9
+    (λ c. long (c .before .before .before .before .before .before .before .before .before .before .before .before .before .before) .0)
+    (λ c. long (c .before .before .before .before .before .before .before .before .before .before .before .before .before .before) .1)
+    (λ c. long (c .before .before .before .before .before .before .before .before .before .before .before .before .before .before) .2)
     returns-3
     (λ c. search needs)
     add-on-record-3
     (λ c κs. search needs)
-    same-length-10
-    same-length-11
-    same-length-12
+    (λ c. long (c .before .before .before .before .before .before .before .before .before .before) .0)
+    (λ c. long (c .before .before .before .before .before .before .before .before .before .before) .1)
+    (λ c. long (c .before .before .before .before .before .before .before .before .before .before) .2)
     returns-4
     (λ c. search needs)
-    same-length-13
-    same-length-14
-    same-length-15
+    (λ c. long (c .before .before .before .before .before .before .before .before) .0)
+    (λ c. long (c .before .before .before .before .before .before .before .before) .1)
+    (λ c. long (c .before .before .before .before .before .before .before .before) .2)
     returns-5)

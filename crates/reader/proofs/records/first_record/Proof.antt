@@ -21,38 +21,50 @@ judged-requires-2 c κs =
 
 returns : tie.Need-returns
 returns c =
-    let a = c .before .before .before .before .before .before .before .before .before .before .before .before .before .before .before .before .args in
-    let n = c .before .before .before .before .before .before .before .before .before .before .before .next-record .ensures in
-    header-sound (a .d) (a .file .now) _ (n .0) _ (c .before .before .judged .ensures) _ _ _ _ (c .before .before .before .before .before .before .start .given .1) (n .1 .1 .1 .1) (c .enum-told .given .1)
+    let at-start = c .before .before .before .before .before .before in
+    let at-next-record = at-start .before .before .before .before .before in
+    let a = at-next-record .before .before .before .before .before .args in
+    let n = at-next-record .next-record .ensures in
+    header-sound (a .d) (a .file .now) _ (n .0) _ (c .before .before .judged .ensures) _ _ _ _ (at-start .start .given .1) (n .1 .1 .1 .1) (c .enum-told .given .1)
 
 returns-2 : tie.Need-returns-2
 returns-2 c =
-    let a = c .before .before .before .before .before .before .before .before .before .before .before .before .before .before .before .before .before .before .args in
-    let n = c .before .before .before .before .before .before .before .before .before .before .before .before .before .next-record .ensures in
-    header-faulty (a .d) (a .file .now) _ (n .0) _ (c .before .before .before .before .judged .ensures) _ _ _ _ (c .before .before .before .before .before .before .before .before .start .given .1) _ (c .before .before .e .given .1) _ (c .on-record .ensures)
+    let at-judged = c .before .before .before .before in
+    let at-start = at-judged .before .before .before .before in
+    let at-next-record = at-start .before .before .before .before .before in
+    let a = at-next-record .before .before .before .before .before .args in
+    let n = at-next-record .next-record .ensures in
+    header-faulty (a .d) (a .file .now) _ (n .0) _ (at-judged .judged .ensures) _ _ _ _ (at-start .start .given .1) _ (c .before .before .e .given .1) _ (c .on-record .ensures)
 
 returns-3 : tie.Need-returns-3
 returns-3 c =
-    let a = c .before .before .before .before .before .before .before .before .before .before .before .before .before .before .before .before .args in
-    let n = c .before .before .before .before .before .before .before .before .before .before .before .next-record .ensures in
-    only-sound (a .d) (a .file .now) _ (n .0) _ (c .before .before .judged2 .ensures) _ _ (c .before .before .before .before .before .before .start2 .given .1) (c .enum-told2 .given .1)
+    let at-start2 = c .before .before .before .before .before .before in
+    let at-next-record = at-start2 .before .before .before .before .before in
+    let a = at-next-record .before .before .before .before .before .args in
+    let n = at-next-record .next-record .ensures in
+    only-sound (a .d) (a .file .now) _ (n .0) _ (c .before .before .judged2 .ensures) _ _ (at-start2 .start2 .given .1) (c .enum-told2 .given .1)
 
 returns-4 : tie.Need-returns-4
 returns-4 c =
-    let a = c .before .before .before .before .before .before .before .before .before .before .before .before .before .before .before .before .before .before .args in
-    let n = c .before .before .before .before .before .before .before .before .before .before .before .before .before .next-record .ensures in
-    only-faulty (a .d) (a .file .now) _ (n .0) _ (c .before .before .before .before .judged2 .ensures) _ _ (c .before .before .before .before .before .before .before .before .start2 .given .1) _ (c .before .before .e2 .given .1) _ (c .on-record2 .ensures)
+    let at-judged2 = c .before .before .before .before in
+    let at-start2 = at-judged2 .before .before .before .before in
+    let at-next-record = at-start2 .before .before .before .before .before in
+    let a = at-next-record .before .before .before .before .before .args in
+    let n = at-next-record .next-record .ensures in
+    only-faulty (a .d) (a .file .now) _ (n .0) _ (at-judged2 .judged2 .ensures) _ _ (at-start2 .start2 .given .1) _ (c .before .before .e2 .given .1) _ (c .on-record2 .ensures)
 
 returns-5 : tie.Need-returns-5
 returns-5 c =
-    let a = c .before .before .before .before .before .before .before .before .before .before .before .before .args in
-    let n = c .before .before .before .before .before .before .before .next-record .ensures in
+    let at-next-record = c .before .before .before .before .before .before .before in
+    let a = at-next-record .before .before .before .before .before .args in
+    let n = at-next-record .next-record .ensures in
     byte-faulty (a .d) (a .file .now) _ (n .0) _ _ (c .before .before .fault .given .1) _ (c .on-record3 .ensures)
 
 returns-6 : tie.Need-returns-6
 returns-6 c =
-    let a = c .before .before .before .before .before .before .before .before .before .before .before .before .args in
-    let n = c .before .before .before .before .before .before .before .next-record .ensures in
+    let at-next-record = c .before .before .before .before .before .before .before in
+    let a = at-next-record .before .before .before .before .before .args in
+    let n = at-next-record .next-record .ensures in
     nothing-there (a .d) (a .file .now) _ (n .0) _ (c .before .before .offset .given .1) _ (c .on-record4 .ensures)
 
 pub first-record-spec : {M : Type 1} → statement M

@@ -10,8 +10,9 @@ use Rattle.reader.proofs.records.judged.Tie as tie
 
 returns : tie.Need-returns
 returns c =
-    let a = c .before .before .before .before .args in
-    let q = c .before .before .before .before .pre in
+    let start = c .before .before .before .before in
+    let a = start .args in
+    let q = start .pre in
     too-many (a .d) _ _ (q .0) (c .if1 .taken)
 
 slice-aggregate-header : tie.Need-slice-aggregate-header
@@ -32,15 +33,18 @@ slice-aggregate-header-2 c =
 
 header-requires : tie.Need-header-requires
 header-requires c κs =
-    let a = c .before .before .before .before .before .before .args in
-    let q = c .before .before .before .before .before .before .pre in
+    let start = c .before .before .before .before .before .before in
+    let a = start .args in
+    let q = start .pre in
     judged-inside (a .d) (a .file .now) _ (a .cells) (a .starts .now) (a .ends .now) (q .0) (q .1 .0) (q .1 .1) (c .before .before .if1 .left)
 
 returns-2 : tie.Need-returns-2
 returns-2 c =
-    let a = c .before .before .before .before .before .before .before .args in
-    let q = c .before .before .before .before .before .before .before .pre in
-    c .header .ensures ∙ ap (headerFault (a .d)) (judged-values (a .d) (a .file .now) _ (a .cells) (a .starts .now) (a .ends .now) (q .0) (q .1 .0) (q .1 .1) (c .before .before .before .if1 .left))
+    let at-if1 = c .before .before .before in
+    let start = at-if1 .before .before .before .before in
+    let a = start .args in
+    let q = start .pre in
+    c .header .ensures ∙ ap (headerFault (a .d)) (judged-values (a .d) (a .file .now) _ (a .cells) (a .starts .now) (a .ends .now) (q .0) (q .1 .0) (q .1 .1) (at-if1 .if1 .left))
 
 pub judged-spec : {M : Type 1} → statement M
 judged-spec =

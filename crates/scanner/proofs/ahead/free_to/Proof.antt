@@ -5,7 +5,8 @@ use Rattle.scanner.proofs.ahead.free_to.Tie as tie
 
 returns-2 : tie.Need-returns-2
 returns-2 c =
-    let n : _ = many-free (c .before .before .before .args .length) (c .before .before .before .args .i) (c .before .before .before .args .size) (c .before .before .before .pre .0) (c .before .before .before .pre .1) (c .before .before .if1 .left) in
+    let start = c .before .before .before in
+    let n : _ = many-free (start .args .length) (start .args .i) (start .args .size) (start .pre .0) (start .pre .1) (c .before .before .if1 .left) in
     rw (c .least-of2 .ensures, c .before .least-of .ensures) n
 
 pub free-to-spec : {M : Type 1} → statement M

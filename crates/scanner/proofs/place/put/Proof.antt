@@ -5,8 +5,9 @@ use Rattle.scanner.proofs.place.put.Tie as tie
 
 returns : tie.Need-returns
 returns c =
-    let t = c .before .before .before .before .if1 .taken in
-    let l = c .before .before .before .if2 .taken in
+    let at-if2 = c .before .before .before in
+    let t = at-if2 .before .if1 .taken in
+    let l = at-if2 .if2 .taken in
     (put-there _ _ _ _ _ t l, (put-there _ _ _ _ _ t l, rw (c .kind-number .ensures, c .before .kind-of .ensures) (put-there _ _ _ _ _ t l)))
 
 returns-2 : tie.Need-returns-2
