@@ -79,11 +79,8 @@ returns-3 c =
 
 add-put : tie.Need-add-put Inv-loop μ-loop
 add-put c =
-    let a = c .before .before .before .before .before .before .before .before .before .before .before .before .before .before .before .before .before .before .before .args in
-    let l = c .before .before .before .before .before .before .before .before .before .before .before .before .before .before .loop in
-    let few : a .base + l .h .cells ≤ l .i = l .inv .reached .few in
-    let sized : l .h .size ≤ l .i = l .inv .reached .sized in
-    omega arith
+    let at-s = c .before .before .before .before .before .before in
+    record { fits = small-sum _ (by-byte _ (asked (at-s .before .before)) _ (at-s .s .given .1)) }
 
 put-requires : tie.Need-put-requires Inv-loop μ-loop
 put-requires c κs =
@@ -95,16 +92,13 @@ put-requires c κs =
 
 moved-requires : tie.Need-moved-requires Inv-loop μ-loop
 moved-requires c κs =
-    let a = c .before .before .before .before .before .before .before .before .before .before .before .before .before .before .before .before .before .before .before .before .before .before .before .before .before .before .before .before .before .args in
-    let l = c .before .before .before .before .before .before .before .before .before .before .before .before .before .before .before .before .before .before .before .before .before .before .before .before .loop in
-    let few : a .base + l .h .cells ≤ l .i = l .inv .reached .few in
-    let sized : l .h .size ≤ l .i = l .inv .reached .sized in
-    (omega arith, omega arith, omega arith)
+    let at-s = c .before .before .before .before .before .before .before .before .before .before .before .before .before .before .before .before in
+    small-step _ (by-byte _ (asked (at-s .before .before)) _ (at-s .s .given .1))
 
 add-i : tie.Need-add-i Inv-loop μ-loop
 add-i c =
-    let l = c .before .before .before .before .before .before .before .before .before .before .before .before .before .before .before .before .before .before .before .before .before .before .before .before .before .loop in
-    let m : l .i < MAXFILE = c .before .before .before .before .before .before .before .before .before .before .before .before .before .before .before .before .before .before .before .before .before .before .before .if1 .left in let x : l .i + 1 < 2 ^ 64 = omega arith in record { fits = x }
+    let at-s = c .before .before .before .before .before .before .before .before .before .before .before .before .before .before .before .before .before in
+    record { fits = small-step _ (by-byte _ (asked (at-s .before .before)) _ (at-s .s .given .1)) .0 }
 
 returns-4 : tie.Need-returns-4 Inv-loop μ-loop
 returns-4 c =
