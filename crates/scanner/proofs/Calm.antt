@@ -4,7 +4,7 @@ use Prim.Native.Nat.{ℕ, _≤_}
 use native.Mathlib.Omega.{arith}
 use mathlib.Core.Path.{_≡_, refl}
 use mathlib.Core.Bool.{Bool, true, false}
-use Rattle.model.specs.Base.{LF, CR, COMMA, _is_}
+use Rattle.model.specs.Base.{COMMA, _is_}
 use Rattle.model.specs.Dialect.{delimiterOf}
 use Rattle.model.specs.Utf8.{charStep}
 use Rattle.model.specs.Cell.{cellStep, inQuotes}
