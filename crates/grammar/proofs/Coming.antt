@@ -15,7 +15,7 @@ use Rattle.model.specs.Base.{Bytes, _is_}
 use Rattle.model.specs.Utf8.{charStep}
 use Rattle.model.specs.Form.{isBlank, afterCell, inCell, beginRecord, beginFile, commented, formStep, lastCell, formEnd}
 use Rattle.model.proofs.Tests.{split, split-on, is→eq}
-use Rattle.model.proofs.Cells.{mark-rest}
+use Rattle.model.proofs.CellRuns.{mark-rest}
 use Rattle.grammar.specs.Rfc5234.{LF, CR}
 use Rattle.grammar.specs.Derived.{Line, line}
 use Rattle.grammar.specs.Reading.{Reads}

@@ -6,7 +6,7 @@ use mathlib.Core.Logic.{_↔_}
 use mathlib.Core.Bool.{Bool, true, false}
 use mathlib.Core.Option.{Option}
 use mathlib.Core.List.{List, [], _∷_, _++_, map, append-assoc}
-use Rattle.grammar.specs.Types.{Dialect, Form, Top, Outside, Passed, OfCell, Between, Tail, Ends, To, Clean}
+use Rattle.grammar.specs.Types.{Dialect, Target, Form, Top, Outside, Passed, OfCell, Between, Tail, Ends, To, Clean}
 use Rattle.model.specs.declared.Part.{Part}
 use Rattle.model.specs.Base.{Bytes}
 use Rattle.model.specs.Form.{formStep, formEnd}
@@ -118,7 +118,7 @@ module _ (d : Dialect) where
       completed-from : (ys : Bytes) → Completed Top (xs ++ (b ∷ ys)) → CanGoOn d xs b
       completed-from ys (by-adding ws k) = (ys ++ ws, rw (append-assoc xs (b ∷ ys) ws) at k)
 
-  pub next-byte-exact : (target : Option Dialect) (xs : Bytes) (r : Read) (b : ℕ) → readBytes d target xs ≡ going r → fileFull r ≡ false → recordFull r b ≡ false → NextByte d target xs r b
+  pub next-byte-exact : (target : Option Target) (xs : Bytes) (r : Read) (b : ℕ) → readBytes d target xs ≡ going r → fileFull r ≡ false → recordFull r b ≡ false → NextByte d target xs r b
   next-byte-exact target xs r b read file size =
       let m = laws .next-byte d target xs r b read file size in
       let g = can-go-on xs b in

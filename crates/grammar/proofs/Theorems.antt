@@ -6,7 +6,7 @@ use mathlib.Core.Bool.{true, false}
 use mathlib.Core.Option.{Option, none, some}
 use mathlib.Core.List.{List, [], _∷_, map}
 use lib.ListN.{length}
-use Rattle.grammar.specs.Types.{Dialect, Whole}
+use Rattle.grammar.specs.Types.{Dialect, Target, Whole}
 use Rattle.model.specs.declared.Judged.the-variants.{WholeCell}
 use Rattle.model.specs.Base.{Bytes, concat}
 use Rattle.model.specs.Dialect.{dialectOf, standard}
@@ -97,7 +97,7 @@ goes-on = can-go-on
 
 -- so faults 2 and 3 are for the byte with which no derivation's text begins
 pub next-byte :
-    (d : Dialect) (target : Option Dialect) (xs : Bytes) (r : Read) (b : ℕ) → readBytes d target xs ≡ going r → fileFull r ≡ false →
+    (d : Dialect) (target : Option Target) (xs : Bytes) (r : Read) (b : ℕ) → readBytes d target xs ≡ going r → fileFull r ≡ false →
     recordFull r b ≡ false → NextByte d target xs r b
 next-byte = next-byte-exact
 

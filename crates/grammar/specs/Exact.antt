@@ -5,7 +5,7 @@ use mathlib.Core.Logic.{_↔_}
 use mathlib.Core.Bool.{false}
 use mathlib.Core.Option.{Option, none}
 use mathlib.Core.List.{List}
-use Rattle.grammar.specs.Types.{Dialect}
+use Rattle.grammar.specs.Types.{Target, Dialect}
 use Rattle.model.specs.Base.{Bytes}
 use Rattle.model.specs.Report.{accepted}
 use Rattle.model.specs.Records.{Read, going, fileFull, recordFull, readBytes, readFile, reportOf}
@@ -25,7 +25,7 @@ pub record Exact : Type 0 where
   pub acceptance : (d : Dialect) (xs : Bytes) → (reportOf (readFile d none xs) ≡ accepted) ↔ ((ls : List (Line Derived)) × Acceptable d xs ls)
   -- a byte after bytes that were read, within the limits, is fault 2 or 3 exactly when no derivation's text begins so
   pub next-byte :
-      (d : Dialect) (target : Option Dialect) (xs : Bytes) (r : Read) (b : ℕ) → readBytes d target xs ≡ going r → fileFull r ≡ false →
+      (d : Dialect) (target : Option Target) (xs : Bytes) (r : Read) (b : ℕ) → readBytes d target xs ≡ going r → fileFull r ≡ false →
       recordFull r b ≡ false → NextByte d target xs r b
 
 -- and of where cells stand. It is told by the cases of the productions, so it stands apart from what is told of any productions

@@ -5,7 +5,7 @@ use mathlib.Core.Logic.{_↔_}
 use mathlib.Core.Bool.{false}
 use mathlib.Core.Option.{Option}
 use mathlib.Core.List.{List, [], _∷_, _++_}
-use Rattle.grammar.specs.Types.{Dialect, ByteFault, Syntax, Byte}
+use Rattle.grammar.specs.Types.{Dialect, Target, ByteFault, Syntax, Byte}
 use Rattle.model.specs.Base.{Bytes}
 use Rattle.model.specs.Records.{Read, stopped, readBytes}
 use Rattle.model.specs.Viable.{textAt, breaks}
@@ -17,7 +17,7 @@ abbrev pub GoesOn : Dialect → Bytes → ℕ → Type 0
 GoesOn d xs b = (ys : Bytes) × (ls : List (Line Derived)) × Derives d (xs ++ (b ∷ ys)) ls
 
 -- the byte b after the bytes xs, which were read without fault, within the limits
-pub record NextByte (d : Dialect) (target : Option Dialect) (xs : Bytes) (r : Read) (b : ℕ) : Type 0 where
+pub record NextByte (d : Dialect) (target : Option Target) (xs : Bytes) (r : Read) (b : ℕ) : Type 0 where
   -- it is fault 2 or 3 exactly when no derivation's text begins so
   pub refused : ((e : ByteFault) × (readBytes d target (xs ++ (b ∷ [])) ≡ stopped (Byte e) r)) ↔ ¬ (GoesOn d xs b)
   -- and 3 where it does not break the UTF-8 table in a text that it stands in

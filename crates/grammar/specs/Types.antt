@@ -8,6 +8,7 @@ pub use Rattle.model.specs.declared.Quote.the-variants.{Double, Single}
 pub use Rattle.model.specs.declared.Settings.{Settings}
 pub use Rattle.model.specs.declared.Dialect.{Dialect}
 pub use Rattle.model.specs.declared.Dialect.the-variants.{Csvj, Tdif, CsvPlus}
+pub use Rattle.model.specs.declared.Target.{Target}
 pub use Rattle.model.specs.declared.Lead.{Lead}
 pub use Rattle.model.specs.declared.Lead.the-variants.{C2ToDf, E0, E1ToEc, Ed, EeToEf, F0, F1ToF3, F4}
 pub use Rattle.model.specs.declared.Inner.{Inner}

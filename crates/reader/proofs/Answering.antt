@@ -2,10 +2,10 @@
 use Prim.Native.Nat.{ℕ, _+_, _≤_, _<_}
 use native.Mathlib.Omega.{arith}
 use mathlib.Core.Path.{_≡_, refl, sym, ap, subst, _∙_}
-use mathlib.Core.Bool.{Bool, true, false}
+use mathlib.Core.Bool.{true, false}
 use mathlib.Core.Option.{none, some}
 use mathlib.Core.List.{List, [], _∷_, _++_, map, map-append, append-nil}
-use lib.ListN.{length, drop, length-append, length-map}
+use lib.ListN.{length, length-append, length-map}
 use lib.Dec.{ltb}
 use borrow.Author.Tests.{lt-ltb, le-ltb}
 use Rattle.model.specs.declared.Dialect.{Dialect}
@@ -15,7 +15,7 @@ use Rattle.model.specs.Base.{if_then_else_, Bytes, concat, over}
 use Rattle.model.specs.Dialect.{dialectOf}
 use Rattle.model.specs.Text.{Value}
 use Rattle.model.specs.Report.{accepted, refusal, MAXFILE}
-use Rattle.model.specs.Records.{Rec, rows, Read, Progress, going, stopped, readFile, faultReport}
+use Rattle.model.specs.Records.{Rec, rows, Read, Progress, going, readFile}
 use Rattle.model.specs.Api as api
 use Rattle.model.specs.Api.{startsOf, endsOf, kindsOf}
 use Rattle.scanner.specs.Placed.{placed}
@@ -27,7 +27,7 @@ use Rattle.reader.specs.declared.records.Pass.{Pass}
 use Rattle.reader.specs.declared.records.Pass.the-variants.{Accepted, Refused}
 use Rattle.reader.specs.Answers.{answerOf, told, answerIn}
 use Rattle.reader.specs.Passes as passes
-use Rattle.reader.specs.Passes.{firstOf, restOf, Heads, with-data, alone, faulty, Holds, Outcome, Passes}
+use Rattle.reader.specs.Passes.{firstOf, restOf, Heads, with-data, alone, faulty, Outcome, Passes}
 use Rattle.reader.proofs.Filling.{placed-append, placed-none, placed-over}
 
 -- the answer, and the lists after it

@@ -1,7 +1,7 @@
 -- What an event of the scanner says of reading.
 use Prim.Native.Nat.{ℕ}
 use native.Mathlib.Omega.{arith}
-use mathlib.Core.Path.{_≡_, refl, sym, ap, _∙_}
+use mathlib.Core.Path.{_≡_, refl, sym}
 use mathlib.Core.Bool.{true}
 use mathlib.Core.Option.{none}
 use mathlib.Core.List.{List, []}
@@ -11,12 +11,10 @@ use Rattle.model.specs.declared.Form.{Form}
 use Rattle.model.specs.declared.Form.the-variants.{Begin}
 use Rattle.model.specs.declared.Fault.{Fault}
 use Rattle.model.specs.Base.{Bytes}
-use Rattle.model.specs.Text.{Value}
 use Rattle.model.specs.Report.{isAtByte}
 use Rattle.model.specs.Records.{Rec, Read, Progress, stopped, complete, readFrom, readEnd, endBetween}
 use Rattle.scanner.specs.Next.{Next}
 use Rattle.scanner.specs.Reading.{Follows, after-record, after-last, after-fault, after-all}
-use Rattle.scanner.specs.declared.Event.{Event}
 use Rattle.scanner.specs.declared.Event.the-variants.{Completed, LastRecord, Failed, Finished}
 
 other : {A : Type 0} → _≡_ {A = ℕ} 0 1 → A

@@ -1,7 +1,7 @@
 -- What a complete record comes to, by the fault that is found in it.
-use Prim.Native.Nat.{ℕ, suc, _≤_, _<_}
+use Prim.Native.Nat.{ℕ, suc}
 use native.Mathlib.Omega.{arith}
-use mathlib.Core.Path.{_≡_, refl, sym, ap, _∙_}
+use mathlib.Core.Path.{_≡_, refl, sym}
 use mathlib.Core.Bool.{Bool, true, false, not}
 use mathlib.Core.Option.{none}
 use mathlib.Core.List.{List, [], _∷_, _++_}
@@ -16,7 +16,7 @@ use Rattle.model.specs.declared.Verdict.the-variants.{Sound, Faulty}
 use Rattle.model.specs.Base.{if_then_else_, Bytes}
 use Rattle.model.specs.Text.{Value, isText}
 use Rattle.model.specs.Report.{report, numberOf, columnOf, isAtByte, MAXCOLUMNS}
-use Rattle.model.specs.Records.{Rec, Read, between-records, Progress, going, stopped, judged, complete, recordFault, headerFault, dataFault, notTextFrom, repeatFrom, repeatFault, nameKey, among, _orElse_, when, faultReport}
+use Rattle.model.specs.Records.{Rec, Read, between-records, going, stopped, complete, recordFault, headerFault, dataFault, notTextFrom, repeatFrom, repeatFault, nameKey, among, _orElse_, when, faultReport}
 use Rattle.model.proofs.Tests.{split}
 
 -- ---- the place of a record's fault is its start

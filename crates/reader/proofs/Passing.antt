@@ -1,9 +1,7 @@
 -- What holds at each turn over the data records, and how each way through a turn keeps it.
-use Prim.Native.Nat.{ℕ, zero, suc, _+_, _≤_, _<_}
-use native.Mathlib.Numerals.{add-one}
+use Prim.Native.Nat.{ℕ, suc, _+_, _≤_, _<_}
 use native.Mathlib.Omega.{arith}
 use mathlib.Core.Path.{_≡_, refl, sym, ap, subst, _∙_}
-use mathlib.Core.Bool.{Bool, true, false}
 use mathlib.Core.Option.{none}
 use mathlib.Core.List.{List, [], _∷_, _++_, map, map-append, append-assoc, append-nil}
 use lib.ListN.{length, drop, length-append, length-map}
@@ -26,11 +24,10 @@ use Rattle.scanner.specs.declared.Event.{Event}
 use Rattle.scanner.specs.declared.Event.the-variants.{Completed, LastRecord, Failed, Finished}
 use Rattle.scanner.proofs.Placing.{length-placed}
 use Rattle.scanner.proofs.Reading.{stays, follows}
-use Rattle.reader.specs.declared.records.Pass.{Pass}
 use Rattle.reader.specs.declared.records.Pass.the-variants.{Accepted, Refused}
-use Rattle.reader.specs.Passes.{restOf, Holds, Outcome, accepted, refused, Few, Passes}
+use Rattle.reader.specs.Passes.{restOf, Holds, Outcome, accepted, refused, Passes}
 use Rattle.reader.proofs.Filling.{placed-append}
-use Rattle.reader.proofs.Judging.{AtStart, data-starts, starts-of, report-start, report-byte, data-fault, recOf, complete-sound, complete-faulty}
+use Rattle.reader.proofs.Judging.{data-starts, starts-of, report-start, report-byte, data-fault, recOf, complete-sound, complete-faulty}
 use Rattle.reader.proofs.Events.{on-record, on-last, on-fault, on-finish}
 
 -- ---- lists

@@ -8,7 +8,6 @@ use Rattle.model.specs.declared.Dialect.{Dialect}
 use Rattle.model.specs.declared.Form.{Form}
 use Rattle.model.specs.declared.Form.the-variants.{Top}
 use Rattle.model.specs.declared.Fault.{Fault}
-use Rattle.model.specs.declared.Report.{Report}
 use Rattle.model.specs.Base.{Bytes, concat}
 use Rattle.model.specs.Text.{Value}
 use Rattle.model.specs.Report.{MAXFILE, MAXCOLUMNS}

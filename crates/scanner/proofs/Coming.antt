@@ -4,15 +4,15 @@ use Prim.Native.Nat.{ℕ, zero, suc, _+_, _-_, _≤_, _<_}
 use native.Mathlib.Numerals.{add-one}
 use native.Mathlib.Omega.{arith}
 use mathlib.Core.Path.{_≡_, refl, sym, ap, subst, _∙_}
-use mathlib.Core.Bool.{Bool, true, false, _&&_}
+use mathlib.Core.Bool.{Bool, true, false}
 use mathlib.Core.List.{List, [], _∷_, _++_}
-use lib.ListN.{length, take, drop, getD, length-drop}
+use lib.ListN.{length, drop, getD, length-drop}
 use lib.Seq.{drop-cons, take-suc, length-take-le, getD-drop}
 use lib.Dec.{leb}
 use borrow.Author.Tests.{lt-leb}
 use Rattle.model.specs.Base.{if_then_else_, Bytes}
 use Rattle.model.specs.Cell.{cellStep}
-use Rattle.model.specs.Form.{formStep, inCell, grow, afterCell, counts}
+use Rattle.model.specs.Form.{formStep, inCell, afterCell}
 use Rattle.model.specs.Text.{Value}
 use Rattle.model.specs.Report.{MAXFILE, MAXRECORD}
 use Rattle.model.specs.Records.{Read, fileFull, recordFull}
@@ -23,7 +23,7 @@ use Rattle.file_lexer.specs.declared.Held.{Held}
 use Rattle.file_lexer.specs.declared.Held.the-variants as held
 use Rattle.runs.specs.declared.CellEnd.{CellEnd}
 use Rattle.runs.specs.declared.CellEnd.the-variants as cell-end
-use Rattle.runs.proofs.Runs.{part-next, part-end, part-short, leading-on, leading-ends, leading-none, rest-more, rest-stops, rest-refused, rest-open, comment-step}
+use Rattle.runs.proofs.Runs.{part-end, part-short, leading-on, leading-ends, leading-none, rest-more, rest-stops, rest-refused, rest-open, comment-step}
 use Rattle.model.specs.declared.Dialect.{Dialect}
 use Rattle.model.specs.declared.Char.the-variants.{Whole, Within}
 use Rattle.model.specs.declared.Cell.{Cell}

@@ -1,5 +1,5 @@
 -- Reading a file goes from record to record.
-use Prim.Native.Nat.{ℕ, zero, suc, _+_}
+use Prim.Native.Nat.{ℕ, _+_}
 use native.Mathlib.Numerals.{add-one}
 use mathlib.Core.Path.{_≡_, refl, sym, ap, subst, _∙_}
 use mathlib.Core.Bool.{Bool, true, false, _&&_}
@@ -11,7 +11,7 @@ use lib.Dec.{leb}
 use Rattle.model.specs.Base.{if_then_else_, Bytes}
 use Rattle.model.specs.Form.{formStep, formEnd, counts}
 use Rattle.model.specs.Report.{MAXFILE, MAXRECORD, isAtByte}
-use Rattle.model.specs.Records.{Rec, Read, Progress, going, stopped, closing, complete, move, fileFull, recordFull, readByte, readFrom, readEnd, endAt}
+use Rattle.model.specs.Records.{Rec, Read, Progress, going, stopped, closing, move, fileFull, recordFull, readByte, readFrom, readEnd, endAt}
 use Rattle.model.proofs.Tests.{impossible}
 use Rattle.model.specs.declared.Dialect.{Dialect}
 use Rattle.model.specs.declared.Target.{Target}
@@ -24,7 +24,7 @@ use Rattle.model.specs.declared.Ending.{Ending}
 use Rattle.model.specs.declared.Ending.the-variants.{Clean, Final, Cut}
 use Rattle.model.specs.declared.Fault.{Fault}
 use Rattle.model.specs.declared.Fault.the-variants.{Byte, CutShort, FileTooLong, RecordTooLong}
-use Rattle.scanner.specs.Next.{Next, endsRecord, carried, failed, ended, stepped, nextRecord}
+use Rattle.scanner.specs.Next.{endsRecord, carried, failed, ended, stepped, nextRecord}
 use Rattle.scanner.specs.Reading.{redone, Follows, after-record, after-last, after-fault, after-all}
 
 -- what is left after one more byte

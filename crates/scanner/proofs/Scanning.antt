@@ -4,7 +4,7 @@ use native.Mathlib.Numerals.{add-one}
 use native.Mathlib.Omega.{arith}
 use mathlib.Core.Path.{_≡_, refl, sym, ap, subst, _∙_}
 use mathlib.Core.Bool.{Bool, true, false, _&&_}
-use mathlib.Core.List.{List, [], _∷_, _++_, map, map-append}
+use mathlib.Core.List.{List, [], _∷_, map, map-append}
 use lib.ListN.{length, drop, getD, length-append, length-map, drop-of-length-le}
 use lib.Seq.{drop-cons}
 use lib.Dec.{leb}
@@ -36,7 +36,7 @@ use Rattle.model.specs.declared.Fault.the-variants.{Byte, CutShort, FileTooLong
 use Rattle.scanner.specs.Types.{InHand, Met, Is, Skipped, AfterCell, Refused, Open, Event, Completed, LastRecord, Failed, Finished}
 use Rattle.scanner.specs.Next.{Next, closesCell, endsRecord, oneMore, handAfter, grown, cellsAfter, failed, completed, ended, stepped, nextRecord, Fits}
 use Rattle.scanner.specs.Ahead.{readAt, steppedAt, metNext, outer, Lies, Comes}
-use Rattle.scanner.specs.Placed.{putAt, putIf, placed}
+use Rattle.scanner.specs.Placed.{putIf, placed}
 use Rattle.scanner.proofs.Placing.{placed-snoc, length-put-if, length-placed}
 use Rattle.scanner.proofs.Coming.{carried-at}
 use Rattle.scanner.proofs.Calm.{Calm, step-calm, after-calm, leaves, passes, grows, blanks, parts, tails, finishes}

@@ -1,21 +1,12 @@
 -- The invariant: what reading from `from` comes to is what it comes to from here, with the cells found so far, which the lists hold.
-use Prim.Native.Nat.{ℕ, _+_, _-_, _^_, _≤_, _<_}
+use Prim.Native.Nat.{_+_, _-_, _≤_, _<_}
 use native.Mathlib.Omega.{arith}
 use mathlib.Core.Path.{_≡_, sym, _∙_}
-use mathlib.Core.Bool.{Bool, true}
+use mathlib.Core.Bool.{true}
 use lib.ListN.{length, getD}
 use borrow.Author.Needs.{needs}
-use Rattle.model.specs.Form.{afterCell}
 use Rattle.model.specs.Report.{MAXFILE}
 use Rattle.model.specs.Records.{recordFull}
-use Rattle.model.specs.declared.Cell.{Cell}
-use Rattle.model.specs.declared.ByteFault.{ByteFault}
-use Rattle.model.specs.declared.Form.the-variants.{Inside}
-use Rattle.model.specs.declared.Part.the-variants.{Outside}
-use Rattle.model.specs.declared.Step.{Step}
-use Rattle.model.specs.declared.Fault.the-variants.{Byte}
-use Rattle.scanner.specs.Types.{InHand, Is, Skipped, AfterCell, Refused, Open, Failed}
-use Rattle.scanner.specs.Next.{handAfter, grown}
 use Rattle.scanner.specs.Ahead.{readAt}
 use Rattle.scanner.proofs.Scanning.{Call, Scanning, Asked, begins, too-long-file, too-long-record, by-byte, by-cell, by-skip, by-open, by-refusal, lies-cell, lies-skip, lies-open, step-refused, step-on, step-over, step-fits, clean-end, cut-short, last-put, last-fits, lengths, put-lengths, small-sum, small-step}
 use Rattle.scanner.proofs.next_record.Statement.{statement}
@@ -159,8 +150,7 @@ grown-by-requires c κs =
 shared-slice-read-after-cell : tie.Need-shared-slice-read-after-cell Inv-loop μ-loop
 shared-slice-read-after-cell c =
     let at-closes = c .before .before .before in
-    let at-place = at-closes .before .before in
-    lies-cell _ (asked (at-place)) _ _ (at-closes .closes .given .1) .1
+    lies-cell _ (asked (at-closes .before .before)) _ _ (at-closes .closes .given .1) .1
 
 returns-5 : tie.Need-returns-5 Inv-loop μ-loop
 returns-5 c =

@@ -1,5 +1,5 @@
 use borrow.Author.Needs.{needs}
-use Rattle.scanner.proofs.Coming.{one-free, many-free}
+use Rattle.scanner.proofs.Coming.{many-free}
 use Rattle.scanner.proofs.ahead.free_to.Statement.{statement}
 use Rattle.scanner.proofs.ahead.free_to.Tie as tie
 

@@ -1,6 +1,6 @@
 use borrow.Author.Needs.{needs}
 use Rattle.model.proofs.Tests.{tests}
-use Rattle.scanner.specs.Next.{oneMore, handAfter}
+use Rattle.scanner.specs.Next.{oneMore}
 use Rattle.scanner.proofs.hand.moved.Statement.{statement}
 use Rattle.scanner.proofs.hand.moved.Tie as tie
 
