@@ -2,7 +2,7 @@
 // length; `include/hemakuliwi.h` declares the call for C. Its contract is the reader's.
 ghost use mathlib.Core.Path.{_≡_};
 ghost use Rattle.model.specs.Api.{readCall};
-ghost use Rattle.reader.specs.Answers.{answerOf};
+ghost use Rattle.reader.specs.Answers.{callAnswer};
 use reader::Answer;
 
 // The cells of a whole file: their starts, ends and kinds.
@@ -14,7 +14,7 @@ pub extern "C" fn hk_read(
     ends: &mut [usize],
     kinds: &mut [u8],
 ) -> Answer
-    ensures answer { λ r. ⌜ r ≡ answerOf (readCall dialect (now (file .entry)) (now (starts .entry)) (now (ends .entry)) (now (kinds .entry))) ⌝ }
+    ensures answer { λ r. ⌜ r ≡ callAnswer (readCall dialect (now (file .entry)) (now (starts .entry)) (now (ends .entry)) (now (kinds .entry))) ⌝ }
     ensures leaves_starts { λ r. ⌜ now (starts .exit) ≡ readCall dialect (now (file .entry)) (now (starts .entry)) (now (ends .entry)) (now (kinds .entry)) .starts ⌝ }
     ensures leaves_ends { λ r. ⌜ now (ends .exit) ≡ readCall dialect (now (file .entry)) (now (starts .entry)) (now (ends .entry)) (now (kinds .entry)) .ends ⌝ }
     ensures leaves_kinds { λ r. ⌜ now (kinds .exit) ≡ readCall dialect (now (file .entry)) (now (starts .entry)) (now (ends .entry)) (now (kinds .entry)) .kinds ⌝ }

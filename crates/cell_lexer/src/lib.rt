@@ -1,12 +1,12 @@
 // The automaton of one cell, a byte at a time, for all three dialects. Each step is the definition's step of the same state (model's
 // specs/Cell.antt), with its tests in the same order.
 //
-// `Met` keeps most functions on the way of a byte at one call site, so that the compiler can put them into the loop that calls them.
+// `ByteClass` keeps most functions on the way of a byte at one call site, so that the compiler can put them into the loop that calls them.
 // `benchmark.sh` measures what comes of it.
-use model::Added;
 use model::Advance;
 use model::ByteFault;
 use model::Cell;
+use model::CellStep;
 use model::Char;
 use model::Delimiter;
 use model::Dialect;
@@ -19,7 +19,7 @@ ghost use mathlib.Core.Bool.{_||_};
 ghost use Rattle.model.specs.Base.{_is_, CR, LF};
 ghost use Rattle.model.specs.Dialect.{delimiterOf, quoteOf};
 ghost use Rattle.model.specs.Cell.{firstByte, quotedByte, plainByte, cellStep};
-ghost use Rattle.cell_lexer.specs.Met.{addedOf};
+ghost use Rattle.cell_lexer.specs.ByteClass.{cellStepOf};
 
 pub fn delimiter_of(d: Dialect) -> u8
     ensures { λ r. ⌜ r ≡ delimiterOf d ⌝ }
@@ -68,73 +68,73 @@ fn is_separator(d: Dialect, b: u8) -> bool
 }
 
 // What a byte does to a cell, or the text in which it stands.
-enum Met {
-    Is(Added),
+enum ByteClass {
+    Is(CellStep),
     InQuotes(Char),
     InPlain(Char),
 }
 
-fn plus_first(s: Settings, b: u8) -> Met
-    ensures { λ r. ⌜ addedOf r b ≡ firstByte (Dialect.CsvPlus s) b ⌝ }
+fn plus_first(s: Settings, b: u8) -> ByteClass
+    ensures { λ r. ⌜ cellStepOf r b ≡ firstByte (Dialect.CsvPlus s) b ⌝ }
 {
     let d = Dialect::CsvPlus(s);
     if b == quote_of(d) {
-        return Met::Is(Added::More(Cell::Quoted(Char::Whole)));
+        return ByteClass::Is(CellStep::More(Cell::Quoted(Char::Whole)));
     }
     if is_separator(d, b) {
-        return Met::Is(Added::Stop);
+        return ByteClass::Is(CellStep::Stop);
     }
     if b < 0x80 {
-        return Met::Is(Added::More(Cell::Plain(Char::Whole)));
+        return ByteClass::Is(CellStep::More(Cell::Plain(Char::Whole)));
     }
-    Met::InPlain(Char::Whole)
+    ByteClass::InPlain(Char::Whole)
 }
 
-fn meet_first(d: Dialect, b: u8) -> Met
-    ensures { λ r. ⌜ addedOf r b ≡ firstByte d b ⌝ }
+fn classify_first(d: Dialect, b: u8) -> ByteClass
+    ensures { λ r. ⌜ cellStepOf r b ≡ firstByte d b ⌝ }
 {
     match d {
-        Dialect::Csvj => Met::Is(values::csvj_first(b)),
-        Dialect::Tdif => Met::Is(values::tdif_first(b)),
+        Dialect::Csvj => ByteClass::Is(values::csvj_first(b)),
+        Dialect::Tdif => ByteClass::Is(values::tdif_first(b)),
         Dialect::CsvPlus(s) => plus_first(s, b),
     }
 }
 
-fn csvj_quoted(b: u8) -> Met
-    ensures { λ r. ⌜ addedOf r b ≡ quotedByte Dialect.Csvj b ⌝ }
+fn csvj_quoted(b: u8) -> ByteClass
+    ensures { λ r. ⌜ cellStepOf r b ≡ quotedByte Dialect.Csvj b ⌝ }
 {
     if b == 0x22 {
-        return Met::Is(Added::More(Cell::Complete));
+        return ByteClass::Is(CellStep::More(Cell::Complete));
     }
     if b == 0x5C {
-        return Met::Is(Added::More(Cell::Escape));
+        return ByteClass::Is(CellStep::More(Cell::Escape));
     }
     if b < 0x20 {
-        return Met::Is(Added::Refuse(ByteFault::Syntax));
+        return ByteClass::Is(CellStep::Refuse(ByteFault::Syntax));
     }
-    Met::InQuotes(Char::Whole)
+    ByteClass::InQuotes(Char::Whole)
 }
 
-fn tdif_quoted(b: u8) -> Met
-    ensures { λ r. ⌜ addedOf r b ≡ quotedByte Dialect.Tdif b ⌝ }
+fn tdif_quoted(b: u8) -> ByteClass
+    ensures { λ r. ⌜ cellStepOf r b ≡ quotedByte Dialect.Tdif b ⌝ }
 {
     if b == 0x22 {
-        return Met::Is(Added::More(Cell::Closed));
+        return ByteClass::Is(CellStep::More(Cell::Closed));
     }
-    Met::InQuotes(Char::Whole)
+    ByteClass::InQuotes(Char::Whole)
 }
 
-fn plus_quoted(s: Settings, b: u8) -> Met
-    ensures { λ r. ⌜ addedOf r b ≡ quotedByte (Dialect.CsvPlus s) b ⌝ }
+fn plus_quoted(s: Settings, b: u8) -> ByteClass
+    ensures { λ r. ⌜ cellStepOf r b ≡ quotedByte (Dialect.CsvPlus s) b ⌝ }
 {
     if b == quote_of(Dialect::CsvPlus(s)) {
-        return Met::Is(Added::More(Cell::Closed));
+        return ByteClass::Is(CellStep::More(Cell::Closed));
     }
-    Met::InQuotes(Char::Whole)
+    ByteClass::InQuotes(Char::Whole)
 }
 
-fn meet_quoted(d: Dialect, b: u8) -> Met
-    ensures { λ r. ⌜ addedOf r b ≡ quotedByte d b ⌝ }
+fn classify_quoted(d: Dialect, b: u8) -> ByteClass
+    ensures { λ r. ⌜ cellStepOf r b ≡ quotedByte d b ⌝ }
 {
     match d {
         Dialect::Csvj => csvj_quoted(b),
@@ -143,95 +143,95 @@ fn meet_quoted(d: Dialect, b: u8) -> Met
     }
 }
 
-fn meet_plain(d: Dialect, b: u8) -> Met
-    ensures { λ r. ⌜ addedOf r b ≡ plainByte d b ⌝ }
+fn classify_plain(d: Dialect, b: u8) -> ByteClass
+    ensures { λ r. ⌜ cellStepOf r b ≡ plainByte d b ⌝ }
 {
     if b == quote_of(d) {
-        return Met::Is(Added::Refuse(ByteFault::Syntax));
+        return ByteClass::Is(CellStep::Refuse(ByteFault::Syntax));
     }
     if is_separator(d, b) {
-        return Met::Is(Added::Stop);
+        return ByteClass::Is(CellStep::Stop);
     }
     if b < 0x80 {
-        return Met::Is(Added::More(Cell::Plain(Char::Whole)));
+        return ByteClass::Is(CellStep::More(Cell::Plain(Char::Whole)));
     }
-    Met::InPlain(Char::Whole)
+    ByteClass::InPlain(Char::Whole)
 }
 
-fn meet_closed(d: Dialect, b: u8) -> Met
-    ensures { λ r. ⌜ addedOf r b ≡ cellStep d Cell.Closed b ⌝ }
+fn classify_closed(d: Dialect, b: u8) -> ByteClass
+    ensures { λ r. ⌜ cellStepOf r b ≡ cellStep d Cell.Closed b ⌝ }
 {
     if b == quote_of(d) {
-        return Met::Is(Added::More(Cell::Quoted(Char::Whole)));
+        return ByteClass::Is(CellStep::More(Cell::Quoted(Char::Whole)));
     }
-    Met::Is(Added::Stop)
+    ByteClass::Is(CellStep::Stop)
 }
 
-fn meet_hex(n: HexLeft, b: u8) -> Met
-    ensures { λ r. ⌜ addedOf r b ≡ cellStep Dialect.Csvj (Cell.Hex n) b ⌝ }
+fn classify_hex(n: HexLeft, b: u8) -> ByteClass
+    ensures { λ r. ⌜ cellStepOf r b ≡ cellStep Dialect.Csvj (Cell.Hex n) b ⌝ }
 {
     if values::is_hex(b) {
-        return Met::Is(Added::More(values::after_hex(n)));
+        return ByteClass::Is(CellStep::More(values::after_hex(n)));
     }
-    Met::Is(Added::Refuse(ByteFault::Syntax))
+    ByteClass::Is(CellStep::Refuse(ByteFault::Syntax))
 }
 
-fn meet_word(w: Word, b: u8) -> Met
-    ensures { λ r. ⌜ addedOf r b ≡ cellStep Dialect.Csvj (Cell.InWord w) b ⌝ }
+fn classify_word(w: Word, b: u8) -> ByteClass
+    ensures { λ r. ⌜ cellStepOf r b ≡ cellStep Dialect.Csvj (Cell.InWord w) b ⌝ }
 {
     if b == values::letter_of(w) {
-        return Met::Is(Added::More(values::after_letter(w)));
+        return ByteClass::Is(CellStep::More(values::after_letter(w)));
     }
-    Met::Is(Added::Refuse(ByteFault::Syntax))
+    ByteClass::Is(CellStep::Refuse(ByteFault::Syntax))
 }
 
-fn meet_text(d: Dialect, t: Char, b: u8) -> Met
-    ensures { λ r. ⌜ addedOf r b ≡ cellStep d (Cell.Quoted t) b ⌝ }
+fn classify_text(d: Dialect, t: Char, b: u8) -> ByteClass
+    ensures { λ r. ⌜ cellStepOf r b ≡ cellStep d (Cell.Quoted t) b ⌝ }
 {
     match t {
-        Char::Whole => meet_quoted(d, b),
-        Char::Within(i) => Met::InQuotes(Char::Within(i)),
+        Char::Whole => classify_quoted(d, b),
+        Char::Within(i) => ByteClass::InQuotes(Char::Within(i)),
     }
 }
 
-fn meet_plain_text(d: Dialect, t: Char, b: u8) -> Met
-    ensures { λ r. ⌜ addedOf r b ≡ cellStep d (Cell.Plain t) b ⌝ }
+fn classify_plain_text(d: Dialect, t: Char, b: u8) -> ByteClass
+    ensures { λ r. ⌜ cellStepOf r b ≡ cellStep d (Cell.Plain t) b ⌝ }
 {
     match t {
-        Char::Whole => meet_plain(d, b),
-        Char::Within(i) => Met::InPlain(Char::Within(i)),
+        Char::Whole => classify_plain(d, b),
+        Char::Within(i) => ByteClass::InPlain(Char::Within(i)),
     }
 }
 
-fn meet(d: Dialect, c: Cell, b: u8) -> Met
-    ensures { λ r. ⌜ addedOf r b ≡ cellStep d c b ⌝ }
+fn classify(d: Dialect, c: Cell, b: u8) -> ByteClass
+    ensures { λ r. ⌜ cellStepOf r b ≡ cellStep d c b ⌝ }
 {
     match c {
-        Cell::Fresh => meet_first(d, b),
-        Cell::Quoted(t) => meet_text(d, t, b),
-        Cell::Closed => meet_closed(d, b),
-        Cell::Escape => Met::Is(values::escape_step(b)),
-        Cell::Hex(n) => meet_hex(n, b),
-        Cell::InNumber(n) => Met::Is(values::numeral_step(n, b)),
-        Cell::InWord(w) => meet_word(w, b),
-        Cell::Plain(t) => meet_plain_text(d, t, b),
-        Cell::Complete => Met::Is(Added::Stop),
+        Cell::Fresh => classify_first(d, b),
+        Cell::Quoted(t) => classify_text(d, t, b),
+        Cell::Closed => classify_closed(d, b),
+        Cell::Escape => ByteClass::Is(values::escape_step(b)),
+        Cell::Hex(n) => classify_hex(n, b),
+        Cell::InNumber(n) => ByteClass::Is(values::numeral_step(n, b)),
+        Cell::InWord(w) => classify_word(w, b),
+        Cell::Plain(t) => classify_plain_text(d, t, b),
+        Cell::Complete => ByteClass::Is(CellStep::Stop),
     }
 }
 
 // The next byte of a cell.
-pub fn cell_step(d: Dialect, c: Cell, b: u8) -> Added
+pub fn cell_step(d: Dialect, c: Cell, b: u8) -> CellStep
     ensures { λ r. ⌜ r ≡ cellStep d c b ⌝ }
 {
-    match meet(d, c, b) {
-        Met::Is(a) => a,
-        Met::InQuotes(t) => match utf8::char_step(t, b) {
-            Advance::On(next) => Added::More(Cell::Quoted(next)),
-            Advance::Broken => Added::Refuse(ByteFault::Encoding),
+    match classify(d, c, b) {
+        ByteClass::Is(a) => a,
+        ByteClass::InQuotes(t) => match utf8::char_step(t, b) {
+            Advance::On(next) => CellStep::More(Cell::Quoted(next)),
+            Advance::Broken => CellStep::Refuse(ByteFault::Encoding),
         },
-        Met::InPlain(t) => match utf8::char_step(t, b) {
-            Advance::On(next) => Added::More(Cell::Plain(next)),
-            Advance::Broken => Added::Refuse(ByteFault::Encoding),
+        ByteClass::InPlain(t) => match utf8::char_step(t, b) {
+            Advance::On(next) => CellStep::More(Cell::Plain(next)),
+            Advance::Broken => CellStep::Refuse(ByteFault::Encoding),
         },
     }
 }

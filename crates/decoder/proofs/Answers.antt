@@ -9,24 +9,24 @@ use Rattle.model.specs.declared.Report.{Report}
 use Rattle.model.specs.declared.Kind.{Kind}
 use Rattle.model.specs.declared.Dialect.{Dialect}
 use Rattle.model.specs.declared.Fault.{Fault}
-use Rattle.model.specs.declared.Judged.the-variants.{WholeCell, Unsound}
+use Rattle.model.specs.declared.CellCheck.the-variants.{WholeCell, Unsound}
 use Rattle.model.specs.Base.{if_then_else_, Bytes, over}
 use Rattle.model.specs.Dialect.{dialectOf}
 use Rattle.model.specs.Report.{report, refusal, numberOf, columnOf}
-use Rattle.model.specs.Decode.{kindOf, contentOf, judgeCell}
+use Rattle.model.specs.Decode.{kindOf, contentOf, validateCell}
 use Rattle.model.specs.Api as api
 use Rattle.decoder.specs.declared.Decoded.{Decoded}
 use Rattle.decoder.specs.declared.Decoded.the-variants.{Content, Refused}
-use Rattle.decoder.specs.Answer.{answerOf, shown, soundCell, anyCell}
-use Rattle.decoder.proofs.Judging.{no-column}
+use Rattle.decoder.specs.Answer.{givenAnswer, toAnswer, soundCell, anyCell}
+use Rattle.decoder.proofs.Validating.{no-column}
 
 -- the answer r and a room that held old and holds new are what the definition answers
 abbrev pub Decodes : api.Decoded → Decoded → (old new : Bytes) → Type 0
-Decodes a r old new = (answerOf r ≡ shown a) × (new ≡ over (a .content) old)
+Decodes a r old new = (givenAnswer r ≡ toAnswer a) × (new ≡ over (a .content) old)
 
 -- a refusal leaves the room as it was
 refused : (e f : Report) (old : Bytes) → e ≡ f → Decodes (api.notDecoded f) (Refused e) old old
-refused e f old h = (ap (λ (x : Report). answerOf (Refused x)) h, refl)
+refused e f old h = (ap (λ (x : Report). givenAnswer (Refused x)) h, refl)
 
 module _ (d : Dialect) (raw old : Bytes) where
   -- ---- a sound cell
@@ -42,26 +42,26 @@ module _ (d : Dialect) (raw old : Bytes) where
 
   -- ---- any raw bytes
 
-  pub sound : (r : Decoded) (new : Bytes) → judgeCell d raw ≡ WholeCell → Decodes (soundCell d raw (length old)) r old new → Decodes (anyCell d raw (length old)) r old new
+  pub sound : (r : Decoded) (new : Bytes) → validateCell d raw ≡ WholeCell → Decodes (soundCell d raw (length old)) r old new → Decodes (anyCell d raw (length old)) r old new
   sound r new j p = rw j p
 
-  pub unsound : (f : Fault) (o : ℕ) (e : Report) → judgeCell d raw ≡ Unsound f o → e ≡ report (numberOf f) 0 (columnOf f) o → Decodes (anyCell d raw (length old)) (Refused e) old old
+  pub unsound : (f : Fault) (o : ℕ) (e : Report) → validateCell d raw ≡ Unsound f o → e ≡ report (numberOf f) 0 (columnOf f) o → Decodes (anyCell d raw (length old)) (Refused e) old old
   unsound f o e j h = rw j (refused e (report (numberOf f) 0 0 o) old (h ∙ ap (λ (n : ℕ). report (numberOf f) 0 n o) (no-column d raw f o j)))
 
 -- ---- the call
 
 module _ (n : ℕ) (raw old : Bytes) where
   answers : (a : api.Decoded) (r : Decoded) (new : Bytes) → api.decoder n raw (length old) ≡ a → Decodes a r old new
-      → (answerOf r ≡ shown (api.decoder n raw (length old))) × (new ≡ api.decoderLeaves n raw old)
+      → (givenAnswer r ≡ toAnswer (api.decoder n raw (length old))) × (new ≡ api.decoderLeaves n raw old)
   unfolding api.decoderLeaves
-  answers a r new e p = (p .0 ∙ ap shown (sym e), p .1 ∙ ap (λ (x : api.Decoded). over (x .content) old) (sym e))
+  answers a r new e p = (p .0 ∙ ap toAnswer (sym e), p .1 ∙ ap (λ (x : api.Decoded). over (x .content) old) (sym e))
 
   pub known : (d : Dialect) (r : Decoded) (new : Bytes) → some d ≡ dialectOf n → Decodes (anyCell d raw (length old)) r old new
-      → (answerOf r ≡ shown (api.decoder n raw (length old))) × (new ≡ api.decoderLeaves n raw old)
+      → (givenAnswer r ≡ toAnswer (api.decoder n raw (length old))) × (new ≡ api.decoderLeaves n raw old)
   unfolding api.decoder
   known d r new e p = answers (anyCell d raw (length old)) r new (rw (← e, api.decoder)) p
 
   pub unknown : (e : Report) → none ≡ dialectOf n → e ≡ refusal 11
-      → (answerOf (Refused e) ≡ shown (api.decoder n raw (length old))) × (old ≡ api.decoderLeaves n raw old)
+      → (givenAnswer (Refused e) ≡ toAnswer (api.decoder n raw (length old))) × (old ≡ api.decoderLeaves n raw old)
   unfolding api.decoder
   unknown e f h = answers (api.notDecoded (refusal 11)) (Refused e) old (rw (← f, api.decoder)) (refused e (refusal 11) old h)

@@ -2,5 +2,5 @@ pub mod Strings
 pub mod Writing
 pub mod Doubled
 pub mod FirstByte
-pub mod Judging
+pub mod Validating
 pub mod Answers

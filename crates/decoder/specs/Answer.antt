@@ -3,32 +3,32 @@ use Prim.Native.Nat.{ℕ}
 use lib.ListN.{length}
 use Rattle.model.specs.declared.Report.{Report}
 use Rattle.model.specs.declared.Dialect.{Dialect}
-use Rattle.model.specs.declared.Judged.the-variants.{WholeCell}
+use Rattle.model.specs.declared.CellCheck.the-variants.{WholeCell}
 use Rattle.model.specs.Base.{Bytes}
 use Rattle.model.specs.Report.{accepted}
-use Rattle.model.specs.Decode.{kindNumber, judgeCell}
+use Rattle.model.specs.Decode.{kindNumber, validateCell}
 use Rattle.model.specs.Api as api
 use Rattle.decoder.specs.declared.Decoded.{Decoded}
 use Rattle.decoder.specs.declared.Decoded.the-variants.{Content, Refused}
 
-pub record Shown : Type 0 where
+pub record CellAnswer : Type 0 where
   pub report : Report
   pub kind : ℕ
   pub length : ℕ
 
 -- what each case of the decoder's enum stands for: the content's length and kind, or a refusal, whose length and kind are 0 (§9.2 §11.1
 -- §19.7)
-abbrev pub answerOf : Decoded → Shown
-answerOf (Content n k) = record { report = accepted; kind = kindNumber k; length = n }
-answerOf (Refused e) = record { report = e; kind = 0; length = 0 }
+abbrev pub givenAnswer : Decoded → CellAnswer
+givenAnswer (Content n k) = record { report = accepted; kind = kindNumber k; length = n }
+givenAnswer (Refused e) = record { report = e; kind = 0; length = 0 }
 
 -- the definition's answer, with its content by length; the content itself is what the room holds
-abbrev pub shown : api.Decoded → Shown
-shown a = record { report = a .report; kind = a .kind; length = length (a .content) }
+abbrev pub toAnswer : api.Decoded → CellAnswer
+toAnswer a = record { report = a .report; kind = a .kind; length = length (a .content) }
 
 -- the definition of a call that knows its dialect, for a cell that is known to be sound and for any
 abbrev pub soundCell : Dialect → Bytes → (room : ℕ) → api.Decoded
 soundCell d raw room = api.decodedAs d raw room WholeCell
 
 abbrev pub anyCell : Dialect → Bytes → (room : ℕ) → api.Decoded
-anyCell d raw room = api.decodedAs d raw room (judgeCell d raw)
+anyCell d raw room = api.decodedAs d raw room (validateCell d raw)

@@ -17,7 +17,7 @@ use Rattle.model.specs.declared.Report.{Report}
 use Rattle.model.specs.Base.{Bytes, if_then_else_, concat}
 use Rattle.model.specs.Dialect.{dialectOf}
 use Rattle.model.specs.Text.{Value}
-use Rattle.model.specs.Api.{answered, answerOf, reader}
+use Rattle.model.specs.Api.{answered, readAnswer, reader}
 use Rattle.model.specs.Report.{numberOf, accepted, refusal, MAXFILE, MAXRECORD}
 use Rattle.model.specs.Records.{Rec, rows, Read, Progress, going, stopped, nothingRead, readBytes, readFile, reportOf}
 use Rattle.grammar.specs.Derived.{Derived, Line, line, textIn, cellsIn, spelling, Every, every-none, every-cons, Each, each-none, each-cons}
@@ -130,9 +130,9 @@ fault-number types.NoRecord = omega arith
 fault-number (types.Byte Encoding) = omega arith
 fault-number (types.Byte Syntax) = omega arith
 fault-number types.CutShort = omega arith
-fault-number types.Uneven = omega arith
-fault-number (types.Repeats c) = omega arith
-fault-number (types.NotText c) = omega arith
+fault-number types.CellCount = omega arith
+fault-number (types.RepeatedName c) = omega arith
+fault-number (types.HeaderKind c) = omega arith
 fault-number types.FileTooLong = omega arith
 fault-number types.RecordTooLong = omega arith
 fault-number types.TooManyColumns = omega arith
@@ -214,7 +214,7 @@ reader-acceptance n d xs room dialect = (λ e. only (readFile d none xs) refl (r
     fits {end} (accepted-as ls a k) e =
         (ls, a, rw (count-cells k) at (roomy (concat (rows (end .done))) room k (some-lines (file-derived d xs ls (a .derived))) e))
 
-    only : (p : Progress) → readFile d none xs ≡ p → answerOf p room .report ≡ accepted → (ls : List (Line Derived)) × Acceptable d xs ls × (cellCount ls ≤ room)
+    only : (p : Progress) → readFile d none xs ≡ p → readAnswer p room .report ≡ accepted → (ls : List (Line Derived)) × Acceptable d xs ls × (cellCount ls ≤ room)
     only (going r) q e = fits (read-acceptable d xs r q) e
     only (stopped x r) q e = let z = accepted-going (stopped x r) e in stopped-going (z .1)
 

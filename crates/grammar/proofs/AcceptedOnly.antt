@@ -9,13 +9,13 @@ use mathlib.Core.List.{List, [], _∷_, _++_, map, append-assoc, append-nil}
 use lib.ListN.{length}
 use lib.Dec.{leb}
 use borrow.Author.Tests.{leb-false}
-use Rattle.grammar.specs.Types.{Dialect, Csvj, Tdif, CsvPlus, Cell, Fault, Form, Top, Begin, Ended, Mark1, Mark2, PlainMark1, PlainMark2, Comment, Blanks, Wanting, Inside, After, Cr, OfCell, Outside, Passed, Between, Tail, Ends, Step, To, Reject, Ending, Clean, Final, Cut, Verdict, Sound, Faulty}
+use Rattle.grammar.specs.Types.{Dialect, Csvj, Tdif, CsvPlus, Cell, Fault, FileState, Top, Begin, Ended, Mark1, Mark2, PlainMark1, PlainMark2, Comment, Blanks, Wanting, Inside, After, Cr, OfCell, Outside, Passed, Between, Tail, Ends, Step, To, Reject, Ending, Clean, Final, Cut, Verdict, Sound, Faulty}
 use Rattle.model.specs.Base.{Bytes, if_then_else_}
 use Rattle.model.specs.Cell.{isWhole}
-use Rattle.model.specs.Form.{formStep, formEnd, lastCell, counts}
+use Rattle.model.specs.File.{fileStep, fileEnd, lastCell, counts}
 use Rattle.model.specs.Text.{Value}
 use Rattle.model.specs.Report.{MAXFILE, MAXRECORD}
-use Rattle.model.specs.Records.{Rec, Read, going, stopped, between-records, closing, judged, complete, move, fileFull, recordFull, recordFault, readByte, readFrom, endBetween, endAt, readEnd}
+use Rattle.model.specs.Records.{Rec, Read, going, stopped, between-records, closing, validated, complete, move, fileFull, recordFull, recordFault, readByte, readFrom, endBetween, endAt, readEnd}
 use Rattle.model.proofs.Tests.{split}
 use Rattle.model.proofs.Reading.{read-stopped}
 use Rattle.grammar.specs.Derived.{Derived, Line, line, every-none, Each, each-none, each-cons}
@@ -49,8 +49,8 @@ last-ends Csvj c = cut-anywhere
 last-ends Tdif c = cut-anywhere
 last-ends (CsvPlus s) c = split (EndsIn in-cell) (isWhole (CsvPlus s) c) (λ _. final-anywhere) λ _. cut-anywhere
 
-form-ends : (d : Dialect) (f : Form) → EndsIn (stageOf d f) (formEnd d f)
-unfolding formEnd
+form-ends : (d : Dialect) (f : FileState) → EndsIn (stageOf d f) (fileEnd d f)
+unfolding fileEnd
 form-ends d Top = clean-at-rest
 form-ends d Begin = clean-at-rest
 form-ends d Ended = clean-at-rest
@@ -69,11 +69,11 @@ not-clean : {A : Type 0} {g : Stage} → Recording g → EndsIn g Clean → A
 not-clean record-open = elim [ ]
 not-clean cell-open = elim [ ]
 
-not-outside : {A : Type 0} {d : Dialect} {f h : Form} {b : ℕ} {g : Stage} → Recording g → Moves d f b g (To h Outside) → A
+not-outside : {A : Type 0} {d : Dialect} {f h : FileState} {b : ℕ} {g : Stage} → Recording g → Moves d f b g (To h Outside) → A
 not-outside record-open = elim [ ]
 not-outside cell-open = elim [ ]
 
-not-passed : {A : Type 0} {d : Dialect} {f h : Form} {b : ℕ} {g : Stage} → Recording g → Moves d f b g (To h Passed) → A
+not-passed : {A : Type 0} {d : Dialect} {f h : FileState} {b : ℕ} {g : Stage} → Recording g → Moves d f b g (To h Passed) → A
 not-passed record-open = elim [ ]
 not-passed cell-open = elim [ ]
 
@@ -81,20 +81,20 @@ not-passed cell-open = elim [ ]
 cell-left : {A : Type 0} → NoCell in-cell → A
 cell-left = elim [ ]
 
-cell-between : {A : Type 0} {d : Dialect} {f h : Form} {b : ℕ} → Moves d f b in-cell (To h (Between false)) → A
+cell-between : {A : Type 0} {d : Dialect} {f h : FileState} {b : ℕ} → Moves d f b in-cell (To h (Between false)) → A
 cell-between (parts c n r) = cell-left n
 
-cell-tail : {A : Type 0} {d : Dialect} {f h : Form} {b : ℕ} → Moves d f b in-cell (To h (Tail false)) → A
+cell-tail : {A : Type 0} {d : Dialect} {f h : FileState} {b : ℕ} → Moves d f b in-cell (To h (Tail false)) → A
 cell-tail (turns c n r) = cell-left n
 
-cell-ends : {A : Type 0} {d : Dialect} {f h : Form} {b : ℕ} → Moves d f b in-cell (To h (Ends false)) → A
+cell-ends : {A : Type 0} {d : Dialect} {f h : FileState} {b : ℕ} → Moves d f b in-cell (To h (Ends false)) → A
 cell-ends (completes c n r) = cell-left n
 
 module _ (d : Dialect) where
-  pub its-moves : (f : Form) (b : ℕ) (s : Step) → formStep d f b ≡ s → Moves d f b (stageOf d f) s
+  pub its-moves : (f : FileState) (b : ℕ) (s : Step) → fileStep d f b ≡ s → Moves d f b (stageOf d f) s
   its-moves f b s e = rw e at (step-moves d f b)
 
-  reads-line : {f : Form} {xs : Bytes} {ls : List (Line Bytes)} → Reads d f xs ls → Recording (stageOf d f) → HasLine ls
+  reads-line : {f : FileState} {xs : Bytes} {ls : List (Line Bytes)} → Reads d f xs ls → Recording (stageOf d f) → HasLine ls
   reads-line (reading.ends-clean {f} e) g = not-clean g (rw e at (form-ends d f))
   reads-line (reading.ends-final e) g = has-line
   reads-line (reading.outside {f} {b} e k) g = not-outside g (its-moves f b _ e)
@@ -107,7 +107,7 @@ module _ (d : Dialect) where
   reads-line (reading.ends e k) g = has-line
   reads-line (reading.ends-closing e k) g = has-line
 
-  pub reads-cell : {f : Form} {xs : Bytes} {ls : List (Line Bytes)} → Reads d f xs ls → stageOf d f ≡ in-cell → HasCell ls
+  pub reads-cell : {f : FileState} {xs : Bytes} {ls : List (Line Bytes)} → Reads d f xs ls → stageOf d f ≡ in-cell → HasCell ls
   reads-cell (reading.ends-clean {f} e) g = not-clean (rw g cell-open) (rw e at (form-ends d f))
   reads-cell (reading.ends-final e) g = has-cell
   reads-cell (reading.outside {f} {b} e k) g = not-outside (rw g cell-open) (its-moves f b _ e)
@@ -141,7 +141,7 @@ stopped-going q = let o : _≡_ {A = ℕ} 0 1 = cc in absurd (omega arith)
 module _ (d : Dialect) (file : Bytes) (end : Read) where
   -- what is left is read by form, with these lines
   pub record Facts (r : Read) (xs : Bytes) (pre : List (Line Derived)) (text raw : Bytes) (cells : List Derived) (ls : List (Line Bytes)) : Type 0 where
-    pub reads : Reads d (r .form) xs ls
+    pub reads : Reads d (r .state) xs ls
     pub fit : Fit (length text) ls
     pub checks : ChecksFrom d pre (joined d text raw cells ls)
     pub shows : Each (ShowsRecord file) (end .done) (pre ++ joined d text raw cells ls)
@@ -161,22 +161,22 @@ module _ (d : Dialect) (file : Bytes) (end : Read) where
     further = place ∙ sym (append-assoc seen (b ∷ []) bs)
 
     rest-comes :
-        (h : Form) (start : ℕ) {text raw : Bytes} {cells : List Derived} → Stands d file seen r pre text raw cells → Rested d h text raw cells →
-        ((ls : List (Line Bytes)) → Reads d h bs ls → Reads d (r .form) (b ∷ bs) ls) →
-        readEnd d none (readFrom d none (going (record { done = r .done; form = h; offset = suc (r .offset); start = start; size = 0; opened = suc (r .offset); raw = []; cells = [] })) bs) ≡ going end →
+        (h : FileState) (start : ℕ) {text raw : Bytes} {cells : List Derived} → Stands d file seen r pre text raw cells → Rested d h text raw cells →
+        ((ls : List (Line Bytes)) → Reads d h bs ls → Reads d (r .state) (b ∷ bs) ls) →
+        readEnd d none (readFrom d none (going (record { done = r .done; state = h; offset = suc (r .offset); start = start; size = 0; opened = suc (r .offset); raw = []; cells = [] })) bs) ≡ going end →
         Outcome r (b ∷ bs) pre text raw cells
     rest-comes h start s (rested g) k q =
-        let next : Read = record { done = r .done; form = h; offset = suc (r .offset); start = start; size = 0; opened = suc (r .offset); raw = []; cells = [] } in
+        let next : Read = record { done = r .done; state = h; offset = suc (r .offset); start = start; size = 0; opened = suc (r .offset); raw = []; cells = [] } in
         go (ih next (seen ++ (b ∷ [])) pre [] [] [] (stands-reset s b next room refl refl refl refl (omega arith) (s .done) each-none (rest-tidy g)) further q)
       where
-        go : Outcome (record { done = r .done; form = h; offset = suc (r .offset); start = start; size = 0; opened = suc (r .offset); raw = []; cells = [] }) bs pre [] [] [] → Outcome r (b ∷ bs) pre [] [] []
+        go : Outcome (record { done = r .done; state = h; offset = suc (r .offset); start = start; size = 0; opened = suc (r .offset); raw = []; cells = [] }) bs pre [] [] [] → Outcome r (b ∷ bs) pre [] [] []
         go (outcome ls y) =
             outcome ls (record { reads = k ls (y .reads); fit = y .fit; checks = y .checks; shows = y .shows; has-record = y .has-record; limit = y .limit })
 
     -- the same lines, told from before the byte
     told :
         {n : Read} {text raw text′ raw′ : Bytes} {cells cells′ : List Derived} {ls′ : List (Line Bytes)} (ls : List (Line Bytes)) →
-        Facts n bs pre text′ raw′ cells′ ls′ → Reads d (r .form) (b ∷ bs) ls → Fit (length text) ls →
+        Facts n bs pre text′ raw′ cells′ ls′ → Reads d (r .state) (b ∷ bs) ls → Fit (length text) ls →
         joined d text raw cells ls ≡ joined d text′ raw′ cells′ ls′ → Outcome r (b ∷ bs) pre text raw cells
     told ls y k f q =
         outcome ls
@@ -186,15 +186,15 @@ module _ (d : Dialect) (file : Bytes) (end : Read) where
     longer text {t} (fit-line x m) = let l : length (text ++ (b ∷ [])) ≡ suc (length text) = length-snoc text b in fit-line {t = b ∷ t} (omega arith) m
 
     cell-comes :
-        (h : Form) {text raw : Bytes} {cells : List Derived} → Stands d file seen r pre text raw cells → formStep d (r .form) b ≡ To h OfCell →
+        (h : FileState) {text raw : Bytes} {cells : List Derived} → Stands d file seen r pre text raw cells → fileStep d (r .state) b ≡ To h OfCell →
         stageOf d h ≡ in-cell → length text < MAXRECORD →
-        readEnd d none (readFrom d none (going (record { done = r .done; form = h; offset = suc (r .offset); start = r .start; size = suc (r .size); opened = r .opened; raw = r .raw ++ (b ∷ []); cells = r .cells })) bs) ≡ going end →
+        readEnd d none (readFrom d none (going (record { done = r .done; state = h; offset = suc (r .offset); start = r .start; size = suc (r .size); opened = r .opened; raw = r .raw ++ (b ∷ []); cells = r .cells })) bs) ≡ going end →
         Outcome r (b ∷ bs) pre text raw cells
     cell-comes h {text} {raw} {cells} s e g f q =
         go (ih next (seen ++ (b ∷ [])) pre (text ++ (b ∷ [])) (raw ++ (b ∷ [])) cells (stands-more s b next room refl refl refl refl f refl refl g) further q)
       where
         next : Read
-        next = record { done = r .done; form = h; offset = suc (r .offset); start = r .start; size = suc (r .size); opened = r .opened; raw = r .raw ++ (b ∷ []); cells = r .cells }
+        next = record { done = r .done; state = h; offset = suc (r .offset); start = r .start; size = suc (r .size); opened = r .opened; raw = r .raw ++ (b ∷ []); cells = r .cells }
 
         shaped : {ls : List (Line Bytes)} → HasCell ls → Facts next bs pre (text ++ (b ∷ [])) (raw ++ (b ∷ [])) cells ls → Outcome r (b ∷ bs) pre text raw cells
         shaped (has-cell {t} {c} {cs} {ls}) y =
@@ -204,16 +204,16 @@ module _ (d : Dialect) (file : Bytes) (end : Read) where
         go (outcome ls y) = shaped (reads-cell d (y .reads) g) y
 
     record-comes :
-        (h : Form) (size : ℕ) (vs : List Value) (text′ : Bytes) (cells′ : List Derived) {text raw : Bytes} {cells : List Derived} →
+        (h : FileState) (size : ℕ) (vs : List Value) (text′ : Bytes) (cells′ : List Derived) {text raw : Bytes} {cells : List Derived} →
         Stands d file seen r pre text raw cells → size ≡ length text′ → length text′ ≤ MAXRECORD → Each (ShowsCell file) vs cells′ → Recording (stageOf d h) →
         ((n : Read) (t : Bytes) (cs : List Bytes) (ls : List (Line Bytes)) → Reads d h bs (line t cs ∷ ls) → Facts n bs pre text′ [] cells′ (line t cs ∷ ls) → Outcome r (b ∷ bs) pre text raw cells) →
-        readEnd d none (readFrom d none (going (record { done = r .done; form = h; offset = suc (r .offset); start = r .start; size = size; opened = suc (r .offset); raw = []; cells = vs })) bs) ≡ going end →
+        readEnd d none (readFrom d none (going (record { done = r .done; state = h; offset = suc (r .offset); start = r .start; size = size; opened = suc (r .offset); raw = []; cells = vs })) bs) ≡ going end →
         Outcome r (b ∷ bs) pre text raw cells
     record-comes h size vs text′ cells′ {text} {raw} {cells} s z l c g k q =
         go (ih next (seen ++ (b ∷ [])) pre text′ [] cells′ (stands-reset s b next room refl refl refl z l (s .done) c (recording-tidy g)) further q)
       where
         next : Read
-        next = record { done = r .done; form = h; offset = suc (r .offset); start = r .start; size = size; opened = suc (r .offset); raw = []; cells = vs }
+        next = record { done = r .done; state = h; offset = suc (r .offset); start = r .start; size = size; opened = suc (r .offset); raw = []; cells = vs }
 
         shaped : {ls : List (Line Bytes)} → HasLine ls → Facts next bs pre text′ [] cells′ ls → Outcome r (b ∷ bs) pre text raw cells
         shaped (has-line {t} {cs} {ls}) y = k next t cs ls (y .reads) y
@@ -222,9 +222,9 @@ module _ (d : Dialect) (file : Bytes) (end : Read) where
         go (outcome ls y) = shaped (reads-line d (y .reads) g) y
 
     complete-comes :
-        (h : Form) (vs : List Value) (cells′ : List Derived) {text raw : Bytes} {cells : List Derived} → Stands d file seen r pre text raw cells →
+        (h : FileState) (vs : List Value) (cells′ : List Derived) {text raw : Bytes} {cells : List Derived} → Stands d file seen r pre text raw cells →
         Each (ShowsCell file) vs cells′ → stageOf d h ≡ at-rest → (rest : List Bytes) →
-        ((ls : List (Line Bytes)) → Reads d h bs ls → Reads d (r .form) (b ∷ bs) (line [] rest ∷ ls)) →
+        ((ls : List (Line Bytes)) → Reads d h bs ls → Reads d (r .state) (b ∷ bs) (line [] rest ∷ ls)) →
         ((ls : List (Line Bytes)) → pre ++ joined d text raw cells (line [] rest ∷ ls) ≡ (pre ++ (line text cells′ ∷ [])) ++ joined d [] [] [] ls) →
         ((ls : List (Line Bytes)) → line text cells′ ∷ map (decodedLine d) ls ≡ joined d text raw cells (line [] rest ∷ ls)) →
         readEnd d none (readFrom d none (complete d none r vs h (suc (r .offset))) bs) ≡ going end → Outcome r (b ∷ bs) pre text raw cells
@@ -251,11 +251,11 @@ module _ (d : Dialect) (file : Bytes) (end : Read) where
               limit = y .limit;
             })
 
-        verdict : (v : Verdict) → recordFault d none (r .done) vs ≡ v → readEnd d none (readFrom d none (judged r next v) bs) ≡ going end → Outcome r (b ∷ bs) pre text raw cells
+        verdict : (v : Verdict) → recordFault d none (r .done) vs ≡ v → readEnd d none (readFrom d none (validated r next v) bs) ≡ going end → Outcome r (b ∷ bs) pre text raw cells
         verdict Sound e q = go (record-checked d (s .done) c e) (ih next (seen ++ (b ∷ [])) (pre ++ (line text cells′ ∷ [])) [] [] [] stands further q)
         verdict (Faulty x) e q = not-going d x r bs q
 
-    size-left : {text raw : Bytes} {cells : List Derived} → Stands d file seen r pre text raw cells → recordFull r b ≡ false → counts (r .form) b ≡ true → length text < MAXRECORD
+    size-left : {text raw : Bytes} {cells : List Derived} → Stands d file seen r pre text raw cells → recordFull r b ≡ false → counts (r .state) b ≡ true → length text < MAXRECORD
     unfolding recordFull
     size-left {text} s f c =
         let z : r .size ≡ length text = s .size in
@@ -267,8 +267,8 @@ module _ (d : Dialect) (file : Bytes) (end : Read) where
         go false e = refl
 
     between-comes :
-        (h : Form) {text raw : Bytes} {cells : List Derived} → Stands d file seen r pre text raw cells → formStep d (r .form) b ≡ To h (Between false) →
-        recordFull r b ≡ false → Parted d h (counts (r .form) b ≡ true) text raw → readEnd d none (readFrom d none (move d none r b (To h (Between false))) bs) ≡ going end →
+        (h : FileState) {text raw : Bytes} {cells : List Derived} → Stands d file seen r pre text raw cells → fileStep d (r .state) b ≡ To h (Between false) →
+        recordFull r b ≡ false → Parted d h (counts (r .state) b ≡ true) text raw → readEnd d none (readFrom d none (move d none r b (To h (Between false))) bs) ≡ going end →
         Outcome r (b ∷ bs) pre text raw cells
     unfolding move
     between-comes h {text} {cells} s e f (parted c g) q =
@@ -278,8 +278,8 @@ module _ (d : Dialect) (file : Bytes) (end : Read) where
         (λ n t cs ls m y. told (line (b ∷ t) cs ∷ ls) y (reading.between e m) (longer text (y .fit)) (joined-between d text [] cells b t cs ls)) q
 
     between-closing-comes :
-        (h : Form) {text raw : Bytes} {cells : List Derived} → Stands d file seen r pre text raw cells → formStep d (r .form) b ≡ To h (Between true) →
-        recordFull r b ≡ false → (counts (r .form) b ≡ true) × Recording (stageOf d h) → readEnd d none (readFrom d none (move d none r b (To h (Between true))) bs) ≡ going end →
+        (h : FileState) {text raw : Bytes} {cells : List Derived} → Stands d file seen r pre text raw cells → fileStep d (r .state) b ≡ To h (Between true) →
+        recordFull r b ≡ false → (counts (r .state) b ≡ true) × Recording (stageOf d h) → readEnd d none (readFrom d none (move d none r b (To h (Between true))) bs) ≡ going end →
         Outcome r (b ∷ bs) pre text raw cells
     unfolding move
     between-closing-comes h {text} {raw} {cells} s e f g q =
@@ -289,8 +289,8 @@ module _ (d : Dialect) (file : Bytes) (end : Read) where
         (λ n t cs ls m y. told (line (b ∷ t) ([] ∷ cs) ∷ ls) y (reading.between-closing e m) (longer text (y .fit)) (joined-between-closing d text raw cells b t cs ls)) q
 
     tail-comes :
-        (h : Form) {text raw : Bytes} {cells : List Derived} → Stands d file seen r pre text raw cells → formStep d (r .form) b ≡ To h (Tail false) →
-        Parted d h (counts (r .form) b ≡ false) text raw → readEnd d none (readFrom d none (move d none r b (To h (Tail false))) bs) ≡ going end →
+        (h : FileState) {text raw : Bytes} {cells : List Derived} → Stands d file seen r pre text raw cells → fileStep d (r .state) b ≡ To h (Tail false) →
+        Parted d h (counts (r .state) b ≡ false) text raw → readEnd d none (readFrom d none (move d none r b (To h (Tail false))) bs) ≡ going end →
         Outcome r (b ∷ bs) pre text raw cells
     unfolding move
     tail-comes h {text} {cells} s e (parted c g) q =
@@ -301,7 +301,7 @@ module _ (d : Dialect) (file : Bytes) (end : Read) where
     same-fit (fit-line {t} x m) = fit-line {t = t} x m
 
     tail-closing-comes :
-        (h : Form) {text raw : Bytes} {cells : List Derived} → Stands d file seen r pre text raw cells → formStep d (r .form) b ≡ To h (Tail true) →
+        (h : FileState) {text raw : Bytes} {cells : List Derived} → Stands d file seen r pre text raw cells → fileStep d (r .state) b ≡ To h (Tail true) →
         Recording (stageOf d h) → readEnd d none (readFrom d none (move d none r b (To h (Tail true))) bs) ≡ going end → Outcome r (b ∷ bs) pre text raw cells
     unfolding move
     tail-closing-comes h {text} {raw} {cells} s e g q =
@@ -309,8 +309,8 @@ module _ (d : Dialect) (file : Bytes) (end : Read) where
         (λ n t cs ls m y. told (line t ([] ∷ cs) ∷ ls) y (reading.tail-closing e m) (same-fit (y .fit)) (joined-tail-closing d text raw cells b t cs ls)) q
 
     ends-comes :
-        (h : Form) {text raw : Bytes} {cells : List Derived} → Stands d file seen r pre text raw cells → formStep d (r .form) b ≡ To h (Ends false) →
-        standing.Ended d h (counts (r .form) b ≡ false) text raw → readEnd d none (readFrom d none (move d none r b (To h (Ends false))) bs) ≡ going end →
+        (h : FileState) {text raw : Bytes} {cells : List Derived} → Stands d file seen r pre text raw cells → fileStep d (r .state) b ≡ To h (Ends false) →
+        standing.Ended d h (counts (r .state) b ≡ false) text raw → readEnd d none (readFrom d none (move d none r b (To h (Ends false))) bs) ≡ going end →
         Outcome r (b ∷ bs) pre text raw cells
     unfolding move
     ends-comes h {text} {cells} s e (standing.ended c g) q =
@@ -318,7 +318,7 @@ module _ (d : Dialect) (file : Bytes) (end : Read) where
         (λ ls. rw (append-nil text, append-nil cells)) q
 
     ends-closing-comes :
-        (h : Form) {text raw : Bytes} {cells : List Derived} → Stands d file seen r pre text raw cells → formStep d (r .form) b ≡ To h (Ends true) →
+        (h : FileState) {text raw : Bytes} {cells : List Derived} → Stands d file seen r pre text raw cells → fileStep d (r .state) b ≡ To h (Ends true) →
         stageOf d h ≡ at-rest → readEnd d none (readFrom d none (move d none r b (To h (Ends true))) bs) ≡ going end → Outcome r (b ∷ bs) pre text raw cells
     unfolding move
     ends-closing-comes h {text} {raw} {cells} s e g q =
@@ -326,19 +326,19 @@ module _ (d : Dialect) (file : Bytes) (end : Read) where
         (λ ls. joined-ends-closing d pre text raw cells ls) (λ ls. rw (append-nil text, append-nil raw)) q
 
     step-comes :
-        (s : Step) {text raw : Bytes} {cells : List Derived} → Stands d file seen r pre text raw cells → formStep d (r .form) b ≡ s → recordFull r b ≡ false →
+        (s : Step) {text raw : Bytes} {cells : List Derived} → Stands d file seen r pre text raw cells → fileStep d (r .state) b ≡ s → recordFull r b ≡ false →
         readEnd d none (readFrom d none (move d none r b s) bs) ≡ going end → Outcome r (b ∷ bs) pre text raw cells
     unfolding move
     step-comes (Reject x) s e f q = not-going d (types.Byte x) r bs q
-    step-comes (To h Outside) s e f q = rest-comes h (r .start) s (moved-outside (its-moves d (r .form) b _ e) (s .tidy)) (λ ls m. reading.outside e m) q
-    step-comes (To h Passed) s e f q = rest-comes h (suc (r .offset)) s (moved-passed (its-moves d (r .form) b _ e) (s .tidy)) (λ ls m. reading.passed e m) q
-    step-comes (To h OfCell) s e f q = let g = moved-of-cell (its-moves d (r .form) b _ e) (s .tidy) in cell-comes h s e (g .1) (size-left s f (g .0)) q
-    step-comes (To h (Between false)) s e f q = between-comes h s e f (moved-between (its-moves d (r .form) b _ e) (s .tidy)) q
-    step-comes (To h (Between true)) s e f q = between-closing-comes h s e f (moved-between-closing (its-moves d (r .form) b _ e) (s .tidy)) q
-    step-comes (To h (Tail false)) s e f q = tail-comes h s e (moved-tail (its-moves d (r .form) b _ e) (s .tidy)) q
-    step-comes (To h (Tail true)) s e f q = tail-closing-comes h s e (moved-tail-closing (its-moves d (r .form) b _ e) (s .tidy) .1) q
-    step-comes (To h (Ends false)) s e f q = ends-comes h s e (moved-ends (its-moves d (r .form) b _ e) (s .tidy)) q
-    step-comes (To h (Ends true)) s e f q = ends-closing-comes h s e (moved-ends-closing (its-moves d (r .form) b _ e) (s .tidy) .1) q
+    step-comes (To h Outside) s e f q = rest-comes h (r .start) s (moved-outside (its-moves d (r .state) b _ e) (s .tidy)) (λ ls m. reading.outside e m) q
+    step-comes (To h Passed) s e f q = rest-comes h (suc (r .offset)) s (moved-passed (its-moves d (r .state) b _ e) (s .tidy)) (λ ls m. reading.passed e m) q
+    step-comes (To h OfCell) s e f q = let g = moved-of-cell (its-moves d (r .state) b _ e) (s .tidy) in cell-comes h s e (g .1) (size-left s f (g .0)) q
+    step-comes (To h (Between false)) s e f q = between-comes h s e f (moved-between (its-moves d (r .state) b _ e) (s .tidy)) q
+    step-comes (To h (Between true)) s e f q = between-closing-comes h s e f (moved-between-closing (its-moves d (r .state) b _ e) (s .tidy)) q
+    step-comes (To h (Tail false)) s e f q = tail-comes h s e (moved-tail (its-moves d (r .state) b _ e) (s .tidy)) q
+    step-comes (To h (Tail true)) s e f q = tail-closing-comes h s e (moved-tail-closing (its-moves d (r .state) b _ e) (s .tidy) .1) q
+    step-comes (To h (Ends false)) s e f q = ends-comes h s e (moved-ends (its-moves d (r .state) b _ e) (s .tidy)) q
+    step-comes (To h (Ends true)) s e f q = ends-closing-comes h s e (moved-ends-closing (its-moves d (r .state) b _ e) (s .tidy) .1) q
 
   byte-comes : (b : ℕ) (bs : Bytes) → Comes bs → Comes (b ∷ bs)
   unfolding readFrom readByte fileFull if_then_else_
@@ -350,7 +350,7 @@ module _ (d : Dialect) (file : Bytes) (end : Read) where
       go false false e f =
           let o : r .offset ≡ length seen = s .offset in
           let h : r .offset < MAXFILE = leb-false MAXFILE (r .offset) e in
-          step-comes b bs ih r seen pre (omega arith) place (formStep d (r .form) b) s refl f (rw (e, f) at q)
+          step-comes b bs ih r seen pre (omega arith) place (fileStep d (r .state) b) s refl f (rw (e, f) at q)
 
   -- ---- the end
 
@@ -363,7 +363,7 @@ module _ (d : Dialect) (file : Bytes) (end : Read) where
 
   clean-comes :
       (r : Read) {seen : Bytes} {pre : List (Line Derived)} {text raw : Bytes} {cells : List Derived} → Stands d file seen r pre text raw cells → length file ≤ MAXFILE →
-      formEnd d (r .form) ≡ Clean → endBetween r (r .done) ≡ going end → Outcome r [] pre text raw cells
+      fileEnd d (r .state) ≡ Clean → endBetween r (r .done) ≡ going end → Outcome r [] pre text raw cells
   clean-comes r {pre} s l e q =
       let x = done-some r (s .done) q in
       let k : Each (ShowsRecord file) (end .done) pre = rw (x .1) at (s .done) in
@@ -379,7 +379,7 @@ module _ (d : Dialect) (file : Bytes) (end : Read) where
 
   end-comes : Comes []
   unfolding readFrom readEnd
-  end-comes r seen pre text raw cells s place q = go (formEnd d (r .form)) refl q
+  end-comes r seen pre text raw cells s place q = go (fileEnd d (r .state)) refl q
     where
       vs : List Value
       vs = closing d true r
@@ -393,7 +393,7 @@ module _ (d : Dialect) (file : Bytes) (end : Read) where
       c : Each (ShowsCell file) vs cells′
       c = closes-now s [] place
 
-      final : formEnd d (r .form) ≡ Final → (v : Verdict) → recordFault d none (r .done) vs ≡ v → judged r next v ≡ going end → Outcome r [] pre text raw cells
+      final : fileEnd d (r .state) ≡ Final → (v : Verdict) → recordFault d none (r .done) vs ≡ v → validated r next v ≡ going end → Outcome r [] pre text raw cells
       final e (Faulty x) w q = stopped-going q
       final e Sound w q =
           let z : next ≡ end = same-going q in
@@ -412,7 +412,7 @@ module _ (d : Dialect) (file : Bytes) (end : Read) where
             limit = whole-file s place;
           })
 
-      go : (x : Ending) → formEnd d (r .form) ≡ x → endAt d none r x ≡ going end → Outcome r [] pre text raw cells
+      go : (x : Ending) → fileEnd d (r .state) ≡ x → endAt d none r x ≡ going end → Outcome r [] pre text raw cells
       go Clean e q = clean-comes r s (whole-file s place) e q
       go Final e q = unfold complete in final e (recordFault d none (r .done) vs) refl q
       go Cut e q = stopped-going q

@@ -8,12 +8,12 @@ use mathlib.Core.List.{List, [], _∷_, _++_, append-assoc, append-nil}
 use lib.ListN.{length, length-append}
 use lib.Dec.{leb}
 use borrow.Author.Tests.{lt-leb}
-use Rattle.grammar.specs.Types.{Dialect, Form, Begin, OfCell, Outside, Passed, Between, Tail, Ends, Step, To, Clean, Final, Sound}
+use Rattle.grammar.specs.Types.{Dialect, FileState, Begin, OfCell, Outside, Passed, Between, Tail, Ends, Step, To, Clean, Final, Sound}
 use Rattle.model.specs.Base.{Bytes, if_then_else_}
-use Rattle.model.specs.Form.{formStep, formEnd, counts}
+use Rattle.model.specs.File.{fileStep, fileEnd, counts}
 use Rattle.model.specs.Text.{Value}
 use Rattle.model.specs.Report.{MAXFILE, MAXRECORD}
-use Rattle.model.specs.Records.{Rec, Read, going, between-records, closing, judged, complete, move, fileFull, recordFull, recordFault, readByte, readFrom, endBetween, readEnd}
+use Rattle.model.specs.Records.{Rec, Read, going, between-records, closing, validated, complete, move, fileFull, recordFull, recordFault, readByte, readFrom, endBetween, readEnd}
 use Rattle.grammar.specs.Derived.{Derived, Line, line, Each, each-none, each-cons}
 use Rattle.grammar.specs.Reading.{Reads, decoded}
 use Rattle.grammar.specs.Reading as reading
@@ -41,11 +41,11 @@ module _ (d : Dialect) (r : Read) (b : ℕ) where
   unfolding recordFull
   size-free h = rw (lt-leb MAXRECORD (r .size) h)
 
-  break-free : counts (r .form) b ≡ false → recordFull r b ≡ false
+  break-free : counts (r .state) b ≡ false → recordFull r b ≡ false
   unfolding recordFull
   break-free e = rw e (and-false (leb MAXRECORD (r .size)))
 
-  free-byte : (s : Step) → r .offset < MAXFILE → recordFull r b ≡ false → formStep d (r .form) b ≡ s → readByte d none r b ≡ move d none r b s
+  free-byte : (s : Step) → r .offset < MAXFILE → recordFull r b ≡ false → fileStep d (r .state) b ≡ s → readByte d none r b ≡ move d none r b s
   unfolding readByte if_then_else_
   free-byte s h k e = rw (file-free h, k, e)
 
@@ -62,9 +62,9 @@ module _ (d : Dialect) (file : Bytes) (total : List (Line Derived)) (limit : len
     pub checks : ChecksFrom d pre (joined d text raw cells ls)
     pub sum : total ≡ pre ++ joined d text raw cells ls
 
-  abbrev Goes : Form → Bytes → List (Line Bytes) → Type 0
+  abbrev Goes : FileState → Bytes → List (Line Bytes) → Type 0
   Goes f xs ls =
-      (r : Read) (seen : Bytes) (pre : List (Line Derived)) (text raw : Bytes) (cells : List Derived) → r .form ≡ f →
+      (r : Read) (seen : Bytes) (pre : List (Line Derived)) (text raw : Bytes) (cells : List Derived) → r .state ≡ f →
       Ready r xs ls seen pre text raw cells → Accepted r xs
 
   next-accepted : (r n : Read) (b : ℕ) {bs : Bytes} → readByte d none r b ≡ going n → Accepted n bs → Accepted r (b ∷ bs)
@@ -81,12 +81,12 @@ module _ (d : Dialect) (file : Bytes) (total : List (Line Derived)) (limit : len
   further seen bs b e = e ∙ sym (append-assoc seen (b ∷ []) bs)
 
   -- a byte, from a reading that stands at f, and what stands then
-  module _ (f h : Form) (b : ℕ) (bs : Bytes) (r : Read) (seen : Bytes) (pre : List (Line Derived)) (p : r .form ≡ f) where
-    at-step : (s : Step) → formStep d f b ≡ s → formStep d (r .form) b ≡ s
-    at-step s e = ap (λ z. formStep d z b) p ∙ e
+  module _ (f h : FileState) (b : ℕ) (bs : Bytes) (r : Read) (seen : Bytes) (pre : List (Line Derived)) (p : r .state ≡ f) where
+    at-step : (s : Step) → fileStep d f b ≡ s → fileStep d (r .state) b ≡ s
+    at-step s e = ap (λ z. fileStep d z b) p ∙ e
 
-    its-moves : (s : Step) → formStep d f b ≡ s → Moves d (r .form) b (stageOf d (r .form)) s
-    its-moves s e = rw (at-step s e) at (step-moves d (r .form) b)
+    its-moves : (s : Step) → fileStep d f b ≡ s → Moves d (r .state) b (stageOf d (r .state)) s
+    its-moves s e = rw (at-step s e) at (step-moves d (r .state) b)
 
     module _ {ls : List (Line Bytes)} {text raw : Bytes} {cells : List Derived} (y : Ready r (b ∷ bs) ls seen pre text raw cells) where
       has-room : suc (length seen) ≤ MAXFILE
@@ -95,21 +95,21 @@ module _ (d : Dialect) (file : Bytes) (total : List (Line Derived)) (limit : len
       offset-free : r .offset < MAXFILE
       offset-free = let o : r .offset ≡ length seen = y .stands .offset in let h : suc (length seen) ≤ MAXFILE = has-room in omega arith
 
-      counted-byte : (s : Step) → formStep d f b ≡ s → length text < MAXRECORD → readByte d none r b ≡ move d none r b s
+      counted-byte : (s : Step) → fileStep d f b ≡ s → length text < MAXRECORD → readByte d none r b ≡ move d none r b s
       counted-byte s e h =
           let z : r .size ≡ length text = y .stands .size in
           free-byte d r b s offset-free (size-free d r b (omega arith)) (at-step s e)
 
-      uncounted-byte : (s : Step) → formStep d f b ≡ s → counts (r .form) b ≡ false → readByte d none r b ≡ move d none r b s
+      uncounted-byte : (s : Step) → fileStep d f b ≡ s → counts (r .state) b ≡ false → readByte d none r b ≡ move d none r b s
       uncounted-byte s e c = free-byte d r b s offset-free (break-free d r b c) (at-step s e)
 
     -- where nothing is in hand afterwards
     rest-goes :
-        (s : Step) (start : ℕ) {ls : List (Line Bytes)} {text raw : Bytes} {cells : List Derived} → formStep d f b ≡ s →
-        move d none r b s ≡ going (record { done = r .done; form = h; offset = suc (r .offset); start = start; size = 0; opened = suc (r .offset); raw = []; cells = [] }) →
+        (s : Step) (start : ℕ) {ls : List (Line Bytes)} {text raw : Bytes} {cells : List Derived} → fileStep d f b ≡ s →
+        move d none r b s ≡ going (record { done = r .done; state = h; offset = suc (r .offset); start = start; size = 0; opened = suc (r .offset); raw = []; cells = [] }) →
         Goes h bs ls → Ready r (b ∷ bs) ls seen pre text raw cells → Rested d h text raw cells → Accepted r (b ∷ bs)
     rest-goes s start e m k y (rested g) =
-        let next : Read = record { done = r .done; form = h; offset = suc (r .offset); start = start; size = 0; opened = suc (r .offset); raw = []; cells = [] } in
+        let next : Read = record { done = r .done; state = h; offset = suc (r .offset); start = start; size = 0; opened = suc (r .offset); raw = []; cells = [] } in
         next-accepted r next b (counted-byte y s e (omega arith) ∙ m)
         (k next (seen ++ (b ∷ [])) pre [] [] [] refl
         (record {
@@ -124,11 +124,11 @@ module _ (d : Dialect) (file : Bytes) (total : List (Line Derived)) (limit : len
     record-goes :
         (s : Step) (size : ℕ) (vs : List Value) (text′ : Bytes) {ls ls′ : List (Line Bytes)} {text raw : Bytes} {cells cells′ : List Derived} →
         readByte d none r b ≡ move d none r b s →
-        move d none r b s ≡ going (record { done = r .done; form = h; offset = suc (r .offset); start = r .start; size = size; opened = suc (r .offset); raw = []; cells = vs }) →
+        move d none r b s ≡ going (record { done = r .done; state = h; offset = suc (r .offset); start = r .start; size = size; opened = suc (r .offset); raw = []; cells = vs }) →
         Goes h bs ls′ → Ready r (b ∷ bs) ls seen pre text raw cells → size ≡ length text′ → length text′ ≤ MAXRECORD → Each (ShowsCell file) vs cells′ →
         Recording (stageOf d h) → Fit (length text′) ls′ → joined d text raw cells ls ≡ joined d text′ [] cells′ ls′ → Accepted r (b ∷ bs)
     record-goes s size vs text′ {cells′} e m k y z l c g f q =
-        let next : Read = record { done = r .done; form = h; offset = suc (r .offset); start = r .start; size = size; opened = suc (r .offset); raw = []; cells = vs } in
+        let next : Read = record { done = r .done; state = h; offset = suc (r .offset); start = r .start; size = size; opened = suc (r .offset); raw = []; cells = vs } in
         next-accepted r next b (e ∙ m)
         (k next (seen ++ (b ∷ [])) pre text′ [] cells′ refl
         (record {
@@ -150,7 +150,7 @@ module _ (d : Dialect) (file : Bytes) (total : List (Line Derived)) (limit : len
     complete-goes s vs {text} {cells′} e m k y c g f q l a =
         let next : Read = between-records (r .done ++ (record { start = r .start; size = r .size; cells = vs } ∷ [])) h (suc (r .offset)) in
         let v : recordFault d none (r .done) vs ≡ Sound = record-sound-checked d (y .stands .done) c l in
-        next-accepted r next b (e ∙ m ∙ ap (judged r next) v)
+        next-accepted r next b (e ∙ m ∙ ap (validated r next) v)
         (k next (seen ++ (b ∷ [])) (pre ++ (line text cells′ ∷ [])) [] [] [] refl
         (record {
           stands = stands-reset (y .stands) b next (has-room y) refl refl refl refl (omega arith) (each-snoc (y .stands .done) (record { size = y .stands .size; cells = c })) each-none (rest-tidy g);
@@ -162,24 +162,24 @@ module _ (d : Dialect) (file : Bytes) (total : List (Line Derived)) (limit : len
 
   -- ---- each part
 
-  module _ (f h : Form) (b : ℕ) (bs : Bytes) where
-    after-outside : (ls : List (Line Bytes)) → formStep d f b ≡ To h Outside → Goes h bs ls → Goes f (b ∷ bs) ls
+  module _ (f h : FileState) (b : ℕ) (bs : Bytes) where
+    after-outside : (ls : List (Line Bytes)) → fileStep d f b ≡ To h Outside → Goes h bs ls → Goes f (b ∷ bs) ls
     unfolding move
     after-outside ls e k r seen pre text raw cells p y =
         rest-goes f h b bs r seen pre p (To h Outside) (r .start) e refl k y (moved-outside (its-moves f h b bs r seen pre p (To h Outside) e) (y .stands .tidy))
 
-    after-passed : (ls : List (Line Bytes)) → formStep d f b ≡ To h Passed → Goes h bs ls → Goes f (b ∷ bs) ls
+    after-passed : (ls : List (Line Bytes)) → fileStep d f b ≡ To h Passed → Goes h bs ls → Goes f (b ∷ bs) ls
     unfolding move
     after-passed ls e k r seen pre text raw cells p y =
         rest-goes f h b bs r seen pre p (To h Passed) (suc (r .offset)) e refl k y (moved-passed (its-moves f h b bs r seen pre p (To h Passed) e) (y .stands .tidy))
 
     module _ (t : Bytes) (cs : List Bytes) (ls : List (Line Bytes)) where
-      after-of-cell : (c : Bytes) → formStep d f b ≡ To h OfCell → Goes h bs (line t (c ∷ cs) ∷ ls) → Goes f (b ∷ bs) (line (b ∷ t) ((b ∷ c) ∷ cs) ∷ ls)
+      after-of-cell : (c : Bytes) → fileStep d f b ≡ To h OfCell → Goes h bs (line t (c ∷ cs) ∷ ls) → Goes f (b ∷ bs) (line (b ∷ t) ((b ∷ c) ∷ cs) ∷ ls)
       unfolding move
       after-of-cell c e k r seen pre text raw cells p y = go (y .fit)
         where
           next : Read
-          next = record { done = r .done; form = h; offset = suc (r .offset); start = r .start; size = suc (r .size); opened = r .opened; raw = r .raw ++ (b ∷ []); cells = r .cells }
+          next = record { done = r .done; state = h; offset = suc (r .offset); start = r .start; size = suc (r .size); opened = r .opened; raw = r .raw ++ (b ∷ []); cells = r .cells }
 
           go : Fit (length text) (line (b ∷ t) ((b ∷ c) ∷ cs) ∷ ls) → Accepted r (b ∷ bs)
           go (fit-line x m) =
@@ -196,11 +196,11 @@ module _ (d : Dialect) (file : Bytes) (total : List (Line Derived)) (limit : len
                 sum = y .sum ∙ ap (λ l. pre ++ l) q;
               }))
 
-      after-between : formStep d f b ≡ To h (Between false) → Goes h bs (line t cs ∷ ls) → Goes f (b ∷ bs) (line (b ∷ t) cs ∷ ls)
+      after-between : fileStep d f b ≡ To h (Between false) → Goes h bs (line t cs ∷ ls) → Goes f (b ∷ bs) (line (b ∷ t) cs ∷ ls)
       unfolding move
       after-between e k r seen pre text raw cells p y = go y (y .fit) (moved-between (its-moves f h b bs r seen pre p (To h (Between false)) e) (y .stands .tidy))
         where
-          go : {raw : Bytes} → Ready r (b ∷ bs) (line (b ∷ t) cs ∷ ls) seen pre text raw cells → Fit (length text) (line (b ∷ t) cs ∷ ls) → Parted d h (counts (r .form) b ≡ true) text raw → Accepted r (b ∷ bs)
+          go : {raw : Bytes} → Ready r (b ∷ bs) (line (b ∷ t) cs ∷ ls) seen pre text raw cells → Fit (length text) (line (b ∷ t) cs ∷ ls) → Parted d h (counts (r .state) b ≡ true) text raw → Accepted r (b ∷ bs)
           go y (fit-line x m) (parted c g) =
               let l : length (text ++ (b ∷ [])) ≡ suc (length text) = length-snoc text b in
               let z : r .size ≡ length text = y .stands .size in
@@ -208,7 +208,7 @@ module _ (d : Dialect) (file : Bytes) (total : List (Line Derived)) (limit : len
               (counted-byte f h b bs r seen pre p y (To h (Between false)) e (omega arith)) refl k y (ap suc z ∙ sym l) (omega arith) (y .stands .complete) g
               (fit-line (omega arith) m) (joined-between d text [] cells b t cs ls)
 
-      after-between-closing : formStep d f b ≡ To h (Between true) → Goes h bs (line t cs ∷ ls) → Goes f (b ∷ bs) (line (b ∷ t) ([] ∷ cs) ∷ ls)
+      after-between-closing : fileStep d f b ≡ To h (Between true) → Goes h bs (line t cs ∷ ls) → Goes f (b ∷ bs) (line (b ∷ t) ([] ∷ cs) ∷ ls)
       unfolding move
       after-between-closing e k r seen pre text raw cells p y = go (y .fit)
         where
@@ -221,16 +221,16 @@ module _ (d : Dialect) (file : Bytes) (total : List (Line Derived)) (limit : len
               (counted-byte f h b bs r seen pre p y (To h (Between true)) e (omega arith)) refl k y (ap suc z ∙ sym l) (omega arith) (closes-now (y .stands) (b ∷ bs) (y .place)) (g .1)
               (fit-line (omega arith) m) (joined-between-closing d text raw cells b t cs ls)
 
-      after-tail : formStep d f b ≡ To h (Tail false) → Goes h bs (line t cs ∷ ls) → Goes f (b ∷ bs) (line t cs ∷ ls)
+      after-tail : fileStep d f b ≡ To h (Tail false) → Goes h bs (line t cs ∷ ls) → Goes f (b ∷ bs) (line t cs ∷ ls)
       unfolding move
       after-tail e k r seen pre text raw cells p y = go y (moved-tail (its-moves f h b bs r seen pre p (To h (Tail false)) e) (y .stands .tidy))
         where
-          go : {raw : Bytes} → Ready r (b ∷ bs) (line t cs ∷ ls) seen pre text raw cells → Parted d h (counts (r .form) b ≡ false) text raw → Accepted r (b ∷ bs)
+          go : {raw : Bytes} → Ready r (b ∷ bs) (line t cs ∷ ls) seen pre text raw cells → Parted d h (counts (r .state) b ≡ false) text raw → Accepted r (b ∷ bs)
           go y (parted c g) =
               record-goes f h b bs r seen pre p (To h (Tail false)) (r .size) (r .cells) text (uncounted-byte f h b bs r seen pre p y (To h (Tail false)) e c) refl k y
               (y .stands .size) (y .stands .fits) (y .stands .complete) g (y .fit) refl
 
-      after-tail-closing : formStep d f b ≡ To h (Tail true) → Goes h bs (line t cs ∷ ls) → Goes f (b ∷ bs) (line t ([] ∷ cs) ∷ ls)
+      after-tail-closing : fileStep d f b ≡ To h (Tail true) → Goes h bs (line t cs ∷ ls) → Goes f (b ∷ bs) (line t ([] ∷ cs) ∷ ls)
       unfolding move
       after-tail-closing e k r seen pre text raw cells p y = go (y .fit)
         where
@@ -240,18 +240,18 @@ module _ (d : Dialect) (file : Bytes) (total : List (Line Derived)) (limit : len
               record-goes f h b bs r seen pre p (To h (Tail true)) (r .size) (closing d true r) text (uncounted-byte f h b bs r seen pre p y (To h (Tail true)) e (g .0)) refl k y
               (y .stands .size) (y .stands .fits) (closes-now (y .stands) (b ∷ bs) (y .place)) (g .1) (fit-line x m) (joined-tail-closing d text raw cells b t cs ls)
 
-    after-ends : (ls : List (Line Bytes)) → formStep d f b ≡ To h (Ends false) → Goes h bs ls → Goes f (b ∷ bs) (line [] [] ∷ ls)
+    after-ends : (ls : List (Line Bytes)) → fileStep d f b ≡ To h (Ends false) → Goes h bs ls → Goes f (b ∷ bs) (line [] [] ∷ ls)
     unfolding move
     after-ends ls e k r seen pre text raw cells p y = go y (y .fit) (moved-ends (its-moves f h b bs r seen pre p (To h (Ends false)) e) (y .stands .tidy))
       where
-        go : {raw : Bytes} → Ready r (b ∷ bs) (line [] [] ∷ ls) seen pre text raw cells → Fit (length text) (line [] [] ∷ ls) → Ended d h (counts (r .form) b ≡ false) text raw → Accepted r (b ∷ bs)
+        go : {raw : Bytes} → Ready r (b ∷ bs) (line [] [] ∷ ls) seen pre text raw cells → Fit (length text) (line [] [] ∷ ls) → Ended d h (counts (r .state) b ≡ false) text raw → Accepted r (b ∷ bs)
         go y (fit-line x m) (ended c g) =
             let a : LineSound d pre cells × ChecksFrom d (pre ++ (line text cells ∷ [])) (joined d [] [] [] ls) =
             rw (append-nil text, append-nil cells, ← (joined-rest d ls)) at (checks-line (y .checks)) in
             complete-goes f h b bs r seen pre p (To h (Ends false)) (r .cells) (uncounted-byte f h b bs r seen pre p y (To h (Ends false)) e c) refl k y (y .stands .complete) g
             (fit-rest ls m) (joined-ends d pre text [] cells ls) (a .0) (a .1)
 
-    after-ends-closing : (ls : List (Line Bytes)) → formStep d f b ≡ To h (Ends true) → Goes h bs ls → Goes f (b ∷ bs) (line [] ([] ∷ []) ∷ ls)
+    after-ends-closing : (ls : List (Line Bytes)) → fileStep d f b ≡ To h (Ends true) → Goes h bs ls → Goes f (b ∷ bs) (line [] ([] ∷ []) ∷ ls)
     unfolding move
     after-ends-closing ls e k r seen pre text raw cells p y = go (y .fit)
       where
@@ -269,18 +269,18 @@ module _ (d : Dialect) (file : Bytes) (total : List (Line Derived)) (limit : len
   some-done : (r : Read) {rs : List Rec} {ls : List (Line Derived)} → Each (ShowsRecord file) rs ls → Some ls → endBetween r rs ≡ going r
   some-done r (each-cons s k) some = refl
 
-  at-clean : (f : Form) → formEnd d f ≡ Clean → Goes f [] []
+  at-clean : (f : FileState) → fileEnd d f ≡ Clean → Goes f [] []
   unfolding readFrom readEnd
   at-clean f e r seen pre text raw cells p y =
-      let q : formEnd d (r .form) ≡ Clean = ap (formEnd d) p ∙ e in
+      let q : fileEnd d (r .state) ≡ Clean = ap (fileEnd d) p ∙ e in
       let a : total ≡ pre = y .sum ∙ append-nil pre in
       let k : Each (ShowsRecord file) (r .done) total = rw a (y .stands .done) in
       accepted r (rw q (some-done r k has-record)) k
 
-  at-final : (f : Form) → formEnd d f ≡ Final → Goes f [] (line [] ([] ∷ []) ∷ [])
+  at-final : (f : FileState) → fileEnd d f ≡ Final → Goes f [] (line [] ([] ∷ []) ∷ [])
   unfolding readFrom readEnd complete
   at-final f e r seen pre text raw cells p y =
-      let q : formEnd d (r .form) ≡ Final = ap (formEnd d) p ∙ e in
+      let q : fileEnd d (r .state) ≡ Final = ap (fileEnd d) p ∙ e in
       let vs : List Value = closing d true r in
       let cells′ : List Derived = cells ++ (decoded d raw ∷ []) in
       let c : Each (ShowsCell file) vs cells′ = closes-now (y .stands) [] (y .place) in
@@ -290,9 +290,9 @@ module _ (d : Dialect) (file : Bytes) (total : List (Line Derived)) (limit : len
       let a : total ≡ pre ++ (line text cells′ ∷ []) = rw (append-nil text, append-nil raw) at (y .sum) in
       let k : Each (ShowsRecord file) (r .done ++ (record { start = r .start; size = r .size; cells = vs } ∷ [])) (pre ++ (line text cells′ ∷ [])) =
       each-snoc (y .stands .done) (record { size = y .stands .size; cells = c }) in
-      accepted end (rw q (ap (judged r end) v)) (rw a k)
+      accepted end (rw q (ap (validated r end) v)) (rw a k)
 
-  pub reads-accepted : {f : Form} {xs : Bytes} {ls : List (Line Bytes)} → Reads d f xs ls → Goes f xs ls
+  pub reads-accepted : {f : FileState} {xs : Bytes} {ls : List (Line Bytes)} → Reads d f xs ls → Goes f xs ls
   reads-accepted (reading.ends-clean {f} e) = at-clean f e
   reads-accepted (reading.ends-final {f} e) = at-final f e
   reads-accepted (reading.outside {f} {g} {b} {bs} {ls} e k) = after-outside f g b bs ls e (reads-accepted k)

@@ -3,9 +3,9 @@
 use mathlib.Core.Path.{_≡_}
 use mathlib.Core.Logic.{_↔_}
 use Rattle.grammar.specs.Types.{Dialect, Csvj, Tdif, CsvPlus, Fresh}
-use Rattle.model.specs.declared.Judged.the-variants.{WholeCell}
+use Rattle.model.specs.declared.CellCheck.the-variants.{WholeCell}
 use Rattle.model.specs.Base.{Bytes}
-use Rattle.model.specs.Decode.{judgeCell}
+use Rattle.model.specs.Decode.{validateCell}
 use Rattle.grammar.specs.Derived.{Derived, cell, rawOf}
 use Rattle.grammar.specs.Derives.{DerivesCell}
 use Rattle.grammar.specs.Reading.{decoded}
@@ -40,5 +40,5 @@ spells-derived d raw m = go (spells-some d raw m)
 
 -- ---- the theorem for a single cell
 
-pub cell-exact : (d : Dialect) (raw : Bytes) → DerivesCell d (decoded d raw) ↔ (judgeCell d raw ≡ WholeCell)
+pub cell-exact : (d : Dialect) (raw : Bytes) → DerivesCell d (decoded d raw) ↔ (validateCell d raw ≡ WholeCell)
 cell-exact d raw = ((λ v. spells-judged (derived-spells d (decoded d raw) v)), (λ e. spells-derived d raw (judged-spells d raw e)))

@@ -5,11 +5,11 @@ use Prim.Native.Nat.{ℕ}
 use mathlib.Core.Path.{_≡_, refl, sym, _∙_}
 use mathlib.Core.Bool.{Bool, true, false}
 use mathlib.Core.List.{List, [], _∷_, _++_}
-use Rattle.grammar.specs.Types.{Dialect, Cell, Fresh, Added, More, Stop, Refuse, Syntax, Form, Inside, OfCell, To}
+use Rattle.grammar.specs.Types.{Dialect, Cell, Fresh, CellStep, More, Stop, Refuse, Syntax, FileState, Inside, OfCell, To}
 use borrow.Author.Tests.{ne-eqb}
 use Rattle.model.specs.Base.{Bytes, _is_}
 use Rattle.model.specs.Cell.{cellStep, isWhole}
-use Rattle.model.specs.Form.{afterCell, grow, inCell, formStep}
+use Rattle.model.specs.File.{afterCell, grow, inCell, fileStep}
 use Rattle.model.proofs.Tests.{impossible}
 use Rattle.model.proofs.CellContent.{no-more}
 use Rattle.grammar.specs.Derived.{Line, line}
@@ -28,8 +28,8 @@ abbrev pub Follows : Dialect → (o : ℕ) → Bytes → (text : Bytes) (cells :
 Follows d o ys text cells ls ps ss =
     (c : Cell) (p : ℕ) → Reached d c → isWhole d c ≡ true → Walks d (Inside c) o p ys (line text ([] ∷ cells) ∷ ls) ((stretch p o ∷ ps) ∷ ss)
 
-pub cell-step : (d : Dialect) (c e : Cell) (b : ℕ) → cellStep d c b ≡ More e → formStep d (Inside c) b ≡ To (Inside e) OfCell
-unfolding formStep inCell
+pub cell-step : (d : Dialect) (c e : Cell) (b : ℕ) → cellStep d c b ≡ More e → fileStep d (Inside c) b ≡ To (Inside e) OfCell
+unfolding fileStep inCell
 cell-step d c e b s = rw s
 
 pub cell-reads :
@@ -40,8 +40,8 @@ cell-reads {c} {p} (whole w) r k = k c p r w
 cell-reads {d} (byte {c} {e} {b} s m) r k = of-cell (cell-step d c e b s) (cell-reads m (reached-step d c e b r s) k)
 
 -- the byte after a whole cell
-pub after-whole : (d : Dialect) (c : Cell) (b : ℕ) → Reached d c → isWhole d c ≡ true → Separates d b → formStep d (Inside c) b ≡ afterCell d true b
-unfolding formStep inCell
+pub after-whole : (d : Dialect) (c : Cell) (b : ℕ) → Reached d c → isWhole d c ≡ true → Separates d b → fileStep d (Inside c) b ≡ afterCell d true b
+unfolding fileStep inCell
 after-whole d c b r w x = rw (stops d c b r w x)
 
 -- where no cell is empty, the first byte of a cell
@@ -81,7 +81,7 @@ module _ {d : Dialect} {After : Bytes → Bytes → List Bytes → List (Line By
 
   -- a byte of the cell's file, where K says of each later state what the later bytes are
   pub in-cell-byte :
-      (K : Form → List (Line Bytes) → Type 0) (c : Cell) (b : ℕ) (bs : Bytes) (ls : List (Line Bytes)) →
+      (K : FileState → List (Line Bytes) → Type 0) (c : Cell) (b : ℕ) (bs : Bytes) (ls : List (Line Bytes)) →
       ((e : Cell) (ls : List (Line Bytes)) → K (Inside e) ls → CellThen d After e bs ls) →
       ((ls : List (Line Bytes)) → Takes K b (afterCell d true b) ls → AfterByte After (b ∷ bs) true ls) →
       Takes K b (inCell d c b) ls → CellThen d After c (b ∷ bs) ls
@@ -91,7 +91,7 @@ module _ {d : Dialect} {After : Bytes → Bytes → List Bytes → List (Line By
       more : (e : Cell) {ls : List (Line Bytes)} → cellStep d c b ≡ More e → Takes K b (To (Inside e) OfCell) ls → CellThen d After c (b ∷ bs) ls
       more e s (steps.of-cell k) = more-cell s (inside e _ k)
 
-      go : (a : Added) → cellStep d c b ≡ a → Takes K b (grow a (afterCell d true b)) ls → CellThen d After c (b ∷ bs) ls
+      go : (a : CellStep) → cellStep d c b ≡ a → Takes K b (grow a (afterCell d true b)) ls → CellThen d After c (b ∷ bs) ls
       go (More e) s t = more e s t
       go Stop s t = close-cell (stop-whole K d c b ls s t) (after ls t)
       go (Refuse e) s t = rejected t

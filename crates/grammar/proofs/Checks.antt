@@ -10,11 +10,11 @@ use mathlib.Core.List.{List, [], _∷_, _++_}
 use lib.ListN.{length}
 use lib.Dec.{ltb, eqb}
 use borrow.Author.Tests.{ltb-false, le-ltb, eqb-true, eq-eqb, not-false}
-use Rattle.grammar.specs.Types.{Kind, Text, Number, True, False, Null, Dialect, Fault, TooManyColumns, NotText, Repeats, Uneven, Verdict, Sound, Faulty}
+use Rattle.grammar.specs.Types.{Kind, Text, Number, True, False, Null, Dialect, Fault, TooManyColumns, HeaderKind, RepeatedName, CellCount, Verdict, Sound, Faulty}
 use Rattle.model.specs.Base.{Bytes, if_then_else_, same}
 use Rattle.model.specs.Text.{Value, isText}
 use Rattle.model.specs.Report.{MAXCOLUMNS}
-use Rattle.model.specs.Records.{Rec, _orElse_, when, nameKey, among, repeatFrom, repeatFault, notTextFrom, headerFault, dataFault, recordFault}
+use Rattle.model.specs.Records.{Rec, _orElse_, when, nameKey, among, repeatFrom, repeatFault, headerKindFrom, headerFault, dataFault, recordFault}
 use Rattle.model.proofs.Tests.{impossible, and-true, is→eq, same-byte}
 use Rattle.grammar.specs.Derived.{Derived, kindIn, contentIn, Line, line, cellsIn, Every, every-none, every-cons, Each, each-none, each-cons}
 use Rattle.grammar.specs.Accepted.{Distinct, no-names, a-name, ChecksHold, checks-hold, ShowsCell, ShowsRecord}
@@ -52,19 +52,19 @@ not-text False p = impossible (sym p)
 not-text Null p = impossible (sym p)
 
 module _ {file : Bytes} where
-  texts : {vs : List Value} {cs : List Derived} (n : ℕ) → Each (ShowsCell file) vs cs → notTextFrom n vs ≡ Sound → Every (λ c. kindIn c ≡ Text) cs
-  unfolding notTextFrom
+  texts : {vs : List Value} {cs : List Derived} (n : ℕ) → Each (ShowsCell file) vs cs → headerKindFrom n vs ≡ Sound → Every (λ c. kindIn c ≡ Text) cs
+  unfolding headerKindFrom
   texts n each-none p = every-none
   texts n (each-cons {x = v} {xs = vs} s k) p =
-      let q = both-sound (when (not (isText (v .kind))) (NotText n)) (notTextFrom (suc n) vs) p in
+      let q = both-sound (when (not (isText (v .kind))) (HeaderKind n)) (headerKindFrom (suc n) vs) p in
       every-cons (sym (s .kind) ∙ not-text (v .kind) (when-sound _ _ (q .0))) (texts (suc n) k (q .1))
 
-  all-text : {vs : List Value} {cs : List Derived} (n : ℕ) → Each (ShowsCell file) vs cs → Every (λ c. kindIn c ≡ Text) cs → notTextFrom n vs ≡ Sound
-  unfolding notTextFrom
+  all-text : {vs : List Value} {cs : List Derived} (n : ℕ) → Each (ShowsCell file) vs cs → Every (λ c. kindIn c ≡ Text) cs → headerKindFrom n vs ≡ Sound
+  unfolding headerKindFrom
   all-text n each-none every-none = refl
   all-text n (each-cons {x = v} {xs = vs} s k) (every-cons e m) =
       let q : not (isText (v .kind)) ≡ false = rw (s .kind ∙ e) in
-      sound-both (when (not (isText (v .kind))) (NotText n)) (notTextFrom (suc n) vs) (sound-when _ _ q) (all-text (suc n) k m)
+      sound-both (when (not (isText (v .kind))) (HeaderKind n)) (headerKindFrom (suc n) vs) (sound-when _ _ q) (all-text (suc n) k m)
 
 -- ---- distinct names
 
@@ -121,7 +121,7 @@ module _ (d : Dialect) where
   cons-unseen y seen (every-cons {x = c} n k) (every-cons p m) = every-cons (cons-among (keyOf c) y seen n p) (cons-unseen y seen k m)
 
   module _ {file : Bytes} where
-    distinct : {vs : List Value} {cs : List Derived} (seen : List Bytes) (n : ℕ) → Each (ShowsCell file) vs cs → repeatFrom d Repeats seen n vs ≡ Sound → Unseen seen cs × Distinct d cs
+    distinct : {vs : List Value} {cs : List Derived} (seen : List Bytes) (n : ℕ) → Each (ShowsCell file) vs cs → repeatFrom d RepeatedName seen n vs ≡ Sound → Unseen seen cs × Distinct d cs
     unfolding repeatFrom if_then_else_
     distinct seen n each-none p = (every-none, no-names)
     distinct seen n (each-cons {x = v} {xs = vs} {y = c} {ys = cs} s k) p = go (among key seen) refl (λ q. distinct (key ∷ seen) (suc n) k q)
@@ -132,7 +132,7 @@ module _ (d : Dialect) where
         key-is : key ≡ keyOf c
         key-is = ap (nameKey d) (s .content)
 
-        go : (t : Bool) → among key seen ≡ t → (repeatFrom d Repeats (key ∷ seen) (suc n) vs ≡ Sound → Unseen (key ∷ seen) cs × Distinct d cs) → Unseen seen (c ∷ cs) × Distinct d (c ∷ cs)
+        go : (t : Bool) → among key seen ≡ t → (repeatFrom d RepeatedName (key ∷ seen) (suc n) vs ≡ Sound → Unseen (key ∷ seen) cs × Distinct d cs) → Unseen seen (c ∷ cs) × Distinct d (c ∷ cs)
         go true q ih = faulty-sound (rw q at p)
         go false q ih =
             let m = ih (rw q at p) in
@@ -140,7 +140,7 @@ module _ (d : Dialect) where
             let w : Every (λ x. keyOf x ≢ keyOf c) cs = rw key-is at (u .0) in
             (every-cons (rw key-is at q) (u .1), a-name w (m .1))
 
-    all-distinct : {vs : List Value} {cs : List Derived} (seen : List Bytes) (n : ℕ) → Each (ShowsCell file) vs cs → Unseen seen cs → Distinct d cs → repeatFrom d Repeats seen n vs ≡ Sound
+    all-distinct : {vs : List Value} {cs : List Derived} (seen : List Bytes) (n : ℕ) → Each (ShowsCell file) vs cs → Unseen seen cs → Distinct d cs → repeatFrom d RepeatedName seen n vs ≡ Sound
     unfolding repeatFrom if_then_else_
     all-distinct seen n each-none u m = refl
     all-distinct seen n (each-cons {x = v} {xs = vs} {y = c} {ys = cs} s k) (every-cons p u) (a-name w m) =
@@ -173,8 +173,8 @@ module _ (d : Dialect) {file : Bytes} where
   unfolding headerFault repeatFault
   header-checked {vs} {cs} k p =
       let l : length vs ≡ length cs = each-length k in
-      let x = both-sound (when (ltb MAXCOLUMNS (length vs)) TooManyColumns) (notTextFrom 1 vs orElse repeatFrom d Repeats [] 1 vs) p in
-      let y = both-sound (notTextFrom 1 vs) (repeatFrom d Repeats [] 1 vs) (x .1) in
+      let x = both-sound (when (ltb MAXCOLUMNS (length vs)) TooManyColumns) (headerKindFrom 1 vs orElse repeatFrom d RepeatedName [] 1 vs) p in
+      let y = both-sound (headerKindFrom 1 vs) (repeatFrom d RepeatedName [] 1 vs) (x .1) in
       header-sound (rw l at (ltb-false MAXCOLUMNS (length vs) (when-sound _ _ (x .0)))) (texts 1 k (y .0)) (distinct d [] 1 k (y .1) .1)
 
   header-sound-checked : {vs : List Value} {cs : List Derived} → Each (ShowsCell file) vs cs → LineSound d [] cs → headerFault d vs ≡ Sound
@@ -182,9 +182,9 @@ module _ (d : Dialect) {file : Bytes} where
   header-sound-checked {vs} {cs} k (header-sound c t m) =
       let l : length vs ≡ length cs = each-length k in
       let h : length vs ≤ MAXCOLUMNS = rw l c in
-      sound-both (when (ltb MAXCOLUMNS (length vs)) TooManyColumns) (notTextFrom 1 vs orElse repeatFrom d Repeats [] 1 vs)
+      sound-both (when (ltb MAXCOLUMNS (length vs)) TooManyColumns) (headerKindFrom 1 vs orElse repeatFrom d RepeatedName [] 1 vs)
       (sound-when _ _ (le-ltb MAXCOLUMNS (length vs) h))
-      (sound-both (notTextFrom 1 vs) (repeatFrom d Repeats [] 1 vs) (all-text 1 k t) (all-distinct d [] 1 k (unseen-none d cs) m))
+      (sound-both (headerKindFrom 1 vs) (repeatFrom d RepeatedName [] 1 vs) (all-text 1 k t) (all-distinct d [] 1 k (unseen-none d cs) m))
 
   data-checked :
       {vs : List Value} {cs : List Derived} {h : Line Derived} {hs : List (Line Derived)} (n : ℕ) → n ≡ length (cellsIn h) →
@@ -192,7 +192,7 @@ module _ (d : Dialect) {file : Bytes} where
   unfolding dataFault
   data-checked {vs} {cs} n e k p =
       let l : length vs ≡ length cs = each-length k in
-      let x = both-sound (when (ltb MAXCOLUMNS (length vs)) TooManyColumns) (when (not (eqb (length vs) n)) Uneven) p in
+      let x = both-sound (when (ltb MAXCOLUMNS (length vs)) TooManyColumns) (when (not (eqb (length vs) n)) CellCount) p in
       let q : length vs ≡ n = eqb-true (length vs) n (not-false (eqb (length vs) n) (when-sound _ _ (x .1))) in
       data-sound (rw l at (ltb-false MAXCOLUMNS (length vs) (when-sound _ _ (x .0)))) (sym l ∙ q ∙ e)
 
@@ -204,7 +204,7 @@ module _ (d : Dialect) {file : Bytes} where
       let l : length vs ≡ length cs = each-length k in
       let h : length vs ≤ MAXCOLUMNS = rw l c in
       let f : not (eqb (length vs) n) ≡ false = rw (eq-eqb (length vs) n (l ∙ q ∙ sym e)) in
-      sound-both (when (ltb MAXCOLUMNS (length vs)) TooManyColumns) (when (not (eqb (length vs) n)) Uneven)
+      sound-both (when (ltb MAXCOLUMNS (length vs)) TooManyColumns) (when (not (eqb (length vs) n)) CellCount)
       (sound-when _ _ (le-ltb MAXCOLUMNS (length vs) h)) (sound-when _ _ f)
 
   pub record-checked :

@@ -10,10 +10,10 @@ use mathlib.Core.List.{List, [], _∷_, _++_, append-assoc}
 use lib.Dec.{leb}
 use borrow.Author.Tests.{eqb-false, leb-true, leb-false}
 use Rattle.grammar.specs.Types.{Dialect, EeToEf, Second, Last, Inner, Char, Whole, Within, Advance, On, Broken, Cell, Fresh, Plain}
-use Rattle.grammar.specs.Types.{Form, Top, Begin, Ended, Mark1, Mark2, PlainMark1, PlainMark2, Comment, Blanks, Wanting, Inside, After, Cr, Outside, Passed, OfCell, Between, Ends, Step, To, Clean}
+use Rattle.grammar.specs.Types.{FileState, Top, Begin, Ended, Mark1, Mark2, PlainMark1, PlainMark2, Comment, Blanks, Wanting, Inside, After, Cr, Outside, Passed, OfCell, Between, Ends, Step, To, Clean}
 use Rattle.model.specs.Base.{Bytes, _is_}
 use Rattle.model.specs.Utf8.{charStep}
-use Rattle.model.specs.Form.{isBlank, afterCell, inCell, beginRecord, beginFile, commented, formStep, lastCell, formEnd}
+use Rattle.model.specs.File.{isBlank, afterCell, inCell, beginRecord, beginFile, commented, fileStep, lastCell, fileEnd}
 use Rattle.model.proofs.Tests.{split, split-on, is→eq}
 use Rattle.model.proofs.CellRuns.{mark-rest}
 use Rattle.grammar.specs.Rfc5234.{LF, CR}
@@ -99,7 +99,7 @@ afterEf = Plain (Within (Second EeToEf))
 abbrev pub afterBb : Cell
 afterBb = Plain (Within Last)
 
-abbrev pub ToCome : Dialect → Grammar → Form → Bytes → List (Line Bytes) → Type 0
+abbrev pub ToCome : Dialect → Grammar → FileState → Bytes → List (Line Bytes) → Type 0
 ToCome d g Top xs ls = g .Tops xs ls
 ToCome d g Begin xs ls = g .Lines xs ls
 ToCome d g Ended xs ls = AfterBreak (g .Lines) xs ls
@@ -139,7 +139,7 @@ blank-ws b p w = split-on (b is 0x20) (λ q. rw (is→eq b 0x20 q) (space w)) λ
 
 module _ (d : Dialect) (g : Grammar) where
   -- what the bytes after this one give, by the state that it leads to
-  abbrev pub Then : Bytes → Form → List (Line Bytes) → Type 0
+  abbrev pub Then : Bytes → FileState → List (Line Bytes) → Type 0
   Then bs f ls = ToCome d g f bs ls
 
   -- a byte after a cell
@@ -181,14 +181,14 @@ module _ (d : Dialect) (g : Grammar) where
       plain-taken : {ls : List (Line Bytes)} → Takes (Then bs) 0xBB (To PlainMark2 OfCell) ls → ToCome d g PlainMark1 (0xBB ∷ bs) ls
       plain-taken (steps.of-cell k) = (λ m. k .0 (completes-mark m .1), more-cell (mark-rest d) (k .1))
 
-      plain-rest : (b : ℕ) (ls : List (Line Bytes)) → Takes (Then bs) b (formStep d PlainMark1 b) ls → ToCome d g PlainMark1 (b ∷ bs) ls
-      unfolding formStep
+      plain-rest : (b : ℕ) (ls : List (Line Bytes)) → Takes (Then bs) b (fileStep d PlainMark1 b) ls → ToCome d g PlainMark1 (b ∷ bs) ls
+      unfolding fileStep
       plain-rest b ls =
           split (λ s. Takes (Then bs) b s ls → ToCome d g PlainMark1 (b ∷ bs) ls) (b is 0xBB) (λ p t. let q = is→eq b 0xBB p in rw q (plain-taken (rw q at t))) λ p t.
           (λ m. eqb-false b 0xBB p (completes-mark m .0), in-cell afterEf b ls t)
 
-      plain-last : (b : ℕ) (ls : List (Line Bytes)) → Takes (Then bs) b (formStep d PlainMark2 b) ls → ToCome d g PlainMark2 (b ∷ bs) ls
-      unfolding formStep
+      plain-last : (b : ℕ) (ls : List (Line Bytes)) → Takes (Then bs) b (fileStep d PlainMark2 b) ls → ToCome d g PlainMark2 (b ∷ bs) ls
+      unfolding fileStep
       plain-last b ls =
           split (λ s. Takes (Then bs) b s ls → ToCome d g PlainMark2 (b ∷ bs) ls) (b is 0xBF) (λ p t. rejected t) λ p t.
           (λ m. eqb-false b 0xBF p (ends-mark m), in-cell afterBb b ls t)
@@ -202,8 +202,8 @@ module _ (d : Dialect) (g : Grammar) where
       char-taken : {b : ℕ} {c : Char} {ls : List (Line Bytes)} → Takes (Then bs) b (To (Comment c) Outside) ls → InComment (g .Lines) c bs ls
       char-taken (steps.outside k) = k
 
-      comment-byte : (c : Char) (b : ℕ) (ls : List (Line Bytes)) → Takes (Then bs) b (formStep d (Comment c) b) ls → InComment (g .Lines) c (b ∷ bs) ls
-      unfolding formStep
+      comment-byte : (c : Char) (b : ℕ) (ls : List (Line Bytes)) → Takes (Then bs) b (fileStep d (Comment c) b) ls → InComment (g .Lines) c (b ∷ bs) ls
+      unfolding fileStep
       comment-byte Whole b ls =
           let P : Step → Type 0 = λ s. Takes (Then bs) b s ls → InComment (g .Lines) Whole (b ∷ bs) ls in
           split P (b is LF) (λ p t. rw (is→eq b LF p) (comment-lf t)) λ n.
@@ -234,8 +234,8 @@ module _ (d : Dialect) (g : Grammar) where
       lf-after-cr : {b : ℕ} {ls : List (Line Bytes)} → Takes (Then bs) b (To Begin (Ends false)) ls → AfterCr (g .Lines) (LF ∷ bs) ls
       lf-after-cr (steps.ends k) = then-lf k
 
-      step-byte : (f : Form) (b : ℕ) (ls : List (Line Bytes)) → Takes (Then bs) b (formStep d f b) ls → ToCome d g f (b ∷ bs) ls
-      unfolding formStep
+      step-byte : (f : FileState) (b : ℕ) (ls : List (Line Bytes)) → Takes (Then bs) b (fileStep d f b) ls → ToCome d g f (b ∷ bs) ls
+      unfolding fileStep
       step-byte Top b ls t = facts .top-byte bs b ls t
       step-byte Begin b ls t = line-byte b ls t
       step-byte Ended b ls t =
@@ -260,8 +260,8 @@ module _ (d : Dialect) (g : Grammar) where
     at-clean : (A : List (Line Bytes) → Type 0) {ls : List (Line Bytes)} → A [] → steps.Finishes Clean ls → A ls
     at-clean A k steps.clean = k
 
-    end-byte : (f : Form) (ls : List (Line Bytes)) → steps.Finishes (formEnd d f) ls → ToCome d g f [] ls
-    unfolding formEnd
+    end-byte : (f : FileState) (ls : List (Line Bytes)) → steps.Finishes (fileEnd d f) ls → ToCome d g f [] ls
+    unfolding fileEnd
     end-byte Top ls t = at-clean (g .Tops []) (facts .no-top) t
     end-byte Begin ls t = at-clean (g .Lines []) (facts .no-line) t
     end-byte Ended ls t = stays (at-clean (g .Lines []) (facts .no-line) t)
@@ -276,5 +276,5 @@ module _ (d : Dialect) (g : Grammar) where
     end-byte After ls t = cut-off t
     end-byte Cr ls t = cut-off t
 
-    pub reads-coming : (xs : Bytes) (f : Form) (ls : List (Line Bytes)) → Reads d f xs ls → ToCome d g f xs ls
+    pub reads-coming : (xs : Bytes) (f : FileState) (ls : List (Line Bytes)) → Reads d f xs ls → ToCome d g f xs ls
     reads-coming = by-bytes d (ToCome d g) end-byte step-byte

@@ -2,7 +2,7 @@
 use Prim.Native.Nat.{ℕ}
 use mathlib.Core.Path.{_≡_, refl}
 use mathlib.Core.List.{_∷_}
-use Rattle.grammar.specs.Types.{Csvj, Zero, Integer, T, Tr, Tru, F, Fa, Fal, Fals, N, Nu, Nul, Cell, Fresh, InWord, Added, More}
+use Rattle.grammar.specs.Types.{Csvj, Zero, Integer, T, Tr, Tru, F, Fa, Fal, Fals, N, Nu, Nul, Cell, Fresh, InWord, CellStep, More}
 use Rattle.grammar.specs.Types as types
 use Rattle.model.specs.Base.{Bytes, QUOTE, _is_, if_then_else_}
 use Rattle.model.specs.Cell.{isDigit, firstByte, cellStep, isWhole}
@@ -57,7 +57,7 @@ first-value b bs e k =
     split P (b is 0x66) (λ p q. rw (is→eq b 0x66 p) (false-value (from q))) λ _.
     split P (b is 0x6E) (λ p q. rw (is→eq b 0x6E p) (null-value (from q))) λ _ q. no-more q
   where
-    P : Added → Type 0
+    P : CellStep → Type 0
     P a = a ≡ More e → DerivedFrom Value (b ∷ bs)
 
     from : {c : Cell} → More c ≡ More e → Spells Csvj c bs

@@ -5,10 +5,10 @@ use mathlib.Core.Path.{_≡_, refl, _∙_}
 use mathlib.Core.Bool.{Bool, true, false}
 use mathlib.Core.List.{List, [], _∷_, _++_, map, append-assoc, append-nil}
 use Rattle.grammar.specs.Types.{Csvj, Cell, Fresh, More}
-use Rattle.grammar.specs.Types.{Form, Top, Begin, Mark1, Blanks, Wanting, Inside, After, Cr, Outside, Between, Tail, Ends, Step, To}
+use Rattle.grammar.specs.Types.{FileState, Top, Begin, Mark1, Blanks, Wanting, Inside, After, Cr, Outside, Between, Tail, Ends, Step, To}
 use Rattle.model.specs.Base.{Bytes, _is_, if_then_else_}
 use Rattle.model.specs.Cell.{firstByte, cellStep, isWhole}
-use Rattle.model.specs.Form.{isBlank, afterCell, beginRecord, beginFile, formStep, formEnd}
+use Rattle.model.specs.File.{isBlank, afterCell, beginRecord, beginFile, fileStep, fileEnd}
 use Rattle.model.proofs.Tests.{split, is→eq}
 use Rattle.grammar.specs.Rfc5234.{LF, CR}
 use Rattle.grammar.specs.Derived.{Derived, rawOf, Line, line, spelling}
@@ -39,7 +39,7 @@ blank-step k b q = rw q
 blank-continues :
     (b : ℕ) {o : ℕ} {ys text : Bytes} {cells : List Bytes} {ls : List (Line Bytes)} {ps : List Stretch} {ss : List (List Stretch)} →
     Separates Csvj b → isBlank b ≡ true → Continues (suc o) ys text cells ls ps ss → Continues o (b ∷ ys) (b ∷ text) cells ls ps ss
-unfolding formStep
+unfolding fileStep
 blank-continues b x q k =
     record {
       after-value = λ c p r w. between-closing (after-whole Csvj c b r w x ∙ blank-step true b q) (k .after-blank);
@@ -56,7 +56,7 @@ ws-continues (tab w) k = blank-continues 0x09 by-tab refl (ws-continues w k)
 comma-continues :
     {o : ℕ} {ys text : Bytes} {cells : List Bytes} {ls : List (Line Bytes)} {ps : List Stretch} {ss : List (List Stretch)} → Walks Csvj Wanting (suc o) (suc o) ys (line text cells ∷ ls) (ps ∷ ss) →
     Continues o (0x2C ∷ ys) (0x2C ∷ text) cells ls ps ss
-unfolding formStep afterCell if_then_else_
+unfolding fileStep afterCell if_then_else_
 comma-continues k =
     record {
       after-value = λ c p r w. between-closing (after-whole Csvj c 0x2C r w by-delimiter) k;
@@ -66,7 +66,7 @@ comma-continues k =
 terminator-continues :
     {o : ℕ} {es zs : Bytes} {ls : List (Line Bytes)} {ss : List (List Stretch)} → Line-terminator es → Walks Csvj Begin (past es o) (past es o) zs ls ss →
     Continues o (es ++ zs) [] [] ls [] ss
-unfolding formStep afterCell if_then_else_
+unfolding fileStep afterCell if_then_else_
 terminator-continues lf k =
     record {
       after-value = λ c p r w. ends-closing (after-whole Csvj c LF r w by-lf) k;
@@ -79,22 +79,22 @@ terminator-continues crlf k =
     }
 
 -- where a record may begin, and after blanks that begin one
-data Opening : Form → Type 0 where
+data Opening : FileState → Type 0 where
   at-top : Opening Top
   at-begin : Opening Begin
   at-blanks : Opening Blanks
 
 abbrev FromLine : ℕ → Bytes → List (Line Bytes) → List (List Stretch) → Type 0
-FromLine o xs ls ss = (f : Form) → Opening f → Walks Csvj f o o xs ls ss
+FromLine o xs ls ss = (f : FileState) → Opening f → Walks Csvj f o o xs ls ss
 
-open-value : {f : Form} (b : ℕ) (e : Cell) → Opening f → cellStep Csvj Fresh b ≡ More e → formStep Csvj f b ≡ formStep Csvj (Inside Fresh) b
-unfolding formStep beginFile beginRecord cellStep firstByte if_then_else_
+open-value : {f : FileState} (b : ℕ) (e : Cell) → Opening f → cellStep Csvj Fresh b ≡ More e → fileStep Csvj f b ≡ fileStep Csvj (Inside Fresh) b
+unfolding fileStep beginFile beginRecord cellStep firstByte if_then_else_
 open-value b e at-top s = rw (other-byte Csvj b 0xEF e s refl, other-byte Csvj b 0x20 e s refl, other-byte Csvj b 0x09 e s refl, other-byte Csvj b LF e s refl, other-byte Csvj b CR e s refl)
 open-value b e at-begin s = rw (other-byte Csvj b 0x20 e s refl, other-byte Csvj b 0x09 e s refl, other-byte Csvj b LF e s refl, other-byte Csvj b CR e s refl)
 open-value b e at-blanks s = rw (other-byte Csvj b 0x20 e s refl, other-byte Csvj b 0x09 e s refl, other-byte Csvj b LF e s refl, other-byte Csvj b CR e s refl)
 
-wanted-value : (b : ℕ) (e : Cell) → cellStep Csvj Fresh b ≡ More e → formStep Csvj Wanting b ≡ formStep Csvj (Inside Fresh) b
-unfolding formStep cellStep firstByte if_then_else_
+wanted-value : (b : ℕ) (e : Cell) → cellStep Csvj Fresh b ≡ More e → fileStep Csvj Wanting b ≡ fileStep Csvj (Inside Fresh) b
+unfolding fileStep cellStep firstByte if_then_else_
 wanted-value b e s = rw (other-byte Csvj b 0x20 e s refl, other-byte Csvj b 0x09 e s refl)
 
 from-first : {o : ℕ} {xs : Bytes} {ls : List (Line Bytes)} {ss : List (List Stretch)} → FirstOfCell Csvj xs → Walks Csvj (Inside Fresh) o o xs ls ss → FromLine o xs ls ss
@@ -107,19 +107,19 @@ from-wanted (first-of-cell {b} {e} s) r = from-state (wanted-value b e s) r
 ws-wanted :
     {o : ℕ} {ws ys text : Bytes} {cells : List Bytes} {ls : List (Line Bytes)} {ss : List (List Stretch)} → Ws ws →
     Walks Csvj Wanting (past ws o) (past ws o) ys (line text cells ∷ ls) ss → Walks Csvj Wanting o o (ws ++ ys) (line (ws ++ text) cells ∷ ls) ss
-unfolding formStep if_then_else_
+unfolding fileStep if_then_else_
 ws-wanted no-ws k = k
 ws-wanted (space w) k = between refl (ws-wanted w k)
 ws-wanted (tab w) k = between refl (ws-wanted w k)
 
-space-step : {f : Form} → Opening f → formStep Csvj f 0x20 ≡ To Blanks (Between false)
-unfolding formStep beginFile beginRecord if_then_else_
+space-step : {f : FileState} → Opening f → fileStep Csvj f 0x20 ≡ To Blanks (Between false)
+unfolding fileStep beginFile beginRecord if_then_else_
 space-step at-top = refl
 space-step at-begin = refl
 space-step at-blanks = refl
 
-tab-step : {f : Form} → Opening f → formStep Csvj f 0x09 ≡ To Blanks (Between false)
-unfolding formStep beginFile beginRecord if_then_else_
+tab-step : {f : FileState} → Opening f → fileStep Csvj f 0x09 ≡ To Blanks (Between false)
+unfolding fileStep beginFile beginRecord if_then_else_
 tab-step at-top = refl
 tab-step at-begin = refl
 tab-step at-blanks = refl
@@ -131,14 +131,14 @@ ws-opening no-ws k f o = k f o
 ws-opening (space w) k f o = between (space-step o) (ws-opening w k Blanks at-blanks)
 ws-opening (tab w) k f o = between (tab-step o) (ws-opening w k Blanks at-blanks)
 
-lf-step : {f : Form} → Opening f → formStep Csvj f LF ≡ To Begin (Ends false)
-unfolding formStep beginFile beginRecord if_then_else_
+lf-step : {f : FileState} → Opening f → fileStep Csvj f LF ≡ To Begin (Ends false)
+unfolding fileStep beginFile beginRecord if_then_else_
 lf-step at-top = refl
 lf-step at-begin = refl
 lf-step at-blanks = refl
 
-cr-step : {f : Form} → Opening f → formStep Csvj f CR ≡ To Cr (Tail false)
-unfolding formStep beginFile beginRecord if_then_else_
+cr-step : {f : FileState} → Opening f → fileStep Csvj f CR ≡ To Cr (Tail false)
+unfolding fileStep beginFile beginRecord if_then_else_
 cr-step at-top = refl
 cr-step at-begin = refl
 cr-step at-blanks = refl
@@ -146,7 +146,7 @@ cr-step at-blanks = refl
 terminator-opening :
     {o : ℕ} {es zs : Bytes} {ls : List (Line Bytes)} {ss : List (List Stretch)} → Line-terminator es → Walks Csvj Begin (past es o) (past es o) zs ls ss →
     FromLine o (es ++ zs) (line [] [] ∷ ls) ([] ∷ ss)
-unfolding formStep if_then_else_
+unfolding fileStep if_then_else_
 terminator-opening lf k f o = ends (lf-step o) k
 terminator-opening crlf k f o = tail (cr-step o) (ends refl k)
 
@@ -191,7 +191,7 @@ unfolding spelling
 line-reads o {xs} (ended {text} {es} t e) k = rw (append-assoc text es xs) (text-reads o t e (rw (past-append text es o) at k))
 
 lines-read : (o : ℕ) {xs : Bytes} {ls : List (Line Derived)} (k : Data-lines xs ls) → Walks Csvj Begin o o xs (map spelling ls) (csvjLines o k)
-unfolding formEnd
+unfolding fileEnd
 lines-read o no-line = ends-clean refl
 lines-read o (a-line {bs} (data-line l) k) = line-reads o l (lines-read (past bs o) k) Begin at-begin
 
@@ -199,7 +199,7 @@ table-reads : (o : ℕ) {xs : Bytes} {ls : List (Line Derived)} (k : Csvj-file x
 table-reads o (csvj-file {bs} (header-line l) k) = line-reads o l (lines-read (past bs o) k)
 
 pub file-reads : {xs : Bytes} {ls : List (Line Derived)} (k : File xs ls) → Walks Csvj Top 0 0 xs (map spelling ls) (csvjFile k)
-unfolding formStep beginFile if_then_else_
+unfolding fileStep beginFile if_then_else_
 file-reads (unmarked k) = table-reads 0 k Top at-top
 file-reads (marked k) = outside refl (outside refl (passed refl (table-reads 3 k Begin at-begin)))
 
@@ -282,7 +282,7 @@ comma-more (wanted-then {ws} w k) = go (value-then k)
 abbrev coming : Grammar
 coming = record { Lines = DerivedLines; Tops = TopLines; First = LineThen; Further = AfterThen }
 
-abbrev K : Bytes → Form → List (Line Bytes) → Type 0
+abbrev K : Bytes → FileState → List (Line Bytes) → Type 0
 K = Then Csvj coming
 
 module _ (bs : Bytes) where

@@ -4,10 +4,10 @@ use Prim.Native.Nat.{ℕ, suc}
 use mathlib.Core.Path.{_≡_, refl, _∙_}
 use mathlib.Core.Bool.{Bool, true, false}
 use mathlib.Core.List.{List, [], _∷_, _++_, append-assoc, append-nil}
-use Rattle.grammar.specs.Types.{Dialect, CsvPlus, Fresh, Form, Inside, Between, To}
+use Rattle.grammar.specs.Types.{Dialect, CsvPlus, Fresh, FileState, Inside, Between, To}
 use Rattle.model.specs.Base.{Bytes, if_then_else_}
 use Rattle.model.specs.Dialect.{delimiterOf}
-use Rattle.model.specs.Form.{afterCell}
+use Rattle.model.specs.File.{afterCell}
 use Rattle.model.proofs.Tests.{same-byte}
 use Rattle.model.proofs.CellContent.{Doubles, d-tdif, d-plus}
 use Rattle.grammar.specs.Derived.{Line, line}
@@ -77,7 +77,7 @@ module _ (d : Dialect) (Tail : Bytes → List (Line Bytes) → Type 0) where
 
   -- a delimiter after a cell
   pub delimiter-taken :
-      (K : Form → List (Line Bytes) → Type 0) {bs : Bytes} (k : Bool) {ls : List (Line Bytes)} →
+      (K : FileState → List (Line Bytes) → Type 0) {bs : Bytes} (k : Bool) {ls : List (Line Bytes)} →
       ((ls : List (Line Bytes)) → K (Inside Fresh) ls → CellThen d After Fresh bs ls) → Takes K (delimiterOf d) (To (Inside Fresh) (Between k)) ls →
       AfterByte After (delimiterOf d ∷ bs) k ls
   delimiter-taken K true f (steps.between-closing m) = ends-now (at-delimiter (record-of (f _ m)))

@@ -6,10 +6,10 @@ use mathlib.Core.Logic.{_↔_}
 use mathlib.Core.Bool.{Bool, true, false}
 use mathlib.Core.Option.{Option}
 use mathlib.Core.List.{List, [], _∷_, _++_, map, append-assoc}
-use Rattle.grammar.specs.Types.{Dialect, Target, Form, Top, Outside, Passed, OfCell, Between, Tail, Ends, To, Clean}
-use Rattle.model.specs.declared.Part.{Part}
+use Rattle.grammar.specs.Types.{Dialect, Target, FileState, Top, Outside, Passed, OfCell, Between, Tail, Ends, To, Clean}
+use Rattle.model.specs.declared.ByteRole.{ByteRole}
 use Rattle.model.specs.Base.{Bytes}
-use Rattle.model.specs.Form.{formStep, formEnd}
+use Rattle.model.specs.File.{fileStep, fileEnd}
 use Rattle.model.specs.Records.{Read, going, fileFull, recordFull, readBytes}
 use Rattle.model.specs.Viable.{Completes, completed, onward, CanGoOn}
 use Rattle.model.proofs.Laws.{laws}
@@ -24,11 +24,11 @@ use Rattle.grammar.proofs.AcceptedOnly.{HasCell, has-cell, its-moves, r
 use Rattle.grammar.proofs.FileGrammar.{derived-reads, reads-derived}
 
 -- these bytes are read to the end of the file, with a record
-data Recorded (d : Dialect) (f : Form) (xs : Bytes) : Type 0 where
+data Recorded (d : Dialect) (f : FileState) (xs : Bytes) : Type 0 where
   recorded : (l : Line Bytes) (ls : List (Line Bytes)) → Reads d f xs (l ∷ ls) → Recorded d f xs
 
-ended-clean : (d : Dialect) {f : Form} → RecordEnded f → formEnd d f ≡ Clean
-unfolding formEnd
+ended-clean : (d : Dialect) {f : FileState} → RecordEnded f → fileEnd d f ≡ Clean
+unfolding fileEnd
 ended-clean d then-begin = refl
 ended-clean d then-ended = refl
 
@@ -36,24 +36,24 @@ module _ (d : Dialect) where
   -- ---- where a record is completed, the bytes so far are a file
 
   -- a record that goes on from h, after the byte b, is told from f, before it
-  abbrev Told : (f h : Form) (b : ℕ) (bs : Bytes) → Type 0
+  abbrev Told : (f h : FileState) (b : ℕ) (bs : Bytes) → Type 0
   Told f h b bs = (text : Bytes) (cells : List Bytes) (ls : List (Line Bytes)) → Reads d h bs (line text cells ∷ ls) → Recorded d f (b ∷ bs)
 
-  module _ {f h : Form} (b : ℕ) (bs : Bytes) where
-    of-cell-reads : formStep d f b ≡ To h OfCell → stageOf d h ≡ in-cell → Recorded d h bs → Recorded d f (b ∷ bs)
+  module _ {f h : FileState} (b : ℕ) (bs : Bytes) where
+    of-cell-reads : fileStep d f b ≡ To h OfCell → stageOf d h ≡ in-cell → Recorded d h bs → Recorded d f (b ∷ bs)
     of-cell-reads e g (recorded l ls r) = go r (reads-cell d r g)
       where
         go : {ls : List (Line Bytes)} → Reads d h bs ls → HasCell ls → Recorded d f (b ∷ bs)
         go r has-cell = recorded _ _ (reading.of-cell e r)
 
-    last-reads : (k : Bool) → formStep d f b ≡ To h (Ends k) → RecordEnded h → Recorded d f (b ∷ [])
+    last-reads : (k : Bool) → fileStep d f b ≡ To h (Ends k) → RecordEnded h → Recorded d f (b ∷ [])
     last-reads true e n = recorded _ _ (reading.ends-closing e (reading.ends-clean (ended-clean d n)))
     last-reads false e n = recorded _ _ (reading.ends e (reading.ends-clean (ended-clean d n)))
 
     record-reads : Told f h b bs → Recorded d h bs → Recorded d f (b ∷ bs)
     record-reads k (recorded (line text cells) ls r) = k text cells ls r
 
-    next-reads : (k : Bool) → formStep d f b ≡ To h (Ends k) → Recorded d h bs → Recorded d f (b ∷ bs)
+    next-reads : (k : Bool) → fileStep d f b ≡ To h (Ends k) → Recorded d h bs → Recorded d f (b ∷ bs)
     next-reads true e (recorded l ls r) = recorded _ _ (reading.ends-closing e r)
     next-reads false e (recorded l ls r) = recorded _ _ (reading.ends e r)
 
@@ -63,7 +63,7 @@ module _ (d : Dialect) where
         go : Recorded d h bs → Recorded d f (b ∷ bs)
         go (recorded l ls r) = recorded l ls (k (l ∷ ls) r)
 
-  completes-reads : {f : Form} {xs text raw : Bytes} {cells : List Derived} → Completes d f xs → Tidy (stageOf d f) text raw cells → Recorded d f xs
+  completes-reads : {f : FileState} {xs text raw : Bytes} {cells : List Derived} → Completes d f xs → Tidy (stageOf d f) text raw cells → Recorded d f xs
   completes-reads (completed {f} {k = k} {b} e) t = last-reads b [] k e (moved-complete (its-moves d f b _ e) t)
   completes-reads (onward {f} {p = Outside} {b} {bs} e k) t =
       rest-reads b bs (moved-outside (its-moves d f b _ e) t) (λ t. completes-reads k t) (λ ls r. reading.outside e r)
@@ -85,16 +85,16 @@ module _ (d : Dialect) where
 
   -- ---- what is read can be completed
 
-  data Completed (f : Form) (xs : Bytes) : Type 0 where
+  data Completed (f : FileState) (xs : Bytes) : Type 0 where
     by-adding : (ws : Bytes) → Completes d f (xs ++ ws) → Completed f xs
 
-  next : {f g : Form} {p : Part} {b : ℕ} {bs : Bytes} → formStep d f b ≡ To g p → Completed g bs → Completed f (b ∷ bs)
+  next : {f g : FileState} {p : ByteRole} {b : ℕ} {bs : Bytes} → fileStep d f b ≡ To g p → Completed g bs → Completed f (b ∷ bs)
   next e (by-adding ws k) = by-adding ws (onward e k)
 
-  any-state : (f : Form) → Completed f []
+  any-state : (f : FileState) → Completed f []
   any-state f = let c = laws .completion d f in by-adding (c .0) (c .1)
 
-  reads-complete : {f : Form} {xs : Bytes} {ls : List (Line Bytes)} → Reads d f xs ls → Completed f xs
+  reads-complete : {f : FileState} {xs : Bytes} {ls : List (Line Bytes)} → Reads d f xs ls → Completed f xs
   reads-complete (reading.ends-clean {f} e) = any-state f
   reads-complete (reading.ends-final {f} e) = any-state f
   reads-complete (reading.outside e k) = next e (reads-complete k)

@@ -6,7 +6,7 @@ use mathlib.Core.Path.{_≡_, refl, sym, ap, _∙_}
 use mathlib.Core.Bool.{true, false, _||_}
 use mathlib.Core.List.{[], _∷_, _++_, append-nil}
 use borrow.Author.Tests.{ne-eqb, eqb-false}
-use Rattle.grammar.specs.Types.{Csvj, Numeral, Zero, Integer, Point, Fraction, ESign, Exponent, Cell, Fresh, InNumber, Added, More}
+use Rattle.grammar.specs.Types.{Csvj, Numeral, Zero, Integer, Point, Fraction, ESign, Exponent, Cell, Fresh, InNumber, CellStep, More}
 use Rattle.grammar.specs.Types as types
 use Rattle.model.specs.Base.{Bytes, QUOTE, _is_, if_then_else_}
 use Rattle.model.specs.Cell.{isDigit, numeralStep, firstByte, cellStep, isNumeral, isWhole}
@@ -231,7 +231,7 @@ module _ {b : ℕ} {bs : Bytes} {e : Cell} (ih : (m : Numeral) → InNumber m �
   number-byte n k = go n k
     where
       -- what the byte means for n, given what it does
-      P : Numeral → Added → Type 0
+      P : Numeral → CellStep → Type 0
       P n a = a ≡ More e → NumberRest n (b ∷ bs)
 
       is-digit : isDigit b ≡ true → DIGIT b

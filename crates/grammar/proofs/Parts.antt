@@ -5,20 +5,20 @@ use native.Mathlib.Omega.{arith}
 use mathlib.Core.Path.{_≡_, refl, sym, _∙_}
 use mathlib.Core.Bool.{Bool, true, false}
 use Rattle.grammar.specs.Types.{Settings, Dialect, Csvj, Tdif, CsvPlus, EeToEf, Second, Last, Char, Whole, Within, Advance, On, Broken}
-use Rattle.grammar.specs.Types.{Cell, Fresh, Quoted, Closed, Escape, Hex, InNumber, InWord, Plain, Complete, Added, More, Stop, Refuse, ByteFault}
-use Rattle.grammar.specs.Types.{Form, Top, Begin, Ended, Mark1, Mark2, PlainMark1, PlainMark2, Comment, Blanks, Wanting, Inside, After, Cr, Outside, Passed, OfCell, Between, Tail, Ends, Step, To, Reject}
+use Rattle.grammar.specs.Types.{Cell, Fresh, Quoted, Closed, Escape, Hex, InNumber, InWord, Plain, Complete, CellStep, More, Stop, Refuse, ByteFault}
+use Rattle.grammar.specs.Types.{FileState, Top, Begin, Ended, Mark1, Mark2, PlainMark1, PlainMark2, Comment, Blanks, Wanting, Inside, After, Cr, Outside, Passed, OfCell, Between, Tail, Ends, Step, To, Reject}
 use Rattle.model.specs.Base.{LF, CR, COMMA, _is_}
 use Rattle.model.specs.Dialect.{delimiterOf}
 use Rattle.model.specs.Utf8.{charStep}
 use Rattle.model.specs.Cell.{textByte, quotedByte, cellStep, inQuotes}
-use Rattle.model.specs.Form.{isBlank, afterCell, grow, inCell, beginRecord, beginFile, commented, formStep, quotesOpen, counts}
+use Rattle.model.specs.File.{isBlank, afterCell, grow, inCell, beginRecord, beginFile, commented, fileStep, quotesOpen, counts}
 use Rattle.model.proofs.Tests.{split, impossible, is→eq}
 use Rattle.model.proofs.CellContent.{no-stop}
 use Rattle.model.proofs.Counted.{counted, lf-uncounted, cr-uncounted, more-counted, blank-counted, delimiter-counted}
 
 -- ---- a cell does not stop in quotes
 
-data GoesOn : Added → Type 0 where
+data GoesOn : CellStep → Type 0 where
   on-more : {c : Cell} → GoesOn (More c)
   on-refuse : {e : ByteFault} → GoesOn (Refuse e)
 
@@ -46,7 +46,7 @@ in-quotes-goes d (InWord w) b q = impossible q
 in-quotes-goes d (Plain c) b q = impossible q
 in-quotes-goes d Complete b q = impossible q
 
-goes-no-stop : {A : Type 0} {a : Added} → GoesOn a → a ≡ Stop → A
+goes-no-stop : {A : Type 0} {a : CellStep} → GoesOn a → a ≡ Stop → A
 goes-no-stop (on-more {c}) e = no-stop (sym e)
 goes-no-stop (on-refuse {e = x}) e = let z : _≡_ {A = ℕ} 0 1 = cc in absurd (omega arith)
 
@@ -71,7 +71,7 @@ blanksStage Csvj = in-record
 blanksStage Tdif = nowhere
 blanksStage (CsvPlus s) = in-record
 
-abbrev pub stageOf : Dialect → Form → Stage
+abbrev pub stageOf : Dialect → FileState → Stage
 stageOf d Top = at-rest
 stageOf d Begin = at-rest
 stageOf d Ended = at-rest
@@ -92,11 +92,11 @@ pub data Recording : Stage → Type 0 where
   cell-open : Recording in-cell
 
 -- a record has ended, and nothing after it has come
-pub data RecordEnded : Form → Type 0 where
+pub data RecordEnded : FileState → Type 0 where
   then-begin : RecordEnded Begin
   then-ended : RecordEnded Ended
 
-pub ended-rests : (d : Dialect) {f : Form} → RecordEnded f → stageOf d f ≡ at-rest
+pub ended-rests : (d : Dialect) {f : FileState} → RecordEnded f → stageOf d f ≡ at-rest
 ended-rests d then-begin = refl
 ended-rests d then-ended = refl
 
@@ -106,44 +106,44 @@ pub data NoCell : Stage → Type 0 where
   none-in-record : NoCell in-record
 
 -- what a step may be, from this stage
-pub data Moves (d : Dialect) (f : Form) (b : ℕ) : Stage → Step → Type 0 where
+pub data Moves (d : Dialect) (f : FileState) (b : ℕ) : Stage → Step → Type 0 where
   unreached : {s : Step} → Moves d f b nowhere s
   rejects : {g : Stage} {e : ByteFault} → Moves d f b g (Reject e)
-  leaves : {h : Form} → stageOf d h ≡ at-rest → Moves d f b at-rest (To h Outside)
-  passes : {h : Form} → stageOf d h ≡ at-rest → Moves d f b at-rest (To h Passed)
-  adds : {g : Stage} {h : Form} → counts f b ≡ true → stageOf d h ≡ in-cell → Moves d f b g (To h OfCell)
-  parts : {g : Stage} {h : Form} → counts f b ≡ true → NoCell g → Recording (stageOf d h) → Moves d f b g (To h (Between false))
-  parts-closing : {g : Stage} {h : Form} → counts f b ≡ true → Recording (stageOf d h) → Moves d f b g (To h (Between true))
-  turns : {g : Stage} {h : Form} → counts f b ≡ false → NoCell g → Recording (stageOf d h) → Moves d f b g (To h (Tail false))
-  turns-closing : {g : Stage} {h : Form} → counts f b ≡ false → Recording (stageOf d h) → Moves d f b g (To h (Tail true))
-  completes : {g : Stage} {h : Form} → counts f b ≡ false → NoCell g → RecordEnded h → Moves d f b g (To h (Ends false))
-  completes-closing : {g : Stage} {h : Form} → counts f b ≡ false → RecordEnded h → Moves d f b g (To h (Ends true))
+  leaves : {h : FileState} → stageOf d h ≡ at-rest → Moves d f b at-rest (To h Outside)
+  passes : {h : FileState} → stageOf d h ≡ at-rest → Moves d f b at-rest (To h Passed)
+  adds : {g : Stage} {h : FileState} → counts f b ≡ true → stageOf d h ≡ in-cell → Moves d f b g (To h OfCell)
+  parts : {g : Stage} {h : FileState} → counts f b ≡ true → NoCell g → Recording (stageOf d h) → Moves d f b g (To h (Between false))
+  parts-closing : {g : Stage} {h : FileState} → counts f b ≡ true → Recording (stageOf d h) → Moves d f b g (To h (Between true))
+  turns : {g : Stage} {h : FileState} → counts f b ≡ false → NoCell g → Recording (stageOf d h) → Moves d f b g (To h (Tail false))
+  turns-closing : {g : Stage} {h : FileState} → counts f b ≡ false → Recording (stageOf d h) → Moves d f b g (To h (Tail true))
+  completes : {g : Stage} {h : FileState} → counts f b ≡ false → NoCell g → RecordEnded h → Moves d f b g (To h (Ends false))
+  completes-closing : {g : Stage} {h : FileState} → counts f b ≡ false → RecordEnded h → Moves d f b g (To h (Ends true))
 
 -- a cell closes before the byte, or none is in hand
 abbrev MayLeave : Stage → Bool → Type 0
 MayLeave g true = Unit {0}
 MayLeave g false = NoCell g
 
-module _ (d : Dialect) (f : Form) (b : ℕ) (g : Stage) where
-  parts-with : {h : Form} (k : Bool) → MayLeave g k → counts f b ≡ true → Recording (stageOf d h) → Moves d f b g (To h (Between k))
+module _ (d : Dialect) (f : FileState) (b : ℕ) (g : Stage) where
+  parts-with : {h : FileState} (k : Bool) → MayLeave g k → counts f b ≡ true → Recording (stageOf d h) → Moves d f b g (To h (Between k))
   parts-with true m c r = parts-closing c r
   parts-with false m c r = parts c m r
 
-  turns-with : {h : Form} (k : Bool) → MayLeave g k → counts f b ≡ false → Recording (stageOf d h) → Moves d f b g (To h (Tail k))
+  turns-with : {h : FileState} (k : Bool) → MayLeave g k → counts f b ≡ false → Recording (stageOf d h) → Moves d f b g (To h (Tail k))
   turns-with true m c r = turns-closing c r
   turns-with false m c r = turns c m r
 
-  completes-with : {h : Form} (k : Bool) → MayLeave g k → counts f b ≡ false → RecordEnded h → Moves d f b g (To h (Ends k))
+  completes-with : {h : FileState} (k : Bool) → MayLeave g k → counts f b ≡ false → RecordEnded h → Moves d f b g (To h (Ends k))
   completes-with true m c r = completes-closing c r
   completes-with false m c r = completes c m r
 
-lf-is-uncounted : (f : Form) (b : ℕ) → quotesOpen f ≡ false → (b is LF) ≡ true → counts f b ≡ false
+lf-is-uncounted : (f : FileState) (b : ℕ) → quotesOpen f ≡ false → (b is LF) ≡ true → counts f b ≡ false
 lf-is-uncounted f b q p = rw (is→eq b LF p) (lf-uncounted f q)
 
-cr-is-uncounted : (f : Form) (b : ℕ) → quotesOpen f ≡ false → (b is CR) ≡ true → counts f b ≡ false
+cr-is-uncounted : (f : FileState) (b : ℕ) → quotesOpen f ≡ false → (b is CR) ≡ true → counts f b ≡ false
 cr-is-uncounted f b q p = rw (is→eq b CR p) (cr-uncounted f q)
 
-module _ (f : Form) (b : ℕ) (g : Stage) (q : quotesOpen f ≡ false) where
+module _ (f : FileState) (b : ℕ) (g : Stage) (q : quotesOpen f ≡ false) where
   after-moves : (d : Dialect) (k : Bool) → MayLeave g k → Moves d f b g (afterCell d k b)
   unfolding afterCell
   after-moves Csvj k m =
@@ -163,11 +163,11 @@ module _ (f : Form) (b : ℕ) (g : Stage) (q : quotesOpen f ≡ false) where
       split P (b is LF) (λ p. completes-with (CsvPlus s) f b g k m (lf-is-uncounted f b q p) then-begin) λ _.
       split P (b is CR) (λ p. turns-with (CsvPlus s) f b g {h = Cr} k m (cr-is-uncounted f b q p) record-open) λ _. rejects
 
-in-cell-moves : (d : Dialect) (f : Form) (c : Cell) (b : ℕ) (g : Stage) → quotesOpen f ≡ inQuotes c → Moves d f b g (inCell d c b)
+in-cell-moves : (d : Dialect) (f : FileState) (c : Cell) (b : ℕ) (g : Stage) → quotesOpen f ≡ inQuotes c → Moves d f b g (inCell d c b)
 unfolding inCell
 in-cell-moves d f c b g q = go (cellStep d c b) refl
   where
-    go : (a : Added) → cellStep d c b ≡ a → Moves d f b g (grow a (afterCell d true b))
+    go : (a : CellStep) → cellStep d c b ≡ a → Moves d f b g (grow a (afterCell d true b))
     go (More e) s = adds (more-counted d f c e b q s) refl
     go Stop s = after-moves f b g (q ∙ stop-outside d c b s) d true tt
     go (Refuse e) s = rejects
@@ -182,7 +182,7 @@ starts-no-cell : {g : Stage} → Starts Csvj g → MayLeave g false
 starts-no-cell starts-at-rest = none-at-rest
 starts-no-cell starts-csvj = none-in-record
 
-module _ (f : Form) (b : ℕ) (q : quotesOpen f ≡ false) where
+module _ (f : FileState) (b : ℕ) (q : quotesOpen f ≡ false) where
   fresh-moves : (d : Dialect) (g : Stage) → Moves d f b g (inCell d Fresh b)
   fresh-moves d g = in-cell-moves d f Fresh b g q
 
@@ -209,7 +209,7 @@ top-moves (CsvPlus s) b =
     (λ p. let e : b ≡ 0xEF = is→eq b 0xEF p in adds (counted Top b (λ z. omega arith) (λ z. omega arith)) refl) λ _.
     begin-moves Top b refl (CsvPlus s) at-rest starts-at-rest
 
-comment-goes : (d : Dialect) (f : Form) (b : ℕ) (o : Advance) → Moves d f b at-rest (commented o)
+comment-goes : (d : Dialect) (f : FileState) (b : ℕ) (o : Advance) → Moves d f b at-rest (commented o)
 comment-goes d f b Broken = rejects
 comment-goes d f b (On c) = leaves refl
 
@@ -218,8 +218,8 @@ blanks-moves Csvj b = begin-moves Blanks b refl Csvj in-record starts-csvj
 blanks-moves Tdif b = unreached
 blanks-moves (CsvPlus s) b = begin-moves Blanks b refl (CsvPlus s) in-record starts-plus
 
-pub step-moves : (d : Dialect) (f : Form) (b : ℕ) → Moves d f b (stageOf d f) (formStep d f b)
-unfolding formStep
+pub step-moves : (d : Dialect) (f : FileState) (b : ℕ) → Moves d f b (stageOf d f) (fileStep d f b)
+unfolding fileStep
 step-moves d Top b = top-moves d b
 step-moves d Begin b = begin-moves Begin b refl d at-rest starts-at-rest
 step-moves d Ended b = split (Moves d Ended b at-rest) (b is LF) (λ _. passes refl) λ _. begin-moves Ended b refl d at-rest starts-at-rest

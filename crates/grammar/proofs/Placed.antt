@@ -7,14 +7,14 @@ use mathlib.Core.Option.{none, some}
 use mathlib.Core.List.{List, [], _∷_, _++_, map, map-append, append-assoc, append-nil}
 use lib.ListN.{length}
 use lib.Dec.{ltb}
-use Rattle.grammar.specs.Types.{Dialect, Form, Begin, OfCell, Outside, Passed, Between, Tail, Ends, Step, To, Clean, Final, Verdict, Sound, Faulty}
+use Rattle.grammar.specs.Types.{Dialect, FileState, Begin, OfCell, Outside, Passed, Between, Tail, Ends, Step, To, Clean, Final, Verdict, Sound, Faulty}
 use Rattle.grammar.specs.Types as types
 use Rattle.model.specs.Base.{Bytes, if_then_else_, concat}
 use Rattle.model.specs.Dialect.{dialectOf}
-use Rattle.model.specs.Form.{formStep, formEnd}
+use Rattle.model.specs.File.{fileStep, fileEnd}
 use Rattle.model.specs.Report.{accepted}
-use Rattle.model.specs.Records.{Rec, rows, Progress, stopped, Read, going, nothingRead, between-records, cellNow, closing, judged, complete, move, fileFull, recordFull, recordFault, readByte, readFrom, readBytes, endBetween, readEnd, readFile}
-use Rattle.model.specs.Api.{answered, answerOf, reader}
+use Rattle.model.specs.Records.{Rec, rows, Progress, stopped, Read, going, nothingRead, between-records, cellNow, closing, validated, complete, move, fileFull, recordFull, recordFault, readByte, readFrom, readBytes, endBetween, readEnd, readFile}
+use Rattle.model.specs.Api.{answered, readAnswer, reader}
 use Rattle.grammar.specs.Derived.{Derived, Line}
 use Rattle.grammar.specs.Derives.{Derives}
 use Rattle.grammar.specs.Stretches.{Stretch, stretch, stretches, stretchOf, shown}
@@ -47,7 +47,7 @@ module _ (d : Dialect) (end : Read) where
   Shows r ss = shown (end .done) ≡ shown (r .done) ++ onto (map stretchOf (r .cells)) ss
 
   byte-read :
-      (r : Read) (b : ℕ) (bs : Bytes) (s : Step) → formStep d (r .form) b ≡ s → Comes r (b ∷ bs) →
+      (r : Read) (b : ℕ) (bs : Bytes) (s : Step) → fileStep d (r .state) b ≡ s → Comes r (b ∷ bs) →
       readEnd d none (readFrom d none (move d none r b s) bs) ≡ going end
   unfolding readFrom readByte if_then_else_
   byte-read r b bs s e q = go (fileFull r) (recordFull r b) refl refl
@@ -58,7 +58,7 @@ module _ (d : Dialect) (end : Read) where
       go false false f z = rw (f, z, e) at q
 
   verdict-read :
-      (r next : Read) (bs : Bytes) (v : Verdict) → readEnd d none (readFrom d none (judged r next v) bs) ≡ going end → Comes next bs
+      (r next : Read) (bs : Bytes) (v : Verdict) → readEnd d none (readFrom d none (validated r next v) bs) ≡ going end → Comes next bs
   verdict-read r next bs Sound q = q
   verdict-read r next bs (Faulty x) q = not-going d x r bs q
 
@@ -81,23 +81,23 @@ module _ (d : Dialect) (end : Read) where
   between-same r [] q = stopped-going q
   between-same r (h ∷ rs) q = same-going q
 
-  judged-same : (r next : Read) (v : Verdict) → judged r next v ≡ going end → next ≡ end
+  judged-same : (r next : Read) (v : Verdict) → validated r next v ≡ going end → next ≡ end
   judged-same r next Sound q = same-going q
   judged-same r next (Faulty x) q = stopped-going q
 
-  stepped : (r : Read) {f : Form} (b : ℕ) (s : Step) → r .form ≡ f → formStep d f b ≡ s → formStep d (r .form) b ≡ s
-  stepped r b s p e = ap (λ z. formStep d z b) p ∙ e
+  stepped : (r : Read) {f : FileState} (b : ℕ) (s : Step) → r .state ≡ f → fileStep d f b ≡ s → fileStep d (r .state) b ≡ s
+  stepped r b s p e = ap (λ z. fileStep d z b) p ∙ e
 
   walk-shows :
-      {f : Form} {o p : ℕ} {xs text raw : Bytes} {ls : List (Line Bytes)} {ss : List (List Stretch)} → Walks d f o p xs ls ss →
-      (r : Read) → r .form ≡ f → r .offset ≡ o → r .opened ≡ p → Tidy (stageOf d (r .form)) text raw (r .cells) → Comes r xs → Shows r ss
+      {f : FileState} {o p : ℕ} {xs text raw : Bytes} {ls : List (Line Bytes)} {ss : List (List Stretch)} → Walks d f o p xs ls ss →
+      (r : Read) → r .state ≡ f → r .offset ≡ o → r .opened ≡ p → Tidy (stageOf d (r .state)) text raw (r .cells) → Comes r xs → Shows r ss
   unfolding move complete readFrom readEnd onto
   walk-shows (walks.ends-clean {f} e) r pf po pp t q =
-      let c : formEnd d (r .form) ≡ Clean = ap (formEnd d) pf ∙ e in
+      let c : fileEnd d (r .state) ≡ Clean = ap (fileEnd d) pf ∙ e in
       let z : r ≡ end = between-same r (r .done) (rw c at q) in
       sym (ap (λ (x : Read). shown (x .done)) z) ∙ sym (append-nil (shown (r .done)))
   walk-shows (walks.ends-final {f} e) r pf po pp t q =
-      let c : formEnd d (r .form) ≡ Final = ap (formEnd d) pf ∙ e in
+      let c : fileEnd d (r .state) ≡ Final = ap (fileEnd d) pf ∙ e in
       let made : Rec = record { start = r .start; size = r .size; cells = closing d true r } in
       let next : Read = between-records (r .done ++ (made ∷ [])) Begin (r .offset) in
       let z : next ≡ end = judged-same r next (recordFault d none (r .done) (closing d true r)) (rw c at q) in
@@ -105,41 +105,41 @@ module _ (d : Dialect) (end : Read) where
       sym (ap (λ (x : Read). shown (x .done)) z) ∙ a ∙ record-onto (r .done) made [] ∙ ap (λ z. shown (r .done) ++ z) (closing-onto r [] [] po pp)
   walk-shows (walks.outside {g} {b} {bs} e k) r pf po pp t q =
       let s = stepped r b (To g Outside) pf e in
-      let m = rested-none (moved-outside (its-moves d (r .form) b (To g Outside) s) t) in
+      let m = rested-none (moved-outside (its-moves d (r .state) b (To g Outside) s) t) in
       rw (m .0) (walk-shows k _ refl (ap suc po) (ap suc po) (rest-tidy (m .1)) (byte-read r b bs (To g Outside) s q))
   walk-shows (walks.passed {g} {b} {bs} e k) r pf po pp t q =
       let s = stepped r b (To g Passed) pf e in
-      let m = rested-none (moved-passed (its-moves d (r .form) b (To g Passed) s) t) in
+      let m = rested-none (moved-passed (its-moves d (r .state) b (To g Passed) s) t) in
       rw (m .0) (walk-shows k _ refl (ap suc po) (ap suc po) (rest-tidy (m .1)) (byte-read r b bs (To g Passed) s q))
   walk-shows {text} {raw} (walks.of-cell {g} {b} {bs} e k) r pf po pp t q =
       let s = stepped r b (To g OfCell) pf e in
-      let m : Tidy (stageOf d g) text raw (r .cells) = rw (moved-of-cell (its-moves d (r .form) b (To g OfCell) s) t .1) tidy-cell in
+      let m : Tidy (stageOf d g) text raw (r .cells) = rw (moved-of-cell (its-moves d (r .state) b (To g OfCell) s) t .1) tidy-cell in
       walk-shows k _ refl (ap suc po) pp m (byte-read r b bs (To g OfCell) s q)
   walk-shows (walks.between {g} {b} {bs} e k) r pf po pp t q =
       let s = stepped r b (To g (Between false)) pf e in
-      walk-shows k _ refl (ap suc po) (ap suc po) (parted-tidy (moved-between (its-moves d (r .form) b (To g (Between false)) s) t)) (byte-read r b bs (To g (Between false)) s q)
+      walk-shows k _ refl (ap suc po) (ap suc po) (parted-tidy (moved-between (its-moves d (r .state) b (To g (Between false)) s) t)) (byte-read r b bs (To g (Between false)) s q)
   walk-shows {text} (walks.between-closing {g} {b} {bs} {ps} {ss} e k) r pf po pp t q =
       let s = stepped r b (To g (Between true)) pf e in
-      let m = recording-tidy {text = text} (moved-between-closing (its-moves d (r .form) b (To g (Between true)) s) t .1) in
+      let m = recording-tidy {text = text} (moved-between-closing (its-moves d (r .state) b (To g (Between true)) s) t .1) in
       walk-shows k _ refl (ap suc po) (ap suc po) m (byte-read r b bs (To g (Between true)) s q) ∙ ap (λ z. shown (r .done) ++ z) (closing-onto r ps ss po pp)
   walk-shows (walks.tail {g} {b} {bs} e k) r pf po pp t q =
       let s = stepped r b (To g (Tail false)) pf e in
-      walk-shows k _ refl (ap suc po) (ap suc po) (parted-tidy (moved-tail (its-moves d (r .form) b (To g (Tail false)) s) t)) (byte-read r b bs (To g (Tail false)) s q)
+      walk-shows k _ refl (ap suc po) (ap suc po) (parted-tidy (moved-tail (its-moves d (r .state) b (To g (Tail false)) s) t)) (byte-read r b bs (To g (Tail false)) s q)
   walk-shows {text} (walks.tail-closing {g} {b} {bs} {ps} {ss} e k) r pf po pp t q =
       let s = stepped r b (To g (Tail true)) pf e in
-      let m = recording-tidy {text = text} (moved-tail-closing (its-moves d (r .form) b (To g (Tail true)) s) t .1) in
+      let m = recording-tidy {text = text} (moved-tail-closing (its-moves d (r .state) b (To g (Tail true)) s) t .1) in
       walk-shows k _ refl (ap suc po) (ap suc po) m (byte-read r b bs (To g (Tail true)) s q) ∙ ap (λ z. shown (r .done) ++ z) (closing-onto r ps ss po pp)
   walk-shows (walks.ends {g} {b} {bs} {ss} e k) r pf po pp t q =
       let s = stepped r b (To g (Ends false)) pf e in
       let made : Rec = record { start = r .start; size = r .size; cells = r .cells } in
       let next : Read = between-records (r .done ++ (made ∷ [])) g (suc (r .offset)) in
-      let m = rest-tidy (ended-rests d (moved-complete (its-moves d (r .form) b (To g (Ends false)) s) t)) in
+      let m = rest-tidy (ended-rests d (moved-complete (its-moves d (r .state) b (To g (Ends false)) s) t)) in
       walk-shows k next refl (ap suc po) (ap suc po) m (verdict-read r next bs (recordFault d none (r .done) (r .cells)) (byte-read r b bs (To g (Ends false)) s q)) ∙ record-onto (r .done) made ss
   walk-shows (walks.ends-closing {g} {b} {bs} {ss} e k) r pf po pp t q =
       let s = stepped r b (To g (Ends true)) pf e in
       let made : Rec = record { start = r .start; size = r .size; cells = closing d true r } in
       let next : Read = between-records (r .done ++ (made ∷ [])) g (suc (r .offset)) in
-      let m = rest-tidy (ended-rests d (moved-complete (its-moves d (r .form) b (To g (Ends true)) s) t)) in
+      let m = rest-tidy (ended-rests d (moved-complete (its-moves d (r .state) b (To g (Ends true)) s) t)) in
       walk-shows k next refl (ap suc po) (ap suc po) m (verdict-read r next bs (recordFault d none (r .done) (closing d true r)) (byte-read r b bs (To g (Ends true)) s q)) ∙
       record-onto (r .done) made ss ∙ ap (λ z. shown (r .done) ++ z) (closing-onto r [] ss po pp)
 
@@ -172,7 +172,7 @@ pub reader-stretches :
 unfolding reader
 reader-stretches n d xs room ls k dialect e = rw (dialect, reader) (go (readFile d none xs) refl (rw (dialect, reader) at e))
   where
-    go : (p : Progress) → readFile d none xs ≡ p → answerOf p room .report ≡ accepted → map stretchOf (answerOf p room .cells) ≡ concat (stretches d xs ls k)
+    go : (p : Progress) → readFile d none xs ≡ p → readAnswer p room .report ≡ accepted → map stretchOf (readAnswer p room .cells) ≡ concat (stretches d xs ls k)
     go (going r) q e =
         ap (map stretchOf) (answered-cells (r .done) room e) ∙ rows-stretches (r .done) ∙ ap concat (same-stretches d xs ls k r q)
     go (stopped x r) q e = stopped-going (accepted-going (stopped x r) e .1)

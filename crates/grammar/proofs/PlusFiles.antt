@@ -6,11 +6,11 @@ use mathlib.Core.Bool.{Bool, true, false}
 use mathlib.Core.List.{List, [], _∷_, _++_, map, append-nil}
 use borrow.Author.Tests.{eqb-false}
 use Rattle.grammar.specs.Types.{Delimiter, Comma, Semicolon, Tab, Bar, Settings, CsvPlus, Cell, Fresh}
-use Rattle.grammar.specs.Types.{Form, Top, Begin, PlainMark1, PlainMark2, Inside, Cr, OfCell, Tail, Ends, Step, To, Final}
+use Rattle.grammar.specs.Types.{FileState, Top, Begin, PlainMark1, PlainMark2, Inside, Cr, OfCell, Tail, Ends, Step, To, Final}
 use Rattle.model.specs.Base.{Bytes, _is_, if_then_else_}
 use Rattle.model.specs.Dialect.{delimiterByte}
 use Rattle.model.specs.Cell.{isWhole}
-use Rattle.model.specs.Form.{afterCell, beginRecord, beginFile, formStep, lastCell, formEnd}
+use Rattle.model.specs.File.{afterCell, beginRecord, beginFile, fileStep, lastCell, fileEnd}
 use Rattle.model.proofs.Tests.{split, is→eq}
 use Rattle.model.proofs.CellRuns.{mark-cell, mark-rest}
 use Rattle.model.proofs.CellContent.{d-plus}
@@ -105,16 +105,16 @@ module _ (s : Settings) where
 
   ending-follows :
       {o : ℕ} {es zs : Bytes} {ls : List (Line Bytes)} {ss : List (List Stretch)} → CRLF s es → Walks (CsvPlus s) Begin (past es o) (past es o) zs ls ss → Follows (CsvPlus s) o (es ++ zs) [] [] ls [] ss
-  unfolding formStep if_then_else_
+  unfolding fileStep if_then_else_
   ending-follows lf k c p r w = ends-closing (after-whole (CsvPlus s) c LF r w by-lf ∙ after-lf) k
   ending-follows crlf k c p r w = tail-closing (after-whole (CsvPlus s) c CR r w by-cr ∙ after-cr) (ends refl k)
 
   end-follows : (o : ℕ) → Follows (CsvPlus s) o [] [] [] [] [] []
-  unfolding formEnd if_then_else_
+  unfolding fileEnd if_then_else_
   end-follows o c p r w = ends-final {f = Inside c} (rw w)
 
   begin-reads : {o : ℕ} {xs : Bytes} {ls : List (Line Bytes)} {ss : List (List Stretch)} → NonEmpty xs → Walks (CsvPlus s) (Inside Fresh) o o xs ls ss → Walks (CsvPlus s) Begin o o xs ls ss
-  unfolding formStep beginRecord
+  unfolding fileStep beginRecord
   begin-reads some r = from-state refl r
 
   ending-some : {es : Bytes} (text zs : Bytes) → CRLF s es → NonEmpty (text ++ (es ++ zs))
@@ -130,7 +130,7 @@ module _ (s : Settings) where
   to-begin (from-fresh n r) = begin-reads n r
 
   none-reads : (o : ℕ) → Walks (CsvPlus s) Begin o o [] [] []
-  unfolding formEnd
+  unfolding fileEnd
   none-reads o = ends-clean refl
 
   record-reads :
@@ -149,11 +149,11 @@ module _ (s : Settings) where
       from-fresh (ending-some text xs e) (record-reads o r (ending-follows e (to-begin (records-read (past es (past text o)) k))))
 
   unfinished : {A : Type 0} (c : Cell) {ls : List (Line Bytes)} → isWhole (CsvPlus s) c ≡ false → Reads (CsvPlus s) (Inside c) [] ls → A
-  unfolding formEnd if_then_else_
+  unfolding fileEnd if_then_else_
   unfinished c w r = cut-off (rw w at (at-end r))
 
   mark-last-reads : {o p : ℕ} (bs : Bytes) {ls : List (Line Bytes)} {ss : List (List Stretch)} → ¬ EndsMark bs → Walks (CsvPlus s) (Inside afterBb) o p bs ls ss → Walks (CsvPlus s) PlainMark2 o p bs ls ss
-  unfolding formStep isWhole if_then_else_
+  unfolding fileStep isWhole if_then_else_
   mark-last-reads [] n r = unfinished afterBb refl (reads r)
   mark-last-reads {o} {p} (b ∷ bs) {ls} {ss} n r = go (b is 0xBF) refl
     where
@@ -162,7 +162,7 @@ module _ (s : Settings) where
       go false e = from-state (rw e) r
 
   mark-rest-reads : {o p : ℕ} (bs : Bytes) {ls : List (Line Bytes)} {ss : List (List Stretch)} → ¬ CompletesMark bs → Walks (CsvPlus s) (Inside afterEf) o p bs ls ss → Walks (CsvPlus s) PlainMark1 o p bs ls ss
-  unfolding formStep isWhole if_then_else_
+  unfolding fileStep isWhole if_then_else_
   mark-rest-reads [] n r = unfinished afterEf refl (reads r)
   mark-rest-reads {o} {p} (b ∷ bs) {ls} {ss} n r = go (b is 0xBB) refl
     where
@@ -180,7 +180,7 @@ module _ (s : Settings) where
       go false e = from-state (rw e) r
 
   top-reads : {o : ℕ} {xs : Bytes} {ls : List (Line Bytes)} {ss : List (List Stretch)} → ¬ BeginsWithMark xs → FromFresh o ls ss xs → Walks (CsvPlus s) Top o o xs ls ss
-  unfolding formStep beginFile beginRecord if_then_else_
+  unfolding fileStep beginFile beginRecord if_then_else_
   top-reads {o} {ls} {ss} n (from-fresh (some {b} {bs}) r) = go (b is 0xEF) refl
     where
       rest-of : ¬ BeginsWithMark (0xEF ∷ bs) → ¬ CompletesMark bs
@@ -217,7 +217,7 @@ module _ (s : Settings) where
   abbrev coming : Grammar
   coming = record { Lines = Rows; Tops = λ xs ls. (¬ BeginsWithMark xs) × Rows xs ls; First = Rows; Further = Further }
 
-  abbrev K : Bytes → Form → List (Line Bytes) → Type 0
+  abbrev K : Bytes → FileState → List (Line Bytes) → Type 0
   K = Then (CsvPlus s) coming
 
   unended-rows : {text : Bytes} {cells : List Bytes} → NonEmpty text → Cells (CsvPlus s) text cells → Rows text (line text cells ∷ [])

@@ -9,11 +9,11 @@ use mathlib.Core.Bool.{Bool, true, false}
 use mathlib.Core.Option.{none}
 use mathlib.Core.List.{List, [], _∷_, _++_, map}
 use lib.ListN.{length, replicate}
-use Rattle.grammar.specs.Types.{Kind, Text, Dialect, Csvj, Tdif, CsvPlus, Form, Top, Step, To, Reject, Ending, Clean, Final, Cut}
+use Rattle.grammar.specs.Types.{Kind, Text, Dialect, Csvj, Tdif, CsvPlus, FileState, Top, Step, To, Reject, Ending, Clean, Final, Cut}
 use Rattle.grammar.specs.Types as types
 use Rattle.model.specs.Base.{Bytes}
 use Rattle.model.specs.Dialect.{standard}
-use Rattle.model.specs.Form.{formStep, formEnd}
+use Rattle.model.specs.File.{fileStep, fileEnd}
 use Rattle.model.specs.Report.{accepted}
 use Rattle.model.specs.Records.{nothingRead, readFile, reportOf}
 use Rattle.model.specs.Computes.{computes}
@@ -44,20 +44,20 @@ ended Clean = true
 ended Final = true
 ended Cut = false
 
-taken : (Form → Bool) → Step → Bool
+taken : (FileState → Bool) → Step → Bool
 taken k (To f p) = k f
 taken k (Reject e) = false
 
-passes : Dialect → Bytes → Form → Bool
-passes d [] f = ended (formEnd d f)
-passes d (b ∷ bs) f = taken (passes d bs) (formStep d f b)
+passes : Dialect → Bytes → FileState → Bool
+passes d [] f = ended (fileEnd d f)
+passes d (b ∷ bs) f = taken (passes d bs) (fileStep d f b)
 
 finish-passes : {x : Ending} {ls : List (Line Bytes)} → Finishes x ls → ended x ≡ true
 unfolding ended
 finish-passes clean = refl
 finish-passes final = refl
 
-take-passes : {k : Form → Bool} {b : ℕ} {s : Step} {ls : List (Line Bytes)} → Takes (λ f ls. k f ≡ true) b s ls → taken k s ≡ true
+take-passes : {k : FileState → Bool} {b : ℕ} {s : Step} {ls : List (Line Bytes)} → Takes (λ f ls. k f ≡ true) b s ls → taken k s ≡ true
 unfolding taken
 take-passes (steps.outside m) = m
 take-passes (steps.passed m) = m
@@ -69,7 +69,7 @@ take-passes (steps.tail-closing m) = m
 take-passes (steps.ends m) = m
 take-passes (steps.ends-closing m) = m
 
-reads-pass : (d : Dialect) (xs : Bytes) (f : Form) (ls : List (Line Bytes)) → Reads d f xs ls → passes d xs f ≡ true
+reads-pass : (d : Dialect) (xs : Bytes) (f : FileState) (ls : List (Line Bytes)) → Reads d f xs ls → passes d xs f ≡ true
 unfolding passes
 reads-pass d = by-bytes d (λ f xs ls. passes d xs f ≡ true) (λ f ls m. finish-passes m) (λ bs f b ls t. take-passes t)
 

@@ -5,7 +5,7 @@ use mathlib.Core.Path.{_≡_, refl}
 use mathlib.Core.Bool.{true, false, _||_}
 use Rattle.grammar.specs.Types.{Delimiter, Comma, Semicolon, Tab, Bar, Quote, Double, Single, Dialect, Csvj, Tdif, CsvPlus, Whole, Within, Advance, On, Broken, HexLeft, Four, Three, Two, One}
 use Rattle.grammar.specs.Types.{Numeral, Minus, Zero, Integer, Point, Fraction, E, ESign, Exponent, Word, T, Tr, Tru, F, Fa, Fal, Fals, N, Nu, Nul, Backslash}
-use Rattle.grammar.specs.Types.{Cell, Fresh, Quoted, Closed, Escape, Hex, InNumber, InWord, Plain, Complete, Added, More, Stop, Refuse, ByteFault}
+use Rattle.grammar.specs.Types.{Cell, Fresh, Quoted, Closed, Escape, Hex, InNumber, InWord, Plain, Complete, CellStep, More, Stop, Refuse, ByteFault}
 use Rattle.model.specs.Base.{CR, LF, _is_, if_then_else_}
 use Rattle.model.specs.Dialect.{quoteOf, delimiterOf, delimiterByte}
 use Rattle.model.specs.Utf8.{charStep}
@@ -65,7 +65,7 @@ Reached Csvj Complete = Unit {0}
 Reached Tdif c = Unit {0}
 Reached (CsvPlus s) c = Unit {0}
 
-data Reaches : Added → Type 0 where
+data Reaches : CellStep → Type 0 where
   goes-on : {c : Cell} → Reached Csvj c → Reaches (More c)
   stops-there : Reaches Stop
   refuses : {e : ByteFault} → Reaches (Refuse e)
@@ -121,7 +121,7 @@ step-reaches (InWord w) b r = split Reaches _ (λ _. goes-on (word-reaches w)) �
 step-reaches (Plain c) b r = absurd r
 step-reaches Complete b r = stops-there
 
-reaches-on : {a : Added} {c : Cell} → Reaches a → a ≡ More c → Reached Csvj c
+reaches-on : {a : CellStep} {c : Cell} → Reaches a → a ≡ More c → Reached Csvj c
 reaches-on (goes-on {c} r) e = rw (same-more e) at r
 reaches-on stops-there e = no-stop e
 reaches-on refuses e = no-more e

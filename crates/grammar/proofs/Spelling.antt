@@ -5,11 +5,11 @@ use mathlib.Core.Path.{_≡_, refl, ap, _∙_}
 use mathlib.Core.Bool.{Bool, true, false}
 use mathlib.Core.List.{[], _∷_, _++_}
 use Rattle.grammar.specs.Types.{Kind, Dialect, Inner, Char, Whole, Within, Word, Cell, Fresh, InWord, Complete, More}
-use Rattle.model.specs.declared.Judged.the-variants.{WholeCell}
+use Rattle.model.specs.declared.CellCheck.the-variants.{WholeCell}
 use Rattle.model.specs.Base.{Bytes, _is_, if_then_else_}
 use Rattle.model.specs.Utf8.{charStep}
 use Rattle.model.specs.Cell.{textByte, letterOf, afterLetter, cellStep, isWhole}
-use Rattle.model.specs.Decode.{judgeCell}
+use Rattle.model.specs.Decode.{validateCell}
 use Rattle.model.proofs.Tests.{impossible, is→eq}
 use Rattle.model.proofs.CellRuns.{Runs, here, there, WholeRun, runs-sound, sound-runs}
 use Rattle.model.proofs.CellContent.{no-more, no-stop, same-more}
@@ -35,12 +35,12 @@ run-spells : {d : Dialect} {c e : Cell} {bs : Bytes} → Runs d c bs e → isWho
 run-spells here w = whole w
 run-spells (there e r) w = byte e (run-spells r w)
 
-pub spells-judged : {d : Dialect} {raw : Bytes} → Spells d Fresh raw → judgeCell d raw ≡ WholeCell
-unfolding judgeCell
+pub spells-judged : {d : Dialect} {raw : Bytes} → Spells d Fresh raw → validateCell d raw ≡ WholeCell
+unfolding validateCell
 spells-judged k = let r = record-run k in runs-sound 0 (r .runs) (r .whole)
 
-pub judged-spells : (d : Dialect) (raw : Bytes) → judgeCell d raw ≡ WholeCell → Spells d Fresh raw
-unfolding judgeCell
+pub judged-spells : (d : Dialect) (raw : Bytes) → validateCell d raw ≡ WholeCell → Spells d Fresh raw
+unfolding validateCell
 judged-spells d raw e = let r = sound-runs d Fresh 0 raw e in run-spells (r .runs) (r .whole)
 
 -- ---- texts: f gives the cell's state from the character's

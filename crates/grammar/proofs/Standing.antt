@@ -6,11 +6,11 @@ use mathlib.Core.Path.{_≡_, refl, sym, ap, _∙_}
 use mathlib.Core.Bool.{Bool, true, false}
 use mathlib.Core.List.{List, [], _∷_, _++_, map, append-assoc, append-nil}
 use lib.ListN.{length, length-append}
-use Rattle.grammar.specs.Types.{Dialect, Form, OfCell, Outside, Passed, Between, Tail, Ends, To}
+use Rattle.grammar.specs.Types.{Dialect, FileState, OfCell, Outside, Passed, Between, Tail, Ends, To}
 use Rattle.model.specs.Base.{Bytes}
 use Rattle.model.specs.Decode.{kindOf, contentOf}
 use Rattle.model.specs.Report.{MAXFILE, MAXRECORD}
-use Rattle.model.specs.Form.{counts}
+use Rattle.model.specs.File.{counts}
 use Rattle.model.specs.Records.{Read, cellNow, closing}
 use Rattle.grammar.specs.Derived.{Derived, Line, line, textIn, Every, every-none, every-cons, Each, each-none, each-cons}
 use Rattle.grammar.specs.Reading.{decoded, decodedLine}
@@ -105,7 +105,7 @@ pub record Stands (d : Dialect) (file seen : Bytes) (r : Read) (pre : List (Line
   pub opened : r .opened ≡ length before
   pub offset : r .offset ≡ length seen
   pub short : length seen ≤ MAXFILE
-  pub tidy : Tidy (stageOf d (r .form)) text raw cells
+  pub tidy : Tidy (stageOf d (r .state)) text raw cells
 
 module _ {d : Dialect} {file seen : Bytes} {r : Read} {pre : List (Line Derived)} {text raw : Bytes} {cells : List Derived} (s : Stands d file seen r pre text raw cells) where
   -- the cell in hand, were it to end here
@@ -129,7 +129,7 @@ module _ {d : Dialect} {file seen : Bytes} {r : Read} {pre : List (Line Derived)
   pub stands-reset :
       (b : ℕ) (next : Read) {pre′ : List (Line Derived)} {text′ : Bytes} {cells′ : List Derived} → suc (length seen) ≤ MAXFILE →
       next .offset ≡ suc (r .offset) → next .opened ≡ suc (r .offset) → next .raw ≡ [] → next .size ≡ length text′ → length text′ ≤ MAXRECORD →
-      Each (ShowsRecord file) (next .done) pre′ → Each (ShowsCell file) (next .cells) cells′ → Tidy (stageOf d (next .form)) text′ [] cells′ →
+      Each (ShowsRecord file) (next .done) pre′ → Each (ShowsCell file) (next .cells) cells′ → Tidy (stageOf d (next .state)) text′ [] cells′ →
       Stands d file (seen ++ (b ∷ [])) next pre′ text′ [] cells′
   stands-reset b next room o p q z f done complete t =
       let l : length (seen ++ (b ∷ [])) ≡ suc (length seen) = length-snoc seen b in
@@ -152,7 +152,7 @@ module _ {d : Dialect} {file seen : Bytes} {r : Read} {pre : List (Line Derived)
   pub stands-more :
       (b : ℕ) (next : Read) → suc (length seen) ≤ MAXFILE → next .done ≡ r .done → next .cells ≡ r .cells → next .raw ≡ r .raw ++ (b ∷ []) →
       next .size ≡ suc (r .size) → suc (length text) ≤ MAXRECORD → next .opened ≡ r .opened → next .offset ≡ suc (r .offset) →
-      stageOf d (next .form) ≡ in-cell → Stands d file (seen ++ (b ∷ [])) next pre (text ++ (b ∷ [])) (raw ++ (b ∷ [])) cells
+      stageOf d (next .state) ≡ in-cell → Stands d file (seen ++ (b ∷ [])) next pre (text ++ (b ∷ [])) (raw ++ (b ∷ [])) cells
   stands-more b next room dn cn rn zn f on off g =
       let l : length (seen ++ (b ∷ [])) ≡ suc (length seen) = length-snoc seen b in
       let m : length (text ++ (b ∷ [])) ≡ suc (length text) = length-snoc text b in
@@ -176,15 +176,15 @@ no-standing : {A B : Type 0} {text raw : Bytes} {cells : List B} → Tidy nowher
 no-standing = elim [ ]
 
 -- nothing was in hand, and nothing is
-pub data Rested (d : Dialect) (h : Form) {A : Type 0} : (text raw : Bytes) → List A → Type 0 where
+pub data Rested (d : Dialect) (h : FileState) {A : Type 0} : (text raw : Bytes) → List A → Type 0 where
   rested : stageOf d h ≡ at-rest → Rested d h [] [] []
 
 -- no cell was in hand, and the record goes on
-pub data Parted (d : Dialect) (h : Form) (c : Type 0) (text : Bytes) : (raw : Bytes) → Type 0 where
+pub data Parted (d : Dialect) (h : FileState) (c : Type 0) (text : Bytes) : (raw : Bytes) → Type 0 where
   parted : c → Recording (stageOf d h) → Parted d h c text []
 
 -- no cell was in hand, and the record is complete
-pub data Ended (d : Dialect) (h : Form) (c : Type 0) (text : Bytes) : (raw : Bytes) → Type 0 where
+pub data Ended (d : Dialect) (h : FileState) (c : Type 0) (text : Bytes) : (raw : Bytes) → Type 0 where
   ended : c → stageOf d h ≡ at-rest → Ended d h c text []
 
 pub recording-tidy : {A : Type 0} {g : Stage} {text : Bytes} {cells : List A} → Recording g → Tidy g text [] cells
@@ -194,52 +194,52 @@ recording-tidy cell-open = tidy-cell
 pub rest-tidy : {A : Type 0} {g : Stage} → g ≡ at-rest → Tidy {A = A} g [] [] []
 rest-tidy e = rw e tidy-rest
 
-pub rested-none : {d : Dialect} {h : Form} {A : Type 0} {text raw : Bytes} {cells : List A} → Rested d h text raw cells → (cells ≡ []) × (stageOf d h ≡ at-rest)
+pub rested-none : {d : Dialect} {h : FileState} {A : Type 0} {text raw : Bytes} {cells : List A} → Rested d h text raw cells → (cells ≡ []) × (stageOf d h ≡ at-rest)
 rested-none (rested g) = (refl, g)
 
-pub parted-tidy : {d : Dialect} {h : Form} {c A : Type 0} {text raw : Bytes} {cells : List A} → Parted d h c text raw → Tidy (stageOf d h) text [] cells
+pub parted-tidy : {d : Dialect} {h : FileState} {c A : Type 0} {text raw : Bytes} {cells : List A} → Parted d h c text raw → Tidy (stageOf d h) text [] cells
 parted-tidy (parted c g) = recording-tidy g
 
-pub moved-outside : {d : Dialect} {f h : Form} {b : ℕ} {g : Stage} {A : Type 0} {text raw : Bytes} {cells : List A} → Moves d f b g (To h Outside) → Tidy g text raw cells → Rested d h text raw cells
+pub moved-outside : {d : Dialect} {f h : FileState} {b : ℕ} {g : Stage} {A : Type 0} {text raw : Bytes} {cells : List A} → Moves d f b g (To h Outside) → Tidy g text raw cells → Rested d h text raw cells
 moved-outside unreached t = no-standing t
 moved-outside (leaves s) tidy-rest = rested s
 
-pub moved-passed : {d : Dialect} {f h : Form} {b : ℕ} {g : Stage} {A : Type 0} {text raw : Bytes} {cells : List A} → Moves d f b g (To h Passed) → Tidy g text raw cells → Rested d h text raw cells
+pub moved-passed : {d : Dialect} {f h : FileState} {b : ℕ} {g : Stage} {A : Type 0} {text raw : Bytes} {cells : List A} → Moves d f b g (To h Passed) → Tidy g text raw cells → Rested d h text raw cells
 moved-passed unreached t = no-standing t
 moved-passed (passes s) tidy-rest = rested s
 
-pub moved-of-cell : {d : Dialect} {f h : Form} {b : ℕ} {g : Stage} {A : Type 0} {text raw : Bytes} {cells : List A} → Moves d f b g (To h OfCell) → Tidy g text raw cells → (counts f b ≡ true) × (stageOf d h ≡ in-cell)
+pub moved-of-cell : {d : Dialect} {f h : FileState} {b : ℕ} {g : Stage} {A : Type 0} {text raw : Bytes} {cells : List A} → Moves d f b g (To h OfCell) → Tidy g text raw cells → (counts f b ≡ true) × (stageOf d h ≡ in-cell)
 moved-of-cell unreached t = no-standing t
 moved-of-cell (adds c s) t = (c, s)
 
-pub moved-between : {d : Dialect} {f h : Form} {b : ℕ} {g : Stage} {A : Type 0} {text raw : Bytes} {cells : List A} → Moves d f b g (To h (Between false)) → Tidy g text raw cells → Parted d h (counts f b ≡ true) text raw
+pub moved-between : {d : Dialect} {f h : FileState} {b : ℕ} {g : Stage} {A : Type 0} {text raw : Bytes} {cells : List A} → Moves d f b g (To h (Between false)) → Tidy g text raw cells → Parted d h (counts f b ≡ true) text raw
 moved-between unreached t = no-standing t
 moved-between (parts c none-at-rest r) tidy-rest = parted c r
 moved-between (parts c none-in-record r) tidy-record = parted c r
 
-pub moved-between-closing : {d : Dialect} {f h : Form} {b : ℕ} {g : Stage} {A : Type 0} {text raw : Bytes} {cells : List A} → Moves d f b g (To h (Between true)) → Tidy g text raw cells → (counts f b ≡ true) × Recording (stageOf d h)
+pub moved-between-closing : {d : Dialect} {f h : FileState} {b : ℕ} {g : Stage} {A : Type 0} {text raw : Bytes} {cells : List A} → Moves d f b g (To h (Between true)) → Tidy g text raw cells → (counts f b ≡ true) × Recording (stageOf d h)
 moved-between-closing unreached t = no-standing t
 moved-between-closing (parts-closing c r) t = (c, r)
 
-pub moved-tail : {d : Dialect} {f h : Form} {b : ℕ} {g : Stage} {A : Type 0} {text raw : Bytes} {cells : List A} → Moves d f b g (To h (Tail false)) → Tidy g text raw cells → Parted d h (counts f b ≡ false) text raw
+pub moved-tail : {d : Dialect} {f h : FileState} {b : ℕ} {g : Stage} {A : Type 0} {text raw : Bytes} {cells : List A} → Moves d f b g (To h (Tail false)) → Tidy g text raw cells → Parted d h (counts f b ≡ false) text raw
 moved-tail unreached t = no-standing t
 moved-tail (turns c none-at-rest r) tidy-rest = parted c r
 moved-tail (turns c none-in-record r) tidy-record = parted c r
 
-pub moved-tail-closing : {d : Dialect} {f h : Form} {b : ℕ} {g : Stage} {A : Type 0} {text raw : Bytes} {cells : List A} → Moves d f b g (To h (Tail true)) → Tidy g text raw cells → (counts f b ≡ false) × Recording (stageOf d h)
+pub moved-tail-closing : {d : Dialect} {f h : FileState} {b : ℕ} {g : Stage} {A : Type 0} {text raw : Bytes} {cells : List A} → Moves d f b g (To h (Tail true)) → Tidy g text raw cells → (counts f b ≡ false) × Recording (stageOf d h)
 moved-tail-closing unreached t = no-standing t
 moved-tail-closing (turns-closing c r) t = (c, r)
 
-pub moved-ends : {d : Dialect} {f h : Form} {b : ℕ} {g : Stage} {A : Type 0} {text raw : Bytes} {cells : List A} → Moves d f b g (To h (Ends false)) → Tidy g text raw cells → Ended d h (counts f b ≡ false) text raw
+pub moved-ends : {d : Dialect} {f h : FileState} {b : ℕ} {g : Stage} {A : Type 0} {text raw : Bytes} {cells : List A} → Moves d f b g (To h (Ends false)) → Tidy g text raw cells → Ended d h (counts f b ≡ false) text raw
 moved-ends unreached t = no-standing t
 moved-ends {d} (completes c none-at-rest r) tidy-rest = ended c (ended-rests d r)
 moved-ends {d} (completes c none-in-record r) tidy-record = ended c (ended-rests d r)
 
-pub moved-ends-closing : {d : Dialect} {f h : Form} {b : ℕ} {g : Stage} {A : Type 0} {text raw : Bytes} {cells : List A} → Moves d f b g (To h (Ends true)) → Tidy g text raw cells → (counts f b ≡ false) × (stageOf d h ≡ at-rest)
+pub moved-ends-closing : {d : Dialect} {f h : FileState} {b : ℕ} {g : Stage} {A : Type 0} {text raw : Bytes} {cells : List A} → Moves d f b g (To h (Ends true)) → Tidy g text raw cells → (counts f b ≡ false) × (stageOf d h ≡ at-rest)
 moved-ends-closing unreached t = no-standing t
 moved-ends-closing {d} (completes-closing c r) t = (c, ended-rests d r)
 
-pub moved-complete : {d : Dialect} {f h : Form} {b : ℕ} {g : Stage} {k : Bool} {A : Type 0} {text raw : Bytes} {cells : List A} → Moves d f b g (To h (Ends k)) → Tidy g text raw cells → RecordEnded h
+pub moved-complete : {d : Dialect} {f h : FileState} {b : ℕ} {g : Stage} {k : Bool} {A : Type 0} {text raw : Bytes} {cells : List A} → Moves d f b g (To h (Ends k)) → Tidy g text raw cells → RecordEnded h
 moved-complete unreached t = no-standing t
 moved-complete (completes c n r) t = r
 moved-complete (completes-closing c r) t = r

@@ -3,10 +3,10 @@ use Prim.Native.Nat.{ℕ}
 use mathlib.Core.Path.{_≡_, refl, ap}
 use mathlib.Core.Bool.{true, false}
 use mathlib.Core.List.{List, [], _∷_}
-use Rattle.grammar.specs.Types.{Dialect, Csvj, Tdif, CsvPlus, Cell, Stop, ByteFault, Form, Inside, Outside, Passed, OfCell, Between, Tail, Ends, Step, To, Reject, Ending, Clean, Final, Cut}
+use Rattle.grammar.specs.Types.{Dialect, Csvj, Tdif, CsvPlus, Cell, Stop, ByteFault, FileState, Inside, Outside, Passed, OfCell, Between, Tail, Ends, Step, To, Reject, Ending, Clean, Final, Cut}
 use Rattle.model.specs.Base.{Bytes}
 use Rattle.model.specs.Cell.{cellStep, isWhole}
-use Rattle.model.specs.Form.{afterCell, inCell, formStep, formEnd}
+use Rattle.model.specs.File.{afterCell, inCell, fileStep, fileEnd}
 use Rattle.model.proofs.Tests.{split}
 use Rattle.model.proofs.Cells.{Fits, parts, turns, completes, cellAt, step-fits}
 use Rattle.grammar.specs.Derived.{Line, line}
@@ -19,35 +19,35 @@ pub data Finishes : Ending → List (Line Bytes) → Type 0 where
   final : Finishes Final (line [] ([] ∷ []) ∷ [])
 
 -- what a byte's step gives, where K f ls says that the bytes after it, read on from f, give ls
-pub data Takes (K : Form → List (Line Bytes) → Type 0) (b : ℕ) : Step → List (Line Bytes) → Type 0 where
-  outside : {f : Form} {ls : List (Line Bytes)} → K f ls → Takes K b (To f Outside) ls
-  passed : {f : Form} {ls : List (Line Bytes)} → K f ls → Takes K b (To f Passed) ls
+pub data Takes (K : FileState → List (Line Bytes) → Type 0) (b : ℕ) : Step → List (Line Bytes) → Type 0 where
+  outside : {f : FileState} {ls : List (Line Bytes)} → K f ls → Takes K b (To f Outside) ls
+  passed : {f : FileState} {ls : List (Line Bytes)} → K f ls → Takes K b (To f Passed) ls
   of-cell :
-      {f : Form} {text raw : Bytes} {cells : List Bytes} {ls : List (Line Bytes)} → K f (line text (raw ∷ cells) ∷ ls) →
+      {f : FileState} {text raw : Bytes} {cells : List Bytes} {ls : List (Line Bytes)} → K f (line text (raw ∷ cells) ∷ ls) →
       Takes K b (To f OfCell) (line (b ∷ text) ((b ∷ raw) ∷ cells) ∷ ls)
   between :
-      {f : Form} {text : Bytes} {cells : List Bytes} {ls : List (Line Bytes)} → K f (line text cells ∷ ls) →
+      {f : FileState} {text : Bytes} {cells : List Bytes} {ls : List (Line Bytes)} → K f (line text cells ∷ ls) →
       Takes K b (To f (Between false)) (line (b ∷ text) cells ∷ ls)
   between-closing :
-      {f : Form} {text : Bytes} {cells : List Bytes} {ls : List (Line Bytes)} → K f (line text cells ∷ ls) →
+      {f : FileState} {text : Bytes} {cells : List Bytes} {ls : List (Line Bytes)} → K f (line text cells ∷ ls) →
       Takes K b (To f (Between true)) (line (b ∷ text) ([] ∷ cells) ∷ ls)
   tail :
-      {f : Form} {text : Bytes} {cells : List Bytes} {ls : List (Line Bytes)} → K f (line text cells ∷ ls) →
+      {f : FileState} {text : Bytes} {cells : List Bytes} {ls : List (Line Bytes)} → K f (line text cells ∷ ls) →
       Takes K b (To f (Tail false)) (line text cells ∷ ls)
   tail-closing :
-      {f : Form} {text : Bytes} {cells : List Bytes} {ls : List (Line Bytes)} → K f (line text cells ∷ ls) →
+      {f : FileState} {text : Bytes} {cells : List Bytes} {ls : List (Line Bytes)} → K f (line text cells ∷ ls) →
       Takes K b (To f (Tail true)) (line text ([] ∷ cells) ∷ ls)
-  ends : {f : Form} {ls : List (Line Bytes)} → K f ls → Takes K b (To f (Ends false)) (line [] [] ∷ ls)
-  ends-closing : {f : Form} {ls : List (Line Bytes)} → K f ls → Takes K b (To f (Ends true)) (line [] ([] ∷ []) ∷ ls)
+  ends : {f : FileState} {ls : List (Line Bytes)} → K f ls → Takes K b (To f (Ends false)) (line [] [] ∷ ls)
+  ends-closing : {f : FileState} {ls : List (Line Bytes)} → K f ls → Takes K b (To f (Ends true)) (line [] ([] ∷ []) ∷ ls)
 
-pub at-end : {d : Dialect} {f : Form} {ls : List (Line Bytes)} → Reads d f [] ls → Finishes (formEnd d f) ls
+pub at-end : {d : Dialect} {f : FileState} {ls : List (Line Bytes)} → Reads d f [] ls → Finishes (fileEnd d f) ls
 at-end (reading.ends-clean e) = rw e clean
 at-end (reading.ends-final e) = rw e final
 
 -- the first byte, where each continuation is of K
 pub first-byte :
-    {d : Dialect} {f : Form} {b : ℕ} {bs : Bytes} {ls : List (Line Bytes)} (K : Form → List (Line Bytes) → Type 0) →
-    ((g : Form) (ls : List (Line Bytes)) → Reads d g bs ls → K g ls) → Reads d f (b ∷ bs) ls → Takes K b (formStep d f b) ls
+    {d : Dialect} {f : FileState} {b : ℕ} {bs : Bytes} {ls : List (Line Bytes)} (K : FileState → List (Line Bytes) → Type 0) →
+    ((g : FileState) (ls : List (Line Bytes)) → Reads d g bs ls → K g ls) → Reads d f (b ∷ bs) ls → Takes K b (fileStep d f b) ls
 first-byte K k (reading.outside {g} {ls} e r) = rw e (outside (k g ls r))
 first-byte K k (reading.passed {g} {ls} e r) = rw e (passed (k g ls r))
 first-byte K k (reading.of-cell {g} e r) = rw e (of-cell (k g _ r))
@@ -63,10 +63,10 @@ cut-off = elim [ ]
 
 -- what holds at the end of a file, and before a byte if it holds after it, holds of what is read
 pub by-bytes :
-    (d : Dialect) (P : Form → Bytes → List (Line Bytes) → Type 0) →
-    ((f : Form) (ls : List (Line Bytes)) → Finishes (formEnd d f) ls → P f [] ls) →
-    ((bs : Bytes) (f : Form) (b : ℕ) (ls : List (Line Bytes)) → Takes (λ g ls. P g bs ls) b (formStep d f b) ls → P f (b ∷ bs) ls) →
-    (xs : Bytes) (f : Form) (ls : List (Line Bytes)) → Reads d f xs ls → P f xs ls
+    (d : Dialect) (P : FileState → Bytes → List (Line Bytes) → Type 0) →
+    ((f : FileState) (ls : List (Line Bytes)) → Finishes (fileEnd d f) ls → P f [] ls) →
+    ((bs : Bytes) (f : FileState) (b : ℕ) (ls : List (Line Bytes)) → Takes (λ g ls. P g bs ls) b (fileStep d f b) ls → P f (b ∷ bs) ls) →
+    (xs : Bytes) (f : FileState) (ls : List (Line Bytes)) → Reads d f xs ls → P f xs ls
 by-bytes d P end step [] f ls r = end f ls (at-end r)
 by-bytes d P end step (b ∷ bs) f ls r = step bs f b ls (first-byte (λ g ls. P g bs ls) (λ g ls k. by-bytes d P end step bs g ls k) r)
 
@@ -77,8 +77,8 @@ finishes-once clean clean = refl
 finishes-once final final = refl
 
 takes-once :
-    {K : Form → List (Line Bytes) → Type 0} {b : ℕ} {s : Step} {ls ms : List (Line Bytes)} →
-    ((g : Form) (ls ms : List (Line Bytes)) → K g ls → K g ms → ls ≡ ms) → Takes K b s ls → Takes K b s ms → ls ≡ ms
+    {K : FileState → List (Line Bytes) → Type 0} {b : ℕ} {s : Step} {ls ms : List (Line Bytes)} →
+    ((g : FileState) (ls ms : List (Line Bytes)) → K g ls → K g ms → ls ≡ ms) → Takes K b s ls → Takes K b s ms → ls ≡ ms
 takes-once u (outside {f} {ls} k) (outside {ls = ms} m) = u f ls ms k m
 takes-once u (passed {f} {ls} k) (passed {ls = ms} m) = u f ls ms k m
 takes-once u (of-cell {f} k) (of-cell m) = let e = u f _ _ k m in cc
@@ -89,7 +89,7 @@ takes-once u (tail-closing {f} k) (tail-closing m) = let e = u f _ _ k m in cc
 takes-once u (ends {f} {ls} k) (ends {ls = ms} m) = ap (λ l. line [] [] ∷ l) (u f ls ms k m)
 takes-once u (ends-closing {f} {ls} k) (ends-closing {ls = ms} m) = ap (λ l. line [] ([] ∷ []) ∷ l) (u f ls ms k m)
 
-pub reads-once : {d : Dialect} (xs : Bytes) (f : Form) (ls ms : List (Line Bytes)) → Reads d f xs ls → Reads d f xs ms → ls ≡ ms
+pub reads-once : {d : Dialect} (xs : Bytes) (f : FileState) (ls ms : List (Line Bytes)) → Reads d f xs ls → Reads d f xs ms → ls ≡ ms
 reads-once [] f ls ms r q = finishes-once (at-end r) (at-end q)
 reads-once {d} (b ∷ bs) f ls ms r q =
     takes-once (λ g ls ms k m. reads-once bs g ls ms k m) (first-byte (λ g ls. Reads d g bs ls) (λ g ls k. k) r)
@@ -98,19 +98,19 @@ reads-once {d} (b ∷ bs) f ls ms r q =
 -- ---- a cell that stops at a byte which is read is whole
 
 data Closing : Step → Type 0 where
-  closing-between : {f : Form} → Closing (To f (Between true))
-  closing-tail : {f : Form} → Closing (To f (Tail true))
-  closing-ends : {f : Form} → Closing (To f (Ends true))
+  closing-between : {f : FileState} → Closing (To f (Between true))
+  closing-tail : {f : FileState} → Closing (To f (Tail true))
+  closing-ends : {f : FileState} → Closing (To f (Ends true))
 
 fits-whole : {d : Dialect} {c : Cell} {b : ℕ} {s : Step} → Closing s → Fits d c b s → isWhole d c ≡ true
 fits-whole closing-between (parts e w) = w
 fits-whole closing-tail (turns e w) = w
 fits-whole closing-ends (completes e w) = w
 
-pub rejected : {A : Type 0} {K : Form → List (Line Bytes) → Type 0} {b : ℕ} {e : ByteFault} {ls : List (Line Bytes)} → Takes K b (Reject e) ls → A
+pub rejected : {A : Type 0} {K : FileState → List (Line Bytes) → Type 0} {b : ℕ} {e : ByteFault} {ls : List (Line Bytes)} → Takes K b (Reject e) ls → A
 rejected = elim [ ]
 
-module _ (K : Form → List (Line Bytes) → Type 0) where
+module _ (K : FileState → List (Line Bytes) → Type 0) where
   after-closing : (d : Dialect) (b : ℕ) (ls : List (Line Bytes)) → Takes K b (afterCell d true b) ls → Closing (afterCell d true b)
   unfolding afterCell
   after-closing d b ls = go d
@@ -128,5 +128,5 @@ module _ (K : Form → List (Line Bytes) → Type 0) where
           split P _ (λ _ _. closing-between) λ _. split P _ (λ _ _. closing-ends) λ _. split P _ (λ _ _. closing-tail) λ _ t. rejected t
 
   pub stop-whole : (d : Dialect) (c : Cell) (b : ℕ) (ls : List (Line Bytes)) → cellStep d c b ≡ Stop → Takes K b (afterCell d true b) ls → isWhole d c ≡ true
-  unfolding formStep inCell cellAt
+  unfolding fileStep inCell cellAt
   stop-whole d c b ls e t = fits-whole (after-closing d b ls t) (rw e at (step-fits d (Inside c) b))

@@ -8,7 +8,7 @@ use mathlib.Core.Bool.{true}
 use mathlib.Core.List.{List, [], _∷_, _++_, append-assoc}
 use lib.Dec.{leb, ltb}
 use borrow.Author.Tests.{ne-eqb, eqb-false, le-ltb, ltb-false, leb-true, leb-false}
-use Rattle.grammar.specs.Types.{Csvj, Inner, Char, Whole, Within, On, HexLeft, Four, Three, Two, One, Cell, Quoted, Escape, Hex, Complete, Added, More}
+use Rattle.grammar.specs.Types.{Csvj, Inner, Char, Whole, Within, On, HexLeft, Four, Three, Two, One, Cell, Quoted, Escape, Hex, Complete, CellStep, More}
 use Rattle.model.specs.Base.{Bytes, QUOTE, BACKSLASH, _is_, within, if_then_else_}
 use Rattle.model.specs.Utf8.{charStep}
 use Rattle.model.specs.Cell.{textByte, isDigit, isHex, isShort, afterHex, quotedByte, cellStep, isWhole}
@@ -172,7 +172,7 @@ module _ {e : Cell} {bs : Bytes} (ih : InString e → StringRest e bs) where
   string-byte : {c : Cell} {b : ℕ} → InString c → cellStep Csvj c b ≡ More e → StringRest c (b ∷ bs)
   unfolding cellStep quotedByte
   string-byte {b} (at-quoted Whole) =
-      let P : Added → Type 0 = λ a. a ≡ More e → StringRest (Quoted Whole) (b ∷ bs) in
+      let P : CellStep → Type 0 = λ a. a ≡ More e → StringRest (Quoted Whole) (b ∷ bs) in
       split P (b is QUOTE) (λ p q. rw (is→eq b QUOTE p) (close (onward at-complete q))) λ n.
       split P (b is BACKSLASH) (λ p q. rw (is→eq b BACKSLASH p) (open-escape (onward at-escape q))) λ m.
       split P (ltb b 0x20) (λ p q. no-more q) λ l q.
@@ -181,11 +181,11 @@ module _ {e : Cell} {bs : Bytes} (ih : InString e → StringRest e bs) where
   string-byte {b} (at-quoted (Within i)) = λ q. let x = char-on Quoted (Within i) b e q in inner-char (x .step) (onward (at-quoted (x .char)) (ap More (x .cell)))
   string-byte at-complete = λ q. no-stop q
   string-byte {b} at-escape =
-      let P : Added → Type 0 = λ a. a ≡ More e → StringRest Escape (b ∷ bs) in
+      let P : CellStep → Type 0 = λ a. a ≡ More e → StringRest Escape (b ∷ bs) in
       split P (isShort b) (λ p q. short-value b p (onward (at-quoted Whole) q)) λ _.
       split P (b is 0x75) (λ p q. rw (is→eq b 0x75 p) (hex-char (onward (at-hex Four) q))) λ _ q. no-more q
   string-byte {b} (at-hex n) =
-      let P : Added → Type 0 = λ a. a ≡ More e → StringRest (Hex n) (b ∷ bs) in
+      let P : CellStep → Type 0 = λ a. a ≡ More e → StringRest (Hex n) (b ∷ bs) in
       split P (isHex b) (λ p q. digit (hex-value b p) q) λ _ q. no-more q
     where
       digit : HasValue b → More (afterHex n) ≡ More e → StringRest (Hex n) (b ∷ bs)

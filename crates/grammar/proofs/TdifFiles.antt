@@ -8,11 +8,11 @@ use mathlib.Core.Bool.{Bool, true, false}
 use mathlib.Core.List.{List, [], _∷_, _++_, map, append-assoc}
 use borrow.Author.Tests.{ne-eqb}
 use Rattle.grammar.specs.Types.{Tdif, Char, Whole, Cell, Fresh, More}
-use Rattle.grammar.specs.Types.{Form, Top, Begin, Ended, Comment, Inside, Outside, Ends, Step, To}
+use Rattle.grammar.specs.Types.{FileState, Top, Begin, Ended, Comment, Inside, Outside, Ends, Step, To}
 use Rattle.model.specs.Base.{Bytes, COMMA, _is_, if_then_else_}
 use Rattle.model.specs.Utf8.{charStep}
 use Rattle.model.specs.Cell.{firstByte, cellStep, isWhole}
-use Rattle.model.specs.Form.{afterCell, inCell, beginRecord, beginFile, commented, formStep, formEnd}
+use Rattle.model.specs.File.{afterCell, inCell, beginRecord, beginFile, commented, fileStep, fileEnd}
 use Rattle.model.proofs.Tests.{split, is→eq}
 use Rattle.model.proofs.Utf8.{ascii-whole}
 use Rattle.model.proofs.CellContent.{d-tdif}
@@ -50,18 +50,18 @@ cells-fields (more-cells {raw} m n) = fields (spells-derived Tdif raw m) comma (
 -- ---- what is derived is read
 
 -- where a line may begin
-data Opening : Form → Type 0 where
+data Opening : FileState → Type 0 where
   at-top : Opening Top
   at-begin : Opening Begin
   at-ended : Opening Ended
 
 -- from each of these states
 abbrev FromLine : ℕ → Bytes → List (Line Bytes) → List (List Stretch) → Type 0
-FromLine o xs ls ss = (f : Form) → Opening f → Walks Tdif f o o xs ls ss
+FromLine o xs ls ss = (f : FileState) → Opening f → Walks Tdif f o o xs ls ss
 
 -- the first byte of a field is not of a comment and no LF
-open-field : {f : Form} (b : ℕ) (e : Cell) → Opening f → cellStep Tdif Fresh b ≡ More e → formStep Tdif f b ≡ formStep Tdif (Inside Fresh) b
-unfolding formStep beginFile beginRecord inCell cellStep firstByte if_then_else_
+open-field : {f : FileState} (b : ℕ) (e : Cell) → Opening f → cellStep Tdif Fresh b ≡ More e → fileStep Tdif f b ≡ fileStep Tdif (Inside Fresh) b
+unfolding fileStep beginFile beginRecord inCell cellStep firstByte if_then_else_
 open-field b e at-top s = rw (other-byte Tdif b 0x23 e s refl)
 open-field b e at-begin s = rw (other-byte Tdif b 0x23 e s refl)
 open-field b e at-ended s = rw (other-byte Tdif b 0x23 e s refl, other-byte Tdif b LF e s refl)
@@ -76,20 +76,20 @@ from-first (first-of-cell {b} {e} s) r f o = from-state (open-field b e o s) r
 
 -- a linebreak after a field
 break-follows : {o : ℕ} {es zs : Bytes} {ls : List (Line Bytes)} {ss : List (List Stretch)} → Linebreak es → FromLine (past es o) zs ls ss → Follows Tdif o (es ++ zs) [] [] ls [] ss
-unfolding afterCell formStep if_then_else_
+unfolding afterCell fileStep if_then_else_
 break-follows cr k c p r w = ends-closing (after-whole Tdif c CR r w by-cr) (k Ended at-ended)
 break-follows lf k c p r w = ends-closing (after-whole Tdif c LF r w by-lf) (k Begin at-begin)
 break-follows crlf k c p r w = ends-closing (after-whole Tdif c CR r w by-cr) (passed refl (k Begin at-begin))
 
 -- a linebreak after a comment
 break-reads : {o : ℕ} {es zs : Bytes} {ls : List (Line Bytes)} {ss : List (List Stretch)} → Linebreak es → FromLine (past es o) zs ls ss → Walks Tdif (Comment Whole) o o (es ++ zs) ls ss
-unfolding formStep if_then_else_
+unfolding fileStep if_then_else_
 break-reads cr k = passed refl (k Ended at-ended)
 break-reads lf k = passed refl (k Begin at-begin)
 break-reads crlf k = passed refl (passed refl (k Begin at-begin))
 
-comment-step : (b : ℕ) → b ≢ LF → b ≢ CR → formStep Tdif (Comment Whole) b ≡ commented (charStep Whole b)
-unfolding formStep if_then_else_
+comment-step : (b : ℕ) → b ≢ LF → b ≢ CR → fileStep Tdif (Comment Whole) b ≡ commented (charStep Whole b)
+unfolding fileStep if_then_else_
 comment-step b n m = rw (ne-eqb b LF n, ne-eqb b CR m)
 
 ascii-reads :
@@ -100,7 +100,7 @@ ascii-reads b h n m k = outside (comment-step b n m ∙ ap commented (ascii-whol
 finish-reads :
     {c : Char} {o : ℕ} {cs ys : Bytes} {ls : List (Line Bytes)} {ss : List (List Stretch)} → Finishes c cs → Walks Tdif (Comment Whole) (past cs o) (past cs o) ys ls ss →
     Walks Tdif (Comment c) o o (cs ++ ys) ls ss
-unfolding formStep
+unfolding fileStep
 finish-reads finished k = k
 finish-reads (finishing e m) k = outside (ap commented e) (finish-reads m k)
 
@@ -122,8 +122,8 @@ remark-reads (commentdata (above-cr {b} r) m) k = let h : 0x0E ≤ b = r .low in
 remark-reads {o} {ys} (commentdata {cs} {bs} (comment-beyond u) m) k =
     rw (append-assoc cs bs ys) (long-reads (data-long u) (remark-reads m (rw (past-append cs bs o) at k)))
 
-hash-step : {f : Form} → Opening f → formStep Tdif f 0x23 ≡ To (Comment Whole) Outside
-unfolding formStep beginFile beginRecord if_then_else_
+hash-step : {f : FileState} → Opening f → fileStep Tdif f 0x23 ≡ To (Comment Whole) Outside
+unfolding fileStep beginFile beginRecord if_then_else_
 hash-step at-top = refl
 hash-step at-begin = refl
 hash-step at-ended = refl
@@ -141,7 +141,7 @@ record-reads o {xs} (ended {text} {es} m b) k =
     rw (append-assoc text es xs, ← (fields-placed o m)) (from-first (cells-first (es ++ xs) n) (cells-read d-tdif o n (break-follows b (rw (past-append text es o) at k))))
 
 none-reads : (o : ℕ) → FromLine o [] [] []
-unfolding formEnd
+unfolding fileEnd
 none-reads o Top at-top = ends-clean refl
 none-reads o Begin at-begin = ends-clean refl
 none-reads o Ended at-ended = ends-clean refl
@@ -169,7 +169,7 @@ Further = After Tdif (BreakThen DerivedLines)
 abbrev coming : Grammar
 coming = record { Lines = DerivedLines; Tops = DerivedLines; First = DerivedLines; Further = Further }
 
-abbrev K : Bytes → Form → List (Line Bytes) → Type 0
+abbrev K : Bytes → FileState → List (Line Bytes) → Type 0
 K = Then Tdif coming
 
 record-line : {xs text : Bytes} {cells : List Bytes} {ls : List (Line Bytes)} → RecordThen Tdif (BreakThen DerivedLines) xs text cells ls → DerivedLines xs (line text cells ∷ ls)

@@ -7,11 +7,11 @@ use mathlib.Core.Option.{Option, none, some}
 use mathlib.Core.List.{List, [], _∷_, map}
 use lib.ListN.{length}
 use Rattle.grammar.specs.Types.{Dialect, Target, Whole}
-use Rattle.model.specs.declared.Judged.the-variants.{WholeCell}
+use Rattle.model.specs.declared.CellCheck.the-variants.{WholeCell}
 use Rattle.model.specs.Base.{Bytes, concat}
 use Rattle.model.specs.Dialect.{dialectOf, standard}
 use Rattle.model.specs.Utf8.{textFrom}
-use Rattle.model.specs.Decode.{judgeCell}
+use Rattle.model.specs.Decode.{validateCell}
 use Rattle.model.specs.Report.{accepted}
 use Rattle.model.specs.Records.{Read, going, fileFull, recordFull, readBytes, readFile, reportOf}
 use Rattle.model.specs.Viable.{CanGoOn}
@@ -46,7 +46,7 @@ pub textdata : (b : ℕ) → NarrowTEXTDATA (b ∷ []) ↔ (TEXTDATA standard (b
 textdata = textdata-exact
 
 -- the decoder finds a raw cell sound exactly when the grammar derives it
-pub cells : (d : Dialect) (raw : Bytes) → DerivesCell d (decoded d raw) ↔ (judgeCell d raw ≡ WholeCell)
+pub cells : (d : Dialect) (raw : Bytes) → DerivesCell d (decoded d raw) ↔ (validateCell d raw ≡ WholeCell)
 cells = cell-exact
 
 -- a derivation's kind and content, by its own rules, are the decoder's

@@ -6,52 +6,52 @@ use mathlib.Core.Path.{_≡_, refl, _∙_}
 use mathlib.Core.Bool.{true, false}
 use mathlib.Core.List.{List, [], _∷_, _++_}
 use lib.ListN.{length}
-use Rattle.grammar.specs.Types.{Dialect, Form, Outside, Passed, OfCell, Between, Tail, Ends, To, Clean, Final}
+use Rattle.grammar.specs.Types.{Dialect, FileState, Outside, Passed, OfCell, Between, Tail, Ends, To, Clean, Final}
 use Rattle.model.specs.Base.{Bytes}
-use Rattle.model.specs.Form.{formStep, formEnd}
+use Rattle.model.specs.File.{fileStep, fileEnd}
 use Rattle.grammar.specs.Derived.{Line, line}
 use Rattle.grammar.specs.Reading.{Reads}
 use Rattle.grammar.specs.Reading as reading
 use Rattle.grammar.specs.Stretches.{Stretch, stretch, past}
 
-pub data Walks (d : Dialect) : Form → (o p : ℕ) → Bytes → List (Line Bytes) → List (List Stretch) → Type 0 where
-  ends-clean : {f : Form} {o p : ℕ} → formEnd d f ≡ Clean → Walks d f o p [] [] []
-  ends-final : {f : Form} {o p : ℕ} → formEnd d f ≡ Final → Walks d f o p [] (line [] ([] ∷ []) ∷ []) ((stretch p o ∷ []) ∷ [])
+pub data Walks (d : Dialect) : FileState → (o p : ℕ) → Bytes → List (Line Bytes) → List (List Stretch) → Type 0 where
+  ends-clean : {f : FileState} {o p : ℕ} → fileEnd d f ≡ Clean → Walks d f o p [] [] []
+  ends-final : {f : FileState} {o p : ℕ} → fileEnd d f ≡ Final → Walks d f o p [] (line [] ([] ∷ []) ∷ []) ((stretch p o ∷ []) ∷ [])
   outside :
-      {f g : Form} {o p b : ℕ} {bs : Bytes} {ls : List (Line Bytes)} {ss : List (List Stretch)} → formStep d f b ≡ To g Outside →
+      {f g : FileState} {o p b : ℕ} {bs : Bytes} {ls : List (Line Bytes)} {ss : List (List Stretch)} → fileStep d f b ≡ To g Outside →
       Walks d g (suc o) (suc o) bs ls ss → Walks d f o p (b ∷ bs) ls ss
   passed :
-      {f g : Form} {o p b : ℕ} {bs : Bytes} {ls : List (Line Bytes)} {ss : List (List Stretch)} → formStep d f b ≡ To g Passed →
+      {f g : FileState} {o p b : ℕ} {bs : Bytes} {ls : List (Line Bytes)} {ss : List (List Stretch)} → fileStep d f b ≡ To g Passed →
       Walks d g (suc o) (suc o) bs ls ss → Walks d f o p (b ∷ bs) ls ss
   of-cell :
-      {f g : Form} {o p b : ℕ} {bs text raw : Bytes} {cells : List Bytes} {ls : List (Line Bytes)} {ss : List (List Stretch)} →
-      formStep d f b ≡ To g OfCell → Walks d g (suc o) p bs (line text (raw ∷ cells) ∷ ls) ss →
+      {f g : FileState} {o p b : ℕ} {bs text raw : Bytes} {cells : List Bytes} {ls : List (Line Bytes)} {ss : List (List Stretch)} →
+      fileStep d f b ≡ To g OfCell → Walks d g (suc o) p bs (line text (raw ∷ cells) ∷ ls) ss →
       Walks d f o p (b ∷ bs) (line (b ∷ text) ((b ∷ raw) ∷ cells) ∷ ls) ss
   between :
-      {f g : Form} {o p b : ℕ} {bs text : Bytes} {cells : List Bytes} {ls : List (Line Bytes)} {ss : List (List Stretch)} →
-      formStep d f b ≡ To g (Between false) → Walks d g (suc o) (suc o) bs (line text cells ∷ ls) ss →
+      {f g : FileState} {o p b : ℕ} {bs text : Bytes} {cells : List Bytes} {ls : List (Line Bytes)} {ss : List (List Stretch)} →
+      fileStep d f b ≡ To g (Between false) → Walks d g (suc o) (suc o) bs (line text cells ∷ ls) ss →
       Walks d f o p (b ∷ bs) (line (b ∷ text) cells ∷ ls) ss
   between-closing :
-      {f g : Form} {o p b : ℕ} {bs text : Bytes} {cells : List Bytes} {ls : List (Line Bytes)} {ps : List Stretch} {ss : List (List Stretch)} →
-      formStep d f b ≡ To g (Between true) → Walks d g (suc o) (suc o) bs (line text cells ∷ ls) (ps ∷ ss) →
+      {f g : FileState} {o p b : ℕ} {bs text : Bytes} {cells : List Bytes} {ls : List (Line Bytes)} {ps : List Stretch} {ss : List (List Stretch)} →
+      fileStep d f b ≡ To g (Between true) → Walks d g (suc o) (suc o) bs (line text cells ∷ ls) (ps ∷ ss) →
       Walks d f o p (b ∷ bs) (line (b ∷ text) ([] ∷ cells) ∷ ls) ((stretch p o ∷ ps) ∷ ss)
   tail :
-      {f g : Form} {o p b : ℕ} {bs text : Bytes} {cells : List Bytes} {ls : List (Line Bytes)} {ss : List (List Stretch)} →
-      formStep d f b ≡ To g (Tail false) → Walks d g (suc o) (suc o) bs (line text cells ∷ ls) ss →
+      {f g : FileState} {o p b : ℕ} {bs text : Bytes} {cells : List Bytes} {ls : List (Line Bytes)} {ss : List (List Stretch)} →
+      fileStep d f b ≡ To g (Tail false) → Walks d g (suc o) (suc o) bs (line text cells ∷ ls) ss →
       Walks d f o p (b ∷ bs) (line text cells ∷ ls) ss
   tail-closing :
-      {f g : Form} {o p b : ℕ} {bs text : Bytes} {cells : List Bytes} {ls : List (Line Bytes)} {ps : List Stretch} {ss : List (List Stretch)} →
-      formStep d f b ≡ To g (Tail true) → Walks d g (suc o) (suc o) bs (line text cells ∷ ls) (ps ∷ ss) →
+      {f g : FileState} {o p b : ℕ} {bs text : Bytes} {cells : List Bytes} {ls : List (Line Bytes)} {ps : List Stretch} {ss : List (List Stretch)} →
+      fileStep d f b ≡ To g (Tail true) → Walks d g (suc o) (suc o) bs (line text cells ∷ ls) (ps ∷ ss) →
       Walks d f o p (b ∷ bs) (line text ([] ∷ cells) ∷ ls) ((stretch p o ∷ ps) ∷ ss)
   ends :
-      {f g : Form} {o p b : ℕ} {bs : Bytes} {ls : List (Line Bytes)} {ss : List (List Stretch)} → formStep d f b ≡ To g (Ends false) →
+      {f g : FileState} {o p b : ℕ} {bs : Bytes} {ls : List (Line Bytes)} {ss : List (List Stretch)} → fileStep d f b ≡ To g (Ends false) →
       Walks d g (suc o) (suc o) bs ls ss → Walks d f o p (b ∷ bs) (line [] [] ∷ ls) ([] ∷ ss)
   ends-closing :
-      {f g : Form} {o p b : ℕ} {bs : Bytes} {ls : List (Line Bytes)} {ss : List (List Stretch)} → formStep d f b ≡ To g (Ends true) →
+      {f g : FileState} {o p b : ℕ} {bs : Bytes} {ls : List (Line Bytes)} {ss : List (List Stretch)} → fileStep d f b ≡ To g (Ends true) →
       Walks d g (suc o) (suc o) bs ls ss → Walks d f o p (b ∷ bs) (line [] ([] ∷ []) ∷ ls) ((stretch p o ∷ []) ∷ ss)
 
 -- without the places
-pub reads : {d : Dialect} {f : Form} {o p : ℕ} {xs : Bytes} {ls : List (Line Bytes)} {ss : List (List Stretch)} → Walks d f o p xs ls ss → Reads d f xs ls
+pub reads : {d : Dialect} {f : FileState} {o p : ℕ} {xs : Bytes} {ls : List (Line Bytes)} {ss : List (List Stretch)} → Walks d f o p xs ls ss → Reads d f xs ls
 reads (ends-clean e) = reading.ends-clean e
 reads (ends-final e) = reading.ends-final e
 reads (outside e k) = reading.outside e (reads k)
@@ -66,8 +66,8 @@ reads (ends-closing e k) = reading.ends-closing e (reads k)
 
 -- a byte's step is all that is asked of a state
 pub from-state :
-    {d : Dialect} {f g : Form} {o p b : ℕ} {bs : Bytes} {ls : List (Line Bytes)} {ss : List (List Stretch)} →
-    formStep d f b ≡ formStep d g b → Walks d g o p (b ∷ bs) ls ss → Walks d f o p (b ∷ bs) ls ss
+    {d : Dialect} {f g : FileState} {o p b : ℕ} {bs : Bytes} {ls : List (Line Bytes)} {ss : List (List Stretch)} →
+    fileStep d f b ≡ fileStep d g b → Walks d g o p (b ∷ bs) ls ss → Walks d f o p (b ∷ bs) ls ss
 from-state q (outside e k) = outside (q ∙ e) k
 from-state q (passed e k) = passed (q ∙ e) k
 from-state q (of-cell e k) = of-cell (q ∙ e) k
@@ -80,8 +80,8 @@ from-state q (ends-closing e k) = ends-closing (q ∙ e) k
 
 -- a byte of the cell in hand may lead to another state, from which the rest is read the same
 pub with-cell-byte :
-    {d : Dialect} {f g h k : Form} {o p b : ℕ} {bs : Bytes} {ls : List (Line Bytes)} {ss : List (List Stretch)} →
-    formStep d f b ≡ To g OfCell → formStep d h b ≡ To k OfCell →
+    {d : Dialect} {f g h k : FileState} {o p b : ℕ} {bs : Bytes} {ls : List (Line Bytes)} {ss : List (List Stretch)} →
+    fileStep d f b ≡ To g OfCell → fileStep d h b ≡ To k OfCell →
     ((ls : List (Line Bytes)) → Walks d g (suc o) p bs ls ss → Walks d k (suc o) p bs ls ss) → Walks d f o p (b ∷ bs) ls ss →
     Walks d h o p (b ∷ bs) ls ss
 with-cell-byte q s t (outside e k) = let z : _≡_ {A = ℕ} 0 1 = cc in absurd (omega arith)

@@ -22,4 +22,4 @@ pub record NextByte (d : Dialect) (target : Option Target) (xs : Bytes) (r : Rea
   pub refused : ((e : ByteFault) × (readBytes d target (xs ++ (b ∷ [])) ≡ stopped (Byte e) r)) ↔ ¬ (GoesOn d xs b)
   -- and 3 where it does not break the UTF-8 table in a text that it stands in
   pub syntax-fault :
-      (readBytes d target (xs ++ (b ∷ [])) ≡ stopped (Byte Syntax) r) ↔ (¬ (GoesOn d xs b) × (breaks (textAt d (r .form)) b ≡ false))
+      (readBytes d target (xs ++ (b ∷ [])) ≡ stopped (Byte Syntax) r) ↔ (¬ (GoesOn d xs b) × (breaks (textAt d (r .state)) b ≡ false))

@@ -9,18 +9,18 @@ use mathlib.Core.List.{List, [], _∷_, _++_}
 use lib.ListN.{length, length-append}
 use Rattle.model.specs.Types.{Kind, Text, Number, True, False, Null, Dialect, Csvj, Tdif, CsvPlus, Target}
 use Rattle.model.specs.Types.{Cell, ByteFault, Fault, Verdict, Sound, Faulty}
-use Rattle.model.specs.Types.{Form, Top, Begin, Ended, Mark1, Mark2, PlainMark1, PlainMark2, Comment, Blanks, Wanting, Inside, After, Cr, Outside, Passed, OfCell, Between, Tail, Ends, Step, To, Reject, Ending, Clean, Final, Cut}
+use Rattle.model.specs.Types.{FileState, Top, Begin, Ended, Mark1, Mark2, PlainMark1, PlainMark2, Comment, Blanks, Wanting, Inside, After, Cr, Outside, Passed, OfCell, Between, Tail, Ends, Step, To, Reject, Ending, Clean, Final, Cut}
 use Rattle.model.specs.Base.{Bytes, QUOTE, if_then_else_, isEmpty}
 use Rattle.model.specs.Dialect.{quoteOf}
-use Rattle.model.specs.Form.{formStep, formEnd, lastCell}
+use Rattle.model.specs.File.{fileStep, fileEnd, lastCell}
 use Rattle.model.specs.Decode.{kindOf, contentOf}
 use Rattle.model.specs.Text.{Value, jsonBody, jsonCell, quotedText, csvPlusCell, cellText, moreCells, allCells, recordText, ending}
-use Rattle.model.specs.Records.{Rec, Read, Progress, going, stopped, nothingRead, readByte, readFrom, readBytes, readEnd, readFile, recordsOf, recordFault, move, complete, judged, closing, cellNow, endBetween, endAt}
+use Rattle.model.specs.Records.{Rec, Read, Progress, going, stopped, nothingRead, readByte, readFrom, readBytes, readEnd, readFile, recordsOf, recordFault, move, complete, validated, closing, cellNow, endBetween, endAt}
 use Rattle.model.specs.Laws.{All, all-none, Bounded, BoundedRecord}
 use Rattle.model.proofs.Tests.{split}
 use Rattle.model.proofs.CellRuns.{all-snoc}
-use Rattle.model.proofs.FormSteps as steps
-use Rattle.model.proofs.FormSteps.{Holds, Free, Leaves, Goes, step-goes}
+use Rattle.model.proofs.FileSteps as steps
+use Rattle.model.proofs.FileSteps.{Holds, Free, Leaves, Transition, step-transition}
 use Rattle.model.proofs.Lengths.{content-length, body-length, quoted-length}
 
 -- ---- a cell
@@ -112,7 +112,7 @@ weigh-last v raw w (weigh-cell {n} {m} raw′ w′ ws g) =
 -- ---- what reading counts
 
 -- a CR outside quotes closes a cell and is not counted
-abbrev pub slack : Form → ℕ
+abbrev pub slack : FileState → ℕ
 slack Top = 0
 slack Begin = 0
 slack Ended = 0
@@ -127,7 +127,7 @@ slack (Inside c) = 0
 slack After = 0
 slack Cr = 1
 
-slack-one : (f : Form) → slack f ≤ 1
+slack-one : (f : FileState) → slack f ≤ 1
 slack-one Top = omega arith
 slack-one Begin = omega arith
 slack-one Ended = omega arith
@@ -143,17 +143,17 @@ slack-one After = omega arith
 slack-one Cr = omega arith
 
 -- after such a CR only the record's end is read
-pub data Steady (f : Form) : Step → Type 0 where
+pub data Steady (f : FileState) : Step → Type 0 where
   y-fault : {e : ByteFault} → Steady f (Reject e)
-  y-outside : {g : Form} → Steady f (To g Outside)
-  y-passed : {g : Form} → Steady f (To g Passed)
-  y-cell : {g : Form} → slack f ≡ 0 → Steady f (To g OfCell)
-  y-between : {g : Form} {k : Bool} → slack f ≡ 0 → Steady f (To g (Between k))
+  y-outside : {g : FileState} → Steady f (To g Outside)
+  y-passed : {g : FileState} → Steady f (To g Passed)
+  y-cell : {g : FileState} → slack f ≡ 0 → Steady f (To g OfCell)
+  y-between : {g : FileState} {k : Bool} → slack f ≡ 0 → Steady f (To g (Between k))
   y-tail : {k : Bool} → slack f ≡ 0 → Steady f (To Cr (Tail k))
-  y-ends : {g : Form} {k : Bool} → slack f ≡ 0 → Steady f (To g (Ends k))
-  y-over : {g : Form} → Steady f (To g (Ends false))
+  y-ends : {g : FileState} {k : Bool} → slack f ≡ 0 → Steady f (To g (Ends k))
+  y-over : {g : FileState} → Steady f (To g (Ends false))
 
-holds-slack : {f : Form} {c : Cell} → Holds f c → slack f ≡ 0
+holds-slack : {f : FileState} {c : Cell} → Holds f c → slack f ≡ 0
 holds-slack steps.at-top = refl
 holds-slack steps.at-begin = refl
 holds-slack steps.at-ended = refl
@@ -163,7 +163,7 @@ holds-slack steps.inside = refl
 holds-slack steps.plain1 = refl
 holds-slack steps.plain2 = refl
 
-free-slack : {f : Form} → Free f → slack f ≡ 0
+free-slack : {f : FileState} → Free f → slack f ≡ 0
 free-slack steps.f-top = refl
 free-slack steps.f-begin = refl
 free-slack steps.f-ended = refl
@@ -171,11 +171,11 @@ free-slack steps.f-blanks = refl
 free-slack steps.f-wanting = refl
 free-slack steps.f-after = refl
 
-leaves-slack : {d : Dialect} {b : ℕ} {f : Form} {k : Bool} → Leaves d b f k → slack f ≡ 0
+leaves-slack : {d : Dialect} {b : ℕ} {f : FileState} {k : Bool} → Leaves d b f k → slack f ≡ 0
 leaves-slack (steps.none e) = free-slack e
 leaves-slack (steps.stops h s) = holds-slack h
 
-steady : {d : Dialect} {f : Form} {b : ℕ} {s : Step} → Goes d f b s → Steady f s
+steady : {d : Dialect} {f : FileState} {b : ℕ} {s : Step} → Transition d f b s → Steady f s
 steady (steps.refuses t) = y-fault
 steady (steps.outside t r g) = y-outside
 steady (steps.passes t r g) = y-passed
@@ -186,11 +186,11 @@ steady (steps.turns t p l) = y-tail (leaves-slack l)
 steady (steps.ends t p l g) = y-ends (leaves-slack l)
 steady (steps.ends-cr t e p) = y-over
 
-pub step-steady : (d : Dialect) (f : Form) (b : ℕ) → Steady f (formStep d f b)
-step-steady d f b = steady (step-goes d f b)
+pub step-steady : (d : Dialect) (f : FileState) (b : ℕ) → Steady f (fileStep d f b)
+step-steady d f b = steady (step-transition d f b)
 
 -- where the end of the file completes a record no CR waits
-data EndsSteady (f : Form) : Ending → Type 0 where
+data EndsSteady (f : FileState) : Ending → Type 0 where
   e-clean : EndsSteady f Clean
   e-final : slack f ≡ 0 → EndsSteady f Final
   e-cut : EndsSteady f Cut
@@ -200,8 +200,8 @@ cell-end-steady Csvj c = e-cut
 cell-end-steady Tdif c = e-cut
 cell-end-steady (CsvPlus s) c = split (EndsSteady (Inside c)) _ (λ _. e-final refl) λ _. e-cut
 
-end-steady : (d : Dialect) (f : Form) → EndsSteady f (formEnd d f)
-unfolding formEnd
+end-steady : (d : Dialect) (f : FileState) → EndsSteady f (fileEnd d f)
+unfolding fileEnd
 end-steady d Top = e-clean
 end-steady d Begin = e-clean
 end-steady d Ended = e-clean
@@ -221,7 +221,7 @@ module _ (d : Dialect) (target : Option Target) where
   pub record Counted (r : Read) : Type 0 where
     pub sum : ℕ
     pub cells : Weighs d (r .cells) sum
-    pub fits : sum + length (r .raw) ≤ r .size + slack (r .form)
+    pub fits : sum + length (r .raw) ≤ r .size + slack (r .state)
     pub done : All BoundedRecord (r .done)
 
   pub data CountedTo : Progress → Type 0 where
@@ -233,18 +233,18 @@ module _ (d : Dialect) (target : Option Target) where
   close-weighs r true i = weigh-last (cellNow d r) (r .raw) (record { kind = refl; content = refl }) (i .cells)
   close-weighs r false i = weigh-more (omega arith) (i .cells)
 
-  judged-counted : (r next : Read) (v : Verdict) → All BoundedRecord (r .done) → Counted next → CountedTo (judged r next v)
+  judged-counted : (r next : Read) (v : Verdict) → All BoundedRecord (r .done) → Counted next → CountedTo (validated r next v)
   judged-counted r next Sound h i = c-going i
   judged-counted r next (Faulty e) h i = c-stopped h
 
-  complete-counted : (r : Read) (vs : List Value) (f : Form) (o : ℕ) → Counted r → Bounded (r .size) vs → CountedTo (complete d target r vs f o)
+  complete-counted : (r : Read) (vs : List Value) (f : FileState) (o : ℕ) → Counted r → Bounded (r .size) vs → CountedTo (complete d target r vs f o)
   unfolding complete
   complete-counted r vs f o i b =
       let g : 0 + 0 ≤ 0 + slack f = omega arith in
       judged-counted r _ (recordFault d target (r .done) vs) (i .done) (record { sum = 0; cells = weigh-none; fits = g; done = all-snoc (i .done) b })
 
   -- the record that ends here, with its last cell
-  pub closed-bound : (r : Read) (k : Bool) (i : Counted r) → slack (r .form) ≡ 0 → Bounded (r .size) (closing d k r)
+  pub closed-bound : (r : Read) (k : Bool) (i : Counted r) → slack (r .state) ≡ 0 → Bounded (r .size) (closing d k r)
   closed-bound r k i z =
       let h = i .fits in
       let g : i .sum + suc (length (r .raw)) ≤ suc (r .size) = omega arith in
@@ -254,11 +254,11 @@ module _ (d : Dialect) (target : Option Target) where
   pub over-bound : (r : Read) (i : Counted r) → Bounded (r .size) (r .cells)
   over-bound r i =
       let h = i .fits in
-      let o : slack (r .form) ≤ 1 = slack-one (r .form) in
+      let o : slack (r .state) ≤ 1 = slack-one (r .state) in
       let g : i .sum ≤ suc (r .size) = omega arith in
       text-bound (weigh-more g (i .cells))
 
-  pub move-counted : (r : Read) (b : ℕ) (s : Step) → Counted r → Steady (r .form) s → CountedTo (move d target r b s)
+  pub move-counted : (r : Read) (b : ℕ) (s : Step) → Counted r → Steady (r .state) s → CountedTo (move d target r b s)
   unfolding move
   move-counted r b (Reject e) i y-fault = c-stopped (i .done)
   move-counted r b (To f Outside) i y-outside =
@@ -284,7 +284,7 @@ module _ (d : Dialect) (target : Option Target) where
   unfolding readByte
   byte-counted r b i =
       split CountedTo _ (λ _. c-stopped (i .done)) λ _. split CountedTo _ (λ _. c-stopped (i .done)) λ _.
-      move-counted r b (formStep d (r .form) b) i (step-steady d (r .form) b)
+      move-counted r b (fileStep d (r .state) b) i (step-steady d (r .state) b)
 
   read-counted : (p : Progress) (xs : Bytes) → CountedTo p → CountedTo (readFrom d target p xs)
   unfolding readFrom
@@ -300,7 +300,7 @@ module _ (d : Dialect) (target : Option Target) where
   between-counted r [] i = c-stopped (i .done)
   between-counted r (h ∷ rs) i = c-going i
 
-  at-end-counted : (r : Read) (x : Ending) → Counted r → EndsSteady (r .form) x → CountedTo (endAt d target r x)
+  at-end-counted : (r : Read) (x : Ending) → Counted r → EndsSteady (r .state) x → CountedTo (endAt d target r x)
   at-end-counted r Clean i e-clean = between-counted r (r .done) i
   at-end-counted r Final i (e-final z) = complete-counted r (closing d true r) Begin (r .offset) i (closed-bound r true i z)
   at-end-counted r Cut i e-cut = c-stopped (i .done)
@@ -308,7 +308,7 @@ module _ (d : Dialect) (target : Option Target) where
   end-counted : (p : Progress) → CountedTo p → CountedTo (readEnd d target p)
   unfolding readEnd
   end-counted (stopped e r) g = g
-  end-counted (going r) (c-going i) = at-end-counted r (formEnd d (r .form)) i (end-steady d (r .form))
+  end-counted (going r) (c-going i) = at-end-counted r (fileEnd d (r .state)) i (end-steady d (r .state))
 
   counted-records : (p : Progress) → CountedTo p → All BoundedRecord (recordsOf p)
   counted-records (going r) (c-going i) = i .done

@@ -5,7 +5,7 @@ use mathlib.Core.Path.{_≡_, refl, sym, _∙_}
 use mathlib.Core.Bool.{Bool, true, false, _||_}
 use mathlib.Core.List.{[], _∷_}
 use Rattle.model.specs.Types.{Settings, Dialect, Csvj, Tdif, CsvPlus, Inner, Char, Whole, Within, Advance, On, Broken, ByteFault}
-use Rattle.model.specs.Types.{Numeral, Minus, Zero, Integer, Point, Fraction, E, ESign, Exponent, Cell, Fresh, Quoted, Closed, InNumber, Plain, Added, More, Stop, Refuse}
+use Rattle.model.specs.Types.{Numeral, Minus, Zero, Integer, Point, Fraction, E, ESign, Exponent, Cell, Fresh, Quoted, Closed, InNumber, Plain, CellStep, More, Stop, Refuse}
 use Rattle.model.specs.Base.{Bytes, QUOTE, CR, LF, _is_, if_then_else_}
 use Rattle.model.specs.Dialect.{quoteOf, delimiterOf}
 use Rattle.model.specs.Utf8.{charStep, textFrom}
@@ -197,7 +197,7 @@ tdif-content (b ∷ bs) w = first (w .runs) (w .whole)
 
 -- ---- numbers of CSVJ are ASCII
 
-pub data NumeralNext (b : ℕ) : Added → Type 0 where
+pub data NumeralNext (b : ℕ) : CellStep → Type 0 where
   next-more : {n : Numeral} → b ≤ 0x7F → NumeralNext b (More (InNumber n))
   next-stop : NumeralNext b Stop
   next-refuse : {e : ByteFault} → NumeralNext b (Refuse e)
@@ -212,7 +212,7 @@ numeral-next : (n : Numeral) (b : ℕ) → NumeralNext b (numeralStep n b)
 unfolding numeralStep
 numeral-next n b = go n
   where
-    P : Added → Type 0
+    P : CellStep → Type 0
     P = NumeralNext b
 
     this : (c : ℕ) → c ≤ 0x7F → (b is c) ≡ true → b ≤ 0x7F
@@ -242,7 +242,7 @@ numeral-next n b = go n
 pub data IsNumber : Cell → Type 0 where
   is-number : {n : Numeral} → IsNumber (InNumber n)
 
-pub number-step : {a : Added} {b : ℕ} {c : Cell} → NumeralNext b a → a ≡ More c → (b ≤ 0x7F) × IsNumber c
+pub number-step : {a : CellStep} {b : ℕ} {c : Cell} → NumeralNext b a → a ≡ More c → (b ≤ 0x7F) × IsNumber c
 number-step (next-more {n} h) e = let q : InNumber n ≡ _ = same-more e in (h, rw q at (is-number {n = n}))
 number-step next-stop e = no-stop e
 number-step next-refuse e = no-more e
@@ -260,7 +260,7 @@ number-text (is-number {n}) (there {b} {bs} x r) =
 pub first-number : (b : ℕ) → (b is QUOTE) ≡ false → (b is 0x2D || isDigit b) ≡ true → NumeralNext b (cellStep Csvj Fresh b)
 unfolding cellStep firstByte
 first-number b q t =
-    let P : Added → Type 0 = NumeralNext b in
+    let P : CellStep → Type 0 = NumeralNext b in
     split P (b is QUOTE) (λ e. impossible (sym q ∙ e)) λ _.
     split P (b is 0x2D) (λ e. next-more (is-ascii b 0x2D (omega arith) e)) λ _.
     split P (b is 0x30) (λ e. next-more (is-ascii b 0x30 (omega arith) e)) λ _.

@@ -5,13 +5,13 @@ use mathlib.Core.Path.{_≡_, refl}
 use mathlib.Core.Bool.{Bool, true, false}
 use mathlib.Core.List.{List, [], _∷_, _++_}
 use Rattle.model.specs.Types.{Delimiter, Comma, Semicolon, Tab, Bar, Quote, Double, Single, Settings, Dialect, Csvj, Tdif, CsvPlus, EeToEf, Second, Last, Char, Whole, Within, Advance, On, Broken}
-use Rattle.model.specs.Types.{Numeral, Minus, Zero, Integer, Point, Fraction, E, ESign, Exponent, Cell, Fresh, Quoted, Closed, Escape, Hex, InNumber, InWord, Plain, Complete, Added, More, Stop, Refuse, ByteFault}
-use Rattle.model.specs.Types.{Fault, Judged, WholeCell, Unsound}
+use Rattle.model.specs.Types.{Numeral, Minus, Zero, Integer, Point, Fraction, E, ESign, Exponent, Cell, Fresh, Quoted, Closed, Escape, Hex, InNumber, InWord, Plain, Complete, CellStep, More, Stop, Refuse, ByteFault}
+use Rattle.model.specs.Types.{Fault, CellCheck, WholeCell, Unsound}
 use Rattle.model.specs.Types as types
 use Rattle.model.specs.Base.{Bytes, if_then_else_}
 use Rattle.model.specs.Utf8.{rowOf, leads, leadByte, innerStep, charStep}
 use Rattle.model.specs.Cell.{textByte, numeralStep, firstByte, quotedByte, plainByte, cellStep, isWhole}
-use Rattle.model.specs.Decode.{judgeFrom}
+use Rattle.model.specs.Decode.{validateFrom}
 use Rattle.model.specs.Laws.{All, all-none, all-cons}
 use Rattle.model.proofs.Tests.{split}
 
@@ -47,10 +47,10 @@ pub snoc : {d : Dialect} {c c′ c″ : Cell} {bs : Bytes} (b : ℕ) → Runs d 
 snoc b here e = there e here
 snoc b (there f r) e = there f (snoc b r e)
 
-pub runs-sound : {d : Dialect} {c c′ : Cell} {bs : Bytes} (i : ℕ) → Runs d c bs c′ → isWhole d c′ ≡ true → judgeFrom d c i bs ≡ WholeCell
-unfolding judgeFrom if_then_else_
-runs-sound i here w = rw (w, judgeFrom)
-runs-sound i (there e r) w = rw (e, judgeFrom) (runs-sound (suc i) r w)
+pub runs-sound : {d : Dialect} {c c′ : Cell} {bs : Bytes} (i : ℕ) → Runs d c bs c′ → isWhole d c′ ≡ true → validateFrom d c i bs ≡ WholeCell
+unfolding validateFrom if_then_else_
+runs-sound i here w = rw (w, validateFrom)
+runs-sound i (there e r) w = rw (e, validateFrom) (runs-sound (suc i) r w)
 
 -- a run to a whole cell
 pub record WholeRun (d : Dialect) (c : Cell) (bs : Bytes) : Type 0 where
@@ -61,8 +61,8 @@ pub record WholeRun (d : Dialect) (c : Cell) (bs : Bytes) : Type 0 where
 unsound-sound : {A : Type 0} {e : Fault} {i : ℕ} → Unsound e i ≡ WholeCell → A
 unsound-sound x = let z : _≡_ {A = ℕ} 0 1 = cc in absurd (omega arith)
 
-pub sound-runs : (d : Dialect) (c : Cell) (i : ℕ) (bs : Bytes) → judgeFrom d c i bs ≡ WholeCell → WholeRun d c bs
-unfolding judgeFrom if_then_else_
+pub sound-runs : (d : Dialect) (c : Cell) (i : ℕ) (bs : Bytes) → validateFrom d c i bs ≡ WholeCell → WholeRun d c bs
+unfolding validateFrom if_then_else_
 sound-runs d c i [] h = go (isWhole d c) refl h
   where
     go : (t : Bool) → isWhole d c ≡ t → (if t then WholeCell else Unsound types.CutShort i) ≡ WholeCell → WholeRun d c []
@@ -70,7 +70,7 @@ sound-runs d c i [] h = go (isWhole d c) refl h
     go false e k = unsound-sound k
 sound-runs d c i (b ∷ bs) h = go (cellStep d c b) refl h (λ c′. sound-runs d c′ (suc i) bs)
   where
-    go : (a : Added) → cellStep d c b ≡ a → (elim a as (λ _. Judged) [ More c′ ↦ judgeFrom d c′ (suc i) bs | Stop ↦ Unsound (types.Byte types.Syntax) i | Refuse x ↦ Unsound (types.Byte x) i ]) ≡ WholeCell → ((c′ : Cell) → judgeFrom d c′ (suc i) bs ≡ WholeCell → WholeRun d c′ bs) → WholeRun d c (b ∷ bs)
+    go : (a : CellStep) → cellStep d c b ≡ a → (elim a as (λ _. CellCheck) [ More c′ ↦ validateFrom d c′ (suc i) bs | Stop ↦ Unsound (types.Byte types.Syntax) i | Refuse x ↦ Unsound (types.Byte x) i ]) ≡ WholeCell → ((c′ : Cell) → validateFrom d c′ (suc i) bs ≡ WholeCell → WholeRun d c′ bs) → WholeRun d c (b ∷ bs)
     go (More c′) e k ih = let w = ih c′ k in record { end = w .end; runs = there e (w .runs); whole = w .whole }
     go Stop e k ih = unsound-sound k
     go (Refuse x) e k ih = unsound-sound k

@@ -8,7 +8,7 @@ use mathlib.Core.Bool.{Bool, true, false, _||_}
 use lib.Dec.{ltb}
 use borrow.Author.Tests.{ltb-true}
 use Rattle.model.specs.Types.{Dialect, Csvj, Tdif, CsvPlus, Char, Whole, Within, Advance, On, Broken}
-use Rattle.model.specs.Types.{Numeral, Minus, Zero, Integer, Point, Fraction, E, ESign, Exponent, Cell, Fresh, Quoted, Closed, Escape, Hex, InNumber, InWord, Plain, Complete, Added, More, Stop, Refuse, Encoding, Syntax}
+use Rattle.model.specs.Types.{Numeral, Minus, Zero, Integer, Point, Fraction, E, ESign, Exponent, Cell, Fresh, Quoted, Closed, Escape, Hex, InNumber, InWord, Plain, Complete, CellStep, More, Stop, Refuse, Encoding, Syntax}
 use Rattle.model.specs.Base.{LF, CR, QUOTE, BACKSLASH, _is_}
 use Rattle.model.specs.Dialect.{quoteOf, delimiterOf}
 use Rattle.model.specs.Utf8.{charStep}
@@ -21,77 +21,77 @@ pub broken-not : (b : ℕ) → b ≤ 0x7F → isBroken (charStep Whole b) ≡ fa
 broken-not b h = ap isBroken (ascii-whole b h)
 
 -- what a byte does to the cell c, and whether it breaks the text there
-pub data Takes (d : Dialect) (c : Cell) : (breaks : Bool) → Added → Type 0 where
-  takes-more : {c′ : Cell} → Takes d c false (More c′)
-  takes-stop : isWhole d c ≡ true → Takes d c false Stop
-  takes-two : Takes d c true (Refuse Encoding)
-  takes-three : Takes d c false (Refuse Syntax)
+pub data CellTransition (d : Dialect) (c : Cell) : (breaks : Bool) → CellStep → Type 0 where
+  takes-more : {c′ : Cell} → CellTransition d c false (More c′)
+  takes-stop : isWhole d c ≡ true → CellTransition d c false Stop
+  takes-two : CellTransition d c true (Refuse Encoding)
+  takes-three : CellTransition d c false (Refuse Syntax)
 
-text-takes : {d : Dialect} {c : Cell} (f : Char → Cell) (o : Advance) → Takes d c (isBroken o) (textByte f o)
+text-takes : {d : Dialect} {c : Cell} (f : Char → Cell) (o : Advance) → CellTransition d c (isBroken o) (textByte f o)
 text-takes f (On c) = takes-more
 text-takes f Broken = takes-two
 
 -- the same of a byte that the table takes
-ascii-takes : {d : Dialect} {c : Cell} (b : ℕ) {a : Added} → b ≤ 0x7F → Takes d c false a → Takes d c (isBroken (charStep Whole b)) a
+ascii-takes : {d : Dialect} {c : Cell} (b : ℕ) {a : CellStep} → b ≤ 0x7F → CellTransition d c false a → CellTransition d c (isBroken (charStep Whole b)) a
 ascii-takes b h k = rw (broken-not b h) k
 
-first-takes : (d : Dialect) (b : ℕ) → Takes d Fresh (breaks (freshText d) b) (firstByte d b)
+first-takes : (d : Dialect) (b : ℕ) → CellTransition d Fresh (breaks (freshText d) b) (firstByte d b)
 unfolding firstByte isWhole
 first-takes Csvj b =
-    let P : Added → Type 0 = Takes Csvj Fresh false in
+    let P : CellStep → Type 0 = CellTransition Csvj Fresh false in
     split P _ (λ _. takes-more) λ _. split P _ (λ _. takes-more) λ _. split P _ (λ _. takes-more) λ _. split P _ (λ _. takes-more) λ _.
     split P _ (λ _. takes-more) λ _. split P _ (λ _. takes-more) λ _. split P _ (λ _. takes-more) λ _. takes-three
-first-takes Tdif b = split (Takes Tdif Fresh false) _ (λ _. takes-more) λ _. split (Takes Tdif Fresh false) _ (λ _. takes-more) λ _. takes-three
+first-takes Tdif b = split (CellTransition Tdif Fresh false) _ (λ _. takes-more) λ _. split (CellTransition Tdif Fresh false) _ (λ _. takes-more) λ _. takes-three
 first-takes (CsvPlus s) b =
-    let P : Added → Type 0 = Takes (CsvPlus s) Fresh (isBroken (charStep Whole b)) in
+    let P : CellStep → Type 0 = CellTransition (CsvPlus s) Fresh (isBroken (charStep Whole b)) in
     let d : Dialect = CsvPlus s in
     split P (b is quoteOf d) (λ e. ascii-takes b (is-ascii b (quoteOf d) (quote-ascii d) e) takes-more) λ _.
     split P (b is delimiterOf d || b is CR || b is LF) (λ e. ascii-takes b (separator-ascii d b e) (takes-stop refl)) λ _. text-takes Plain (charStep Whole b)
 
-quoted-takes : (d : Dialect) (b : ℕ) → Takes d (Quoted Whole) (isBroken (charStep Whole b)) (quotedByte d b)
+quoted-takes : (d : Dialect) (b : ℕ) → CellTransition d (Quoted Whole) (isBroken (charStep Whole b)) (quotedByte d b)
 unfolding quotedByte
 quoted-takes Csvj b =
-    let P : Added → Type 0 = Takes Csvj (Quoted Whole) (isBroken (charStep Whole b)) in
+    let P : CellStep → Type 0 = CellTransition Csvj (Quoted Whole) (isBroken (charStep Whole b)) in
     split P (b is QUOTE) (λ e. ascii-takes b (is-ascii b QUOTE (omega arith) e) takes-more) λ _.
     split P (b is BACKSLASH) (λ e. ascii-takes b (is-ascii b BACKSLASH (omega arith) e) takes-more) λ _.
     split P (ltb b 0x20) (λ e. let h : b < 0x20 = ltb-true b 0x20 e in ascii-takes b (omega arith) takes-three) λ _. text-takes Quoted (charStep Whole b)
 quoted-takes Tdif b =
-    split (Takes Tdif (Quoted Whole) (isBroken (charStep Whole b))) (b is QUOTE) (λ e. ascii-takes b (is-ascii b QUOTE (omega arith) e) takes-more) λ _.
+    split (CellTransition Tdif (Quoted Whole) (isBroken (charStep Whole b))) (b is QUOTE) (λ e. ascii-takes b (is-ascii b QUOTE (omega arith) e) takes-more) λ _.
     text-takes Quoted (charStep Whole b)
 quoted-takes (CsvPlus s) b =
     let d : Dialect = CsvPlus s in
-    split (Takes d (Quoted Whole) (isBroken (charStep Whole b))) (b is quoteOf d) (λ e. ascii-takes b (is-ascii b (quoteOf d) (quote-ascii d) e) takes-more) λ _.
+    split (CellTransition d (Quoted Whole) (isBroken (charStep Whole b))) (b is quoteOf d) (λ e. ascii-takes b (is-ascii b (quoteOf d) (quote-ascii d) e) takes-more) λ _.
     text-takes Quoted (charStep Whole b)
 
-plain-takes : (d : Dialect) (b : ℕ) → Takes d (Plain Whole) (isBroken (charStep Whole b)) (plainByte d b)
+plain-takes : (d : Dialect) (b : ℕ) → CellTransition d (Plain Whole) (isBroken (charStep Whole b)) (plainByte d b)
 unfolding plainByte isWhole
 plain-takes d b =
-    let P : Added → Type 0 = Takes d (Plain Whole) (isBroken (charStep Whole b)) in
+    let P : CellStep → Type 0 = CellTransition d (Plain Whole) (isBroken (charStep Whole b)) in
     split P (b is quoteOf d) (λ e. ascii-takes b (is-ascii b (quoteOf d) (quote-ascii d) e) takes-three) λ _.
     split P (b is delimiterOf d || b is CR || b is LF) (λ e. ascii-takes b (separator-ascii d b e) (takes-stop refl)) λ _. text-takes Plain (charStep Whole b)
 
-numeral-takes : (d : Dialect) (n : Numeral) (b : ℕ) → Takes d (InNumber n) false (numeralStep n b)
+numeral-takes : (d : Dialect) (n : Numeral) (b : ℕ) → CellTransition d (InNumber n) false (numeralStep n b)
 unfolding numeralStep isWhole
-numeral-takes d Minus b = let P = Takes d (InNumber Minus) false in split P _ (λ _. takes-more) λ _. split P _ (λ _. takes-more) λ _. takes-three
-numeral-takes d Zero b = let P = Takes d (InNumber Zero) false in split P _ (λ _. takes-more) λ _. split P _ (λ _. takes-more) λ _. takes-stop refl
+numeral-takes d Minus b = let P = CellTransition d (InNumber Minus) false in split P _ (λ _. takes-more) λ _. split P _ (λ _. takes-more) λ _. takes-three
+numeral-takes d Zero b = let P = CellTransition d (InNumber Zero) false in split P _ (λ _. takes-more) λ _. split P _ (λ _. takes-more) λ _. takes-stop refl
 numeral-takes d Integer b =
-    let P = Takes d (InNumber Integer) false in split P _ (λ _. takes-more) λ _. split P _ (λ _. takes-more) λ _. split P _ (λ _. takes-more) λ _. takes-stop refl
-numeral-takes d Point b = split (Takes d (InNumber Point) false) _ (λ _. takes-more) λ _. takes-three
-numeral-takes d Fraction b = let P = Takes d (InNumber Fraction) false in split P _ (λ _. takes-more) λ _. split P _ (λ _. takes-more) λ _. takes-stop refl
-numeral-takes d E b = let P = Takes d (InNumber E) false in split P _ (λ _. takes-more) λ _. split P _ (λ _. takes-more) λ _. takes-three
-numeral-takes d ESign b = split (Takes d (InNumber ESign) false) _ (λ _. takes-more) λ _. takes-three
-numeral-takes d Exponent b = split (Takes d (InNumber Exponent) false) _ (λ _. takes-more) λ _. takes-stop refl
+    let P = CellTransition d (InNumber Integer) false in split P _ (λ _. takes-more) λ _. split P _ (λ _. takes-more) λ _. split P _ (λ _. takes-more) λ _. takes-stop refl
+numeral-takes d Point b = split (CellTransition d (InNumber Point) false) _ (λ _. takes-more) λ _. takes-three
+numeral-takes d Fraction b = let P = CellTransition d (InNumber Fraction) false in split P _ (λ _. takes-more) λ _. split P _ (λ _. takes-more) λ _. takes-stop refl
+numeral-takes d E b = let P = CellTransition d (InNumber E) false in split P _ (λ _. takes-more) λ _. split P _ (λ _. takes-more) λ _. takes-three
+numeral-takes d ESign b = split (CellTransition d (InNumber ESign) false) _ (λ _. takes-more) λ _. takes-three
+numeral-takes d Exponent b = split (CellTransition d (InNumber Exponent) false) _ (λ _. takes-more) λ _. takes-stop refl
 
-pub cell-takes : (d : Dialect) (c : Cell) (b : ℕ) → Takes d c (breaks (cellTextAt d c) b) (cellStep d c b)
+pub cell-transition : (d : Dialect) (c : Cell) (b : ℕ) → CellTransition d c (breaks (cellTextAt d c) b) (cellStep d c b)
 unfolding cellStep isWhole
-cell-takes d Fresh b = first-takes d b
-cell-takes d (Quoted Whole) b = quoted-takes d b
-cell-takes d (Quoted (Within i)) b = text-takes Quoted (charStep (Within i) b)
-cell-takes d Closed b = split (Takes d Closed false) _ (λ _. takes-more) λ _. takes-stop refl
-cell-takes d Escape b = split (Takes d Escape false) _ (λ _. takes-more) λ _. split (Takes d Escape false) _ (λ _. takes-more) λ _. takes-three
-cell-takes d (Hex n) b = split (Takes d (Hex n) false) _ (λ _. takes-more) λ _. takes-three
-cell-takes d (InNumber n) b = numeral-takes d n b
-cell-takes d (InWord w) b = split (Takes d (InWord w) false) _ (λ _. takes-more) λ _. takes-three
-cell-takes d (Plain Whole) b = plain-takes d b
-cell-takes d (Plain (Within i)) b = text-takes Plain (charStep (Within i) b)
-cell-takes d Complete b = takes-stop refl
+cell-transition d Fresh b = first-takes d b
+cell-transition d (Quoted Whole) b = quoted-takes d b
+cell-transition d (Quoted (Within i)) b = text-takes Quoted (charStep (Within i) b)
+cell-transition d Closed b = split (CellTransition d Closed false) _ (λ _. takes-more) λ _. takes-stop refl
+cell-transition d Escape b = split (CellTransition d Escape false) _ (λ _. takes-more) λ _. split (CellTransition d Escape false) _ (λ _. takes-more) λ _. takes-three
+cell-transition d (Hex n) b = split (CellTransition d (Hex n) false) _ (λ _. takes-more) λ _. takes-three
+cell-transition d (InNumber n) b = numeral-takes d n b
+cell-transition d (InWord w) b = split (CellTransition d (InWord w) false) _ (λ _. takes-more) λ _. takes-three
+cell-transition d (Plain Whole) b = plain-takes d b
+cell-transition d (Plain (Within i)) b = text-takes Plain (charStep (Within i) b)
+cell-transition d Complete b = takes-stop refl

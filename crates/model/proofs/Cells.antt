@@ -7,25 +7,25 @@ use mathlib.Core.Option.{Option}
 use mathlib.Core.List.{List, [], _∷_}
 use Rattle.model.specs.Types.{Dialect, Csvj, Tdif, CsvPlus, EeToEf, Second, Last, Within}
 use Rattle.model.specs.Types.{Cell, Fresh, Plain, More, Stop, ByteFault}
-use Rattle.model.specs.Types.{Form, Top, Begin, Ended, Mark1, Mark2, PlainMark1, PlainMark2, Comment, Blanks, Wanting, Inside, After, Cr, Outside, Passed, OfCell, Between, Tail, Ends, Step, To, Reject, Ending, Clean, Final, Cut}
+use Rattle.model.specs.Types.{FileState, Top, Begin, Ended, Mark1, Mark2, PlainMark1, PlainMark2, Comment, Blanks, Wanting, Inside, After, Cr, Outside, Passed, OfCell, Between, Tail, Ends, Step, To, Reject, Ending, Clean, Final, Cut}
 use Rattle.model.specs.Types.{Fault, Verdict, Faulty}
 use Rattle.model.specs.Types as types
 use Rattle.model.specs.Base.{Bytes}
 use Rattle.model.specs.Cell.{cellStep, isWhole}
-use Rattle.model.specs.Form.{formStep, formEnd, lastCell}
-use Rattle.model.specs.Decode.{judgeCell}
+use Rattle.model.specs.File.{fileStep, fileEnd, lastCell}
+use Rattle.model.specs.Decode.{validateCell}
 use Rattle.model.specs.Text.{Value}
-use Rattle.model.specs.Records.{Rec, Read, Progress, going, stopped, nothingRead, readByte, readFrom, readBytes, readEnd, readFile, recordsOf, recordFault, move, complete, judged, closing, endBetween, endAt}
+use Rattle.model.specs.Records.{Rec, Read, Progress, going, stopped, nothingRead, readByte, readFrom, readBytes, readEnd, readFile, recordsOf, recordFault, move, complete, validated, closing, endBetween, endAt}
 use Rattle.model.specs.Laws.{All, all-none, SoundCell, SoundRecord}
 use Rattle.model.proofs.Tests.{split}
-use Rattle.model.proofs.CellSteps.{Takes, takes-stop, cell-takes}
+use Rattle.model.proofs.CellSteps.{CellTransition, takes-stop, cell-transition}
 use Rattle.model.proofs.CellRuns.{Runs, here, snoc, runs-sound, all-snoc}
-use Rattle.model.proofs.FormSteps as steps
-use Rattle.model.proofs.FormSteps.{Rests, Holds, Opens, Next, Leaves, Goes, step-goes}
+use Rattle.model.proofs.FileSteps as steps
+use Rattle.model.proofs.FileSteps.{Rests, Holds, Opens, Next, Leaves, Transition, step-transition}
 
 -- ---- the cell in hand, and what a byte does to it
 
-unfoldable pub cellAt : Form → Cell
+unfoldable pub cellAt : FileState → Cell
 cellAt Top = Fresh
 cellAt Begin = Fresh
 cellAt Ended = Fresh
@@ -47,14 +47,14 @@ Closes d c false = Unit {0}
 -- a byte of a cell goes on with the cell in hand; any other leaves none, and closes only a whole one
 pub data Fits (d : Dialect) (c : Cell) (b : ℕ) : Step → Type 0 where
   rejects : {e : ByteFault} → Fits d c b (Reject e)
-  leaves : {f : Form} → cellAt f ≡ Fresh → Fits d c b (To f Outside)
-  passes : {f : Form} → cellAt f ≡ Fresh → Fits d c b (To f Passed)
-  adds : {f : Form} → cellStep d c b ≡ More (cellAt f) → Fits d c b (To f OfCell)
-  parts : {f : Form} {k : Bool} → cellAt f ≡ Fresh → Closes d c k → Fits d c b (To f (Between k))
-  turns : {f : Form} {k : Bool} → cellAt f ≡ Fresh → Closes d c k → Fits d c b (To f (Tail k))
-  completes : {f : Form} {k : Bool} → cellAt f ≡ Fresh → Closes d c k → Fits d c b (To f (Ends k))
+  leaves : {f : FileState} → cellAt f ≡ Fresh → Fits d c b (To f Outside)
+  passes : {f : FileState} → cellAt f ≡ Fresh → Fits d c b (To f Passed)
+  adds : {f : FileState} → cellStep d c b ≡ More (cellAt f) → Fits d c b (To f OfCell)
+  parts : {f : FileState} {k : Bool} → cellAt f ≡ Fresh → Closes d c k → Fits d c b (To f (Between k))
+  turns : {f : FileState} {k : Bool} → cellAt f ≡ Fresh → Closes d c k → Fits d c b (To f (Tail k))
+  completes : {f : FileState} {k : Bool} → cellAt f ≡ Fresh → Closes d c k → Fits d c b (To f (Ends k))
 
-holds-cell : {f : Form} {c : Cell} → Holds f c → cellAt f ≡ c
+holds-cell : {f : FileState} {c : Cell} → Holds f c → cellAt f ≡ c
 unfolding cellAt
 holds-cell steps.at-top = refl
 holds-cell steps.at-begin = refl
@@ -65,7 +65,7 @@ holds-cell steps.inside = refl
 holds-cell steps.plain1 = refl
 holds-cell steps.plain2 = refl
 
-rests-cell : {f : Form} → Rests f → cellAt f ≡ Fresh
+rests-cell : {f : FileState} → Rests f → cellAt f ≡ Fresh
 unfolding cellAt
 rests-cell steps.top = refl
 rests-cell steps.begin = refl
@@ -74,25 +74,25 @@ rests-cell steps.mark1 = refl
 rests-cell steps.mark2 = refl
 rests-cell steps.comment = refl
 
-next-cell : {g : Form} → Next g → cellAt g ≡ Fresh
+next-cell : {g : FileState} → Next g → cellAt g ≡ Fresh
 unfolding cellAt
 next-cell steps.n-begin = refl
 next-cell steps.n-ended = refl
 
-opens-cell : {g : Form} → Opens g → cellAt g ≡ Fresh
+opens-cell : {g : FileState} → Opens g → cellAt g ≡ Fresh
 unfolding cellAt
 opens-cell steps.o-after = refl
 opens-cell steps.o-wanting = refl
 opens-cell steps.o-fresh = refl
 
-whole-of : {d : Dialect} {c : Cell} {t : Bool} → Takes d c t Stop → isWhole d c ≡ true
+whole-of : {d : Dialect} {c : Cell} {t : Bool} → CellTransition d c t Stop → isWhole d c ≡ true
 whole-of (takes-stop w) = w
 
-closes-of : {d : Dialect} {b : ℕ} {f : Form} {k : Bool} → Leaves d b f k → Closes d (cellAt f) k
+closes-of : {d : Dialect} {b : ℕ} {f : FileState} {k : Bool} → Leaves d b f k → Closes d (cellAt f) k
 closes-of (steps.none e) = tt
-closes-of {d} {b} (steps.stops {c = c} h s) = rw (holds-cell h) (whole-of (rw s at (cell-takes d c b)))
+closes-of {d} {b} (steps.stops {c = c} h s) = rw (holds-cell h) (whole-of (rw s at (cell-transition d c b)))
 
-fits-of : {d : Dialect} {f : Form} {b : ℕ} {s : Step} → Goes d f b s → Fits d (cellAt f) b s
+fits-of : {d : Dialect} {f : FileState} {b : ℕ} {s : Step} → Transition d f b s → Fits d (cellAt f) b s
 fits-of (steps.refuses t) = rejects
 fits-of (steps.outside t r g) = leaves (rests-cell g)
 fits-of (steps.passes t r g) = passes (next-cell g)
@@ -103,8 +103,8 @@ fits-of (steps.turns t p l) = unfold cellAt in turns refl (closes-of l)
 fits-of (steps.ends t p l g) = completes (next-cell g) (closes-of l)
 fits-of (steps.ends-cr t e p) = unfold cellAt in completes refl tt
 
-pub step-fits : (d : Dialect) (f : Form) (b : ℕ) → Fits d (cellAt f) b (formStep d f b)
-step-fits d f b = fits-of (step-goes d f b)
+pub step-fits : (d : Dialect) (f : FileState) (b : ℕ) → Fits d (cellAt f) b (fileStep d f b)
+step-fits d f b = fits-of (step-transition d f b)
 
 -- ---- the end of the file
 
@@ -119,8 +119,8 @@ last-ends Csvj c = ends-cut
 last-ends Tdif c = ends-cut
 last-ends (CsvPlus s) c = split (EndsAfter (CsvPlus s) c) _ (λ e. ends-final e) λ _. ends-cut
 
-pub form-ends : (d : Dialect) (f : Form) → EndsAfter d (cellAt f) (formEnd d f)
-unfolding formEnd cellAt
+pub form-ends : (d : Dialect) (f : FileState) → EndsAfter d (cellAt f) (fileEnd d f)
+unfolding fileEnd cellAt
 form-ends d Top = ends-clean
 form-ends d Begin = ends-clean
 form-ends d Ended = ends-clean

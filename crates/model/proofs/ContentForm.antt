@@ -7,7 +7,7 @@ use Rattle.model.specs.Types.{Dialect, Csvj, Tdif, CsvPlus, Whole, Cell,
 use Rattle.model.specs.Base.{Bytes, QUOTE, _is_, if_then_else_}
 use Rattle.model.specs.Utf8.{wideFrom, isContent}
 use Rattle.model.specs.Cell.{firstByte, cellStep, isWhole, isDigit}
-use Rattle.model.specs.Decode.{judgeCell, contentOf}
+use Rattle.model.specs.Decode.{validateCell, contentOf}
 use Rattle.model.proofs.Utf8.{text-content}
 use Rattle.model.proofs.CellRuns.{Runs, there, WholeRun, sound-runs}
 use Rattle.model.proofs.CellContent.{tdif-content, plus-content, same-more, number-step, number-text, ascii-text, first-number}
@@ -38,8 +38,8 @@ csvj-content (b ∷ bs) w = first (w .runs) (w .whole)
     first : {e : Cell} → Runs Csvj Fresh (b ∷ bs) e → isWhole Csvj e ≡ true → isContent (contentOf Csvj (b ∷ bs)) ≡ true
     first (there {c′} x r) w = csvj-first b bs c′ x r w
 
-pub content-form : (d : Dialect) (raw : Bytes) → judgeCell d raw ≡ WholeCell → isContent (contentOf d raw) ≡ true
-unfolding judgeCell
+pub content-form : (d : Dialect) (raw : Bytes) → validateCell d raw ≡ WholeCell → isContent (contentOf d raw) ≡ true
+unfolding validateCell
 content-form Csvj raw j = csvj-content raw (sound-runs Csvj Fresh 0 raw j)
 content-form Tdif raw j = text-content (contentOf Tdif raw) (tdif-content raw (sound-runs Tdif Fresh 0 raw j))
 content-form (CsvPlus s) raw j = text-content (contentOf (CsvPlus s) raw) (plus-content s raw (sound-runs (CsvPlus s) Fresh 0 raw j))

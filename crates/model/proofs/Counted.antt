@@ -7,11 +7,11 @@ use mathlib.Core.Bool.{Bool, true, false, not, _||_}
 use borrow.Author.Tests.{ne-eqb}
 use Rattle.model.specs.Types.{Delimiter, Comma, Semicolon, Tab, Bar, Quote, Double, Single, Dialect, Csvj, Tdif, CsvPlus, Whole, Within}
 use Rattle.model.specs.Types.{Numeral, Minus, Zero, Integer, Point, Fraction, E, ESign, Exponent, Word, T, Tr, Tru, F, Fa, Fal, Fals, N, Nu, Nul, Backslash}
-use Rattle.model.specs.Types.{Cell, Fresh, Quoted, Closed, Escape, Hex, InNumber, InWord, Plain, Complete, More, Form}
+use Rattle.model.specs.Types.{Cell, Fresh, Quoted, Closed, Escape, Hex, InNumber, InWord, Plain, Complete, More, FileState}
 use Rattle.model.specs.Base.{LF, CR, _is_, if_then_else_}
 use Rattle.model.specs.Dialect.{quoteOf, delimiterOf, delimiterByte, quoteByte}
 use Rattle.model.specs.Cell.{letterOf, numeralStep, firstByte, plainByte, cellStep, inQuotes}
-use Rattle.model.specs.Form.{isBlank, quotesOpen, counts}
+use Rattle.model.specs.File.{isBlank, quotesOpen, counts}
 use Rattle.model.proofs.Tests.{split-on, impossible, is→eq}
 use Rattle.model.proofs.Utf8.{inner-high}
 use Rattle.model.proofs.CellContent.{no-more, no-stop, char-on}
@@ -129,7 +129,7 @@ cell-break d Complete q x k = no-stop k
 
 -- ---- what is counted
 
-pub counted : (f : Form) (b : ℕ) → b ≢ LF → b ≢ CR → counts f b ≡ true
+pub counted : (f : FileState) (b : ℕ) → b ≢ LF → b ≢ CR → counts f b ≡ true
 unfolding counts
 counted f b n m = go (quotesOpen f)
   where
@@ -137,19 +137,19 @@ counted f b n m = go (quotesOpen f)
     go true = refl
     go false = rw (ne-eqb b LF n, ne-eqb b CR m)
 
-pub open-counted : (f : Form) (b : ℕ) → quotesOpen f ≡ true → counts f b ≡ true
+pub open-counted : (f : FileState) (b : ℕ) → quotesOpen f ≡ true → counts f b ≡ true
 unfolding counts
 open-counted f b q = rw q
 
-pub lf-uncounted : (f : Form) → quotesOpen f ≡ false → counts f LF ≡ false
+pub lf-uncounted : (f : FileState) → quotesOpen f ≡ false → counts f LF ≡ false
 unfolding counts
 lf-uncounted f q = rw q
 
-pub cr-uncounted : (f : Form) → quotesOpen f ≡ false → counts f CR ≡ false
+pub cr-uncounted : (f : FileState) → quotesOpen f ≡ false → counts f CR ≡ false
 unfolding counts
 cr-uncounted f q = rw q
 
-pub more-counted : (d : Dialect) (f : Form) (c e : Cell) (b : ℕ) → quotesOpen f ≡ inQuotes c → cellStep d c b ≡ More e → counts f b ≡ true
+pub more-counted : (d : Dialect) (f : FileState) (c e : Cell) (b : ℕ) → quotesOpen f ≡ inQuotes c → cellStep d c b ≡ More e → counts f b ≡ true
 more-counted d f c e b q s = go (inQuotes c) refl
   where
     other : inQuotes c ≡ false → (n : ℕ) → IsBreak n → b ≢ n
@@ -175,9 +175,9 @@ blank-break b p =
     split-on (b is 0x20) (λ q. let e : b ≡ 0x20 = is→eq b 0x20 q in omega arith) λ q.
     let e : b ≡ 0x09 = is→eq b 0x09 (rw q at p) in omega arith
 
-pub blank-counted : (f : Form) (b : ℕ) → isBlank b ≡ true → counts f b ≡ true
+pub blank-counted : (f : FileState) (b : ℕ) → isBlank b ≡ true → counts f b ≡ true
 blank-counted f b p = let n = blank-break b p in counted f b (n .0) (n .1)
 
-pub delimiter-counted : (d : Dialect) (f : Form) (b : ℕ) → (b is delimiterOf d) ≡ true → counts f b ≡ true
+pub delimiter-counted : (d : Dialect) (f : FileState) (b : ℕ) → (b is delimiterOf d) ≡ true → counts f b ≡ true
 delimiter-counted d f b p =
     let e = is→eq b (delimiterOf d) p in let n = delimiter-break d in counted f b (λ z. n .0 (sym e ∙ z)) (λ z. n .1 (sym e ∙ z))

@@ -5,11 +5,11 @@ use native.Mathlib.Omega.{arith}
 use mathlib.Core.Path.{_≡_, refl}
 use mathlib.Core.Logic.{_↔_}
 use mathlib.Core.Bool.{Bool, true, false}
-use Rattle.model.specs.Types.{Dialect, Encoding, Syntax, Form, Step, To, Reject}
-use Rattle.model.specs.Form.{formStep}
+use Rattle.model.specs.Types.{Dialect, Encoding, Syntax, FileState, Step, To, Reject}
+use Rattle.model.specs.File.{fileStep}
 use Rattle.model.specs.Viable.{textAt, breaks}
 use Rattle.model.proofs.Tests.{impossible}
-use Rattle.model.proofs.FormSteps.{Tells, tells-to, tells-two, tells-three, tells, step-goes}
+use Rattle.model.proofs.FileSteps.{Tells, tells-to, tells-two, tells-three, tells, step-transition}
 
 told-two : {t : Bool} (s : Step) → Tells t s → s ≡ Reject Encoding → t ≡ true
 told-two (To f p) tells-to e = let z : _≡_ {A = ℕ} 0 1 = cc in absurd (omega arith)
@@ -26,10 +26,10 @@ told-three (To f p) tells-to e = let z : _≡_ {A = ℕ} 0 1 = cc in absurd (ome
 told-three (Reject x) tells-two e = let z : _≡_ {A = ℕ} 0 1 = cc in absurd (omega arith)
 told-three (Reject x) tells-three e = refl
 
-pub encoding-iff : (d : Dialect) (f : Form) (b : ℕ) → (formStep d f b ≡ Reject Encoding) ↔ (breaks (textAt d f) b ≡ true)
+pub encoding-iff : (d : Dialect) (f : FileState) (b : ℕ) → (fileStep d f b ≡ Reject Encoding) ↔ (breaks (textAt d f) b ≡ true)
 encoding-iff d f b =
-    let k = tells (step-goes d f b) in
-    (λ e. told-two (formStep d f b) k e, λ e. told-true (formStep d f b) k e)
+    let k = tells (step-transition d f b) in
+    (λ e. told-two (fileStep d f b) k e, λ e. told-true (fileStep d f b) k e)
 
-pub syntax-whole : (d : Dialect) (f : Form) (b : ℕ) → formStep d f b ≡ Reject Syntax → breaks (textAt d f) b ≡ false
-syntax-whole d f b e = told-three (formStep d f b) (tells (step-goes d f b)) e
+pub syntax-whole : (d : Dialect) (f : FileState) (b : ℕ) → fileStep d f b ≡ Reject Syntax → breaks (textAt d f) b ≡ false
+syntax-whole d f b e = told-three (fileStep d f b) (tells (step-transition d f b)) e

@@ -6,7 +6,7 @@ pub mod CellSteps
 pub mod CellRuns
 pub mod CellContent
 pub mod Counted
-pub mod FormSteps
+pub mod FileSteps
 pub mod Cells
 pub mod Stretches
 pub mod Viable

@@ -4,11 +4,11 @@ use mathlib.Core.Path.{_≡_, refl, sym, ap, _∙_}
 use mathlib.Core.Bool.{true}
 use mathlib.Core.Option.{Option}
 use mathlib.Core.List.{List, [], _∷_, _++_, append-assoc, append-nil}
-use Rattle.model.specs.Types.{Dialect, Target, Fault, Form, Begin, Outside, Passed, OfCell, Between, Tail, Ends, Step, To, Reject, Verdict, Sound, Faulty, Ending, Clean, Final, Cut}
+use Rattle.model.specs.Types.{Dialect, Target, Fault, FileState, Begin, Outside, Passed, OfCell, Between, Tail, Ends, Step, To, Reject, Verdict, Sound, Faulty, Ending, Clean, Final, Cut}
 use Rattle.model.specs.Base.{Bytes}
-use Rattle.model.specs.Form.{formStep, formEnd}
+use Rattle.model.specs.File.{fileStep, fileEnd}
 use Rattle.model.specs.Text.{Value}
-use Rattle.model.specs.Records.{Rec, Read, Progress, going, stopped, nothingRead, readByte, readFrom, readBytes, readEnd, readFile, recordsOf, recordFault, move, complete, judged, closing, endBetween, endAt}
+use Rattle.model.specs.Records.{Rec, Read, Progress, going, stopped, nothingRead, readByte, readFrom, readBytes, readEnd, readFile, recordsOf, recordFault, move, complete, validated, closing, endBetween, endAt}
 use Rattle.model.specs.Laws.{Grows}
 use Rattle.model.proofs.Tests.{split}
 
@@ -49,11 +49,11 @@ grows-trans {a} g h =
     }
 
 module _ (d : Dialect) (target : Option Target) where
-  judged-grows : (r next : Read) (v : Verdict) → Grows (r .done) (next .done) → Grows (r .done) (recordsOf (judged r next v))
+  judged-grows : (r next : Read) (v : Verdict) → Grows (r .done) (next .done) → Grows (r .done) (recordsOf (validated r next v))
   judged-grows r next Sound g = g
   judged-grows r next (Faulty e) g = grows-refl (r .done)
 
-  complete-grows : (r : Read) (vs : List Value) (f : Form) (o : ℕ) → Grows (r .done) (recordsOf (complete d target r vs f o))
+  complete-grows : (r : Read) (vs : List Value) (f : FileState) (o : ℕ) → Grows (r .done) (recordsOf (complete d target r vs f o))
   unfolding complete
   complete-grows r vs f o = judged-grows r _ (recordFault d target (r .done) vs) (record { added = _; sum = refl })
 
@@ -71,7 +71,7 @@ module _ (d : Dialect) (target : Option Target) where
   unfolding readByte
   byte-grows r b =
       let P : Progress → Type 0 = λ p. Grows (r .done) (recordsOf p) in
-      split P _ (λ _. grows-refl (r .done)) λ _. split P _ (λ _. grows-refl (r .done)) λ _. move-grows r b (formStep d (r .form) b)
+      split P _ (λ _. grows-refl (r .done)) λ _. split P _ (λ _. grows-refl (r .done)) λ _. move-grows r b (fileStep d (r .state) b)
 
   -- a record once complete stays, with all before it
   pub read-grows : (p : Progress) (xs : Bytes) → Grows (recordsOf p) (recordsOf (readFrom d target p xs))
@@ -96,4 +96,4 @@ module _ (d : Dialect) (target : Option Target) where
   pub end-grows : (p : Progress) → Grows (recordsOf p) (recordsOf (readEnd d target p))
   unfolding readEnd
   end-grows (stopped e r) = grows-refl (r .done)
-  end-grows (going r) = at-end-grows r (formEnd d (r .form))
+  end-grows (going r) = at-end-grows r (fileEnd d (r .state))

@@ -5,34 +5,34 @@ use mathlib.Core.Bool.{Bool, true, false, not}
 use mathlib.Core.Option.{Option, none, some}
 use mathlib.Core.List.{List, [], _∷_}
 use lib.ListN.{length}
-use Rattle.model.specs.Types.{Dialect, Target, Fault, NoRecord, Byte, CutShort, Uneven, Repeats, NotText, FileTooLong, RecordTooLong, TooManyColumns, NoCells, LacksKind, LoneSurrogate, Clash, TextTooLong, OutputTooLong, Verdict, Sound, Faulty}
+use Rattle.model.specs.Types.{Dialect, Target, Fault, NoRecord, Byte, CutShort, CellCount, RepeatedName, HeaderKind, FileTooLong, RecordTooLong, TooManyColumns, NoCells, LacksKind, LoneSurrogate, Clash, TextTooLong, OutputTooLong, Verdict, Sound, Faulty}
 use Rattle.model.specs.Base.{Bytes}
 use Rattle.model.specs.Text.{Value, isText, carried}
-use Rattle.model.specs.Records.{Rec, _orElse_, when, nameKey, repeatFrom, repeatFault, notTextFrom, headerFault, dataFault, hasKind, losesSurrogate, uncarriedFrom, clashFault, targetFault, converting, recordFault}
+use Rattle.model.specs.Records.{Rec, _orElse_, when, nameKey, repeatFrom, repeatFault, headerKindFrom, headerFault, dataFault, hasKind, losesSurrogate, uncarriedFrom, clashFault, targetFault, converting, recordFault}
 use Rattle.model.proofs.Tests.{split}
 
-abbrev pub ofForm : Fault → Bool
-ofForm NoRecord = false
-ofForm (Byte e) = true
-ofForm CutShort = false
-ofForm Uneven = false
-ofForm (Repeats c) = false
-ofForm (NotText c) = false
-ofForm FileTooLong = false
-ofForm RecordTooLong = false
-ofForm TooManyColumns = false
-ofForm NoCells = false
-ofForm (LacksKind c) = false
-ofForm (LoneSurrogate c) = false
-ofForm (Clash c) = false
-ofForm TextTooLong = false
-ofForm OutputTooLong = false
+abbrev pub byForm : Fault → Bool
+byForm NoRecord = false
+byForm (Byte e) = true
+byForm CutShort = false
+byForm CellCount = false
+byForm (RepeatedName c) = false
+byForm (HeaderKind c) = false
+byForm FileTooLong = false
+byForm RecordTooLong = false
+byForm TooManyColumns = false
+byForm NoCells = false
+byForm (LacksKind c) = false
+byForm (LoneSurrogate c) = false
+byForm (Clash c) = false
+byForm TextTooLong = false
+byForm OutputTooLong = false
 
 pub data OfRecord : Verdict → Type 0 where
   of-sound : OfRecord Sound
-  of-fault : {e : Fault} → ofForm e ≡ false → OfRecord (Faulty e)
+  of-fault : {e : Fault} → byForm e ≡ false → OfRecord (Faulty e)
 
-when-record : (t : Bool) (e : Fault) → ofForm e ≡ false → OfRecord (when t e)
+when-record : (t : Bool) (e : Fault) → byForm e ≡ false → OfRecord (when t e)
 unfolding when
 when-record true e h = of-fault h
 when-record false e h = of-sound
@@ -42,16 +42,16 @@ unfolding _orElse_
 else-record of-sound k = k
 else-record (of-fault h) k = of-fault h
 
-repeat-record : (d : Dialect) (fault : ℕ → Fault) (seen : List Bytes) (n : ℕ) (vs : List Value) → ((c : ℕ) → ofForm (fault c) ≡ false) → OfRecord (repeatFrom d fault seen n vs)
+repeat-record : (d : Dialect) (fault : ℕ → Fault) (seen : List Bytes) (n : ℕ) (vs : List Value) → ((c : ℕ) → byForm (fault c) ≡ false) → OfRecord (repeatFrom d fault seen n vs)
 unfolding repeatFrom
 repeat-record d fault seen n [] h = of-sound
 repeat-record d fault seen n (v ∷ vs) h =
     split OfRecord _ (λ _. of-fault (h n)) λ _. repeat-record d fault (nameKey d (v .content) ∷ seen) (suc n) vs h
 
-not-text-record : (n : ℕ) (vs : List Value) → OfRecord (notTextFrom n vs)
-unfolding notTextFrom
+not-text-record : (n : ℕ) (vs : List Value) → OfRecord (headerKindFrom n vs)
+unfolding headerKindFrom
 not-text-record n [] = of-sound
-not-text-record n (v ∷ vs) = else-record (when-record (not (isText (v .kind))) (NotText n) refl) (not-text-record (suc n) vs)
+not-text-record n (v ∷ vs) = else-record (when-record (not (isText (v .kind))) (HeaderKind n) refl) (not-text-record (suc n) vs)
 
 uncarried-record : (t : Dialect) (n : ℕ) (vs : List Value) → OfRecord (uncarriedFrom t n vs)
 unfolding uncarriedFrom
@@ -63,11 +63,11 @@ uncarried-record t n (v ∷ vs) =
 header-record : (d : Dialect) (vs : List Value) → OfRecord (headerFault d vs)
 unfolding headerFault repeatFault
 header-record d vs =
-    else-record (when-record _ TooManyColumns refl) (else-record (not-text-record 1 vs) (repeat-record d Repeats [] 1 vs (λ c. refl)))
+    else-record (when-record _ TooManyColumns refl) (else-record (not-text-record 1 vs) (repeat-record d RepeatedName [] 1 vs (λ c. refl)))
 
 data-record : (n : ℕ) (vs : List Value) → OfRecord (dataFault n vs)
 unfolding dataFault
-data-record n vs = else-record (when-record _ TooManyColumns refl) (when-record _ Uneven refl)
+data-record n vs = else-record (when-record _ TooManyColumns refl) (when-record _ CellCount refl)
 
 clash-record : (t : Dialect) (header : Bool) (vs : List Value) → OfRecord (clashFault t header vs)
 unfolding repeatFault

@@ -10,12 +10,12 @@ use Rattle.model.specs.Types.{Delimiter, Comma, Semicolon, Tab, Bar, Quo
 use Rattle.model.specs.Types.{C2ToDf, E0, E1ToEc, Ed, EeToEf, F0, F1ToF3, F4, Inner, Second, LastTwo, Last, Char, Whole, Within, On}
 use Rattle.model.specs.Types.{HexLeft, Four, Three, Two, One, Numeral, Minus, Zero, Integer, Point, Fraction, E, ESign, Exponent, Word, T, Tr, Tru, F, Fa, Fal, Fals, N, Nu, Nul, Backslash}
 use Rattle.model.specs.Types.{Cell, Fresh, Quoted, Closed, Escape, Hex, InNumber, InWord, Plain, Complete, More, Stop, ByteFault}
-use Rattle.model.specs.Types.{Form, Top, Begin, Ended, Mark1, Mark2, PlainMark1, PlainMark2, Comment, Blanks, Wanting, Inside, After, Cr, Part, Outside, Passed, OfCell, Ends, Step, To, Reject}
+use Rattle.model.specs.Types.{FileState, Top, Begin, Ended, Mark1, Mark2, PlainMark1, PlainMark2, Comment, Blanks, Wanting, Inside, After, Cr, ByteRole, Outside, Passed, OfCell, Ends, Step, To, Reject}
 use Rattle.model.specs.Base.{Bytes, LF, QUOTE, _is_, if_then_else_}
 use Rattle.model.specs.Dialect.{quoteOf, delimiterOf, delimiterByte, quoteByte}
 use Rattle.model.specs.Utf8.{rowOf, innerStep, charStep}
 use Rattle.model.specs.Cell.{numeralStep, letterOf, afterLetter, firstByte, quotedByte, plainByte, cellStep}
-use Rattle.model.specs.Form.{afterCell, inCell, beginRecord, beginFile, isBlank, formStep}
+use Rattle.model.specs.File.{afterCell, inCell, beginRecord, beginFile, isBlank, fileStep}
 use Rattle.model.specs.Viable.{Completes, completed, onward}
 use Rattle.model.proofs.Tests.{same-byte}
 
@@ -93,7 +93,7 @@ beginEnd Csvj = line
 beginEnd Tdif = emptyCell Tdif
 beginEnd (CsvPlus s) = line
 
-unfoldable pub completion : Dialect → Form → Bytes
+unfoldable pub completion : Dialect → FileState → Bytes
 completion d Top = beginEnd d
 completion d Begin = beginEnd d
 completion d Ended = LF ∷ beginEnd d
@@ -110,10 +110,10 @@ completion d Cr = line
 
 -- ---- it completes
 
-on : (d : Dialect) (f : Form) (b : ℕ) (f′ : Form) (p : Part) {bs : Bytes} → formStep d f b ≡ To f′ p → Completes d f′ bs → Completes d f (b ∷ bs)
+on : (d : Dialect) (f : FileState) (b : ℕ) (f′ : FileState) (p : ByteRole) {bs : Bytes} → fileStep d f b ≡ To f′ p → Completes d f′ bs → Completes d f (b ∷ bs)
 on d f b f′ p e k = onward e k
 
-over : (d : Dialect) (f : Form) (b : ℕ) (f′ : Form) (k : Bool) → formStep d f b ≡ To f′ (Ends k) → Completes d f (b ∷ [])
+over : (d : Dialect) (f : FileState) (b : ℕ) (f′ : FileState) (k : Bool) → fileStep d f b ≡ To f′ (Ends k) → Completes d f (b ∷ [])
 over d f b f′ k e = completed e
 
 lf-no-delimiter : (s : Settings) → (LF is delimiterOf (CsvPlus s)) ≡ false
@@ -143,16 +143,16 @@ after-line (CsvPlus s) k = rw (lf-no-delimiter s)
 
 -- a byte of a cell
 cell-on : (d : Dialect) {c : Cell} (c′ : Cell) {b : ℕ} {bs : Bytes} → cellStep d c b ≡ More c′ → Completes d (Inside c′) bs → Completes d (Inside c) (b ∷ bs)
-unfolding formStep inCell
+unfolding fileStep inCell
 cell-on d {c} c′ {b} e k = on d (Inside c) b (Inside c′) OfCell (rw e) k
 
 -- a whole cell
 cell-over : (d : Dialect) {c : Cell} → cellStep d c LF ≡ Stop → Completes d (Inside c) line
-unfolding formStep inCell
+unfolding fileStep inCell
 cell-over d {c} e = over d (Inside c) LF Begin true (rw e (after-line d true))
 
 -- the end of a character, in a cell or a comment
-module _ (d : Dialect) (g : Char → Form) (bs : Bytes)
+module _ (d : Dialect) (g : Char → FileState) (bs : Bytes)
     (next : (i : Inner) (b : ℕ) (c : Char) (xs : Bytes) → charStep (Within i) b ≡ On c → Completes d (g c) xs → Completes d (g (Within i)) (b ∷ xs))
     (end : Completes d (g Whole) bs) where
   last-on : Completes d (g (Within Last)) (0x80 ∷ bs)
@@ -274,13 +274,13 @@ begin-empty : beginRecord Csvj LF ≡ To Begin (Ends false)
 unfolding beginRecord if_then_else_
 begin-empty = refl
 
-record-on : (d : Dialect) (f : Form) → formStep d f LF ≡ beginRecord d LF → formStep d f QUOTE ≡ beginRecord d QUOTE → Completes d f (beginEnd d)
+record-on : (d : Dialect) (f : FileState) → fileStep d f LF ≡ beginRecord d LF → fileStep d f QUOTE ≡ beginRecord d QUOTE → Completes d f (beginEnd d)
 record-on Csvj f l q = over Csvj f LF Begin false (l ∙ begin-empty)
 record-on Tdif f l q = on Tdif f QUOTE (Inside (Quoted Whole)) OfCell (q ∙ begin-quote) (quote-on Tdif)
 record-on (CsvPlus s) f l q = over (CsvPlus s) f LF Begin true (l ∙ begin-line s)
 
 begin-on : (d : Dialect) → Completes d Begin (beginEnd d)
-unfolding formStep
+unfolding fileStep
 begin-on d = record-on d Begin refl refl
 
 file-lf : (d : Dialect) → beginFile d LF ≡ beginRecord d LF
@@ -295,16 +295,16 @@ file-quote Csvj = refl
 file-quote Tdif = refl
 file-quote (CsvPlus s) = refl
 
-mark-one : (d : Dialect) → formStep d PlainMark1 0x80 ≡ To (Inside (Plain (Within Last))) OfCell
-unfolding formStep inCell cellStep charStep innerStep rowOf if_then_else_
+mark-one : (d : Dialect) → fileStep d PlainMark1 0x80 ≡ To (Inside (Plain (Within Last))) OfCell
+unfolding fileStep inCell cellStep charStep innerStep rowOf if_then_else_
 mark-one d = refl
 
-mark-two : (d : Dialect) → formStep d PlainMark2 0x80 ≡ To (Inside (Plain Whole)) OfCell
-unfolding formStep inCell cellStep charStep innerStep if_then_else_
+mark-two : (d : Dialect) → fileStep d PlainMark2 0x80 ≡ To (Inside (Plain Whole)) OfCell
+unfolding fileStep inCell cellStep charStep innerStep if_then_else_
 mark-two d = refl
 
-quote-wanted : (d : Dialect) → formStep d Wanting (quoteOf d) ≡ To (Inside (Quoted Whole)) OfCell
-unfolding formStep inCell if_then_else_
+quote-wanted : (d : Dialect) → fileStep d Wanting (quoteOf d) ≡ To (Inside (Quoted Whole)) OfCell
+unfolding fileStep inCell if_then_else_
 quote-wanted d = rw (no-blank d, quote-opens d)
   where
     no-blank : (x : Dialect) → isBlank (quoteOf x) ≡ false
@@ -316,8 +316,8 @@ quote-wanted d = rw (no-blank d, quote-opens d)
         go Double = refl
         go Single = refl
 
-pub completes : (d : Dialect) (f : Form) → Completes d f (completion d f)
-unfolding completion formStep if_then_else_
+pub completes : (d : Dialect) (f : FileState) → Completes d f (completion d f)
+unfolding completion fileStep if_then_else_
 completes d Top = record-on d Top (file-lf d) (file-quote d)
 completes d Begin = begin-on d
 completes d Ended = on d Ended LF Begin Passed refl (begin-on d)
@@ -336,30 +336,30 @@ completes d Cr = over d Cr LF Begin false refl
 
 -- ---- refused exactly where no continuation completes
 
-no-step : {A : Type 0} {e : ByteFault} {f : Form} {p : Part} (s : Step) → s ≡ Reject e → s ≡ To f p → A
+no-step : {A : Type 0} {e : ByteFault} {f : FileState} {p : ByteRole} (s : Step) → s ≡ Reject e → s ≡ To f p → A
 no-step s p q = let z : _≡_ {A = ℕ} 0 1 = cc in absurd (omega arith)
 
 -- a refused byte is in no completion
-refused-dead : (d : Dialect) (f : Form) (b : ℕ) (e : ByteFault) (bs : Bytes) → formStep d f b ≡ Reject e → Completes d f (b ∷ bs) → ⊥
-refused-dead d f b e bs x (completed h) = no-step (formStep d f b) x h
-refused-dead d f b e bs x (onward h k) = no-step (formStep d f b) x h
+refused-dead : (d : Dialect) (f : FileState) (b : ℕ) (e : ByteFault) (bs : Bytes) → fileStep d f b ≡ Reject e → Completes d f (b ∷ bs) → ⊥
+refused-dead d f b e bs x (completed h) = no-step (fileStep d f b) x h
+refused-dead d f b e bs x (onward h k) = no-step (fileStep d f b) x h
 
 -- some continuation with this byte completes a record
-abbrev pub Viable : Dialect → Form → ℕ → Type 0
+abbrev pub Viable : Dialect → FileState → ℕ → Type 0
 Viable d f b = (bs : Bytes) × Completes d f (b ∷ bs)
 
 -- this byte is refused
-abbrev pub Refused : Dialect → Form → ℕ → Type 0
-Refused d f b = (e : ByteFault) × (formStep d f b ≡ Reject e)
+abbrev pub Refused : Dialect → FileState → ℕ → Type 0
+Refused d f b = (e : ByteFault) × (fileStep d f b ≡ Reject e)
 
-refused-or-viable : (d : Dialect) (f : Form) (b : ℕ) → Refused d f b ⊎ Viable d f b
-refused-or-viable d f b = go (formStep d f b) refl
+refused-or-viable : (d : Dialect) (f : FileState) (b : ℕ) → Refused d f b ⊎ Viable d f b
+refused-or-viable d f b = go (fileStep d f b) refl
   where
-    go : (s : Step) → formStep d f b ≡ s → Refused d f b ⊎ Viable d f b
+    go : (s : Step) → fileStep d f b ≡ s → Refused d f b ⊎ Viable d f b
     go (Reject e) h = inl (e, h)
     go (To f′ p) h = inr (completion d f′, onward h (completes d f′))
 
-pub refused-iff : (d : Dialect) (f : Form) (b : ℕ) → Refused d f b ↔ ¬ (Viable d f b)
+pub refused-iff : (d : Dialect) (f : FileState) (b : ℕ) → Refused d f b ↔ ¬ (Viable d f b)
 refused-iff d f b = (λ r v. refused-dead d f b (r .0) (v .0) (r .1) (v .1), back (refused-or-viable d f b))
   where
     back : Refused d f b ⊎ Viable d f b → ¬ (Viable d f b) → Refused d f b

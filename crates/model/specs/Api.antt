@@ -6,11 +6,11 @@ use mathlib.Core.Option.{Option, none, some}
 use mathlib.Core.List.{List, [], _∷_, _++_, map}
 use lib.ListN.{length, take, drop}
 use lib.Dec.{leb, ltb, eqb}
-use Rattle.model.specs.Types.{Report, Kind, Text, Number, True, False, Null, Dialect, Csvj, Target, Verdict, Sound, Faulty, Judged, WholeCell, Unsound}
+use Rattle.model.specs.Types.{Report, Kind, Text, Number, True, False, Null, Dialect, Csvj, Target, Verdict, Sound, Faulty, CellCheck, WholeCell, Unsound}
 use Rattle.model.specs.Base.{if_then_else_, _is_, Bytes, isEmpty, concat, over}
 use Rattle.model.specs.Dialect.{dialectOf, into}
 use Rattle.model.specs.Utf8.{isContent}
-use Rattle.model.specs.Decode.{kindNumber, kindOf, contentOf, judgeCell}
+use Rattle.model.specs.Decode.{kindNumber, kindOf, contentOf, validateCell}
 use Rattle.model.specs.Text.{Value, tableText}
 use Rattle.model.specs.Report.{report, accepted, refusal, numberOf, columnOf}
 use Rattle.model.specs.Records.{Rec, rows, _orElse_, Progress, going, stopped, readFile, faultReport, headerFault, targetNext}
@@ -37,13 +37,13 @@ answered (h ∷ rs) vs room =
     else record { report = accepted; columns = length (h .cells); records = length rs; cells = vs }
 
 -- the reader's answer on what was read of a file and its end: the fault, if one was met (§10.1 §10.5)
-abbrev pub answerOf : Progress → (room : ℕ) → Answer
-answerOf (stopped e r) room = noAnswer (faultReport e r)
-answerOf (going r) room = answered (r .done) (concat (rows (r .done))) room
+abbrev pub readAnswer : Progress → (room : ℕ) → Answer
+readAnswer (stopped e r) room = noAnswer (faultReport e r)
+readAnswer (going r) room = answered (r .done) (concat (rows (r .done))) room
 
 -- the reader, with its cells in place of the lists. `room`: how many places the shortest list has (§1.7 §9.1 §10.1)
 unfoldable pub reader : (dialect : ℕ) → Bytes → (room : ℕ) → Answer
-reader n bs room = elim (dialectOf n) [ none ↦ noAnswer (refusal 11) | some d ↦ answerOf (readFile d none bs) room ]
+reader n bs room = elim (dialectOf n) [ none ↦ noAnswer (refusal 11) | some d ↦ readAnswer (readFile d none bs) room ]
 
 -- the smaller of two lengths, for the shortest list (§10.5)
 abbrev pub least : ℕ → ℕ → ℕ
@@ -100,7 +100,7 @@ notDecoded e = record { report = e; kind = 0; content = [] }
 
 -- the answer on a cell that was judged: its fault with record and column 0, or 10 for too little room, or its kind and
 -- content (§11.2 §11.6)
-abbrev pub decodedAs : Dialect → Bytes → (room : ℕ) → Judged → Decoded
+abbrev pub decodedAs : Dialect → Bytes → (room : ℕ) → CellCheck → Decoded
 decodedAs d bs room (Unsound e o) = notDecoded (report (numberOf e) 0 0 o)
 decodedAs d bs room WholeCell =
     if ltb room (length (contentOf d bs)) then notDecoded (refusal 10)
@@ -108,7 +108,7 @@ decodedAs d bs room WholeCell =
 
 -- the decoder: 11 first, then the judgement of the raw cell (§1.7 §9.1 §11.1)
 unfoldable pub decoder : (dialect : ℕ) → Bytes → (room : ℕ) → Decoded
-decoder n bs room = elim (dialectOf n) [ none ↦ notDecoded (refusal 11) | some d ↦ decodedAs d bs room (judgeCell d bs) ]
+decoder n bs room = elim (dialectOf n) [ none ↦ notDecoded (refusal 11) | some d ↦ decodedAs d bs room (validateCell d bs) ]
 
 -- the lent room after the call: the content, and then what stood there (§9.3 §9.4 §11.1)
 unfoldable pub decoderLeaves : (dialect : ℕ) → Bytes → (room : List ℕ) → List ℕ
@@ -172,7 +172,7 @@ kindNamed n =
     else none
 
 -- the kind and the judgement of bytes, as a cell of CSVJ, are those of a number (§13.7)
-abbrev pub isNumber : Kind → Judged → Bool
+abbrev pub isNumber : Kind → CellCheck → Bool
 isNumber Text j = false
 isNumber Number WholeCell = true
 isNumber Number (Unsound e o) = false
@@ -183,14 +183,14 @@ isNumber Null j = false
 -- bytes can be the content of this kind (§13.5 §13.7 §13.8)
 abbrev pub isValue : Kind → Bytes → Bool
 isValue Text bs = isContent bs
-isValue Number bs = isNumber (kindOf Csvj bs) (judgeCell Csvj bs)
+isValue Number bs = isNumber (kindOf Csvj bs) (validateCell Csvj bs)
 isValue True bs = isEmpty bs
 isValue False bs = isEmpty bs
 isValue Null bs = isEmpty bs
 
 -- the bytes of a stretch (§10.3 §13.4)
-abbrev pub part : Bytes → (from upto : ℕ) → Bytes
-part bs s e = take (e - s) (drop s bs)
+abbrev pub slice : Bytes → (from upto : ℕ) → Bytes
+slice bs s e = take (e - s) (drop s bs)
 
 -- one cell of a table, or none: its kind is known, its stretch lies in the content, its bytes can be of its kind (§13.4
 -- §13.6)
@@ -199,7 +199,7 @@ tableCell bs s e n =
     elim (kindNamed n) [
       | none ↦ none
       | some k ↦
-          if leb s e && leb e (length bs) && isValue k (part bs s e) then some (record { from = s; upto = e; kind = k; content = part bs s e })
+          if leb s e && leb e (length bs) && isValue k (slice bs s e) then some (record { from = s; upto = e; kind = k; content = slice bs s e })
           else none
     ]
 

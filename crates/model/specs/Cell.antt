@@ -6,13 +6,13 @@ use lib.Dec.{ltb}
 use Rattle.model.specs.Types.{Dialect, Csvj, Tdif, CsvPlus, Char, Whole, Within, Advance, On, Broken}
 use Rattle.model.specs.Types.{HexLeft, Four, Three, Two, One, Numeral, Minus, Zero, Integer, Point, Fraction, E, ESign, Exponent}
 use Rattle.model.specs.Types.{Word, T, Tr, Tru, F, Fa, Fal, Fals, N, Nu, Nul, Backslash}
-use Rattle.model.specs.Types.{Cell, Fresh, Quoted, Closed, Escape, Hex, InNumber, InWord, Plain, Complete, Added, More, Stop, Refuse, Encoding, Syntax}
+use Rattle.model.specs.Types.{Cell, Fresh, Quoted, Closed, Escape, Hex, InNumber, InWord, Plain, Complete, CellStep, More, Stop, Refuse, Encoding, Syntax}
 use Rattle.model.specs.Base.{if_then_else_, _is_, within, LF, CR, QUOTE, BACKSLASH}
 use Rattle.model.specs.Dialect.{quoteOf, delimiterOf}
 use Rattle.model.specs.Utf8.{charStep}
 
 -- a byte of text, which is fault 2 where it breaks the table (§6.2)
-abbrev pub textByte : (Char → Cell) → Advance → Added
+abbrev pub textByte : (Char → Cell) → Advance → CellStep
 textByte f Broken = Refuse Encoding
 textByte f (On c) = More (f c)
 
@@ -43,7 +43,7 @@ afterHex Two = Hex One
 afterHex One = Quoted Whole
 
 -- the next byte of a number (§3.5)
-unfoldable pub numeralStep : Numeral → ℕ → Added
+unfoldable pub numeralStep : Numeral → ℕ → CellStep
 numeralStep Minus b =
     if b is 0x30 then More (InNumber Zero) else if isDigit b then More (InNumber Integer) else Refuse Syntax
 numeralStep Zero b = if b is 0x2E then More (InNumber Point) else if isE b then More (InNumber E) else Stop
@@ -94,7 +94,7 @@ afterLetter Backslash = Complete
 -- the first byte of a cell. CSVJ: of a string, a number or a word. TDIF: of a quoted cell or of null. CSV+: of a quoted cell
 -- or a plain one, which is empty if the byte is a delimiter, CR or LF; only a plain cell's first byte can be fault 2 (§3.4
 -- §4.3 §5.3 §5.5 §6.22)
-unfoldable pub firstByte : Dialect → ℕ → Added
+unfoldable pub firstByte : Dialect → ℕ → CellStep
 firstByte Csvj b =
     if b is QUOTE then More (Quoted Whole)
     else if b is 0x2D then More (InNumber Minus)
@@ -115,7 +115,7 @@ firstByte (CsvPlus s) b =
 
 -- a byte between the quotes, at a character's start. CSVJ has escapes and refuses bytes below 20; in TDIF and CSV+ a quote
 -- may be the first of two, and every other byte is text (§3.6 §3.7 §4.4 §5.4 §6.22)
-unfoldable pub quotedByte : Dialect → ℕ → Added
+unfoldable pub quotedByte : Dialect → ℕ → CellStep
 quotedByte Csvj b =
     if b is QUOTE then More Complete
     else if b is BACKSLASH then More Escape
@@ -126,7 +126,7 @@ quotedByte (CsvPlus s) b = if b is quoteOf (CsvPlus s) then More Closed else tex
 
 -- a byte of a plain CSV+ cell, at a character's start after the first: a quote has no place in it, also not after a space
 -- (§5.5 §5.8)
-unfoldable pub plainByte : Dialect → ℕ → Added
+unfoldable pub plainByte : Dialect → ℕ → CellStep
 plainByte d b =
     if b is quoteOf d then Refuse Syntax
     else if b is delimiterOf d || b is CR || b is LF then Stop
@@ -134,7 +134,7 @@ plainByte d b =
 
 -- the next byte of a cell: it belongs to the cell, or the cell has ended before it, or it is fault 2 or 3. Where a character
 -- has to go on a byte that breaks the table is 2, inside an escape every wrong byte is 3 (§6.2 §6.3 §6.21 §6.23)
-unfoldable pub cellStep : Dialect → Cell → ℕ → Added
+unfoldable pub cellStep : Dialect → Cell → ℕ → CellStep
 cellStep d Fresh b = firstByte d b
 cellStep d (Quoted Whole) b = quotedByte d b
 cellStep d (Quoted (Within i)) b = textByte Quoted (charStep (Within i) b)

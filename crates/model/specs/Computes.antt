@@ -3,7 +3,7 @@ use Rattle.model.specs.Base.{base-computes}
 use Rattle.model.specs.Dialect.{dialect-computes}
 use Rattle.model.specs.Utf8.{utf8-computes}
 use Rattle.model.specs.Cell.{cell-computes}
-use Rattle.model.specs.Form.{form-computes}
+use Rattle.model.specs.File.{file-computes}
 use Rattle.model.specs.Decode.{decode-computes}
 use Rattle.model.specs.Text.{text-computes}
 use Rattle.model.specs.Records.{records-computes}
@@ -13,5 +13,5 @@ use Rattle.model.specs.Ascii.{ascii}
 
 -- helper: the openers of all modules, with which the examples are proved by computing
 unfoldable pub computes : Type 0
-unfolding base-computes dialect-computes utf8-computes cell-computes form-computes decode-computes text-computes records-computes api-computes ledger-computes ascii
+unfolding base-computes dialect-computes utf8-computes cell-computes file-computes decode-computes text-computes records-computes api-computes ledger-computes ascii
 computes = Unit {0}

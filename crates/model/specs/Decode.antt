@@ -4,7 +4,7 @@ use mathlib.Core.Bool.{Bool, true, false, _&&_, _||_}
 use mathlib.Core.List.{List, [], _∷_, _++_}
 use lib.Dec.{leb}
 use Rattle.model.specs.Types.{Kind, Text, Number, True, False, Null, Dialect, Csvj, Tdif, CsvPlus, HexLeft, Four, Three, Two, One}
-use Rattle.model.specs.Types.{Cell, Fresh, More, Stop, Refuse, Syntax, Byte, CutShort, Judged, WholeCell, Unsound}
+use Rattle.model.specs.Types.{Cell, Fresh, More, Stop, Refuse, Syntax, Byte, CutShort, CellCheck, WholeCell, Unsound}
 use Rattle.model.specs.Base.{if_then_else_, _is_, Bytes, QUOTE, BACKSLASH, begins}
 use Rattle.model.specs.Dialect.{quoteOf}
 use Rattle.model.specs.Utf8.{pack, isHigh, isLow, joined}
@@ -110,20 +110,20 @@ contentOf (CsvPlus s) (b ∷ bs) =
 
 -- whether raw bytes, from here on, end a single cell: fault 2 or 3 at a byte, 3 also where the cell has ended before the
 -- byte, or 4 where the bytes end too early (§11.2 §11.3 §11.4 §11.5)
-unfoldable pub judgeFrom : Dialect → Cell → (offset : ℕ) → Bytes → Judged
-judgeFrom d c i [] = if isWhole d c then WholeCell else Unsound CutShort i
-judgeFrom d c i (b ∷ bs) =
+unfoldable pub validateFrom : Dialect → Cell → (offset : ℕ) → Bytes → CellCheck
+validateFrom d c i [] = if isWhole d c then WholeCell else Unsound CutShort i
+validateFrom d c i (b ∷ bs) =
     elim (cellStep d c b) [
-      | More c′ ↦ judgeFrom d c′ (suc i) bs
+      | More c′ ↦ validateFrom d c′ (suc i) bs
       | Stop ↦ Unsound (Byte Syntax) i
       | Refuse e ↦ Unsound (Byte e) i
     ]
 
 -- whether raw bytes are a single cell, whatever their length and whatever they begin with (§11.1 §11.7)
-unfoldable pub judgeCell : Dialect → Bytes → Judged
-judgeCell d bs = judgeFrom d Fresh 0 bs
+unfoldable pub validateCell : Dialect → Bytes → CellCheck
+validateCell d bs = validateFrom d Fresh 0 bs
 
 -- helper: `unfolding decode-computes` opens every definition of this module
 unfoldable pub decode-computes : Type 0
-unfolding kindOf undouble units textOf contentOf judgeFrom judgeCell
+unfolding kindOf undouble units textOf contentOf validateFrom validateCell
 decode-computes = Unit {0}

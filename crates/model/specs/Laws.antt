@@ -6,10 +6,10 @@ use mathlib.Core.Bool.{Bool, true, false}
 use mathlib.Core.Option.{Option}
 use mathlib.Core.List.{List, [], _∷_, _++_}
 use lib.ListN.{length}
-use Rattle.model.specs.Types.{Dialect, Target, Form, ByteFault, Encoding, Syntax, Fault, Byte, WholeCell}
+use Rattle.model.specs.Types.{Dialect, Target, FileState, ByteFault, Encoding, Syntax, Fault, Byte, WholeCell}
 use Rattle.model.specs.Base.{Bytes}
 use Rattle.model.specs.Utf8.{isContent}
-use Rattle.model.specs.Decode.{kindOf, contentOf, judgeCell}
+use Rattle.model.specs.Decode.{kindOf, contentOf, validateCell}
 use Rattle.model.specs.Text.{Value, recordText, ending}
 use Rattle.model.specs.Records.{Rec, Read, going, stopped, fileFull, recordFull, readFrom, readBytes, readFile, recordsOf}
 use Rattle.model.specs.Viable.{Completes, CanGoOn, textAt, breaks}
@@ -29,7 +29,7 @@ pub record Grows {ℓ} {A : Type ℓ} (a b : List A) : Type ℓ where
 -- a cell that was read is a raw cell that the decoder finds sound, with its kind and content (§11.1)
 pub record SoundCell (d : Dialect) (v : Value) : Type 0 where
   pub raw : Bytes
-  pub sound : judgeCell d raw ≡ WholeCell
+  pub sound : validateCell d raw ≡ WholeCell
   pub kind : v .kind ≡ kindOf d raw
   pub content : v .content ≡ contentOf d raw
 
@@ -66,17 +66,17 @@ pub record NextByteLaws (d : Dialect) (target : Option Target) (xs : Bytes) (r :
   -- fault 2 or 3, exactly where no file goes on with it
   pub refused : ((e : ByteFault) × (readBytes d target (xs ++ (b ∷ [])) ≡ stopped (Byte e) r)) ↔ ¬ (CanGoOn d xs b)
   -- fault 2, exactly where it breaks the UTF-8 table
-  pub encoding : (readBytes d target (xs ++ (b ∷ [])) ≡ stopped (Byte Encoding) r) ↔ (breaks (textAt d (r .form)) b ≡ true)
+  pub encoding : (readBytes d target (xs ++ (b ∷ [])) ≡ stopped (Byte Encoding) r) ↔ (breaks (textAt d (r .state)) b ≡ true)
   -- fault 3, exactly where no file goes on with it and it does not break the table
-  pub syntax-fault : (readBytes d target (xs ++ (b ∷ [])) ≡ stopped (Byte Syntax) r) ↔ (¬ (CanGoOn d xs b) × (breaks (textAt d (r .form)) b ≡ false))
+  pub syntax-fault : (readBytes d target (xs ++ (b ∷ [])) ≡ stopped (Byte Syntax) r) ↔ (¬ (CanGoOn d xs b) × (breaks (textAt d (r .state)) b ≡ false))
 
 -- the laws, over every dialect (§19.8)
 pub record Laws : Type 0 where
   pub reading : (d : Dialect) (target : Option Target) → ReadingLaws d target
   -- every state can be completed to a record, by form alone
-  pub completion : (d : Dialect) (f : Form) → (bs : Bytes) × Completes d f bs
+  pub completion : (d : Dialect) (f : FileState) → (bs : Bytes) × Completes d f bs
   pub next-byte : (d : Dialect) (target : Option Target) (xs : Bytes) (r : Read) (b : ℕ) → readBytes d target xs ≡ going r → fileFull r ≡ false → recordFull r b ≡ false → NextByteLaws d target xs r b
   -- decoded content has its form: UTF-8, lone surrogates, never a high one directly before a low one (§2.6 §2.9)
-  pub content-form : (d : Dialect) (raw : Bytes) → judgeCell d raw ≡ WholeCell → isContent (contentOf d raw) ≡ true
+  pub content-form : (d : Dialect) (raw : Bytes) → validateCell d raw ≡ WholeCell → isContent (contentOf d raw) ≡ true
   -- decoded content is no longer than the raw cell
   pub content-length : (d : Dialect) (raw : Bytes) → length (contentOf d raw) ≤ length raw

@@ -3,7 +3,7 @@ pub mod Base
 pub mod Dialect
 pub mod Utf8
 pub mod Cell
-pub mod Form
+pub mod File
 pub mod Decode
 pub mod Text
 pub mod Report

@@ -6,12 +6,12 @@ use mathlib.Core.List.{List, [], _∷_, _++_, map}
 use lib.ListN.{length}
 use lib.Dec.{leb, ltb, eqb}
 use Rattle.model.specs.Types.{Report, Kind, Text, Number, True, False, Null, Dialect, Csvj, Tdif, CsvPlus, Target}
-use Rattle.model.specs.Types.{Form, Top, Begin, Outside, Passed, OfCell, Between, Tail, Ends, Step, To, Reject, Ending, Clean, Final, Cut}
-use Rattle.model.specs.Types.{Fault, NoRecord, Byte, CutShort, Uneven, Repeats, NotText, FileTooLong, RecordTooLong, TooManyColumns, NoCells, LacksKind, LoneSurrogate, Clash, TextTooLong, OutputTooLong, Verdict, Sound, Faulty}
+use Rattle.model.specs.Types.{FileState, Top, Begin, Outside, Passed, OfCell, Between, Tail, Ends, Step, To, Reject, Ending, Clean, Final, Cut}
+use Rattle.model.specs.Types.{Fault, NoRecord, Byte, CutShort, CellCount, RepeatedName, HeaderKind, FileTooLong, RecordTooLong, TooManyColumns, NoCells, LacksKind, LoneSurrogate, Clash, TextTooLong, OutputTooLong, Verdict, Sound, Faulty}
 use Rattle.model.specs.Base.{if_then_else_, within, Bytes, same, isEmpty}
 use Rattle.model.specs.Dialect.{isCsvj}
 use Rattle.model.specs.Utf8.{holdsLone}
-use Rattle.model.specs.Form.{formStep, formEnd, counts}
+use Rattle.model.specs.File.{fileStep, fileEnd, counts}
 use Rattle.model.specs.Decode.{kindOf, contentOf}
 use Rattle.model.specs.Text.{Value, isText, carried, recordText, tableText, ending}
 use Rattle.model.specs.Report.{report, accepted, numberOf, columnOf, isAtByte, MAXFILE, MAXRECORD, MAXCOLUMNS}
@@ -72,22 +72,22 @@ repeatFault d fault vs = repeatFrom d fault [] 1 vs
 -- ---- a complete record
 
 -- the first header cell, from column n on, that is not text (§3.10 §4.9 §6.7)
-unfoldable pub notTextFrom : ℕ → List Value → Verdict
-notTextFrom n [] = Sound
-notTextFrom n (v ∷ vs) = when (not (isText (v .kind))) (NotText n) orElse notTextFrom (suc n) vs
+unfoldable pub headerKindFrom : ℕ → List Value → Verdict
+headerKindFrom n [] = Sound
+headerKindFrom n (v ∷ vs) = when (not (isText (v .kind))) (HeaderKind n) orElse headerKindFrom (suc n) vs
 
 -- what is asked of a header: 8 for columns, 7 of all its cells, 6 (§6.6 §6.7 §6.13 §7.3 §7.8 §7.10)
 unfoldable pub headerFault : Dialect → List Value → Verdict
 headerFault d vs =
     when (ltb MAXCOLUMNS (length vs)) TooManyColumns
-    orElse notTextFrom 1 vs
-    orElse repeatFault d Repeats vs
+    orElse headerKindFrom 1 vs
+    orElse repeatFault d RepeatedName vs
 
 -- what is asked of a data record: 8 for columns, 5 (§2.2 §6.5 §6.13 §7.8 §7.9)
 unfoldable pub dataFault : (columns : ℕ) → List Value → Verdict
 dataFault columns vs =
     when (ltb MAXCOLUMNS (length vs)) TooManyColumns
-    orElse when (not (eqb (length vs) columns)) Uneven
+    orElse when (not (eqb (length vs) columns)) CellCount
 
 -- ---- what the target asks
 
@@ -152,7 +152,7 @@ recordFault d target (h ∷ rs) vs =
 -- record's complete cells (§6.18 §6.20 §7.4 §10.3)
 pub record Read : Type 0 where
   pub done : List Rec
-  pub form : Form
+  pub state : FileState
   pub offset : ℕ
   pub start : ℕ
   pub size : ℕ
@@ -161,8 +161,8 @@ pub record Read : Type 0 where
   pub cells : List Value
 
 -- between records: the one next expected starts at the next byte, at o, unless a comment comes first (§6.18 §6.20)
-abbrev pub between-records : List Rec → Form → ℕ → Read
-between-records rs f o = record { done = rs; form = f; offset = o; start = o; size = 0; opened = o; raw = []; cells = [] }
+abbrev pub between-records : List Rec → FileState → ℕ → Read
+between-records rs f o = record { done = rs; state = f; offset = o; start = o; size = 0; opened = o; raw = []; cells = [] }
 
 -- no byte of the file is read, and the next one is at offset 0 (§6.19)
 unfoldable pub nothingRead : Read
@@ -183,15 +183,15 @@ closing d true r = r .cells ++ (cellNow d r ∷ [])
 closing d false r = r .cells
 
 -- a faulty record stops reading where it is still the one being read (§6.18)
-abbrev pub judged : Read → Read → Verdict → Progress
-judged before next Sound = going next
-judged before next (Faulty e) = stopped e before
+abbrev pub validated : Read → Read → Verdict → Progress
+validated before next Sound = going next
+validated before next (Faulty e) = stopped e before
 
 -- a record ends and is judged: the record in hand, with these cells; where the file stands then, and the next offset (§7.5
 -- §7.8)
-unfoldable pub complete : Dialect → (target : Option Target) → Read → List Value → Form → ℕ → Progress
+unfoldable pub complete : Dialect → (target : Option Target) → Read → List Value → FileState → ℕ → Progress
 complete d target r vs f o =
-    judged r (between-records (r .done ++ (record { start = r .start; size = r .size; cells = vs } ∷ [])) f o)
+    validated r (between-records (r .done ++ (record { start = r .start; size = r .size; cells = vs } ∷ [])) f o)
     (recordFault d target (r .done) vs)
 
 -- what the byte b, which does this to the form, does to what has been read: which bytes are counted, where a record starts,
@@ -199,14 +199,14 @@ complete d target r vs f o =
 unfoldable pub move : Dialect → (target : Option Target) → Read → ℕ → Step → Progress
 move d target r b (Reject e) = stopped (Byte e) r
 move d target r b (To f Outside) =
-    going (record { done = r .done; form = f; offset = suc (r .offset); start = r .start; size = 0; opened = suc (r .offset); raw = []; cells = [] })
+    going (record { done = r .done; state = f; offset = suc (r .offset); start = r .start; size = 0; opened = suc (r .offset); raw = []; cells = [] })
 move d target r b (To f Passed) = going (between-records (r .done) f (suc (r .offset)))
 move d target r b (To f OfCell) =
-    going (record { done = r .done; form = f; offset = suc (r .offset); start = r .start; size = suc (r .size); opened = r .opened; raw = r .raw ++ (b ∷ []); cells = r .cells })
+    going (record { done = r .done; state = f; offset = suc (r .offset); start = r .start; size = suc (r .size); opened = r .opened; raw = r .raw ++ (b ∷ []); cells = r .cells })
 move d target r b (To f (Between closes)) =
-    going (record { done = r .done; form = f; offset = suc (r .offset); start = r .start; size = suc (r .size); opened = suc (r .offset); raw = []; cells = closing d closes r })
+    going (record { done = r .done; state = f; offset = suc (r .offset); start = r .start; size = suc (r .size); opened = suc (r .offset); raw = []; cells = closing d closes r })
 move d target r b (To f (Tail closes)) =
-    going (record { done = r .done; form = f; offset = suc (r .offset); start = r .start; size = r .size; opened = suc (r .offset); raw = []; cells = closing d closes r })
+    going (record { done = r .done; state = f; offset = suc (r .offset); start = r .start; size = r .size; opened = suc (r .offset); raw = []; cells = closing d closes r })
 move d target r b (To f (Ends closes)) = complete d target r (closing d closes r) f (suc (r .offset))
 
 -- the file has all the bytes that it may have, and the next is one too many (§6.8 §7.1 §7.7)
@@ -215,14 +215,14 @@ fileFull r = leb MAXFILE (r .offset)
 
 -- the same of the record in hand, where the next byte would be counted in it (§6.8 §7.2 §7.6)
 unfoldable pub recordFull : Read → ℕ → Bool
-recordFull r b = leb MAXRECORD (r .size) && counts (r .form) b
+recordFull r b = leb MAXRECORD (r .size) && counts (r .state) b
 
 -- one byte more: limits come before form (§7.6)
 unfoldable pub readByte : Dialect → (target : Option Target) → Read → ℕ → Progress
 readByte d target r b =
     if fileFull r then stopped FileTooLong r
     else if recordFull r b then stopped RecordTooLong r
-    else move d target r b (formStep d (r .form) b)
+    else move d target r b (fileStep d (r .state) b)
 
 -- bytes in file order, up to the first fault (§7.5)
 unfoldable pub readFrom : Dialect → (target : Option Target) → Progress → Bytes → Progress
@@ -251,7 +251,7 @@ endAt d target r Cut = stopped CutShort r
 -- the end of the file after its bytes, where an earlier fault stays (§7.5)
 unfoldable pub readEnd : Dialect → (target : Option Target) → Progress → Progress
 readEnd d target (stopped e r) = stopped e r
-readEnd d target (going r) = endAt d target r (formEnd d (r .form))
+readEnd d target (going r) = endAt d target r (fileEnd d (r .state))
 
 -- a whole file: its bytes, and then its end (§2.1 §7.5)
 unfoldable pub readFile : Dialect → (target : Option Target) → Bytes → Progress
@@ -283,5 +283,5 @@ recordsOf (stopped e r) = r .done
 
 -- helper: `unfolding records-computes` opens every definition of this module
 unfoldable pub records-computes : Type 0
-unfolding rows _orElse_ when nameKey among repeatFrom repeatFault notTextFrom headerFault dataFault uncarriedFrom targetFault recordFault nothingRead complete move fileFull recordFull readByte readFrom readBytes readEnd readFile
+unfolding rows _orElse_ when nameKey among repeatFrom repeatFault headerKindFrom headerFault dataFault uncarriedFrom targetFault recordFault nothingRead complete move fileFull recordFull readByte readFrom readBytes readEnd readFile
 records-computes = Unit {0}

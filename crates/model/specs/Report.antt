@@ -2,7 +2,7 @@
 -- or the record's start.
 use Prim.Native.Nat.{ℕ}
 use mathlib.Core.Bool.{Bool, true, false}
-use Rattle.model.specs.Types.{Report, Encoding, Syntax, Fault, NoRecord, Byte, CutShort, Uneven, Repeats, NotText, FileTooLong, RecordTooLong, TooManyColumns, NoCells, LacksKind, LoneSurrogate, Clash, TextTooLong, OutputTooLong}
+use Rattle.model.specs.Types.{Report, Encoding, Syntax, Fault, NoRecord, Byte, CutShort, CellCount, RepeatedName, HeaderKind, FileTooLong, RecordTooLong, TooManyColumns, NoCells, LacksKind, LoneSurrogate, Clash, TextTooLong, OutputTooLong}
 
 -- a report: number, record, column, offset (§6.14)
 abbrev pub report : (number record-number column offset : ℕ) → Report
@@ -44,9 +44,9 @@ numberOf NoRecord = 1
 numberOf (Byte Encoding) = 2
 numberOf (Byte Syntax) = 3
 numberOf CutShort = 4
-numberOf Uneven = 5
-numberOf (Repeats c) = 6
-numberOf (NotText c) = 7
+numberOf CellCount = 5
+numberOf (RepeatedName c) = 6
+numberOf (HeaderKind c) = 7
 numberOf FileTooLong = 8
 numberOf RecordTooLong = 8
 numberOf TooManyColumns = 8
@@ -62,9 +62,9 @@ abbrev pub columnOf : Fault → ℕ
 columnOf NoRecord = 0
 columnOf (Byte e) = 0
 columnOf CutShort = 0
-columnOf Uneven = 0
-columnOf (Repeats c) = c
-columnOf (NotText c) = c
+columnOf CellCount = 0
+columnOf (RepeatedName c) = c
+columnOf (HeaderKind c) = c
 columnOf FileTooLong = 0
 columnOf RecordTooLong = 0
 columnOf TooManyColumns = 0
@@ -81,9 +81,9 @@ abbrev pub isAtByte : Fault → Bool
 isAtByte NoRecord = true
 isAtByte (Byte e) = true
 isAtByte CutShort = true
-isAtByte Uneven = false
-isAtByte (Repeats c) = false
-isAtByte (NotText c) = false
+isAtByte CellCount = false
+isAtByte (RepeatedName c) = false
+isAtByte (HeaderKind c) = false
 isAtByte FileTooLong = true
 isAtByte RecordTooLong = true
 isAtByte TooManyColumns = false

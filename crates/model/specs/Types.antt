@@ -28,19 +28,19 @@ pub use Rattle.model.specs.declared.Cell.{Cell}
 pub use Rattle.model.specs.declared.Cell.the-variants.{Fresh, Quoted, Closed, Escape, Hex, InNumber, InWord, Plain, Complete}
 pub use Rattle.model.specs.declared.ByteFault.{ByteFault}
 pub use Rattle.model.specs.declared.ByteFault.the-variants.{Encoding, Syntax}
-pub use Rattle.model.specs.declared.Added.{Added}
-pub use Rattle.model.specs.declared.Added.the-variants.{More, Stop, Refuse}
-pub use Rattle.model.specs.declared.Form.{Form}
-pub use Rattle.model.specs.declared.Form.the-variants.{Top, Begin, Ended, Mark1, Mark2, PlainMark1, PlainMark2, Comment, Blanks, Wanting, Inside, After, Cr}
-pub use Rattle.model.specs.declared.Part.{Part}
-pub use Rattle.model.specs.declared.Part.the-variants.{Outside, Passed, OfCell, Between, Tail, Ends}
+pub use Rattle.model.specs.declared.CellStep.{CellStep}
+pub use Rattle.model.specs.declared.CellStep.the-variants.{More, Stop, Refuse}
+pub use Rattle.model.specs.declared.FileState.{FileState}
+pub use Rattle.model.specs.declared.FileState.the-variants.{Top, Begin, Ended, Mark1, Mark2, PlainMark1, PlainMark2, Comment, Blanks, Wanting, Inside, After, Cr}
+pub use Rattle.model.specs.declared.ByteRole.{ByteRole}
+pub use Rattle.model.specs.declared.ByteRole.the-variants.{Outside, Passed, OfCell, Between, Tail, Ends}
 pub use Rattle.model.specs.declared.Step.{Step}
 pub use Rattle.model.specs.declared.Step.the-variants.{To, Reject}
 pub use Rattle.model.specs.declared.Ending.{Ending}
 pub use Rattle.model.specs.declared.Ending.the-variants.{Clean, Final, Cut}
 pub use Rattle.model.specs.declared.Fault.{Fault}
-pub use Rattle.model.specs.declared.Fault.the-variants.{NoRecord, Byte, CutShort, Uneven, Repeats, NotText, FileTooLong, RecordTooLong, TooManyColumns, NoCells, LacksKind, LoneSurrogate, Clash, TextTooLong, OutputTooLong}
+pub use Rattle.model.specs.declared.Fault.the-variants.{NoRecord, Byte, CutShort, CellCount, RepeatedName, HeaderKind, FileTooLong, RecordTooLong, TooManyColumns, NoCells, LacksKind, LoneSurrogate, Clash, TextTooLong, OutputTooLong}
 pub use Rattle.model.specs.declared.Verdict.{Verdict}
 pub use Rattle.model.specs.declared.Verdict.the-variants.{Sound, Faulty}
-pub use Rattle.model.specs.declared.Judged.{Judged}
-pub use Rattle.model.specs.declared.Judged.the-variants.{WholeCell, Unsound}
+pub use Rattle.model.specs.declared.CellCheck.{CellCheck}
+pub use Rattle.model.specs.declared.CellCheck.the-variants.{WholeCell, Unsound}

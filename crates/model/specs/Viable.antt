@@ -5,15 +5,15 @@ use mathlib.Core.Bool.{Bool, true, false}
 use mathlib.Core.Option.{Option, none, some}
 use mathlib.Core.List.{[], _∷_, _++_}
 use Rattle.model.specs.Types.{Dialect, Csvj, Tdif, CsvPlus, EeToEf, Second, Last, Char, Whole, Within, Advance, On, Broken, Cell, Fresh, Quoted, Closed, Escape, Hex, InNumber, InWord, Plain, Complete}
-use Rattle.model.specs.Types.{Form, Top, Begin, Ended, Mark1, Mark2, PlainMark1, PlainMark2, Comment, Blanks, Wanting, Inside, After, Cr, Part, Ends, To}
+use Rattle.model.specs.Types.{FileState, Top, Begin, Ended, Mark1, Mark2, PlainMark1, PlainMark2, Comment, Blanks, Wanting, Inside, After, Cr, ByteRole, Ends, To}
 use Rattle.model.specs.Base.{Bytes}
 use Rattle.model.specs.Utf8.{charStep}
-use Rattle.model.specs.Form.{formStep}
+use Rattle.model.specs.File.{fileStep}
 
 -- from this state these bytes, none of them refused by form, end with the end of a record (§6.24)
-pub data Completes (d : Dialect) : Form → Bytes → Type 0 where
-  completed : {f f′ : Form} {k : Bool} {b : ℕ} → formStep d f b ≡ To f′ (Ends k) → Completes d f (b ∷ [])
-  onward : {f f′ : Form} {p : Part} {b : ℕ} {bs : Bytes} → formStep d f b ≡ To f′ p → Completes d f′ bs → Completes d f (b ∷ bs)
+pub data Completes (d : Dialect) : FileState → Bytes → Type 0 where
+  completed : {f f′ : FileState} {k : Bool} {b : ℕ} → fileStep d f b ≡ To f′ (Ends k) → Completes d f (b ∷ [])
+  onward : {f f′ : FileState} {p : ByteRole} {b : ℕ} {bs : Bytes} → fileStep d f b ≡ To f′ p → Completes d f′ bs → Completes d f (b ∷ bs)
 
 -- after this byte a file can go on: some file that begins with these bytes, and this one after them, completes a record by
 -- form (§6.3 §6.24)
@@ -39,7 +39,7 @@ cellTextAt d (Plain c) = some c
 cellTextAt d Complete = none
 
 -- the text that the next byte of a file would stand in: that of a cell or of a comment (§6.2)
-abbrev pub textAt : Dialect → Form → Option Char
+abbrev pub textAt : Dialect → FileState → Option Char
 textAt d Top = freshText d
 textAt d Begin = freshText d
 textAt d Ended = freshText d

@@ -9,7 +9,7 @@ use lib.ListN.{length, length-append, length-map}
 use lib.Dec.{ltb}
 use borrow.Author.Tests.{lt-ltb, le-ltb}
 use Rattle.model.specs.declared.Dialect.{Dialect}
-use Rattle.model.specs.declared.Form.{Form}
+use Rattle.model.specs.declared.FileState.{FileState}
 use Rattle.model.specs.declared.Report.{Report}
 use Rattle.model.specs.Base.{if_then_else_, Bytes, concat, over}
 use Rattle.model.specs.Dialect.{dialectOf}
@@ -18,36 +18,36 @@ use Rattle.model.specs.Report.{accepted, refusal, MAXFILE}
 use Rattle.model.specs.Records.{Rec, rows, Read, Progress, going, readFile}
 use Rattle.model.specs.Api as api
 use Rattle.model.specs.Api.{startsOf, endsOf, kindsOf}
-use Rattle.scanner.specs.Placed.{placed}
+use Rattle.scanner.specs.Stored.{storedFrom}
 use Rattle.numbers.proofs.Least.{least-first, least-second}
 use Rattle.reader.specs.declared.Answer.{Answer}
 use Rattle.reader.specs.declared.records.Head.{Head}
 use Rattle.reader.specs.declared.records.Head.the-variants.{Header, HeaderOnly, NoHeader}
 use Rattle.reader.specs.declared.records.Pass.{Pass}
 use Rattle.reader.specs.declared.records.Pass.the-variants.{Accepted, Refused}
-use Rattle.reader.specs.Answers.{answerOf, told, answerIn}
+use Rattle.reader.specs.Answers.{callAnswer, toAnswer, answerIn}
 use Rattle.reader.specs.Passes as passes
 use Rattle.reader.specs.Passes.{firstOf, restOf, Heads, with-data, alone, faulty, Outcome, Passes}
-use Rattle.reader.proofs.Filling.{placed-append, placed-none, placed-over}
+use Rattle.reader.proofs.Filling.{stored-from-append, stored-from-none, stored-from-over}
 
 -- the answer, and the lists after it
 pub record Answered (a : api.Answer) (r : Answer) (s₀ e₀ k₀ s e k : List ℕ) : Type 0 where
-  pub answer : r ≡ told a
+  pub answer : r ≡ toAnswer a
   pub at-starts : s ≡ over (startsOf (a .cells)) s₀
   pub at-ends : e ≡ over (endsOf (a .cells)) e₀
   pub at-kinds : k ≡ over (kindsOf (a .cells)) k₀
 
 -- a refusal that leaves the lists
-pub refusing : (a : api.Answer) (t : Report) (r : Answer) (s₀ e₀ k₀ s e k : List ℕ) → a ≡ api.noAnswer t → r ≡ told (api.noAnswer t) → s ≡ s₀ → e ≡ e₀ → k ≡ k₀ → Answered a r s₀ e₀ k₀ s e k
+pub refusing : (a : api.Answer) (t : Report) (r : Answer) (s₀ e₀ k₀ s e k : List ℕ) → a ≡ api.noAnswer t → r ≡ toAnswer (api.noAnswer t) → s ≡ s₀ → e ≡ e₀ → k ≡ k₀ → Answered a r s₀ e₀ k₀ s e k
 refusing a t r s₀ e₀ k₀ s e k q z x y w =
     subst (λ (b : api.Answer). Answered b r s₀ e₀ k₀ s e k) (sym q) (record { answer = z; at-starts = x; at-ends = y; at-kinds = w })
 
 -- ---- the definition's answer
 
 pub answer-refused : (d : Dialect) (file : Bytes) (room : ℕ) (t : Report) → Heads d file (NoHeader t) → answerIn d file room ≡ api.noAnswer t
-answer-refused d file room t (faulty x r p) = ap (λ (g : Progress). api.answerOf g room) p
+answer-refused d file room t (faulty x r p) = ap (λ (g : Progress). api.readAnswer g room) p
 
-records-answer : (h : Rec) (ds : List Rec) (r : Read) (room : ℕ) → r .done ≡ h ∷ ds → api.answerOf (going r) room ≡ api.answered (h ∷ ds) (concat (rows (h ∷ ds))) room
+records-answer : (h : Rec) (ds : List Rec) (r : Read) (room : ℕ) → r .done ≡ h ∷ ds → api.readAnswer (going r) room ≡ api.answered (h ∷ ds) (concat (rows (h ∷ ds))) room
 records-answer h ds r room e = ap (λ (l : List Rec). api.answered l (concat (rows l)) room) e
 
 -- more cells than room
@@ -55,14 +55,14 @@ pub crowded : (d : Dialect) (file : Bytes) (room n : ℕ) (h : Rec) (ds : List R
 unfolding if_then_else_
 crowded d file room n h ds r p q c l =
     let t : ltb room (length (concat (rows (h ∷ ds)))) ≡ true = lt-ltb room (length (concat (rows (h ∷ ds)))) (omega arith) in
-    ap (λ (g : Progress). api.answerOf g room) p ∙ records-answer h ds r room q ∙ rw t
+    ap (λ (g : Progress). api.readAnswer g room) p ∙ records-answer h ds r room q ∙ rw t
 
 -- room for all cells
 pub roomy : (d : Dialect) (file : Bytes) (room n : ℕ) (h : Rec) (ds : List Rec) (r : Read) → readFile d none file ≡ going r → r .done ≡ h ∷ ds → length (concat (rows (h ∷ ds))) ≡ n → n ≤ room → answerIn d file room ≡ record { report = accepted; columns = length (h .cells); records = length ds; cells = concat (rows (h ∷ ds)) }
 unfolding if_then_else_
 roomy d file room n h ds r p q c l =
     let t : ltb room (length (concat (rows (h ∷ ds)))) ≡ false = le-ltb room (length (concat (rows (h ∷ ds)))) (omega arith) in
-    ap (λ (g : Progress). api.answerOf g room) p ∙ records-answer h ds r room q ∙ rw t
+    ap (λ (g : Progress). api.readAnswer g room) p ∙ records-answer h ds r room q ∙ rw t
 
 rows-one : (h : Rec) → concat (rows (h ∷ [])) ≡ h .cells
 unfolding rows concat
@@ -74,20 +74,20 @@ rows-more h ds = refl
 
 -- ---- lists that were filled
 
-fills : (φ : Value → ℕ) (room : ℕ) (vs : List Value) (old out : List ℕ) → length vs ≤ room → room ≤ length old → out ≡ placed room 0 (map φ vs) old → out ≡ over (map φ vs) old
-fills φ room vs old out h l e = let m : length (map φ vs) ≡ length vs = length-map vs φ in e ∙ placed-over room (map φ vs) old (omega arith) l
+fills : (φ : Value → ℕ) (room : ℕ) (vs : List Value) (old out : List ℕ) → length vs ≤ room → room ≤ length old → out ≡ storedFrom room 0 (map φ vs) old → out ≡ over (map φ vs) old
+fills φ room vs old out h l e = let m : length (map φ vs) ≡ length vs = length-map vs φ in e ∙ stored-from-over room (map φ vs) old (omega arith) l
 
-fills-on : (φ : Value → ℕ) (room : ℕ) (vs ws : List Value) (old mid out : List ℕ) → length (vs ++ ws) ≤ room → room ≤ length old → mid ≡ placed room 0 (map φ vs) old → out ≡ placed room (length vs) (map φ ws) mid → out ≡ over (map φ (vs ++ ws)) old
+fills-on : (φ : Value → ℕ) (room : ℕ) (vs ws : List Value) (old mid out : List ℕ) → length (vs ++ ws) ≤ room → room ≤ length old → mid ≡ storedFrom room 0 (map φ vs) old → out ≡ storedFrom room (length vs) (map φ ws) mid → out ≡ over (map φ (vs ++ ws)) old
 fills-on φ room vs ws old mid out h l e f =
     let m : length (map φ vs) ≡ length vs = length-map vs φ in
     let n : 0 + length (map φ vs) ≡ length vs = omega arith in
-    let p : placed room (length vs) (map φ ws) (placed room 0 (map φ vs) old) ≡ placed room 0 (map φ (vs ++ ws)) old = ap (λ (k : ℕ). placed room k (map φ ws) (placed room 0 (map φ vs) old)) (sym n) ∙ sym (placed-append room 0 (map φ vs) (map φ ws) old) ∙ ap (λ (xs : List ℕ). placed room 0 xs old) (sym (map-append φ vs ws)) in
-    fills φ room (vs ++ ws) old out h l (f ∙ ap (placed room (length vs) (map φ ws)) e ∙ p)
+    let p : storedFrom room (length vs) (map φ ws) (storedFrom room 0 (map φ vs) old) ≡ storedFrom room 0 (map φ (vs ++ ws)) old = ap (λ (k : ℕ). storedFrom room k (map φ ws) (storedFrom room 0 (map φ vs) old)) (sym n) ∙ sym (stored-from-append room 0 (map φ vs) (map φ ws) old) ∙ ap (λ (xs : List ℕ). storedFrom room 0 xs old) (sym (map-append φ vs ws)) in
+    fills φ room (vs ++ ws) old out h l (f ∙ ap (storedFrom room (length vs) (map φ ws)) e ∙ p)
 
 -- ---- what the passes say
 
 record RefusedBy (g : Progress) (t : Report) : Type 0 where
-  answer : (room : ℕ) → api.answerOf g room ≡ api.noAnswer t
+  answer : (room : ℕ) → api.readAnswer g room ≡ api.noAnswer t
 
 refused-by : {h : Rec} {vs : List Value} {g : Progress} {t : Report} → Outcome h vs g (Refused t) → RefusedBy g t
 refused-by (passes.refused x r) = record { answer = λ room. refl }
@@ -120,15 +120,15 @@ module _ (d : Dialect) (file : Bytes) (room : ℕ) (s₀ e₀ k₀ : List ℕ) (
   -- ---- a header alone
 
   module _ (n : ℕ) (a : Heads d file (HeaderOnly n)) where
-    pub only-crowded : room < n → (t : Report) → t ≡ refusal 10 → (r : Answer) → r ≡ told (api.noAnswer t) → Said r s₀ e₀ k₀
+    pub only-crowded : room < n → (t : Report) → t ≡ refusal 10 → (r : Answer) → r ≡ toAnswer (api.noAnswer t) → Said r s₀ e₀ k₀
     only-crowded l t te r re = go n a l
       where
         go : (m : ℕ) → Heads d file (HeaderOnly m) → room < m → Said r s₀ e₀ k₀
         go m (alone h x hc p q) k =
             refusing (answerIn d file room) (refusal 10) r s₀ e₀ k₀ s₀ e₀ k₀
-            (crowded d file room (length (h .cells)) h [] x p q (ap length (rows-one h)) k) (re ∙ ap (λ (z : Report). told (api.noAnswer z)) te) refl refl refl
+            (crowded d file room (length (h .cells)) h [] x p q (ap length (rows-one h)) k) (re ∙ ap (λ (z : Report). toAnswer (api.noAnswer z)) te) refl refl refl
 
-    pub only-roomy : n ≤ room → (t : Report) → t ≡ refusal 0 → (s e k : List ℕ) → s ≡ placed room 0 (startsOf (firstOf d file .cells)) s₀ → e ≡ placed room 0 (endsOf (firstOf d file .cells)) e₀ → k ≡ placed room 0 (kindsOf (firstOf d file .cells)) k₀ → Said (record { report = t; columns = n; records = 0; cells = n }) s e k
+    pub only-roomy : n ≤ room → (t : Report) → t ≡ refusal 0 → (s e k : List ℕ) → s ≡ storedFrom room 0 (startsOf (firstOf d file .cells)) s₀ → e ≡ storedFrom room 0 (endsOf (firstOf d file .cells)) e₀ → k ≡ storedFrom room 0 (kindsOf (firstOf d file .cells)) k₀ → Said (record { report = t; columns = n; records = 0; cells = n }) s e k
     only-roomy l t te s e k ps pe pk = go n a l
       where
         go : (m : ℕ) → Heads d file (HeaderOnly m) → m ≤ room → Said (record { report = t; columns = m; records = 0; cells = m }) s e k
@@ -140,46 +140,46 @@ module _ (d : Dialect) (file : Bytes) (room : ℕ) (s₀ e₀ k₀ : List ℕ) (
             (sym (roomy d file room (length (h .cells)) h [] x p q c b))
             (record {
               answer = rw (te, c);
-              at-starts = fills _ room (concat (rows (h ∷ []))) s₀ s w (fit .0) (ps ∙ ap (λ (vs : List Value). placed room 0 (startsOf vs) s₀) (sym v));
-              at-ends = fills _ room (concat (rows (h ∷ []))) e₀ e w (fit .1) (pe ∙ ap (λ (vs : List Value). placed room 0 (endsOf vs) e₀) (sym v));
-              at-kinds = fills _ room (concat (rows (h ∷ []))) k₀ k w (fit .2) (pk ∙ ap (λ (vs : List Value). placed room 0 (kindsOf vs) k₀) (sym v));
+              at-starts = fills _ room (concat (rows (h ∷ []))) s₀ s w (fit .0) (ps ∙ ap (λ (vs : List Value). storedFrom room 0 (startsOf vs) s₀) (sym v));
+              at-ends = fills _ room (concat (rows (h ∷ []))) e₀ e w (fit .1) (pe ∙ ap (λ (vs : List Value). storedFrom room 0 (endsOf vs) e₀) (sym v));
+              at-kinds = fills _ room (concat (rows (h ∷ []))) k₀ k w (fit .2) (pk ∙ ap (λ (vs : List Value). storedFrom room 0 (kindsOf vs) k₀) (sym v));
             })
 
 -- ---- a header and data
 
 -- the header, as it is when data may follow
-record Begun (d : Dialect) (file : Bytes) (n : ℕ) (f : Form) (next : ℕ) : Type 0 where
+record Begun (d : Dialect) (file : Bytes) (n : ℕ) (f : FileState) (next : ℕ) : Type 0 where
   h : Rec
   first : h .cells ≡ firstOf d file .cells
   count : length (h .cells) ≡ n
   rest : readFile d none file ≡ restOf d file (h ∷ []) f next
 
-begun : {d : Dialect} {file : Bytes} {n : ℕ} {f : Form} {next : ℕ} → Heads d file (Header n f next) → Begun d file n f next
+begun : {d : Dialect} {file : Bytes} {n : ℕ} {f : FileState} {next : ℕ} → Heads d file (Header n f next) → Begun d file n f next
 begun (with-data h g o hc p l m b) = record { h = h; first = hc; count = refl; rest = p }
 
-pub header-bounds : {d : Dialect} {file : Bytes} {n : ℕ} {f : Form} {next : ℕ} → Heads d file (Header n f next) → (next ≤ length file) × (next ≤ MAXFILE) × (n ≤ next)
+pub header-bounds : {d : Dialect} {file : Bytes} {n : ℕ} {f : FileState} {next : ℕ} → Heads d file (Header n f next) → (next ≤ length file) × (next ≤ MAXFILE) × (n ≤ next)
 header-bounds (with-data h g o hc p l m b) = (l, m, b)
 
-module _ {d : Dialect} {file : Bytes} {n : ℕ} {f : Form} {next base : ℕ} {s₀ e₀ k₀ s₁ e₁ k₁ : List ℕ} {p : Pass} where
+module _ {d : Dialect} {file : Bytes} {n : ℕ} {f : FileState} {next base : ℕ} {s₀ e₀ k₀ s₁ e₁ k₁ : List ℕ} {p : Pass} where
   -- a pass with no room stores nothing
   pub unchanged : Passes d file next f n 0 base s₀ e₀ k₀ p s₁ e₁ k₁ → (s₁ ≡ s₀) × (e₁ ≡ e₀) × (k₁ ≡ k₀)
-  unchanged y = (y .lists .at-starts ∙ placed-none base (startsOf (y .vs)) s₀, y .lists .at-ends ∙ placed-none base (endsOf (y .vs)) e₀, y .lists .at-kinds ∙ placed-none base (kindsOf (y .vs)) k₀)
+  unchanged y = (y .lists .at-starts ∙ stored-from-none base (startsOf (y .vs)) s₀, y .lists .at-ends ∙ stored-from-none base (endsOf (y .vs)) e₀, y .lists .at-kinds ∙ stored-from-none base (kindsOf (y .vs)) k₀)
 
   pub few-cells : {room records c : ℕ} → Passes d file next f n room base s₀ e₀ k₀ p s₁ e₁ k₁ → p ≡ Accepted records c → base + c ≤ MAXFILE + 1
   few-cells y q = subst (λ (x : Pass). passes.Few base x) q (y .few)
 
 -- after a first pass that left the lists as they were
-module _ (room : ℕ) {d : Dialect} {file : Bytes} {n : ℕ} {f : Form} {next : ℕ} (a : Heads d file (Header n f next)) {m : ℕ} {s₀ e₀ k₀ s₁ e₁ k₁ : List ℕ} {p : Pass} (y : Passes d file next f n m n s₀ e₀ k₀ p s₁ e₁ k₁) (kept : (s₁ ≡ s₀) × (e₁ ≡ e₀) × (k₁ ≡ k₀)) where
+module _ (room : ℕ) {d : Dialect} {file : Bytes} {n : ℕ} {f : FileState} {next : ℕ} (a : Heads d file (Header n f next)) {m : ℕ} {s₀ e₀ k₀ s₁ e₁ k₁ : List ℕ} {p : Pass} (y : Passes d file next f n m n s₀ e₀ k₀ p s₁ e₁ k₁) (kept : (s₁ ≡ s₀) × (e₁ ≡ e₀) × (k₁ ≡ k₀)) where
   head : Begun d file n f next
   head = begun a
 
   outcome : Outcome (head .h) (y .vs) (restOf d file (head .h ∷ []) f next) p
   outcome = y .outcome (head .h) (head .count)
 
-  pub data-refused : (t : Report) → p ≡ Refused t → (r : Answer) → r ≡ told (api.noAnswer t) → Answered (answerIn d file room) r s₀ e₀ k₀ s₁ e₁ k₁
+  pub data-refused : (t : Report) → p ≡ Refused t → (r : Answer) → r ≡ toAnswer (api.noAnswer t) → Answered (answerIn d file room) r s₀ e₀ k₀ s₁ e₁ k₁
   data-refused t q r re =
       let o : Outcome (head .h) (y .vs) (restOf d file (head .h ∷ []) f next) (Refused t) = subst (λ (x : Pass). Outcome (head .h) (y .vs) (restOf d file (head .h ∷ []) f next) x) q outcome in
-      refusing (answerIn d file room) t r s₀ e₀ k₀ s₁ e₁ k₁ (ap (λ (g : Progress). api.answerOf g room) (head .rest) ∙ refused-by o .answer room) re (kept .0) (kept .1) (kept .2)
+      refusing (answerIn d file room) t r s₀ e₀ k₀ s₁ e₁ k₁ (ap (λ (g : Progress). api.readAnswer g room) (head .rest) ∙ refused-by o .answer room) re (kept .0) (kept .1) (kept .2)
 
   module _ {records c : ℕ} (q : p ≡ Accepted records c) where
     by : AcceptedBy (head .h) (y .vs) (restOf d file (head .h ∷ []) f next) records c
@@ -194,19 +194,19 @@ module _ (room : ℕ) {d : Dialect} {file : Bytes} {n : ℕ} {f : Form} {next : 
         ∙ ap (λ (m : ℕ). m + length (concat (rows (by .ds)))) (head .count)
         ∙ ap (λ (m : ℕ). n + m) (ap length (by .cells) ∙ by .sized)
 
-    pub data-crowded : room < n + c → (t : Report) → t ≡ refusal 10 → (r : Answer) → r ≡ told (api.noAnswer t) → Answered (answerIn d file room) r s₀ e₀ k₀ s₁ e₁ k₁
+    pub data-crowded : room < n + c → (t : Report) → t ≡ refusal 10 → (r : Answer) → r ≡ toAnswer (api.noAnswer t) → Answered (answerIn d file room) r s₀ e₀ k₀ s₁ e₁ k₁
     data-crowded l t te r re =
         refusing (answerIn d file room) (refusal 10) r s₀ e₀ k₀ s₁ e₁ k₁
-        (crowded d file room (n + c) (head .h) (by .ds) (by .r) all (by .done) total l) (re ∙ ap (λ (z : Report). told (api.noAnswer z)) te) (kept .0) (kept .1) (kept .2)
+        (crowded d file room (n + c) (head .h) (by .ds) (by .r) all (by .done) total l) (re ∙ ap (λ (z : Report). toAnswer (api.noAnswer z)) te) (kept .0) (kept .1) (kept .2)
 
-    module _ (fit : (room ≤ length s₀) × (room ≤ length e₀) × (room ≤ length k₀)) (l : n + c ≤ room) {s₂ e₂ k₂ : List ℕ} (ps : s₂ ≡ placed room 0 (startsOf (firstOf d file .cells)) s₁) (pe : e₂ ≡ placed room 0 (endsOf (firstOf d file .cells)) e₁) (pk : k₂ ≡ placed room 0 (kindsOf (firstOf d file .cells)) k₁) {p₂ : Pass} {s₃ e₃ k₃ : List ℕ} (z : Passes d file next f n room n s₂ e₂ k₂ p₂ s₃ e₃ k₃) where
+    module _ (fit : (room ≤ length s₀) × (room ≤ length e₀) × (room ≤ length k₀)) (l : n + c ≤ room) {s₂ e₂ k₂ : List ℕ} (ps : s₂ ≡ storedFrom room 0 (startsOf (firstOf d file .cells)) s₁) (pe : e₂ ≡ storedFrom room 0 (endsOf (firstOf d file .cells)) e₁) (pk : k₂ ≡ storedFrom room 0 (kindsOf (firstOf d file .cells)) k₁) {p₂ : Pass} {s₃ e₃ k₃ : List ℕ} (z : Passes d file next f n room n s₂ e₂ k₂ p₂ s₃ e₃ k₃) where
       again : concat (rows (by .ds)) ≡ z .vs
       again = same-cells (head .h) (z .vs) (restOf d file (head .h ∷ []) f next) p₂ (by .r) (by .ds) (z .outcome (head .h) (head .count)) (by .same) (by .done)
 
-      filled : (φ : Value → ℕ) (old mid₁ mid₂ out : List ℕ) → mid₁ ≡ old → mid₂ ≡ placed room 0 (map φ (firstOf d file .cells)) mid₁ → out ≡ placed room n (map φ (z .vs)) mid₂ → room ≤ length old → out ≡ over (map φ (concat (rows (head .h ∷ by .ds)))) old
+      filled : (φ : Value → ℕ) (old mid₁ mid₂ out : List ℕ) → mid₁ ≡ old → mid₂ ≡ storedFrom room 0 (map φ (firstOf d file .cells)) mid₁ → out ≡ storedFrom room n (map φ (z .vs)) mid₂ → room ≤ length old → out ≡ over (map φ (concat (rows (head .h ∷ by .ds)))) old
       filled φ old mid₁ mid₂ out x u v w =
-          let e1 : mid₂ ≡ placed room 0 (map φ (head .h .cells)) old = u ∙ ap (placed room 0 (map φ (firstOf d file .cells))) x ∙ ap (λ (vs : List Value). placed room 0 (map φ vs) old) (sym (head .first)) in
-          let e2 : out ≡ placed room (length (head .h .cells)) (map φ (concat (rows (by .ds)))) mid₂ = v ∙ ap (λ (vs : List Value). placed room n (map φ vs) mid₂) (sym again) ∙ ap (λ (m : ℕ). placed room m (map φ (concat (rows (by .ds)))) mid₂) (sym (head .count)) in
+          let e1 : mid₂ ≡ storedFrom room 0 (map φ (head .h .cells)) old = u ∙ ap (storedFrom room 0 (map φ (firstOf d file .cells))) x ∙ ap (λ (vs : List Value). storedFrom room 0 (map φ vs) old) (sym (head .first)) in
+          let e2 : out ≡ storedFrom room (length (head .h .cells)) (map φ (concat (rows (by .ds)))) mid₂ = v ∙ ap (λ (vs : List Value). storedFrom room n (map φ vs) mid₂) (sym again) ∙ ap (λ (m : ℕ). storedFrom room m (map φ (concat (rows (by .ds)))) mid₂) (sym (head .count)) in
           let m : length (head .h .cells ++ concat (rows (by .ds))) ≡ n + c = ap length (sym (rows-more (head .h) (by .ds))) ∙ total in
           fills-on φ room (head .h .cells) (concat (rows (by .ds))) old mid₂ out (omega arith) w e1 e2
           ∙ ap (λ (vs : List Value). over (map φ vs) old) (sym (rows-more (head .h) (by .ds)))
@@ -227,7 +227,7 @@ module _ (room : ℕ) {d : Dialect} {file : Bytes} {n : ℕ} {f : Form} {next : 
 pub head-is : {d : Dialect} {file : Bytes} (x y : Head) → Heads d file x → x ≡ y → Heads d file y
 head-is {d} {file} x y a e = subst (λ (t : Head). Heads d file t) e a
 
-pub no-header : (d : Dialect) (file : Bytes) (room : ℕ) (s₀ e₀ k₀ : List ℕ) (t : Report) → Heads d file (NoHeader t) → (r : Answer) → r ≡ told (api.noAnswer t) → Answered (answerIn d file room) r s₀ e₀ k₀ s₀ e₀ k₀
+pub no-header : (d : Dialect) (file : Bytes) (room : ℕ) (s₀ e₀ k₀ : List ℕ) (t : Report) → Heads d file (NoHeader t) → (r : Answer) → r ≡ toAnswer (api.noAnswer t) → Answered (answerIn d file room) r s₀ e₀ k₀ s₀ e₀ k₀
 no-header d file room s₀ e₀ k₀ t a r re = refusing (answerIn d file room) t r s₀ e₀ k₀ s₀ e₀ k₀ (answer-refused d file room t a) re refl refl refl
 
 -- the room is that of the shortest list
@@ -244,11 +244,11 @@ shortest a b c room inner e f =
 
 abbrev Calls : (dialect : ℕ) (file s₀ e₀ k₀ : List ℕ) → Answer → (s e k : List ℕ) → Type 0
 Calls n file s₀ e₀ k₀ r s e k =
-    (r ≡ answerOf (api.readCall n file s₀ e₀ k₀)) × ((s ≡ api.readCall n file s₀ e₀ k₀ .starts) × ((e ≡ api.readCall n file s₀ e₀ k₀ .ends) × (k ≡ api.readCall n file s₀ e₀ k₀ .kinds)))
+    (r ≡ callAnswer (api.readCall n file s₀ e₀ k₀)) × ((s ≡ api.readCall n file s₀ e₀ k₀ .starts) × ((e ≡ api.readCall n file s₀ e₀ k₀ .ends) × (k ≡ api.readCall n file s₀ e₀ k₀ .kinds)))
 
 abbrev Fills : (a : api.Answer) (s₀ e₀ k₀ : List ℕ) → Answer → (s e k : List ℕ) → Type 0
 Fills a s₀ e₀ k₀ r s e k =
-    (r ≡ told a) × ((s ≡ over (startsOf (a .cells)) s₀) × ((e ≡ over (endsOf (a .cells)) e₀) × (k ≡ over (kindsOf (a .cells)) k₀)))
+    (r ≡ toAnswer a) × ((s ≡ over (startsOf (a .cells)) s₀) × ((e ≡ over (endsOf (a .cells)) e₀) × (k ≡ over (kindsOf (a .cells)) k₀)))
 
 abbrev Room : (s₀ e₀ k₀ : List ℕ) → ℕ
 Room s₀ e₀ k₀ = api.least (length s₀) (api.least (length e₀) (length k₀))
@@ -261,7 +261,7 @@ pub known : (n : ℕ) (d : Dialect) → some d ≡ dialectOf n → (file s₀ e�
 unfolding api.reader
 known n d q file s₀ e₀ k₀ r s e k t = by-answer n file s₀ e₀ k₀ (answerIn d file (Room s₀ e₀ k₀)) r s e k (rw (← q, api.reader)) t
 
-pub unknown : (n : ℕ) → none ≡ dialectOf n → (file s₀ e₀ k₀ : List ℕ) (t : Report) (r : Answer) → t ≡ refusal 11 → r ≡ told (api.noAnswer t) → Calls n file s₀ e₀ k₀ r s₀ e₀ k₀
+pub unknown : (n : ℕ) → none ≡ dialectOf n → (file s₀ e₀ k₀ : List ℕ) (t : Report) (r : Answer) → t ≡ refusal 11 → r ≡ toAnswer (api.noAnswer t) → Calls n file s₀ e₀ k₀ r s₀ e₀ k₀
 unfolding api.reader
 unknown n q file s₀ e₀ k₀ t r te re =
-    by-answer n file s₀ e₀ k₀ (api.noAnswer (refusal 11)) r s₀ e₀ k₀ (rw (← q, api.reader)) (re ∙ ap (λ (z : Report). told (api.noAnswer z)) te, (refl, (refl, refl)))
+    by-answer n file s₀ e₀ k₀ (api.noAnswer (refusal 11)) r s₀ e₀ k₀ (rw (← q, api.reader)) (re ∙ ap (λ (z : Report). toAnswer (api.noAnswer z)) te, (refl, (refl, refl)))

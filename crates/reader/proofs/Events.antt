@@ -7,21 +7,21 @@ use mathlib.Core.Option.{none}
 use mathlib.Core.List.{List, []}
 use lib.ListN.{length, drop}
 use Rattle.model.specs.declared.Dialect.{Dialect}
-use Rattle.model.specs.declared.Form.{Form}
-use Rattle.model.specs.declared.Form.the-variants.{Begin}
+use Rattle.model.specs.declared.FileState.{FileState}
+use Rattle.model.specs.declared.FileState.the-variants.{Begin}
 use Rattle.model.specs.declared.Fault.{Fault}
 use Rattle.model.specs.Base.{Bytes}
 use Rattle.model.specs.Report.{isAtByte}
 use Rattle.model.specs.Records.{Rec, Read, Progress, stopped, complete, readFrom, readEnd, endBetween}
 use Rattle.scanner.specs.Next.{Next}
-use Rattle.scanner.specs.Reading.{Follows, after-record, after-last, after-fault, after-all}
+use Rattle.scanner.specs.Reading.{ReadsAs, after-record, after-last, after-fault, after-all}
 use Rattle.scanner.specs.declared.Event.the-variants.{Completed, LastRecord, Failed, Finished}
 
 other : {A : Type 0} → _≡_ {A = ℕ} 0 1 → A
 other z = absurd (omega arith)
 
 module _ (d : Dialect) (file : Bytes) (rs : List Rec) (n : Next) (p : Progress) where
-  pub record AtRecord (start cells : ℕ) (f : Form) (o : ℕ) : Type 0 where
+  pub record AtRecord (start cells : ℕ) (f : FileState) (o : ℕ) : Type 0 where
     pub r : Read
     pub done : r .done ≡ rs
     pub starts : r .start ≡ start
@@ -49,7 +49,7 @@ module _ (d : Dialect) (file : Bytes) (rs : List Rec) (n : Next) (p : Progress) 
     pub none-left : n .cells ≡ []
     pub rest : p ≡ endBetween r rs
 
-pub on-record : (d : Dialect) (file : Bytes) (rs : List Rec) (n : Next) (p : Progress) → Follows d none file rs n p → (s k : ℕ) (f : Form) (o : ℕ) → n .event ≡ Completed s k f o → AtRecord d file rs n p s k f o
+pub on-record : (d : Dialect) (file : Bytes) (rs : List Rec) (n : Next) (p : Progress) → ReadsAs d none file rs n p → (s k : ℕ) (f : FileState) (o : ℕ) → n .event ≡ Completed s k f o → AtRecord d file rs n p s k f o
 on-record d file rs n p (after-record r vs g i q) s k f o e =
     let a : r .start ≡ s = cc in
     let b : length vs ≡ k = cc in
@@ -60,7 +60,7 @@ on-record d file rs n p (after-last r vs q) s k f o e = other cc
 on-record d file rs n p (after-fault x r vs q t) s k f o e = other cc
 on-record d file rs n p (after-all r q) s k f o e = other cc
 
-pub on-last : (d : Dialect) (file : Bytes) (rs : List Rec) (n : Next) (p : Progress) → Follows d none file rs n p → (s k : ℕ) → n .event ≡ LastRecord s k → AtLast d file rs n p s k
+pub on-last : (d : Dialect) (file : Bytes) (rs : List Rec) (n : Next) (p : Progress) → ReadsAs d none file rs n p → (s k : ℕ) → n .event ≡ LastRecord s k → AtLast d file rs n p s k
 on-last d file rs n p (after-record r vs g i q) s k e = other cc
 on-last d file rs n p (after-last r vs q) s k e =
     let a : r .start ≡ s = cc in
@@ -69,7 +69,7 @@ on-last d file rs n p (after-last r vs q) s k e =
 on-last d file rs n p (after-fault x r vs q t) s k e = other cc
 on-last d file rs n p (after-all r q) s k e = other cc
 
-pub on-fault : (d : Dialect) (file : Bytes) (rs : List Rec) (n : Next) (p : Progress) → Follows d none file rs n p → (x : Fault) (o : ℕ) → n .event ≡ Failed x o → AtFault d file rs n p x o
+pub on-fault : (d : Dialect) (file : Bytes) (rs : List Rec) (n : Next) (p : Progress) → ReadsAs d none file rs n p → (x : Fault) (o : ℕ) → n .event ≡ Failed x o → AtFault d file rs n p x o
 on-fault d file rs n p (after-record r vs g i q) x o e = other cc
 on-fault d file rs n p (after-last r vs q) x o e = other cc
 on-fault d file rs n p (after-fault y r vs q t) x o e =
@@ -78,7 +78,7 @@ on-fault d file rs n p (after-fault y r vs q t) x o e =
     record { r = r; done = q; place = b; byte = rw (sym a) t; rest = rw a refl }
 on-fault d file rs n p (after-all r q) x o e = other cc
 
-pub on-finish : (d : Dialect) (file : Bytes) (rs : List Rec) (n : Next) (p : Progress) → Follows d none file rs n p → (o : ℕ) → n .event ≡ Finished o → AtFinish d file rs n p o
+pub on-finish : (d : Dialect) (file : Bytes) (rs : List Rec) (n : Next) (p : Progress) → ReadsAs d none file rs n p → (o : ℕ) → n .event ≡ Finished o → AtFinish d file rs n p o
 on-finish d file rs n p (after-record r vs g i q) o e = other cc
 on-finish d file rs n p (after-last r vs q) o e = other cc
 on-finish d file rs n p (after-fault y r vs q t) o e = other cc

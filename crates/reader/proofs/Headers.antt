@@ -9,8 +9,8 @@ use lib.ListN.{length, take, drop, getD, length-map}
 use lib.Dec.{ltb}
 use borrow.Author.Tests.{lt-ltb}
 use Rattle.model.specs.declared.Dialect.{Dialect}
-use Rattle.model.specs.declared.Form.{Form}
-use Rattle.model.specs.declared.Form.the-variants.{Top, Begin}
+use Rattle.model.specs.declared.FileState.{FileState}
+use Rattle.model.specs.declared.FileState.the-variants.{Top, Begin}
 use Rattle.model.specs.declared.Fault.{Fault}
 use Rattle.model.specs.declared.Fault.the-variants.{NoRecord, TooManyColumns}
 use Rattle.model.specs.declared.Report.{Report}
@@ -22,20 +22,20 @@ use Rattle.model.specs.Laws.{All, all-none, all-cons}
 use Rattle.model.specs.Report.{report, numberOf, columnOf, MAXFILE, MAXCOLUMNS}
 use Rattle.model.specs.Records.{Rec, Read, between-records, Progress, going, stopped, complete, readFrom, readEnd, readBytes, readFile, nothingRead, recordFault, headerFault, faultReport, _orElse_, when}
 use Rattle.model.specs.Api.{startsOf, endsOf}
-use Rattle.scanner.specs.Next.{Next, nextRecord, Fits}
-use Rattle.scanner.specs.Placed.{placed}
+use Rattle.scanner.specs.Next.{Next, nextRecord, EventInBounds}
+use Rattle.scanner.specs.Stored.{storedFrom}
 use Rattle.scanner.specs.Stretches.{StandsIn}
-use Rattle.scanner.specs.Reading.{Follows}
+use Rattle.scanner.specs.Reading.{ReadsAs}
 use Rattle.scanner.specs.declared.Event.{Event}
 use Rattle.scanner.specs.declared.Event.the-variants.{Completed, LastRecord, Failed, Finished}
-use Rattle.scanner.proofs.Placing.{length-placed}
-use Rattle.scanner.proofs.Reading.{stays, follows}
-use Rattle.judge.specs.Cells.{valueAt, valuesOf, Stretch, Inside}
+use Rattle.scanner.proofs.Placing.{length-stored-from}
+use Rattle.scanner.proofs.Reading.{stays, reads-as}
+use Rattle.validate.specs.Cells.{valueAt, valuesOf, Stretch, Inside}
 use Rattle.reader.specs.declared.records.Head.{Head}
 use Rattle.reader.specs.declared.records.Head.the-variants.{Header, HeaderOnly, NoHeader}
 use Rattle.reader.specs.Passes.{firstOf, restOf, Shows, Heads, with-data, alone, faulty}
-use Rattle.reader.proofs.Filling.{placed-shown}
-use Rattle.reader.proofs.Judging.{AtStart, header-starts, starts-of, report-start, report-byte, header-fault, recOf, complete-sound, complete-faulty}
+use Rattle.reader.proofs.Filling.{stored-from-shown}
+use Rattle.reader.proofs.Validating.{AtStart, header-starts, starts-of, report-start, report-byte, header-fault, recOf, complete-sound, complete-faulty}
 use Rattle.reader.proofs.Events.{on-record, on-last, on-fault, on-finish}
 
 -- ---- the cells by their stretches
@@ -65,17 +65,17 @@ too-many d vs n e h = let t : ltb MAXCOLUMNS (length vs) ≡ true = lt-ltb MAXCO
 
 -- ---- the scratch lists show the cells
 
-pub shows : (vs : List Value) (s₀ e₀ s e : List ℕ) → length s₀ ≡ MAXCOLUMNS → length e₀ ≡ MAXCOLUMNS → s ≡ placed MAXCOLUMNS 0 (startsOf vs) s₀ → e ≡ placed MAXCOLUMNS 0 (endsOf vs) e₀ → Shows vs s e
+pub shows : (vs : List Value) (s₀ e₀ s e : List ℕ) → length s₀ ≡ MAXCOLUMNS → length e₀ ≡ MAXCOLUMNS → s ≡ storedFrom MAXCOLUMNS 0 (startsOf vs) s₀ → e ≡ storedFrom MAXCOLUMNS 0 (endsOf vs) e₀ → Shows vs s e
 shows vs s₀ e₀ s e ls le as′ ae =
-    let a : length s ≡ length s₀ = ap length as′ ∙ length-placed MAXCOLUMNS 0 (startsOf vs) s₀ in
-    let b : length e ≡ length e₀ = ap length ae ∙ length-placed MAXCOLUMNS 0 (endsOf vs) e₀ in
+    let a : length s ≡ length s₀ = ap length as′ ∙ length-stored-from MAXCOLUMNS 0 (startsOf vs) s₀ in
+    let b : length e ≡ length e₀ = ap length ae ∙ length-stored-from MAXCOLUMNS 0 (endsOf vs) e₀ in
     let m : length (startsOf vs) ≡ length vs = length-map vs _ in
     let n : length (endsOf vs) ≡ length vs = length-map vs _ in
     record {
       long-starts = omega arith;
       long-ends = omega arith;
-      starts-shown = λ h. ap (take (length vs)) as′ ∙ ap (λ (k : ℕ). take k (placed MAXCOLUMNS 0 (startsOf vs) s₀)) (sym m) ∙ placed-shown MAXCOLUMNS (startsOf vs) s₀ (omega arith) (omega arith);
-      ends-shown = λ h. ap (take (length vs)) ae ∙ ap (λ (k : ℕ). take k (placed MAXCOLUMNS 0 (endsOf vs) e₀)) (sym n) ∙ placed-shown MAXCOLUMNS (endsOf vs) e₀ (omega arith) (omega arith);
+      starts-shown = λ h. ap (take (length vs)) as′ ∙ ap (λ (k : ℕ). take k (storedFrom MAXCOLUMNS 0 (startsOf vs) s₀)) (sym m) ∙ stored-from-shown MAXCOLUMNS (startsOf vs) s₀ (omega arith) (omega arith);
+      ends-shown = λ h. ap (take (length vs)) ae ∙ ap (λ (k : ℕ). take k (storedFrom MAXCOLUMNS 0 (endsOf vs) e₀)) (sym n) ∙ stored-from-shown MAXCOLUMNS (endsOf vs) e₀ (omega arith) (omega arith);
     }
 
 -- ---- what the first event comes to
@@ -88,42 +88,42 @@ module _ (d : Dialect) (file : Bytes) where
   unfolding readFile readBytes nothingRead
   whole = refl
 
-  first-follows : Follows d none file [] First (restOf d file [] Top 0)
-  first-follows = follows d none file [] (drop 0 file) (between-records [] Top 0) refl
+  first-follows : ReadsAs d none file [] First (restOf d file [] Top 0)
+  first-follows = reads-as d none file [] (drop 0 file) (between-records [] Top 0) refl
 
   -- the report of a header's fault
   header-report : (r : Read) (x : Fault) (start : ℕ) (t : Report) → r .done ≡ [] → r .start ≡ start → headerFault d (First .cells) ≡ Faulty x → t ≡ report (numberOf x) 1 (columnOf x) start → t ≡ faultReport x r
   header-report r x start t a b w z =
       z ∙ ap (λ (m : ℕ). report (numberOf x) 1 (columnOf x) m) (sym b) ∙ report-start x r 0 (starts-of x (header-starts d (First .cells)) w) (ap length a)
 
-  judged-by : (r : Read) (u v : Verdict) → r .done ≡ [] → u ≡ headerFault d (First .cells) → u ≡ v → recordFault d none (r .done) (First .cells) ≡ v
-  judged-by r u v a j z = ap (λ (l : List Rec). recordFault d none l (First .cells)) a ∙ header-fault d (First .cells) ∙ sym j ∙ z
+  validated-by : (r : Read) (u v : Verdict) → r .done ≡ [] → u ≡ headerFault d (First .cells) → u ≡ v → recordFault d none (r .done) (First .cells) ≡ v
+  validated-by r u v a j z = ap (λ (l : List Rec). recordFault d none l (First .cells)) a ∙ header-fault d (First .cells) ∙ sym j ∙ z
 
   module _ (v : Event) (ev : v ≡ First .event) where
-    pub first-counts : (start n : ℕ) (g : Form) (o : ℕ) → v ≡ Completed start n g o → n ≡ length (First .cells)
+    pub first-counts : (start n : ℕ) (g : FileState) (o : ℕ) → v ≡ Completed start n g o → n ≡ length (First .cells)
     first-counts start n g o w = sym (on-record d file [] First _ first-follows start n g o (sym ev ∙ w) .counts)
 
     pub only-counts : (start n : ℕ) → v ≡ LastRecord start n → n ≡ length (First .cells)
     only-counts start n w = sym (on-last d file [] First _ first-follows start n (sym ev ∙ w) .counts)
 
     module _ (u : Verdict) (j : u ≡ headerFault d (First .cells)) where
-      pub header-sound : (start n : ℕ) (g : Form) (o : ℕ) → v ≡ Completed start n g o → Fits (length file) 0 0 v → u ≡ Sound → Heads d file (Header n g o)
+      pub header-sound : (start n : ℕ) (g : FileState) (o : ℕ) → v ≡ Completed start n g o → EventInBounds (length file) 0 0 v → u ≡ Sound → Heads d file (Header n g o)
       header-sound start n g o w fits z =
           let at = on-record d file [] First _ first-follows start n g o (sym ev ∙ w) in
-          let k : (0 < o) × (o ≤ length file) × (o ≤ MAXFILE) × (0 + n ≤ o) = subst (Fits (length file) 0 0) w fits in
+          let k : (0 < o) × (o ≤ length file) × (o ≤ MAXFILE) × (0 + n ≤ o) = subst (EventInBounds (length file) 0 0) w fits in
           let k3 : 0 + n ≤ o = k .3 in
           let c : length (First .cells) ≡ n = at .counts in
           let rec : Rec = recOf (at .r) (First .cells) in
           let p : readFile d none file ≡ restOf d file (rec ∷ []) g o =
           whole ∙ at .rest ∙ ap (λ (x : Progress). readEnd d none (readFrom d none x (drop o file)))
-          (complete-sound d (at .r) (First .cells) g o (judged-by (at .r) u Sound (at .done) j z) ∙ ap (λ (l : List Rec). going (between-records (l ++ (rec ∷ [])) g o)) (at .done)) in
+          (complete-sound d (at .r) (First .cells) g o (validated-by (at .r) u Sound (at .done) j z) ∙ ap (λ (l : List Rec). going (between-records (l ++ (rec ∷ [])) g o)) (at .done)) in
           subst (λ (m : ℕ). Heads d file (Header m g o)) c (with-data rec g o refl p (k .1) (k .2) (omega arith))
 
-      pub header-faulty : (start n : ℕ) (g : Form) (o : ℕ) → v ≡ Completed start n g o → (x : Fault) → u ≡ Faulty x → (t : Report) → t ≡ report (numberOf x) 1 (columnOf x) start → Heads d file (NoHeader t)
+      pub header-faulty : (start n : ℕ) (g : FileState) (o : ℕ) → v ≡ Completed start n g o → (x : Fault) → u ≡ Faulty x → (t : Report) → t ≡ report (numberOf x) 1 (columnOf x) start → Heads d file (NoHeader t)
       header-faulty start n g o w x z t te =
           let at = on-record d file [] First _ first-follows start n g o (sym ev ∙ w) in
           let p : readFile d none file ≡ stopped x (at .r) =
-          whole ∙ at .rest ∙ ap (λ (y : Progress). readEnd d none (readFrom d none y (drop o file))) (complete-faulty d (at .r) (First .cells) g o x (judged-by (at .r) u (Faulty x) (at .done) j z)) ∙ sym (stays d none x (at .r) (drop o file)) in
+          whole ∙ at .rest ∙ ap (λ (y : Progress). readEnd d none (readFrom d none y (drop o file))) (complete-faulty d (at .r) (First .cells) g o x (validated-by (at .r) u (Faulty x) (at .done) j z)) ∙ sym (stays d none x (at .r) (drop o file)) in
           let q : t ≡ faultReport x (at .r) = header-report (at .r) x start t (at .done) (at .starts) (sym j ∙ z) te in
           subst (λ (k : Report). Heads d file (NoHeader k)) (sym q) (faulty x (at .r) p)
 
@@ -134,13 +134,13 @@ module _ (d : Dialect) (file : Bytes) where
           let rec : Rec = recOf (at .r) (First .cells) in
           let r : Read = between-records (rec ∷ []) Begin (at .r .offset) in
           let p : readFile d none file ≡ going r =
-          whole ∙ at .rest ∙ complete-sound d (at .r) (First .cells) Begin (at .r .offset) (judged-by (at .r) u Sound (at .done) j z) ∙ ap (λ (l : List Rec). going (between-records (l ++ (rec ∷ [])) Begin (at .r .offset))) (at .done) in
+          whole ∙ at .rest ∙ complete-sound d (at .r) (First .cells) Begin (at .r .offset) (validated-by (at .r) u Sound (at .done) j z) ∙ ap (λ (l : List Rec). going (between-records (l ++ (rec ∷ [])) Begin (at .r .offset))) (at .done) in
           subst (λ (m : ℕ). Heads d file (HeaderOnly m)) c (alone rec r refl p refl)
 
       pub only-faulty : (start n : ℕ) → v ≡ LastRecord start n → (x : Fault) → u ≡ Faulty x → (t : Report) → t ≡ report (numberOf x) 1 (columnOf x) start → Heads d file (NoHeader t)
       only-faulty start n w x z t te =
           let at = on-last d file [] First _ first-follows start n (sym ev ∙ w) in
-          let p : readFile d none file ≡ stopped x (at .r) = whole ∙ at .rest ∙ complete-faulty d (at .r) (First .cells) Begin (at .r .offset) x (judged-by (at .r) u (Faulty x) (at .done) j z) in
+          let p : readFile d none file ≡ stopped x (at .r) = whole ∙ at .rest ∙ complete-faulty d (at .r) (First .cells) Begin (at .r .offset) x (validated-by (at .r) u (Faulty x) (at .done) j z) in
           let q : t ≡ faultReport x (at .r) = header-report (at .r) x start t (at .done) (at .starts) (sym j ∙ z) te in
           subst (λ (k : Report). Heads d file (NoHeader k)) (sym q) (faulty x (at .r) p)
 
@@ -167,8 +167,8 @@ module _ (d : Dialect) (file : Bytes) (vs : List Value) (n : ℕ) (starts ends :
   ends-there : take n ends ≡ endsOf vs
   ends-there = ap (λ (k : ℕ). take k ends) e ∙ y .ends-shown (omega arith)
 
-  pub judged-inside : Inside (length file) (take n starts) (take n ends)
-  judged-inside = rw (starts-there, ends-there) (inside-stand d file a)
+  pub validated-inside : Inside (length file) (take n starts) (take n ends)
+  validated-inside = rw (starts-there, ends-there) (inside-stand d file a)
 
-  pub judged-values : valuesOf d file (take n starts) (take n ends) ≡ vs
-  judged-values = rw (starts-there, ends-there) (values-stand d file a)
+  pub validated-values : valuesOf d file (take n starts) (take n ends) ≡ vs
+  validated-values = rw (starts-there, ends-there) (values-stand d file a)

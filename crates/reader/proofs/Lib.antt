@@ -1,5 +1,5 @@
 pub mod Filling
-pub mod Judging
+pub mod Validating
 pub mod Events
 pub mod Passing
 pub mod Headers

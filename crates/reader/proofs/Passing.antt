@@ -6,8 +6,8 @@ use mathlib.Core.Option.{none}
 use mathlib.Core.List.{List, [], _∷_, _++_, map, map-append, append-assoc, append-nil}
 use lib.ListN.{length, drop, length-append, length-map}
 use Rattle.model.specs.declared.Dialect.{Dialect}
-use Rattle.model.specs.declared.Form.{Form}
-use Rattle.model.specs.declared.Form.the-variants.{Begin}
+use Rattle.model.specs.declared.FileState.{FileState}
+use Rattle.model.specs.declared.FileState.the-variants.{Begin}
 use Rattle.model.specs.declared.Fault.{Fault}
 use Rattle.model.specs.declared.Report.{Report}
 use Rattle.model.specs.declared.Verdict.{Verdict}
@@ -17,32 +17,32 @@ use Rattle.model.specs.Text.{Value}
 use Rattle.model.specs.Report.{report, numberOf, columnOf, MAXFILE}
 use Rattle.model.specs.Records.{Rec, rows, Read, between-records, Progress, going, stopped, complete, readFrom, readEnd, recordFault, dataFault, faultReport}
 use Rattle.model.specs.Api.{startsOf, endsOf, kindsOf}
-use Rattle.scanner.specs.Next.{Next, nextRecord, Fits}
-use Rattle.scanner.specs.Placed.{placed}
-use Rattle.scanner.specs.Reading.{Follows}
+use Rattle.scanner.specs.Next.{Next, nextRecord, EventInBounds}
+use Rattle.scanner.specs.Stored.{storedFrom}
+use Rattle.scanner.specs.Reading.{ReadsAs}
 use Rattle.scanner.specs.declared.Event.{Event}
 use Rattle.scanner.specs.declared.Event.the-variants.{Completed, LastRecord, Failed, Finished}
-use Rattle.scanner.proofs.Placing.{length-placed}
-use Rattle.scanner.proofs.Reading.{stays, follows}
+use Rattle.scanner.proofs.Placing.{length-stored-from}
+use Rattle.scanner.proofs.Reading.{stays, reads-as}
 use Rattle.reader.specs.declared.records.Pass.the-variants.{Accepted, Refused}
 use Rattle.reader.specs.Passes.{restOf, Holds, Outcome, accepted, refused, Passes}
-use Rattle.reader.proofs.Filling.{placed-append}
-use Rattle.reader.proofs.Judging.{data-starts, starts-of, report-start, report-byte, data-fault, recOf, complete-sound, complete-faulty}
+use Rattle.reader.proofs.Filling.{stored-from-append}
+use Rattle.reader.proofs.Validating.{data-starts, starts-of, report-start, report-byte, data-fault, recOf, complete-sound, complete-faulty}
 use Rattle.reader.proofs.Events.{on-record, on-last, on-fault, on-finish}
 
 -- ---- lists
 
 -- more cells are put after those that stand there
-put-more : (φ : Value → ℕ) (room k n : ℕ) (vs ws : List Value) (old new out : List ℕ) → length vs ≡ n → new ≡ placed room k (map φ vs) old → out ≡ placed room (k + n) (map φ ws) new → out ≡ placed room k (map φ (vs ++ ws)) old
+put-more : (φ : Value → ℕ) (room k n : ℕ) (vs ws : List Value) (old new out : List ℕ) → length vs ≡ n → new ≡ storedFrom room k (map φ vs) old → out ≡ storedFrom room (k + n) (map φ ws) new → out ≡ storedFrom room k (map φ (vs ++ ws)) old
 put-more φ room k n vs ws old new out l e f =
     let m : length (map φ vs) ≡ n = length-map vs φ ∙ l in
     f
-    ∙ ap (λ (xs : List ℕ). placed room (k + n) (map φ ws) xs) e
-    ∙ ap (λ (i : ℕ). placed room (k + i) (map φ ws) (placed room k (map φ vs) old)) (sym m)
-    ∙ sym (placed-append room k (map φ vs) (map φ ws) old)
-    ∙ ap (λ (xs : List ℕ). placed room k xs old) (sym (map-append φ vs ws))
+    ∙ ap (λ (xs : List ℕ). storedFrom room (k + n) (map φ ws) xs) e
+    ∙ ap (λ (i : ℕ). storedFrom room (k + i) (map φ ws) (storedFrom room k (map φ vs) old)) (sym m)
+    ∙ sym (stored-from-append room k (map φ vs) (map φ ws) old)
+    ∙ ap (λ (xs : List ℕ). storedFrom room k xs old) (sym (map-append φ vs ws))
 
-pub more-held : (room k n : ℕ) (vs ws : List Value) (s₀ e₀ k₀ s e ks s′ e′ k′ : List ℕ) → length vs ≡ n → Holds room k vs s₀ e₀ k₀ s e ks → (s′ ≡ placed room (k + n) (startsOf ws) s) → (e′ ≡ placed room (k + n) (endsOf ws) e) → (k′ ≡ placed room (k + n) (kindsOf ws) ks) → Holds room k (vs ++ ws) s₀ e₀ k₀ s′ e′ k′
+pub more-held : (room k n : ℕ) (vs ws : List Value) (s₀ e₀ k₀ s e ks s′ e′ k′ : List ℕ) → length vs ≡ n → Holds room k vs s₀ e₀ k₀ s e ks → (s′ ≡ storedFrom room (k + n) (startsOf ws) s) → (e′ ≡ storedFrom room (k + n) (endsOf ws) e) → (k′ ≡ storedFrom room (k + n) (kindsOf ws) ks) → Holds room k (vs ++ ws) s₀ e₀ k₀ s′ e′ k′
 more-held room k n vs ws s₀ e₀ k₀ s e ks s′ e′ k′ l y a b c =
     record {
       at-starts = put-more _ room k n vs ws s₀ s s′ l (y .at-starts) a;
@@ -52,9 +52,9 @@ more-held room k n vs ws s₀ e₀ k₀ s e ks s′ e′ k′ l y a b c =
 
 pub held-lengths : {room k : ℕ} {vs : List Value} {s₀ e₀ k₀ s e ks : List ℕ} → Holds room k vs s₀ e₀ k₀ s e ks → (length s ≡ length s₀) × (length e ≡ length e₀) × (length ks ≡ length k₀)
 held-lengths {room} {k} {vs} {s₀} {e₀} {k₀} y = (
-  ap length (y .at-starts) ∙ length-placed room k (startsOf vs) s₀,
-  ap length (y .at-ends) ∙ length-placed room k (endsOf vs) e₀,
-  ap length (y .at-kinds) ∙ length-placed room k (kindsOf vs) k₀,
+  ap length (y .at-starts) ∙ length-stored-from room k (startsOf vs) s₀,
+  ap length (y .at-ends) ∙ length-stored-from room k (endsOf vs) e₀,
+  ap length (y .at-kinds) ∙ length-stored-from room k (kindsOf vs) k₀,
 )
 
 rows-snoc : (ds : List Rec) (r : Rec) → concat (rows (ds ++ (r ∷ []))) ≡ concat (rows ds) ++ r .cells
@@ -72,7 +72,7 @@ pub record Call : Type 0 where
   pub d : Dialect
   pub file : Bytes
   pub from : ℕ
-  pub first : Form
+  pub first : FileState
   pub columns : ℕ
   pub room : ℕ
   pub base : ℕ
@@ -84,13 +84,13 @@ module _ (call : Call) where
   open Call call using (d, file, from, first, columns, room, base, s₀, e₀, k₀)
 
   -- after the header h and so many data records with these cells, reading stands at i
-  pub record Turned (h : Rec) (vs : List Value) (f : Form) (i records : ℕ) : Type 0 where
+  pub record Turned (h : Rec) (vs : List Value) (f : FileState) (i records : ℕ) : Type 0 where
     pub ds : List Rec
     pub cells : concat (rows ds) ≡ vs
     pub count : length ds ≡ records
     pub rest : restOf d file (h ∷ []) first from ≡ restOf d file (h ∷ ds) f i
 
-  pub record Going (f : Form) (i cells records : ℕ) (s e k : List ℕ) : Type 0 where
+  pub record Going (f : FileState) (i cells records : ℕ) (s e k : List ℕ) : Type 0 where
     pub vs : List Value
     pub lists : Holds room base vs s₀ e₀ k₀ s e k
     pub counted : length vs ≡ cells
@@ -101,7 +101,7 @@ module _ (call : Call) where
     pub turn : (h : Rec) → length (h .cells) ≡ columns → Turned h vs f i records
 
   pub goes : from ≤ length file → from ≤ MAXFILE → base ≤ from → Going first from 0 0 s₀ e₀ k₀
-  unfolding placed rows concat
+  unfolding storedFrom rows concat
   goes l m b =
       record {
         vs = [];
@@ -114,17 +114,17 @@ module _ (call : Call) where
         turn = λ h q. record { ds = []; cells = refl; count = refl; rest = refl };
       }
 
-  module _ {f : Form} {i cells records : ℕ} {s e k : List ℕ} (y : Going f i cells records s e k) where
+  module _ {f : FileState} {i cells records : ℕ} {s e k : List ℕ} (y : Going f i cells records s e k) where
     abbrev Here : Next
     Here = nextRecord d (between-records [] f i) (drop i file)
 
     -- the scanner's answer
-    module _ {v : Event} (ev : v ≡ Here .event) {s′ e′ k′ : List ℕ} (ps : s′ ≡ placed room (base + cells) (startsOf (Here .cells)) s) (pe : e′ ≡ placed room (base + cells) (endsOf (Here .cells)) e) (pk : k′ ≡ placed room (base + cells) (kindsOf (Here .cells)) k) where
+    module _ {v : Event} (ev : v ≡ Here .event) {s′ e′ k′ : List ℕ} (ps : s′ ≡ storedFrom room (base + cells) (startsOf (Here .cells)) s) (pe : e′ ≡ storedFrom room (base + cells) (endsOf (Here .cells)) e) (pk : k′ ≡ storedFrom room (base + cells) (kindsOf (Here .cells)) k) where
       pub now-held : Holds room base (y .vs ++ Here .cells) s₀ e₀ k₀ s′ e′ k′
       now-held = more-held room base cells (y .vs) (Here .cells) s₀ e₀ k₀ s e k s′ e′ k′ (y .counted) (y .lists) ps pe pk
 
-      next-follows : (h : Rec) (ds : List Rec) → Follows d none file (h ∷ ds) Here (restOf d file (h ∷ ds) f i)
-      next-follows h ds = follows d none file (h ∷ ds) (drop i file) (between-records [] f i) refl
+      next-follows : (h : Rec) (ds : List Rec) → ReadsAs d none file (h ∷ ds) Here (restOf d file (h ∷ ds) f i)
+      next-follows h ds = reads-as d none file (h ∷ ds) (drop i file) (between-records [] f i) refl
 
       number : (r : Read) (h : Rec) (ds : List Rec) → r .done ≡ h ∷ ds → length ds ≡ records → length (r .done) ≡ suc records
       number r h ds q c = ap length q ∙ ap suc c
@@ -133,7 +133,7 @@ module _ (call : Call) where
       two-more = omega arith
 
       -- a record that is judged faulty
-      faulty-outcome : (h : Rec) (ds : List Rec) (r : Read) (start : ℕ) (g : Form) (o : ℕ) (x : Fault) (t : Report) → length (h .cells) ≡ columns → r .done ≡ h ∷ ds → length ds ≡ records → r .start ≡ start → dataFault columns (Here .cells) ≡ Faulty x → t ≡ report (numberOf x) (records + 2) (columnOf x) start → (complete d none r (Here .cells) g o ≡ stopped x r) × (t ≡ faultReport x r)
+      faulty-outcome : (h : Rec) (ds : List Rec) (r : Read) (start : ℕ) (g : FileState) (o : ℕ) (x : Fault) (t : Report) → length (h .cells) ≡ columns → r .done ≡ h ∷ ds → length ds ≡ records → r .start ≡ start → dataFault columns (Here .cells) ≡ Faulty x → t ≡ report (numberOf x) (records + 2) (columnOf x) start → (complete d none r (Here .cells) g o ≡ stopped x r) × (t ≡ faultReport x r)
       faulty-outcome h ds r start g o x t q a c b w z =
           let fault : recordFault d none (r .done) (Here .cells) ≡ Faulty x = ap (λ (l : List Rec). recordFault d none l (Here .cells)) a ∙ data-fault d h ds (Here .cells) ∙ ap (λ (n : ℕ). dataFault n (Here .cells)) q ∙ w in (
             complete-faulty d r (Here .cells) g o x fault,
@@ -141,25 +141,25 @@ module _ (call : Call) where
           )
 
       -- a record that is judged sound
-      sound-record : (h : Rec) (ds : List Rec) (r : Read) (g : Form) (o : ℕ) → length (h .cells) ≡ columns → r .done ≡ h ∷ ds → dataFault columns (Here .cells) ≡ Sound → complete d none r (Here .cells) g o ≡ going (between-records (h ∷ (ds ++ (recOf r (Here .cells) ∷ []))) g o)
+      sound-record : (h : Rec) (ds : List Rec) (r : Read) (g : FileState) (o : ℕ) → length (h .cells) ≡ columns → r .done ≡ h ∷ ds → dataFault columns (Here .cells) ≡ Sound → complete d none r (Here .cells) g o ≡ going (between-records (h ∷ (ds ++ (recOf r (Here .cells) ∷ []))) g o)
       sound-record h ds r g o q a w =
           let fault : recordFault d none (r .done) (Here .cells) ≡ Sound = ap (λ (l : List Rec). recordFault d none l (Here .cells)) a ∙ data-fault d h ds (Here .cells) ∙ ap (λ (n : ℕ). dataFault n (Here .cells)) q ∙ w in
           complete-sound d r (Here .cells) g o fault ∙ ap (λ (l : List Rec). going (between-records (l ++ (recOf r (Here .cells) ∷ [])) g o)) a
 
       -- ---- a complete record
 
-      module _ (start n : ℕ) (g : Form) (o : ℕ) (w : v ≡ Completed start n g o) (fits : Fits (length file) i (base + cells) v) (u : Verdict) (j : (ws : List Value) → length ws ≡ n → u ≡ dataFault columns ws) where
+      module _ (start n : ℕ) (g : FileState) (o : ℕ) (w : v ≡ Completed start n g o) (fits : EventInBounds (length file) i (base + cells) v) (u : Verdict) (j : (ws : List Value) → length ws ≡ n → u ≡ dataFault columns ws) where
         here : Here .event ≡ Completed start n g o
         here = sym ev ∙ w
 
         pub fits-here : (i < o) × (o ≤ length file) × (o ≤ MAXFILE) × (base + cells + n ≤ o)
-        fits-here = subst (Fits (length file) i (base + cells)) w fits
+        fits-here = subst (EventInBounds (length file) i (base + cells)) w fits
 
         pub counts-here : length (Here .cells) ≡ n
-        counts-here = on-record d file [] Here _ (follows d none file [] (drop i file) (between-records [] f i) refl) start n g o here .counts
+        counts-here = on-record d file [] Here _ (reads-as d none file [] (drop i file) (between-records [] f i) refl) start n g o here .counts
 
-        judged-here : u ≡ dataFault columns (Here .cells)
-        judged-here = j (Here .cells) counts-here
+        validated-here : u ≡ dataFault columns (Here .cells)
+        validated-here = j (Here .cells) counts-here
 
         pub record-on : u ≡ Sound → Going g o (cells + n) (records + 1) s′ e′ k′
         record-on z =
@@ -190,7 +190,7 @@ module _ (call : Call) where
                   rest =
                       x .rest ∙ at .rest
                       ∙ ap (λ (p : Progress). readEnd d none (readFrom d none p (drop o file)))
-                      (sound-record h (x .ds) (at .r) g o t (at .done) (sym judged-here ∙ z));
+                      (sound-record h (x .ds) (at .r) g o t (at .done) (sym validated-here ∙ z));
                 }
 
         pub record-refused : (x : Fault) → u ≡ Faulty x → (t : Report) → t ≡ report (numberOf x) (records + 2) (columnOf x) start → Passes d file from first columns room base s₀ e₀ k₀ (Refused t) s′ e′ k′
@@ -200,24 +200,24 @@ module _ (call : Call) where
             out : (h : Rec) → length (h .cells) ≡ columns → Turned h (y .vs) f i records → Outcome h (y .vs ++ Here .cells) (restOf d file (h ∷ []) first from) (Refused t)
             out h q a =
                 let at = on-record d file (h ∷ a .ds) Here _ (next-follows h (a .ds)) start n g o here in
-                let both = faulty-outcome h (a .ds) (at .r) start g o x t q (at .done) (a .count) (at .starts) (sym judged-here ∙ z) te in
+                let both = faulty-outcome h (a .ds) (at .r) start g o x t q (at .done) (a .count) (at .starts) (sym validated-here ∙ z) te in
                 let p : restOf d file (h ∷ []) first from ≡ stopped x (at .r) = a .rest ∙ at .rest ∙ ap (λ (r : Progress). readEnd d none (readFrom d none r (drop o file))) (both .0) ∙ sym (stays d none x (at .r) (drop o file)) in
                 rw (p, both .1) (refused x (at .r))
 
       -- ---- a last record
 
-      module _ (start n : ℕ) (w : v ≡ LastRecord start n) (fits : Fits (length file) i (base + cells) v) (u : Verdict) (j : (ws : List Value) → length ws ≡ n → u ≡ dataFault columns ws) where
+      module _ (start n : ℕ) (w : v ≡ LastRecord start n) (fits : EventInBounds (length file) i (base + cells) v) (u : Verdict) (j : (ws : List Value) → length ws ≡ n → u ≡ dataFault columns ws) where
         last-here : Here .event ≡ LastRecord start n
         last-here = sym ev ∙ w
 
         pub last-fits : (length file ≤ MAXFILE) × (base + cells + n ≤ length file + 1)
-        last-fits = subst (Fits (length file) i (base + cells)) w fits
+        last-fits = subst (EventInBounds (length file) i (base + cells)) w fits
 
         last-counts : length (Here .cells) ≡ n
-        last-counts = on-last d file [] Here _ (follows d none file [] (drop i file) (between-records [] f i) refl) start n last-here .counts
+        last-counts = on-last d file [] Here _ (reads-as d none file [] (drop i file) (between-records [] f i) refl) start n last-here .counts
 
-        last-judged : u ≡ dataFault columns (Here .cells)
-        last-judged = j (Here .cells) last-counts
+        last-validated : u ≡ dataFault columns (Here .cells)
+        last-validated = j (Here .cells) last-counts
 
         pub last-refused : (x : Fault) → u ≡ Faulty x → (t : Report) → t ≡ report (numberOf x) (records + 2) (columnOf x) start → Passes d file from first columns room base s₀ e₀ k₀ (Refused t) s′ e′ k′
         last-refused x z t te =
@@ -226,7 +226,7 @@ module _ (call : Call) where
             out : (h : Rec) → length (h .cells) ≡ columns → Turned h (y .vs) f i records → Outcome h (y .vs ++ Here .cells) (restOf d file (h ∷ []) first from) (Refused t)
             out h q a =
                 let at = on-last d file (h ∷ a .ds) Here _ (next-follows h (a .ds)) start n last-here in
-                let both = faulty-outcome h (a .ds) (at .r) start Begin (at .r .offset) x t q (at .done) (a .count) (at .starts) (sym last-judged ∙ z) te in
+                let both = faulty-outcome h (a .ds) (at .r) start Begin (at .r .offset) x t q (at .done) (a .count) (at .starts) (sym last-validated ∙ z) te in
                 let p : restOf d file (h ∷ []) first from ≡ stopped x (at .r) = a .rest ∙ at .rest ∙ both .0 in
                 rw (p, both .1) (refused x (at .r))
 
@@ -244,7 +244,7 @@ module _ (call : Call) where
                 let at = on-last d file (h ∷ a .ds) Here _ (next-follows h (a .ds)) start n last-here in
                 let rec : Rec = recOf (at .r) (Here .cells) in
                 let ds : List Rec = a .ds ++ (rec ∷ []) in
-                let p : restOf d file (h ∷ []) first from ≡ going (between-records (h ∷ ds) Begin (at .r .offset)) = a .rest ∙ at .rest ∙ sound-record h (a .ds) (at .r) Begin (at .r .offset) q (at .done) (sym last-judged ∙ z) in
+                let p : restOf d file (h ∷ []) first from ≡ going (between-records (h ∷ ds) Begin (at .r .offset)) = a .rest ∙ at .rest ∙ sound-record h (a .ds) (at .r) Begin (at .r .offset) q (at .done) (sym last-validated ∙ z) in
                 let c : length ds ≡ records + 1 = length-snoc (a .ds) rec ∙ ap (λ (m : ℕ). m + 1) (a .count) in
                 let t : concat (rows ds) ≡ y .vs ++ Here .cells = rows-snoc (a .ds) rec ∙ ap (λ (l : List Value). l ++ Here .cells) (a .cells) in
                 rw (p, sym c, sym total) (accepted (between-records (h ∷ ds) Begin (at .r .offset)) ds refl t)

@@ -9,13 +9,13 @@ use Rattle.model.specs.Api as api
 use Rattle.reader.specs.declared.Answer.{Answer}
 
 -- the report, columns, data records and cells, the header's included (§10.1)
-abbrev pub answerOf : api.ReadCall → Answer
-answerOf c = record { report = c .report; columns = c .columns; records = c .records; cells = c .cells }
+abbrev pub callAnswer : api.ReadCall → Answer
+callAnswer c = record { report = c .report; columns = c .columns; records = c .records; cells = c .cells }
 
 -- the same of an answer that has its cells
-abbrev pub told : api.Answer → Answer
-told a = record { report = a .report; columns = a .columns; records = a .records; cells = length (a .cells) }
+abbrev pub toAnswer : api.Answer → Answer
+toAnswer a = record { report = a .report; columns = a .columns; records = a .records; cells = length (a .cells) }
 
 -- the answer for a file of this dialect
 abbrev pub answerIn : Dialect → Bytes → (room : ℕ) → api.Answer
-answerIn d file room = api.answerOf (readFile d none file) room
+answerIn d file room = api.readAnswer (readFile d none file) room

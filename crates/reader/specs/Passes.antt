@@ -5,8 +5,8 @@ use mathlib.Core.Option.{none}
 use mathlib.Core.List.{List, [], _∷_}
 use lib.ListN.{length, take, drop}
 use Rattle.model.specs.declared.Dialect.{Dialect}
-use Rattle.model.specs.declared.Form.{Form}
-use Rattle.model.specs.declared.Form.the-variants.{Top}
+use Rattle.model.specs.declared.FileState.{FileState}
+use Rattle.model.specs.declared.FileState.the-variants.{Top}
 use Rattle.model.specs.declared.Fault.{Fault}
 use Rattle.model.specs.Base.{Bytes, concat}
 use Rattle.model.specs.Text.{Value}
@@ -14,7 +14,7 @@ use Rattle.model.specs.Report.{MAXFILE, MAXCOLUMNS}
 use Rattle.model.specs.Records.{Rec, rows, Read, between-records, Progress, going, stopped, readFrom, readEnd, readFile, faultReport}
 use Rattle.model.specs.Api.{startsOf, endsOf, kindsOf}
 use Rattle.scanner.specs.Next.{Next, nextRecord}
-use Rattle.scanner.specs.Placed.{placed}
+use Rattle.scanner.specs.Stored.{storedFrom}
 use Rattle.reader.specs.declared.records.Head.{Head}
 use Rattle.reader.specs.declared.records.Head.the-variants.{Header, HeaderOnly, NoHeader}
 use Rattle.reader.specs.declared.records.Pass.{Pass}
@@ -25,7 +25,7 @@ abbrev pub firstOf : Dialect → Bytes → Next
 firstOf d file = nextRecord d (between-records [] Top 0) (drop 0 file)
 
 -- reading from i to the end of the file, after these records
-abbrev pub restOf : Dialect → (file : Bytes) → List Rec → Form → (i : ℕ) → Progress
+abbrev pub restOf : Dialect → (file : Bytes) → List Rec → FileState → (i : ℕ) → Progress
 restOf d file rs f i = readEnd d none (readFrom d none (going (between-records rs f i)) (drop i file))
 
 -- lists that show these cells, if they are no more than a record may have
@@ -38,7 +38,7 @@ pub record Shows (vs : List Value) (starts ends : List ℕ) : Type 0 where
 -- what a file begins with
 pub data Heads (d : Dialect) (file : Bytes) : Head → Type 0 where
   with-data :
-      (h : Rec) (f : Form) (next : ℕ) → h .cells ≡ firstOf d file .cells → readFile d none file ≡ restOf d file (h ∷ []) f next →
+      (h : Rec) (f : FileState) (next : ℕ) → h .cells ≡ firstOf d file .cells → readFile d none file ≡ restOf d file (h ∷ []) f next →
       next ≤ length file → next ≤ MAXFILE → length (h .cells) ≤ next → Heads d file (Header (length (h .cells)) f next)
   alone :
       (h : Rec) (r : Read) → h .cells ≡ firstOf d file .cells → readFile d none file ≡ going r → r .done ≡ h ∷ [] →
@@ -47,9 +47,9 @@ pub data Heads (d : Dialect) (file : Bytes) : Head → Type 0 where
 
 -- lists that hold these cells from place k on, as far as there is room
 pub record Holds (room k : ℕ) (vs : List Value) (starts₀ ends₀ kinds₀ starts ends kinds : List ℕ) : Type 0 where
-  pub at-starts : starts ≡ placed room k (startsOf vs) starts₀
-  pub at-ends : ends ≡ placed room k (endsOf vs) ends₀
-  pub at-kinds : kinds ≡ placed room k (kindsOf vs) kinds₀
+  pub at-starts : starts ≡ storedFrom room k (startsOf vs) starts₀
+  pub at-ends : ends ≡ storedFrom room k (endsOf vs) ends₀
+  pub at-kinds : kinds ≡ storedFrom room k (kindsOf vs) kinds₀
 
 -- what the data records come to, after the header h; `vs` are the cells that were met
 pub data Outcome (h : Rec) (vs : List Value) : Progress → Pass → Type 0 where
@@ -62,7 +62,7 @@ abbrev pub Few : (base : ℕ) → Pass → Type 0
 Few base (Accepted records cells) = base + cells ≤ MAXFILE + 1
 Few base (Refused e) = Unit {0}
 
-pub record Passes (d : Dialect) (file : Bytes) (from : ℕ) (f : Form) (columns room base : ℕ) (starts₀ ends₀ kinds₀ : List ℕ) (p : Pass) (starts ends kinds : List ℕ) : Type 0 where
+pub record Passes (d : Dialect) (file : Bytes) (from : ℕ) (f : FileState) (columns room base : ℕ) (starts₀ ends₀ kinds₀ : List ℕ) (p : Pass) (starts ends kinds : List ℕ) : Type 0 where
   pub vs : List Value
   pub lists : Holds room base vs starts₀ ends₀ kinds₀ starts ends kinds
   pub outcome : (h : Rec) → length (h .cells) ≡ columns → Outcome h vs (restOf d file (h ∷ []) f from) p

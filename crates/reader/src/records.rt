@@ -9,7 +9,7 @@ ghost use Rattle.scanner.specs.Stretches.{StandsIn};
 ghost use Rattle.reader.specs.Passes.{firstOf, Shows, Heads, Passes};
 use model::Dialect;
 use model::Fault;
-use model::Form;
+use model::FileState;
 use model::Report;
 use model::Verdict;
 use numbers::MAX_COLUMNS;
@@ -20,7 +20,7 @@ pub enum Head {
     // A header with so many cells. Where the file stands after it, and the next offset.
     Header {
         cells: usize,
-        form: Form,
+        state: FileState,
         next: usize,
     },
     // A header with so many cells, and nothing else.
@@ -31,7 +31,7 @@ pub enum Head {
 }
 
 // The first record, whose cells stand in these lists as far as there is room.
-fn judged(d: Dialect, file: &[u8], cells: usize, starts: &[usize], ends: &[usize]) -> Verdict
+fn validated(d: Dialect, file: &[u8], cells: usize, starts: &[usize], ends: &[usize]) -> Verdict
     requires { ⌜ cells ≡ length (firstOf d (now file) .cells) ⌝ }
     requires { ⌜ Shows (firstOf d (now file) .cells) (now starts) (now ends) ⌝ }
     requires { ⌜ All (StandsIn d (now file)) (firstOf d (now file) .cells) ⌝ }
@@ -40,7 +40,7 @@ fn judged(d: Dialect, file: &[u8], cells: usize, starts: &[usize], ends: &[usize
     if MAX_COLUMNS < cells {
         return Verdict::Faulty(Fault::TooManyColumns);
     }
-    judge::header(d, file, &starts[..cells], &ends[..cells])
+    validate::header(d, file, &starts[..cells], &ends[..cells])
 }
 
 // The first record of a file, judged.
@@ -54,7 +54,7 @@ pub fn first_record(d: Dialect, file: &[u8]) -> Head
         d,
         file,
         0,
-        Form::Top,
+        FileState::Top,
         MAX_COLUMNS,
         0,
         &mut starts,
@@ -64,13 +64,13 @@ pub fn first_record(d: Dialect, file: &[u8]) -> Head
         Event::Completed {
             start,
             cells,
-            form,
+            state,
             next,
-        } => match judged(d, file, cells, &starts, &ends) {
-            Verdict::Sound => Head::Header { cells, form, next },
+        } => match validated(d, file, cells, &starts, &ends) {
+            Verdict::Sound => Head::Header { cells, state, next },
             Verdict::Faulty(e) => Head::NoHeader(numbers::on_record(e, 1, start)),
         },
-        Event::LastRecord { start, cells } => match judged(d, file, cells, &starts, &ends) {
+        Event::LastRecord { start, cells } => match validated(d, file, cells, &starts, &ends) {
             Verdict::Sound => Head::HeaderOnly { cells },
             Verdict::Faulty(e) => Head::NoHeader(numbers::on_record(e, 1, start)),
         },
@@ -95,7 +95,7 @@ pub fn data_records(
     d: Dialect,
     file: &[u8],
     from: usize,
-    first: Form,
+    first: FileState,
     columns: usize,
     room: usize,
     base: usize,
@@ -107,20 +107,20 @@ pub fn data_records(
     requires { ⌜ (room ≤ length (now starts)) × (room ≤ length (now ends)) × (room ≤ length (now kinds)) ⌝ }
     ensures { λ r. ⌜ Passes d (now (file .entry)) from first columns room base (now (starts .entry)) (now (ends .entry)) (now (kinds .entry)) r (now (starts .exit)) (now (ends .exit)) (now (kinds .exit)) ⌝ }
 {
-    let mut form = first;
+    let mut state = first;
     let mut i = from;
     let mut cells: usize = 0;
     let mut records: usize = 0;
     loop {
-        match scanner::next_record(d, file, i, form, room, base + cells, starts, ends, kinds) {
+        match scanner::next_record(d, file, i, state, room, base + cells, starts, ends, kinds) {
             Event::Completed {
                 start,
                 cells: n,
-                form: f,
+                state: f,
                 next,
-            } => match judge::data(columns, n) {
+            } => match validate::data(columns, n) {
                 Verdict::Sound => {
-                    form = f;
+                    state = f;
                     i = next;
                     cells += n;
                     records += 1;
@@ -129,7 +129,7 @@ pub fn data_records(
                     return Pass::Refused(numbers::on_record(e, records + 2, start));
                 }
             },
-            Event::LastRecord { start, cells: n } => match judge::data(columns, n) {
+            Event::LastRecord { start, cells: n } => match validate::data(columns, n) {
                 Verdict::Sound => {
                     return Pass::Accepted {
                         records: records + 1,

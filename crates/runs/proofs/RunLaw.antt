@@ -18,22 +18,22 @@ use Rattle.model.specs.declared.Cell.{Cell}
 use Rattle.model.specs.declared.Verdict.{Verdict}
 use Rattle.model.specs.declared.Verdict.the-variants.{Sound, Faulty}
 use Rattle.model.specs.declared.Fault.{Fault}
-use Rattle.model.specs.declared.Form.{Form}
-use Rattle.model.specs.declared.Form.the-variants.{Top, Begin, Ended, Mark1, Mark2, PlainMark1, PlainMark2, Comment, Blanks, Wanting, Inside, After, Cr}
-use Rattle.model.specs.declared.Part.the-variants.{Outside, OfCell}
+use Rattle.model.specs.declared.FileState.{FileState}
+use Rattle.model.specs.declared.FileState.the-variants.{Top, Begin, Ended, Mark1, Mark2, PlainMark1, PlainMark2, Comment, Blanks, Wanting, Inside, After, Cr}
+use Rattle.model.specs.declared.ByteRole.the-variants.{Outside, OfCell}
 use Rattle.model.specs.declared.Step.{Step}
 use Rattle.model.specs.declared.Step.the-variants.{To}
 use Rattle.model.specs.Base.{Bytes, if_then_else_}
 use Rattle.model.specs.Dialect.{quoteOf}
-use Rattle.model.specs.Form.{inCell, formStep}
+use Rattle.model.specs.File.{inCell, fileStep}
 use Rattle.model.specs.Report.{MAXFILE, MAXRECORD}
-use Rattle.model.specs.Records.{Rec, Read, between-records, nothingRead, Progress, going, stopped, closing, judged, complete, move, recordFault, fileFull, recordFull, readByte, readFrom, readBytes}
+use Rattle.model.specs.Records.{Rec, Read, between-records, nothingRead, Progress, going, stopped, closing, validated, complete, move, recordFault, fileFull, recordFull, readByte, readFrom, readBytes}
 use Rattle.model.proofs.Tests.{split}
 use Rattle.model.proofs.Reading.{read-append}
-use Rattle.model.proofs.FormSteps.{Grown, g-inside, g-plain1, g-plain2, Opens, o-after, o-wanting, o-fresh, Goes, refuses, outside, passes, adds, blanks, parts, turns, ends, ends-cr, step-goes}
+use Rattle.model.proofs.FileSteps.{Grown, g-inside, g-plain1, g-plain2, Opens, o-after, o-wanting, o-fresh, Transition, refuses, outside, passes, adds, blanks, parts, turns, ends, ends-cr, step-transition}
 use Rattle.runs.specs.declared.RunStop.{RunStop}
 use Rattle.runs.specs.declared.RunStop.the-variants.{At, NoRun}
-use Rattle.model.specs.Api.{part}
+use Rattle.model.specs.Api.{slice}
 use Rattle.runs.specs.Run.{ordinary, leading, runStop, runLength}
 use Rattle.runs.specs.RunLaw.{Place, in-cell, in-comment, elsewhere, placeIn, runAt, ranAt, runIn, ran, Stands, InLimits, RunLaw}
 use Rattle.runs.proofs.Runs.{run-step, comment-step}
@@ -52,7 +52,7 @@ ran-append (in-comment t) r xs ys =
     cc
 ran-append elsewhere r xs ys = refl
 
-ran-form : (k : Place) (r : Read) (xs : Bytes) → ranAt k r xs .form ≡ r .form
+ran-form : (k : Place) (r : Read) (xs : Bytes) → ranAt k r xs .state ≡ r .state
 unfolding ranAt
 ran-form (in-cell c) r xs = refl
 ran-form (in-comment t) r xs = refl
@@ -69,26 +69,26 @@ all-ordinary p q b xs e = go (ordinary p q b) e
     go false h = absurd (omega arith)
 
 module _ (d : Dialect) (target : Option Target) where
-  of-cell : (c : Cell) (r : Read) (b : ℕ) → formStep d (r .form) b ≡ To (r .form) OfCell → r .offset < MAXFILE → r .size < MAXRECORD → readByte d target r b ≡ going (ranAt (in-cell c) r (b ∷ []))
+  of-cell : (c : Cell) (r : Read) (b : ℕ) → fileStep d (r .state) b ≡ To (r .state) OfCell → r .offset < MAXFILE → r .size < MAXRECORD → readByte d target r b ≡ going (ranAt (in-cell c) r (b ∷ []))
   unfolding readByte fileFull recordFull move ranAt if_then_else_
   of-cell c r b e h k =
       let n : suc (r .offset) ≡ r .offset + 1 = omega arith in
       let m : suc (r .size) ≡ r .size + 1 = omega arith in
       rw (lt-leb MAXFILE (r .offset) h, lt-leb MAXRECORD (r .size) k, e) (cc)
 
-  of-comment : (t : Char) (r : Read) (b : ℕ) → formStep d (r .form) b ≡ To (r .form) Outside → r .offset < MAXFILE → r .size < MAXRECORD → readByte d target r b ≡ going (ranAt (in-comment t) r (b ∷ []))
+  of-comment : (t : Char) (r : Read) (b : ℕ) → fileStep d (r .state) b ≡ To (r .state) Outside → r .offset < MAXFILE → r .size < MAXRECORD → readByte d target r b ≡ going (ranAt (in-comment t) r (b ∷ []))
   unfolding readByte fileFull recordFull move ranAt if_then_else_
   of-comment t r b e h k =
       let n : suc (r .offset) ≡ r .offset + 1 = omega arith in
       rw (lt-leb MAXFILE (r .offset) h, lt-leb MAXRECORD (r .size) k, e) (cc)
 
   -- an ordinary byte is read as a run of one byte
-  abbrev One : Place → (p q : ℕ) → Form → Type 0
+  abbrev One : Place → (p q : ℕ) → FileState → Type 0
   One k p q f =
-      (r : Read) (b : ℕ) (xs : Bytes) → r .form ≡ f → ranAt k r [] ≡ r → ordinary p q b ≡ true → InLimits (ranAt k r (b ∷ xs)) → readByte d target r b ≡ going (ranAt k r (b ∷ []))
+      (r : Read) (b : ℕ) (xs : Bytes) → r .state ≡ f → ranAt k r [] ≡ r → ordinary p q b ≡ true → InLimits (ranAt k r (b ∷ xs)) → readByte d target r b ≡ going (ranAt k r (b ∷ []))
 
   one-of-cell : (c : Cell) (q : ℕ) → runStop d c ≡ At q → One (in-cell c) (quoteOf d) q (Inside c)
-  unfolding formStep inCell ranAt
+  unfolding fileStep inCell ranAt
   one-of-cell c q e r b xs g s o l =
       let h : r .offset + suc (length xs) ≤ MAXFILE = l .file in
       let k : r .size + suc (length xs) ≤ MAXRECORD = l .size in
@@ -101,7 +101,7 @@ module _ (d : Dialect) (target : Option Target) where
       let k : 0 ≡ r .size = ap (λ (x : Read). x .size) s in
       of-comment Whole r b (rw g (comment-step d b o)) (omega arith) (omega arith)
 
-  many : (k : Place) (p q : ℕ) (f : Form) → One k p q f → (xs : Bytes) → leading p q xs ≡ length xs → (r : Read) → r .form ≡ f → ranAt k r [] ≡ r → InLimits (ranAt k r xs) → readFrom d target (going r) xs ≡ going (ranAt k r xs)
+  many : (k : Place) (p q : ℕ) (f : FileState) → One k p q f → (xs : Bytes) → leading p q xs ≡ length xs → (r : Read) → r .state ≡ f → ranAt k r [] ≡ r → InLimits (ranAt k r xs) → readFrom d target (going r) xs ≡ going (ranAt k r xs)
   unfolding readFrom
   many k p q f one [] e r g s l = ap going (sym s)
   many k p q f one (b ∷ xs) e r g s l =
@@ -115,16 +115,16 @@ module _ (d : Dialect) (target : Option Target) where
   none k [] e r s = ap going (sym s)
   none k (b ∷ xs) e r s = absurd (omega arith)
 
-  in-cell-run : (c : Cell) (x : RunStop) → runStop d c ≡ x → (r : Read) (xs : Bytes) → r .form ≡ Inside c → ranAt (in-cell c) r [] ≡ r → runLength d x xs ≡ length xs → InLimits (ranAt (in-cell c) r xs) → readFrom d target (going r) xs ≡ going (ranAt (in-cell c) r xs)
+  in-cell-run : (c : Cell) (x : RunStop) → runStop d c ≡ x → (r : Read) (xs : Bytes) → r .state ≡ Inside c → ranAt (in-cell c) r [] ≡ r → runLength d x xs ≡ length xs → InLimits (ranAt (in-cell c) r xs) → readFrom d target (going r) xs ≡ going (ranAt (in-cell c) r xs)
   in-cell-run c (At q) h r xs g s e l = many (in-cell c) (quoteOf d) q (Inside c) (one-of-cell c q h) xs e r g s l
   in-cell-run c NoRun h r xs g s e l = none (in-cell c) xs e r s
 
-  in-comment-run : (t : Char) (r : Read) (xs : Bytes) → r .form ≡ Comment t → ranAt (in-comment t) r [] ≡ r → runAt d (in-comment t) xs ≡ length xs → InLimits (ranAt (in-comment t) r xs) → readFrom d target (going r) xs ≡ going (ranAt (in-comment t) r xs)
+  in-comment-run : (t : Char) (r : Read) (xs : Bytes) → r .state ≡ Comment t → ranAt (in-comment t) r [] ≡ r → runAt d (in-comment t) xs ≡ length xs → InLimits (ranAt (in-comment t) r xs) → readFrom d target (going r) xs ≡ going (ranAt (in-comment t) r xs)
   unfolding runAt
   in-comment-run Whole r xs g s e l = many (in-comment Whole) 0 0 (Comment Whole) one-of-comment xs e r g s l
   in-comment-run (Within i) r xs g s e l = none (in-comment (Within i)) xs e r s
 
-  in-form-run : (f : Form) (r : Read) (xs : Bytes) → r .form ≡ f → ranAt (placeIn f) r [] ≡ r → runAt d (placeIn f) xs ≡ length xs → InLimits (ranAt (placeIn f) r xs) → readFrom d target (going r) xs ≡ going (ranAt (placeIn f) r xs)
+  in-form-run : (f : FileState) (r : Read) (xs : Bytes) → r .state ≡ f → ranAt (placeIn f) r [] ≡ r → runAt d (placeIn f) xs ≡ length xs → InLimits (ranAt (placeIn f) r xs) → readFrom d target (going r) xs ≡ going (ranAt (placeIn f) r xs)
   unfolding runAt
   in-form-run Top r xs g s e l = none elsewhere xs e r s
   in-form-run Begin r xs g s e l = none elsewhere xs e r s
@@ -140,8 +140,8 @@ module _ (d : Dialect) (target : Option Target) where
   in-form-run After r xs g s e l = none elsewhere xs e r s
   in-form-run Cr r xs g s e l = none elsewhere xs e r s
 
-  pub run : (r : Read) (xs : Bytes) → Stands r → runIn d (r .form) xs ≡ length xs → InLimits (ran r xs) → readFrom d target (going r) xs ≡ going (ran r xs)
-  run r xs s e l = in-form-run (r .form) r xs refl s e l
+  pub run : (r : Read) (xs : Bytes) → Stands r → runIn d (r .state) xs ≡ length xs → InLimits (ran r xs) → readFrom d target (going r) xs ≡ going (ran r xs)
+  run r xs s e l = in-form-run (r .state) r xs refl s e l
 
 -- ---- the beginning of a run
 
@@ -172,11 +172,11 @@ run-take d (in-comment (Within i)) n bs h = take-none n bs h
 run-take d elsewhere n bs h = take-none n bs h
 
 module _ (d : Dialect) (target : Option Target) where
-  pub rest : (r : Read) (n : ℕ) (bs : Bytes) → Stands r → n ≤ runIn d (r .form) bs → InLimits (ran r (take n bs)) → readFrom d target (going r) bs ≡ readFrom d target (going (ran r (take n bs))) (drop n bs)
+  pub rest : (r : Read) (n : ℕ) (bs : Bytes) → Stands r → n ≤ runIn d (r .state) bs → InLimits (ran r (take n bs)) → readFrom d target (going r) bs ≡ readFrom d target (going (ran r (take n bs))) (drop n bs)
   rest r n bs s h l =
       ap (readFrom d target (going r)) (sym (take-append-drop n bs))
       ∙ read-append d target (going r) (take n bs) (drop n bs)
-      ∙ ap (λ (p : Progress). readFrom d target p (drop n bs)) (run d target r (take n bs) s (run-take d (placeIn (r .form)) n bs h) l)
+      ∙ ap (λ (p : Progress). readFrom d target p (drop n bs)) (run d target r (take n bs) s (run-take d (placeIn (r .state)) n bs h) l)
 
 -- ---- the run that a function finds in a part of a slice
 
@@ -203,13 +203,13 @@ run-fewer d elsewhere n bs = omega arith
 
 module _ (d : Dialect) (target : Option Target) (r : Read) (s : Bytes) (at stop m : ℕ) where
   -- reading a slice on from `at` is reading it on from m, where the run that begins at `at` ends before `stop`
-  pub rest-of-slice : Stands r → m ≡ at + runIn d (r .form) (part s at stop) → InLimits (ran r (part s at m)) → readFrom d target (going r) (drop at s) ≡ readFrom d target (going (ran r (part s at m))) (drop m s)
+  pub rest-of-slice : Stands r → m ≡ at + runIn d (r .state) (slice s at stop) → InLimits (ran r (slice s at m)) → readFrom d target (going r) (drop at s) ≡ readFrom d target (going (ran r (slice s at m))) (drop m s)
   rest-of-slice w e l =
-      let h : runIn d (r .form) (part s at stop) ≤ runIn d (r .form) (drop at s) = run-fewer d (placeIn (r .form)) (stop - at) (drop at s) in
-      let n : m - at ≤ runIn d (r .form) (drop at s) = omega arith in
+      let h : runIn d (r .state) (slice s at stop) ≤ runIn d (r .state) (drop at s) = run-fewer d (placeIn (r .state)) (stop - at) (drop at s) in
+      let n : m - at ≤ runIn d (r .state) (drop at s) = omega arith in
       let k : at + (m - at) ≡ m = omega arith in
       rest d target r (m - at) (drop at s) w n l
-      ∙ ap (readFrom d target (going (ran r (part s at m)))) (drop-drop (m - at) at s ∙ ap (λ (i : ℕ). drop i s) k)
+      ∙ ap (readFrom d target (going (ran r (slice s at m)))) (drop-drop (m - at) at s ∙ ap (λ (i : ℕ). drop i s) k)
 
 -- ---- in a comment no record is in hand
 
@@ -217,12 +217,12 @@ data InRecord : Place → Type 0 where
   at-cell : {c : Cell} → InRecord (in-cell c)
   at-none : InRecord elsewhere
 
-grown-record : {f : Form} → Grown f → InRecord (placeIn f)
+grown-record : {f : FileState} → Grown f → InRecord (placeIn f)
 grown-record g-inside = at-cell
 grown-record g-plain1 = at-none
 grown-record g-plain2 = at-none
 
-opens-record : {f : Form} → Opens f → InRecord (placeIn f)
+opens-record : {f : FileState} → Opens f → InRecord (placeIn f)
 opens-record o-after = at-none
 opens-record o-wanting = at-none
 opens-record o-fresh = at-cell
@@ -238,23 +238,23 @@ recording (in-cell c) r w =
     let n : r .offset + 0 ≡ r .offset = omega arith in
     let m : r .size + 0 ≡ r .size = omega arith in
     let l : r .raw ++ [] ≡ r .raw = append-nil (r .raw) in
-    let e : ranAt (in-cell c) r [] ≡ record { done = r .done; form = r .form; offset = r .offset; start = r .start; size = r .size; opened = r .opened; raw = r .raw; cells = r .cells } = cc in
+    let e : ranAt (in-cell c) r [] ≡ record { done = r .done; state = r .state; offset = r .offset; start = r .start; size = r .size; opened = r .opened; raw = r .raw; cells = r .cells } = cc in
     e
 recording elsewhere r w = refl
 
-resting : (k : Place) (rs : List Rec) (f : Form) (o s : ℕ) → ranAt k (record { done = rs; form = f; offset = o; start = s; size = 0; opened = o; raw = []; cells = [] }) [] ≡ record { done = rs; form = f; offset = o; start = s; size = 0; opened = o; raw = []; cells = [] }
+resting : (k : Place) (rs : List Rec) (f : FileState) (o s : ℕ) → ranAt k (record { done = rs; state = f; offset = o; start = s; size = 0; opened = o; raw = []; cells = [] }) [] ≡ record { done = rs; state = f; offset = o; start = s; size = 0; opened = o; raw = []; cells = [] }
 unfolding ranAt
 resting (in-cell c) rs f o s = let n : o + 0 ≡ o = omega arith in cc
 resting (in-comment t) rs f o s = let n : o + 0 ≡ o = omega arith in cc
 resting elsewhere rs f o s = refl
 
 module _ (d : Dialect) (target : Option Target) where
-  judged-stands : (r : Read) (rs : List Rec) (f : Form) (o : ℕ) (v : Verdict) → StandsAfter (judged r (between-records rs f o) v)
+  judged-stands : (r : Read) (rs : List Rec) (f : FileState) (o : ℕ) (v : Verdict) → StandsAfter (validated r (between-records rs f o) v)
   judged-stands r rs f o Sound = goes-on (resting (placeIn f) rs f o o)
   judged-stands r rs f o (Faulty e) = stops
 
   -- a step into a comment is outside records
-  move-stands : (r : Read) (b : ℕ) {f : Form} {s : Step} → Goes d f b s → StandsAfter (move d target r b s)
+  move-stands : (r : Read) (b : ℕ) {f : FileState} {s : Step} → Transition d f b s → StandsAfter (move d target r b s)
   unfolding move complete
   move-stands r b (refuses t) = stops
   move-stands r b (outside {g} t w x) = goes-on (resting (placeIn g) (r .done) g (suc (r .offset)) (r .start))
@@ -270,7 +270,7 @@ module _ (d : Dialect) (target : Option Target) where
   pub byte-stands : (r : Read) (b : ℕ) → StandsAfter (readByte d target r b)
   unfolding readByte
   byte-stands r b =
-      split StandsAfter _ (λ _. stops) λ _. split StandsAfter _ (λ _. stops) λ _. move-stands r b (step-goes d (r .form) b)
+      split StandsAfter _ (λ _. stops) λ _. split StandsAfter _ (λ _. stops) λ _. move-stands r b (step-transition d (r .state) b)
 
   pub read-stands : (p : Progress) (xs : Bytes) → StandsAfter p → StandsAfter (readFrom d target p xs)
   unfolding readFrom

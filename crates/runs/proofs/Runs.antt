@@ -14,31 +14,31 @@ use Rattle.model.specs.declared.Dialect.the-variants.{Csvj, Tdif, CsvPlus}
 use Rattle.model.specs.declared.Char.the-variants.{Whole, Within}
 use Rattle.model.specs.declared.Cell.{Cell}
 use Rattle.model.specs.declared.Cell.the-variants.{Fresh, Quoted, Closed, Escape, Hex, InNumber, InWord, Plain, Complete}
-use Rattle.model.specs.declared.Added.the-variants.{More, Stop, Refuse}
+use Rattle.model.specs.declared.CellStep.the-variants.{More, Stop, Refuse}
 use Rattle.model.specs.declared.ByteFault.{ByteFault}
-use Rattle.model.specs.declared.Form.the-variants.{Comment}
-use Rattle.model.specs.declared.Part.the-variants.{Outside}
+use Rattle.model.specs.declared.FileState.the-variants.{Comment}
+use Rattle.model.specs.declared.ByteRole.the-variants.{Outside}
 use Rattle.model.specs.declared.Step.the-variants.{To}
 use Rattle.model.specs.Base.{Bytes, if_then_else_, within, _is_, QUOTE, CR, LF}
 use Rattle.model.specs.Dialect.{quoteOf, delimiterOf}
 use Rattle.model.specs.Cell.{quotedByte, plainByte, cellStep}
-use Rattle.model.specs.Form.{formStep}
+use Rattle.model.specs.File.{fileStep}
 use Rattle.model.proofs.Tests.{split, impossible, within-true}
 use Rattle.model.proofs.Utf8.{ascii-whole}
 use Rattle.runs.specs.declared.RunStop.{RunStop}
 use Rattle.runs.specs.declared.RunStop.the-variants.{At, NoRun}
 use Rattle.runs.specs.declared.CellEnd.the-variants.{Stopped, Refused, Open}
-use Rattle.model.specs.Api.{part}
+use Rattle.model.specs.Api.{slice}
 use Rattle.runs.specs.Run.{ordinary, leading, runStop, runLength, cellRun}
 
-pub part-next : (s : Bytes) (i stop : ℕ) → i < stop → stop ≤ length s → part s i stop ≡ getD s i 0 ∷ part s (i + 1) stop
+pub part-next : (s : Bytes) (i stop : ℕ) → i < stop → stop ≤ length s → slice s i stop ≡ getD s i 0 ∷ slice s (i + 1) stop
 part-next s i stop h k =
     let n : stop - i ≡ suc (stop - (i + 1)) = omega arith in
     let l : i < length s = omega arith in
     let e : drop i s ≡ getD s i 0 ∷ drop (i + 1) s = rw (add-one, drop-cons s i 0) in
     rw (n, e)
 
-pub part-end : (s : Bytes) (i : ℕ) → part s i i ≡ []
+pub part-end : (s : Bytes) (i : ℕ) → slice s i i ≡ []
 part-end s i = let n : i - i ≡ 0 = omega arith in rw n
 
 -- ---- where a run ends
@@ -64,15 +64,15 @@ unfolding ordinary
 goes-on p q b l h m n = rw (le-leb 0x20 b l, le-leb b 0x7E h, ne-eqb b p m, ne-eqb b q n)
 
 module _ (s : Bytes) (i stop p q : ℕ) (h : i < stop) (k : stop ≤ length s) where
-  pub leading-on : ordinary p q (getD s i 0) ≡ true → i + leading p q (part s i stop) ≡ (i + 1) + leading p q (part s (i + 1) stop)
+  pub leading-on : ordinary p q (getD s i 0) ≡ true → i + leading p q (slice s i stop) ≡ (i + 1) + leading p q (slice s (i + 1) stop)
   unfolding leading if_then_else_
   leading-on e = rw (part-next s i stop h k, e) (omega arith)
 
-  pub leading-ends : ordinary p q (getD s i 0) ≡ false → i + leading p q (part s i stop) ≡ i
+  pub leading-ends : ordinary p q (getD s i 0) ≡ false → i + leading p q (slice s i stop) ≡ i
   unfolding leading if_then_else_
   leading-ends e = rw (part-next s i stop h k, e) (omega arith)
 
-pub leading-none : (s : Bytes) (i p q : ℕ) → i + leading p q (part s i i) ≡ i
+pub leading-none : (s : Bytes) (i p q : ℕ) → i + leading p q (slice s i i) ≡ i
 unfolding leading
 leading-none s i p q = rw (part-end s i) (omega arith)
 
@@ -142,8 +142,8 @@ run-step d (Plain (Within i)) q b e h = no-run e
 run-step d Complete q b e h = no-run e
 
 -- in a comment every ordinary byte leaves the file where it stands
-pub comment-step : (d : Dialect) (b : ℕ) → ordinary 0 0 b ≡ true → formStep d (Comment Whole) b ≡ To (Comment Whole) Outside
-unfolding formStep if_then_else_
+pub comment-step : (d : Dialect) (b : ℕ) → ordinary 0 0 b ≡ true → fileStep d (Comment Whole) b ≡ To (Comment Whole) Outside
+unfolding fileStep if_then_else_
 comment-step d b e =
     let k = plainly 0 0 b e in
     let l : 0x20 ≤ b = k .low in
@@ -169,34 +169,34 @@ drop-take (suc n) zero xs = let e : 0 - suc n ≡ 0 = omega arith in rw e
 drop-take (suc n) (suc m) [] = sym (take-nil (suc m - suc n))
 drop-take (suc n) (suc m) (x ∷ xs) = let e : suc m - suc n ≡ m - n = omega arith in rw e (drop-take n m xs)
 
-drop-part : (s : Bytes) (i n stop : ℕ) → drop n (part s i stop) ≡ part s (i + n) stop
+drop-part : (s : Bytes) (i n stop : ℕ) → drop n (slice s i stop) ≡ slice s (i + n) stop
 drop-part s i n stop =
     let e : stop - i - n ≡ stop - (i + n) = omega arith in
     drop-take n (stop - i) (drop i s) ∙ rw (drop-drop, e)
 
 module _ (d : Dialect) (c : Cell) (s : Bytes) (i stop : ℕ) where
   -- a run leaves the rest of the cell to be what it is from its end on
-  pub run-rest : cellRun d c i (part s i stop) ≡ cellRun d c (i + runLength d (runStop d c) (part s i stop)) (part s (i + runLength d (runStop d c) (part s i stop)) stop)
+  pub run-rest : cellRun d c i (slice s i stop) ≡ cellRun d c (i + runLength d (runStop d c) (slice s i stop)) (slice s (i + runLength d (runStop d c) (slice s i stop)) stop)
   run-rest = go (runStop d c) refl
     where
-      go : (r : RunStop) → runStop d c ≡ r → cellRun d c i (part s i stop) ≡ cellRun d c (i + runLength d r (part s i stop)) (part s (i + runLength d r (part s i stop)) stop)
-      go (At q) e = run-list d c q e i (part s i stop) ∙ ap (λ (l : Bytes). cellRun d c (i + leading (quoteOf d) q (part s i stop)) l) (drop-part s i (leading (quoteOf d) q (part s i stop)) stop)
-      go NoRun e = let n : i ≡ i + 0 = omega arith in ap (λ (k : ℕ). cellRun d c k (part s k stop)) n
+      go : (r : RunStop) → runStop d c ≡ r → cellRun d c i (slice s i stop) ≡ cellRun d c (i + runLength d r (slice s i stop)) (slice s (i + runLength d r (slice s i stop)) stop)
+      go (At q) e = run-list d c q e i (slice s i stop) ∙ ap (λ (l : Bytes). cellRun d c (i + leading (quoteOf d) q (slice s i stop)) l) (drop-part s i (leading (quoteOf d) q (slice s i stop)) stop)
+      go NoRun e = let n : i ≡ i + 0 = omega arith in ap (λ (k : ℕ). cellRun d c k (slice s k stop)) n
 
   module _ (h : i < stop) (k : stop ≤ length s) where
-    pub rest-more : (t : Cell) → cellStep d c (getD s i 0) ≡ More t → cellRun d c i (part s i stop) ≡ cellRun d t (i + 1) (part s (i + 1) stop)
+    pub rest-more : (t : Cell) → cellStep d c (getD s i 0) ≡ More t → cellRun d c i (slice s i stop) ≡ cellRun d t (i + 1) (slice s (i + 1) stop)
     unfolding cellRun
     rest-more t e = rw (part-next s i stop h k, e, cellRun, add-one)
 
-    pub rest-stops : cellStep d c (getD s i 0) ≡ Stop → cellRun d c i (part s i stop) ≡ Stopped c i
+    pub rest-stops : cellStep d c (getD s i 0) ≡ Stop → cellRun d c i (slice s i stop) ≡ Stopped c i
     unfolding cellRun
     rest-stops e = rw (part-next s i stop h k, e, cellRun)
 
-    pub rest-refused : (x : ByteFault) → cellStep d c (getD s i 0) ≡ Refuse x → cellRun d c i (part s i stop) ≡ Refused x i
+    pub rest-refused : (x : ByteFault) → cellStep d c (getD s i 0) ≡ Refuse x → cellRun d c i (slice s i stop) ≡ Refused x i
     unfolding cellRun
     rest-refused x e = rw (part-next s i stop h k, e, cellRun)
 
-pub rest-open : (d : Dialect) (c : Cell) (s : Bytes) (i : ℕ) → cellRun d c i (part s i i) ≡ Open c
+pub rest-open : (d : Dialect) (c : Cell) (s : Bytes) (i : ℕ) → cellRun d c i (slice s i i) ≡ Open c
 unfolding cellRun
 rest-open d c s i = rw (part-end s i)
 
@@ -208,13 +208,13 @@ leading-short p q (b ∷ bs) =
     let h : leading p q bs ≤ length bs = leading-short p q bs in
     split (λ (n : ℕ). n ≤ suc (length bs)) _ (λ _. omega arith) λ _. omega arith
 
-pub part-short : (p q : ℕ) (s : Bytes) (i stop : ℕ) → i ≤ stop → stop ≤ length s → i + leading p q (part s i stop) ≤ stop
+pub part-short : (p q : ℕ) (s : Bytes) (i stop : ℕ) → i ≤ stop → stop ≤ length s → i + leading p q (slice s i stop) ≤ stop
 part-short p q s i stop h k =
-    let l : leading p q (part s i stop) ≤ length (part s i stop) = leading-short p q (part s i stop) in
+    let l : leading p q (slice s i stop) ≤ length (slice s i stop) = leading-short p q (slice s i stop) in
     let g : length (drop i s) ≡ length s - i = length-drop i s in
-    let m : length (part s i stop) ≡ stop - i = length-take-le (stop - i) (drop i s) (omega arith) in
+    let m : length (slice s i stop) ≡ stop - i = length-take-le (stop - i) (drop i s) (omega arith) in
     omega arith
 
-pub run-short : (d : Dialect) (r : RunStop) (s : Bytes) (i stop : ℕ) → i ≤ stop → stop ≤ length s → i + runLength d r (part s i stop) ≤ stop
+pub run-short : (d : Dialect) (r : RunStop) (s : Bytes) (i stop : ℕ) → i ≤ stop → stop ≤ length s → i + runLength d r (slice s i stop) ≤ stop
 run-short d (At q) s i stop h k = part-short (quoteOf d) q s i stop h k
 run-short d NoRun s i stop h k = omega arith

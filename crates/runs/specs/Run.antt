@@ -7,7 +7,7 @@ use Rattle.model.specs.declared.Char.{Char}
 use Rattle.model.specs.declared.Char.the-variants.{Whole, Within}
 use Rattle.model.specs.declared.Cell.{Cell}
 use Rattle.model.specs.declared.Cell.the-variants.{Fresh, Quoted, Closed, Escape, Hex, InNumber, InWord, Plain, Complete}
-use Rattle.model.specs.declared.Added.the-variants.{More, Stop, Refuse}
+use Rattle.model.specs.declared.CellStep.the-variants.{More, Stop, Refuse}
 use Rattle.model.specs.Base.{Bytes, if_then_else_, _is_, within}
 use Rattle.model.specs.Dialect.{delimiterOf, quoteOf}
 use Rattle.model.specs.Cell.{cellStep}

@@ -10,8 +10,8 @@ use Rattle.model.specs.declared.Target.{Target}
 use Rattle.model.specs.declared.Char.{Char}
 use Rattle.model.specs.declared.Char.the-variants.{Whole, Within}
 use Rattle.model.specs.declared.Cell.{Cell}
-use Rattle.model.specs.declared.Form.{Form}
-use Rattle.model.specs.declared.Form.the-variants.{Top, Begin, Ended, Mark1, Mark2, PlainMark1, PlainMark2, Comment, Blanks, Wanting, Inside, After, Cr}
+use Rattle.model.specs.declared.FileState.{FileState}
+use Rattle.model.specs.declared.FileState.the-variants.{Top, Begin, Ended, Mark1, Mark2, PlainMark1, PlainMark2, Comment, Blanks, Wanting, Inside, After, Cr}
 use Rattle.model.specs.Base.{Bytes}
 use Rattle.model.specs.Report.{MAXFILE, MAXRECORD}
 use Rattle.model.specs.Records.{Read, going, readFrom, readBytes}
@@ -23,7 +23,7 @@ pub data Place : Type 0 where
   in-comment : Char → Place
   elsewhere : Place
 
-abbrev pub placeIn : Form → Place
+abbrev pub placeIn : FileState → Place
 placeIn Top = elsewhere
 placeIn Begin = elsewhere
 placeIn Ended = elsewhere
@@ -49,17 +49,17 @@ runAt d elsewhere bs = 0
 -- record is in hand there (§7.4)
 unfoldable pub ranAt : Place → Read → Bytes → Read
 ranAt (in-cell c) r xs =
-    record { done = r .done; form = r .form; offset = r .offset + length xs; start = r .start; size = r .size + length xs; opened = r .opened; raw = r .raw ++ xs; cells = r .cells }
+    record { done = r .done; state = r .state; offset = r .offset + length xs; start = r .start; size = r .size + length xs; opened = r .opened; raw = r .raw ++ xs; cells = r .cells }
 ranAt (in-comment t) r xs =
-    record { done = r .done; form = r .form; offset = r .offset + length xs; start = r .start; size = 0; opened = r .offset + length xs; raw = []; cells = [] }
+    record { done = r .done; state = r .state; offset = r .offset + length xs; start = r .start; size = 0; opened = r .offset + length xs; raw = []; cells = [] }
 ranAt elsewhere r xs = r
 
 -- both, by the form
-abbrev pub runIn : Dialect → Form → Bytes → ℕ
+abbrev pub runIn : Dialect → FileState → Bytes → ℕ
 runIn d f bs = runAt d (placeIn f) bs
 
 abbrev pub ran : Read → Bytes → Read
-ran r xs = ranAt (placeIn (r .form)) r xs
+ran r xs = ranAt (placeIn (r .state)) r xs
 
 -- an empty run leaves the state as it is, which in a comment says that no record is in hand. It is so wherever reading stands
 -- (`stands` below)
@@ -73,8 +73,8 @@ pub record InLimits (r : Read) : Type 0 where
 
 pub record RunLaw (d : Dialect) (target : Option Target) : Type 0 where
   -- the law: xs is a run, or the beginning of one, and ends within the limits
-  pub run : (r : Read) (xs : Bytes) → Stands r → runIn d (r .form) xs ≡ length xs → InLimits (ran r xs) → readFrom d target (going r) xs ≡ going (ran r xs)
+  pub run : (r : Read) (xs : Bytes) → Stands r → runIn d (r .state) xs ≡ length xs → InLimits (ran r xs) → readFrom d target (going r) xs ≡ going (ran r xs)
   -- so a reader may pass over the first n bytes of a run
-  pub rest : (r : Read) (n : ℕ) (bs : Bytes) → Stands r → n ≤ runIn d (r .form) bs → InLimits (ran r (take n bs)) → readFrom d target (going r) bs ≡ readFrom d target (going (ran r (take n bs))) (drop n bs)
+  pub rest : (r : Read) (n : ℕ) (bs : Bytes) → Stands r → n ≤ runIn d (r .state) bs → InLimits (ran r (take n bs)) → readFrom d target (going r) bs ≡ readFrom d target (going (ran r (take n bs))) (drop n bs)
   -- every state that reading comes to
   pub stands : (bs : Bytes) (r : Read) → readBytes d target bs ≡ going r → Stands r

@@ -1,20 +1,20 @@
 // Runs of ordinary bytes, and the rest of a cell by its step and by runs. Each answer is that of the definition in specs/Run.antt, and
 // specs/RunLaw.antt says why a reader may pass over a run.
-use model::Added;
 use model::ByteFault;
 use model::Cell;
+use model::CellStep;
 use model::Char;
 use model::Dialect;
 ghost use mathlib.Core.Path.{_≡_};
 ghost use Prim.Native.Nat.{_+_, _≤_};
 ghost use lib.ListN.{length};
-ghost use Rattle.model.specs.Api.{part};
+ghost use Rattle.model.specs.Api.{slice};
 ghost use Rattle.runs.specs.Run.{leading, commentRun, textStop, runStop, runLength, cellRun};
 
 // How far a run of ordinary bytes goes from `at`, at most to `stop`. The run ends at a byte outside 20 to 7E hex, at `p` and at `q`.
 fn run(s: &[u8], at: usize, stop: usize, p: u8, q: u8) -> usize
     requires { ⌜ (at ≤ stop) × (stop ≤ length (now s)) ⌝ }
-    ensures { λ r. ⌜ r ≡ at + leading p q (part (now (s .entry)) at stop) ⌝ }
+    ensures { λ r. ⌜ r ≡ at + leading p q (slice (now (s .entry)) at stop) ⌝ }
 {
     let mut i = at;
     while i < stop {
@@ -42,7 +42,7 @@ const NO_STOP: u8 = 0;
 // How far the ordinary bytes of a comment go from `at`, at most to `stop`.
 pub fn comment_run(s: &[u8], at: usize, stop: usize) -> usize
     requires { ⌜ (at ≤ stop) × (stop ≤ length (now s)) ⌝ }
-    ensures { λ r. ⌜ r ≡ at + commentRun (part (now (s .entry)) at stop) ⌝ }
+    ensures { λ r. ⌜ r ≡ at + commentRun (slice (now (s .entry)) at stop) ⌝ }
 {
     run(s, at, stop, NO_STOP, NO_STOP)
 }
@@ -84,7 +84,7 @@ fn run_stop(d: Dialect, c: Cell) -> RunStop
 // How far the cell's ordinary bytes go from `at`, at most to `stop`.
 fn run_on(d: Dialect, c: Cell, s: &[u8], at: usize, stop: usize) -> usize
     requires { ⌜ (at ≤ stop) × (stop ≤ length (now s)) ⌝ }
-    ensures { λ r. ⌜ r ≡ at + runLength d (runStop d c) (part (now (s .entry)) at stop) ⌝ }
+    ensures { λ r. ⌜ r ≡ at + runLength d (runStop d c) (slice (now (s .entry)) at stop) ⌝ }
 {
     match run_stop(d, c) {
         RunStop::At(q) => run(s, at, stop, cell_lexer::quote_of(d), q),
@@ -95,19 +95,19 @@ fn run_on(d: Dialect, c: Cell, s: &[u8], at: usize, stop: usize) -> usize
 // The rest of a cell from `from`, at most to `stop`.
 pub fn cell_end(d: Dialect, c0: Cell, s: &[u8], from: usize, stop: usize) -> CellEnd
     requires { ⌜ (from ≤ stop) × (stop ≤ length (now s)) ⌝ }
-    ensures { λ r. ⌜ r ≡ cellRun d c0 from (part (now (s .entry)) from stop) ⌝ }
+    ensures { λ r. ⌜ r ≡ cellRun d c0 from (slice (now (s .entry)) from stop) ⌝ }
 {
     let mut c = c0;
     let mut i = from;
     while i < stop {
         match cell_lexer::cell_step(d, c, s[i]) {
-            Added::More(next) => {
+            CellStep::More(next) => {
                 c = next;
             }
-            Added::Stop => {
+            CellStep::Stop => {
                 return CellEnd::Stopped(c, i);
             }
-            Added::Refuse(e) => {
+            CellStep::Refuse(e) => {
                 return CellEnd::Refused(e, i);
             }
         }

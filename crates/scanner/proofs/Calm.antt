@@ -5,31 +5,31 @@ use mathlib.Core.Path.{_≡_, refl}
 use mathlib.Core.Bool.{Bool, true, false}
 use Rattle.model.specs.Base.{COMMA, _is_}
 use Rattle.model.specs.Dialect.{delimiterOf}
-use Rattle.model.specs.Form.{isBlank, afterCell, formStep, counts}
+use Rattle.model.specs.File.{isBlank, afterCell, fileStep, counts}
 use Rattle.model.proofs.Tests.{split}
 use Rattle.model.proofs.Counted.{blank-counted, delimiter-counted}
-use Rattle.model.proofs.FormSteps as steps
-use Rattle.model.proofs.FormSteps.{Rests, Around, Starts, Grown, Opens, Goes, step-goes}
+use Rattle.model.proofs.FileSteps as steps
+use Rattle.model.proofs.FileSteps.{Rests, Around, Starts, Grown, Opens, Transition, step-transition}
 use Rattle.model.specs.declared.Dialect.{Dialect}
 use Rattle.model.specs.declared.Dialect.the-variants.{Csvj, Tdif, CsvPlus}
 use Rattle.model.specs.declared.ByteFault.{ByteFault}
-use Rattle.model.specs.declared.Form.{Form}
-use Rattle.model.specs.declared.Part.the-variants.{Outside, Passed, OfCell, Between, Tail, Ends}
+use Rattle.model.specs.declared.FileState.{FileState}
+use Rattle.model.specs.declared.ByteRole.the-variants.{Outside, Passed, OfCell, Between, Tail, Ends}
 use Rattle.model.specs.declared.Step.{Step}
 use Rattle.model.specs.declared.Step.the-variants.{To, Reject}
-use Rattle.scanner.specs.Ahead.{outer}
+use Rattle.scanner.specs.Tokens.{outer}
 
-pub data Calm (f : Form) (b : ℕ) : Step → Type 0 where
+pub data Calm (f : FileState) (b : ℕ) : Step → Type 0 where
   refuses : {e : ByteFault} → Calm f b (Reject e)
-  leaves : {g : Form} → outer f ≡ true → Calm f b (To g Outside)
-  passes : {g : Form} → outer f ≡ true → Calm f b (To g Passed)
-  grows : {g : Form} → counts f b ≡ true → outer g ≡ false → Calm f b (To g OfCell)
-  blanks : {g : Form} → counts f b ≡ true → outer f ≡ true → Calm f b (To g (Between false))
-  parts : {g : Form} {k : Bool} → counts f b ≡ true → outer g ≡ false → Calm f b (To g (Between k))
-  tails : {g : Form} {k : Bool} → outer g ≡ false → Calm f b (To g (Tail k))
-  finishes : {g : Form} {k : Bool} → Calm f b (To g (Ends k))
+  leaves : {g : FileState} → outer f ≡ true → Calm f b (To g Outside)
+  passes : {g : FileState} → outer f ≡ true → Calm f b (To g Passed)
+  grows : {g : FileState} → counts f b ≡ true → outer g ≡ false → Calm f b (To g OfCell)
+  blanks : {g : FileState} → counts f b ≡ true → outer f ≡ true → Calm f b (To g (Between false))
+  parts : {g : FileState} {k : Bool} → counts f b ≡ true → outer g ≡ false → Calm f b (To g (Between k))
+  tails : {g : FileState} {k : Bool} → outer g ≡ false → Calm f b (To g (Tail k))
+  finishes : {g : FileState} {k : Bool} → Calm f b (To g (Ends k))
 
-module _ (f : Form) (b : ℕ) where
+module _ (f : FileState) (b : ℕ) where
   pub after-calm : (d : Dialect) (k : Bool) → Calm f b (afterCell d k b)
   unfolding afterCell
   after-calm Csvj k =
@@ -46,7 +46,7 @@ module _ (f : Form) (b : ℕ) where
       split P (b is delimiterOf (CsvPlus s)) (λ p. parts (delimiter-counted (CsvPlus s) f b p) refl) λ _.
       split P _ (λ _. finishes) λ _. split P _ (λ _. tails refl) λ _. refuses
 
-rests-outer : {f : Form} → Rests f → outer f ≡ true
+rests-outer : {f : FileState} → Rests f → outer f ≡ true
 rests-outer steps.top = refl
 rests-outer steps.begin = refl
 rests-outer steps.ended = refl
@@ -54,27 +54,27 @@ rests-outer steps.mark1 = refl
 rests-outer steps.mark2 = refl
 rests-outer steps.comment = refl
 
-around-outer : {d : Dialect} {f : Form} → Around d f → outer f ≡ true
+around-outer : {d : Dialect} {f : FileState} → Around d f → outer f ≡ true
 around-outer (steps.rests r) = rests-outer r
 around-outer steps.unread = refl
 
-starts-outer : {f : Form} → Starts f → outer f ≡ true
+starts-outer : {f : FileState} → Starts f → outer f ≡ true
 starts-outer steps.s-top = refl
 starts-outer steps.s-begin = refl
 starts-outer steps.s-ended = refl
 starts-outer steps.s-blanks = refl
 
-grown-inner : {g : Form} → Grown g → outer g ≡ false
+grown-inner : {g : FileState} → Grown g → outer g ≡ false
 grown-inner steps.g-inside = refl
 grown-inner steps.g-plain1 = refl
 grown-inner steps.g-plain2 = refl
 
-opens-inner : {g : Form} → Opens g → outer g ≡ false
+opens-inner : {g : FileState} → Opens g → outer g ≡ false
 opens-inner steps.o-after = refl
 opens-inner steps.o-wanting = refl
 opens-inner steps.o-fresh = refl
 
-calm : {d : Dialect} {f : Form} {b : ℕ} {s : Step} → Goes d f b s → Calm f b s
+calm : {d : Dialect} {f : FileState} {b : ℕ} {s : Step} → Transition d f b s → Calm f b s
 calm (steps.refuses t) = refuses
 calm (steps.outside t r g) = leaves (around-outer r)
 calm (steps.passes t r g) = passes (rests-outer r)
@@ -85,5 +85,5 @@ calm (steps.turns t p l) = tails refl
 calm (steps.ends t p l g) = finishes
 calm (steps.ends-cr t e p) = finishes
 
-pub step-calm : (d : Dialect) (f : Form) (b : ℕ) → Calm f b (formStep d f b)
-step-calm d f b = calm (step-goes d f b)
+pub step-calm : (d : Dialect) (f : FileState) (b : ℕ) → Calm f b (fileStep d f b)
+step-calm d f b = calm (step-transition d f b)

@@ -8,7 +8,7 @@ use lib.ListN.{length, set, length-set}
 use borrow.Author.Tests.{lt-ltb, le-ltb}
 use Rattle.model.specs.Base.{if_then_else_}
 use Rattle.model.proofs.Tests.{split}
-use Rattle.scanner.specs.Placed.{putAt, putIf, placed}
+use Rattle.scanner.specs.Stored.{putAt, putIf, storedFrom}
 
 pub not-put : (closes : Bool) (room k x : ℕ) (old : List ℕ) → closes ≡ false → old ≡ putIf closes room k x old
 unfolding putIf if_then_else_
@@ -32,16 +32,16 @@ pub length-put-if : (closes : Bool) (room k x : ℕ) (old : List ℕ) → length
 unfolding putIf
 length-put-if closes room k x old = split (λ (xs : List ℕ). length xs ≡ length old) closes (λ _. length-put room k x old) λ _. refl
 
-pub length-placed : (room k : ℕ) (xs old : List ℕ) → length (placed room k xs old) ≡ length old
-unfolding placed
-length-placed room k [] old = refl
-length-placed room k (x ∷ xs) old = length-placed room (suc k) xs (putAt room k x old) ∙ length-put room k x old
+pub length-stored-from : (room k : ℕ) (xs old : List ℕ) → length (storedFrom room k xs old) ≡ length old
+unfolding storedFrom
+length-stored-from room k [] old = refl
+length-stored-from room k (x ∷ xs) old = length-stored-from room (suc k) xs (putAt room k x old) ∙ length-put room k x old
 
 -- ---- one more at the end
 
-pub placed-snoc : (room k : ℕ) (xs : List ℕ) (x : ℕ) (old : List ℕ) → placed room k (xs ++ (x ∷ [])) old ≡ putAt room (k + length xs) x (placed room k xs old)
-unfolding placed
-placed-snoc room k [] x old = let e : k ≡ k + 0 = omega arith in ap (λ (n : ℕ). putAt room n x old) e
-placed-snoc room k (y ∷ ys) x old =
+pub stored-from-snoc : (room k : ℕ) (xs : List ℕ) (x : ℕ) (old : List ℕ) → storedFrom room k (xs ++ (x ∷ [])) old ≡ putAt room (k + length xs) x (storedFrom room k xs old)
+unfolding storedFrom
+stored-from-snoc room k [] x old = let e : k ≡ k + 0 = omega arith in ap (λ (n : ℕ). putAt room n x old) e
+stored-from-snoc room k (y ∷ ys) x old =
     let e : suc k + length ys ≡ k + suc (length ys) = omega arith in
-    placed-snoc room (suc k) ys x (putAt room k y old) ∙ ap (λ (n : ℕ). putAt room n x (placed room (suc k) ys (putAt room k y old))) e
+    stored-from-snoc room (suc k) ys x (putAt room k y old) ∙ ap (λ (n : ℕ). putAt room n x (storedFrom room (suc k) ys (putAt room k y old))) e

@@ -9,23 +9,23 @@ use lib.ListN.{drop}
 use lib.Seq.{drop-drop}
 use lib.Dec.{leb}
 use Rattle.model.specs.Base.{if_then_else_, Bytes}
-use Rattle.model.specs.Form.{formStep, formEnd, counts}
+use Rattle.model.specs.File.{fileStep, fileEnd, counts}
 use Rattle.model.specs.Report.{MAXFILE, MAXRECORD, isAtByte}
 use Rattle.model.specs.Records.{Rec, Read, Progress, going, stopped, closing, move, fileFull, recordFull, readByte, readFrom, readEnd, endAt}
 use Rattle.model.proofs.Tests.{impossible}
 use Rattle.model.specs.declared.Dialect.{Dialect}
 use Rattle.model.specs.declared.Target.{Target}
-use Rattle.model.specs.declared.Form.{Form}
-use Rattle.model.specs.declared.Part.{Part}
-use Rattle.model.specs.declared.Part.the-variants.{Outside, Passed, OfCell, Between, Tail, Ends}
+use Rattle.model.specs.declared.FileState.{FileState}
+use Rattle.model.specs.declared.ByteRole.{ByteRole}
+use Rattle.model.specs.declared.ByteRole.the-variants.{Outside, Passed, OfCell, Between, Tail, Ends}
 use Rattle.model.specs.declared.Step.{Step}
 use Rattle.model.specs.declared.Step.the-variants.{To, Reject}
 use Rattle.model.specs.declared.Ending.{Ending}
 use Rattle.model.specs.declared.Ending.the-variants.{Clean, Final, Cut}
 use Rattle.model.specs.declared.Fault.{Fault}
 use Rattle.model.specs.declared.Fault.the-variants.{Byte, CutShort, FileTooLong, RecordTooLong}
-use Rattle.scanner.specs.Next.{endsRecord, carried, failed, ended, stepped, nextRecord}
-use Rattle.scanner.specs.Reading.{redone, Follows, after-record, after-last, after-fault, after-all}
+use Rattle.scanner.specs.Next.{endsRecord, readAfter, failed, ended, stepped, nextRecord}
+use Rattle.scanner.specs.Reading.{redone, ReadsAs, after-record, after-last, after-fault, after-all}
 
 -- what is left after one more byte
 pub next-drop : (xs : Bytes) (n b : ℕ) (bs : Bytes) → b ∷ bs ≡ drop n xs → bs ≡ drop (n + 1) xs
@@ -42,16 +42,16 @@ module _ (d : Dialect) (target : Option Target) (file : Bytes) (rs : List Rec) w
   Rest p bs = readEnd d target (readFrom d target p bs)
 
   -- the end of the file
-  at-end : (r : Read) (x : Ending) → Follows d target file rs (ended d r x) (endAt d target (redone rs r) x)
+  at-end : (r : Read) (x : Ending) → ReadsAs d target file rs (ended d r x) (endAt d target (redone rs r) x)
   at-end r Clean = after-all (redone rs r) refl
   at-end r Final = after-last (redone rs r) (closing d true r) refl
   at-end r Cut = after-fault CutShort (redone rs r) (r .cells) refl refl
 
-  faulty : (e : Fault) (r : Read) (bs : Bytes) → isAtByte e ≡ true → Follows d target file rs (failed e r) (Rest (stopped e (redone rs r)) bs)
-  faulty e r bs q = subst (λ (p : Progress). Follows d target file rs (failed e r) p) (stays d target e (redone rs r) bs) (after-fault e (redone rs r) (r .cells) refl q)
+  faulty : (e : Fault) (r : Read) (bs : Bytes) → isAtByte e ≡ true → ReadsAs d target file rs (failed e r) (Rest (stopped e (redone rs r)) bs)
+  faulty e r bs q = subst (λ (p : Progress). ReadsAs d target file rs (failed e r) p) (stays d target e (redone rs r) bs) (after-fault e (redone rs r) (r .cells) refl q)
 
   -- a byte within its record
-  within-record : (r : Read) (b : ℕ) (f : Form) (p : Part) → endsRecord p ≡ false → move d target (redone rs r) b (To f p) ≡ going (redone rs (carried d r b f p))
+  within-record : (r : Read) (b : ℕ) (f : FileState) (p : ByteRole) → endsRecord p ≡ false → move d target (redone rs r) b (To f p) ≡ going (redone rs (readAfter d r b f p))
   unfolding move
   within-record r b f Outside e = rw (add-one (r .offset))
   within-record r b f Passed e = rw (add-one (r .offset))
@@ -63,7 +63,7 @@ module _ (d : Dialect) (target : Option Target) (file : Bytes) (rs : List Rec) w
   within-record r b f (Ends k) e = impossible (sym e)
 
   -- the byte that ends its record
-  at-ending : (r : Read) (b : ℕ) (f : Form) (k : Bool) (bs : Bytes) → bs ≡ drop (r .offset + 1) file → Follows d target file rs (stepped d r b (λ r′. nextRecord d r′ bs) (To f (Ends k))) (Rest (move d target (redone rs r) b (To f (Ends k))) bs)
+  at-ending : (r : Read) (b : ℕ) (f : FileState) (k : Bool) (bs : Bytes) → bs ≡ drop (r .offset + 1) file → ReadsAs d target file rs (stepped d r b (λ r′. nextRecord d r′ bs) (To f (Ends k))) (Rest (move d target (redone rs r) b (To f (Ends k))) bs)
   unfolding stepped move if_then_else_
   at-ending r b f true bs e =
       rw (e, ← add-one (r .offset)) (after-record (redone rs r) (closing d true r) f (r .offset + 1) refl)
@@ -71,27 +71,27 @@ module _ (d : Dialect) (target : Option Target) (file : Bytes) (rs : List Rec) w
       rw (e, ← add-one (r .offset)) (after-record (redone rs r) (closing d false r) f (r .offset + 1) refl)
 
   abbrev Ih : Bytes → Type 0
-  Ih bs = (r : Read) → bs ≡ drop (r .offset) file → Follows d target file rs (nextRecord d r bs) (Rest (going (redone rs r)) bs)
+  Ih bs = (r : Read) → bs ≡ drop (r .offset) file → ReadsAs d target file rs (nextRecord d r bs) (Rest (going (redone rs r)) bs)
 
-  on-byte : (r : Read) (b : ℕ) (bs : Bytes) → bs ≡ drop (r .offset + 1) file → Ih bs → (s : Step) → Follows d target file rs (stepped d r b (λ r′. nextRecord d r′ bs) s) (Rest (move d target (redone rs r) b s) bs)
+  on-byte : (r : Read) (b : ℕ) (bs : Bytes) → bs ≡ drop (r .offset + 1) file → Ih bs → (s : Step) → ReadsAs d target file rs (stepped d r b (λ r′. nextRecord d r′ bs) s) (Rest (move d target (redone rs r) b s) bs)
   unfolding stepped if_then_else_ move
   on-byte r b bs e ih (Reject x) = faulty (Byte x) r bs refl
-  on-byte r b bs e ih (To f Outside) = rw (within-record r b f Outside refl) (ih (carried d r b f Outside) e)
-  on-byte r b bs e ih (To f Passed) = rw (within-record r b f Passed refl) (ih (carried d r b f Passed) e)
-  on-byte r b bs e ih (To f OfCell) = rw (within-record r b f OfCell refl) (ih (carried d r b f OfCell) e)
-  on-byte r b bs e ih (To f (Between k)) = rw (within-record r b f (Between k) refl) (ih (carried d r b f (Between k)) e)
-  on-byte r b bs e ih (To f (Tail k)) = rw (within-record r b f (Tail k) refl) (ih (carried d r b f (Tail k)) e)
+  on-byte r b bs e ih (To f Outside) = rw (within-record r b f Outside refl) (ih (readAfter d r b f Outside) e)
+  on-byte r b bs e ih (To f Passed) = rw (within-record r b f Passed refl) (ih (readAfter d r b f Passed) e)
+  on-byte r b bs e ih (To f OfCell) = rw (within-record r b f OfCell refl) (ih (readAfter d r b f OfCell) e)
+  on-byte r b bs e ih (To f (Between k)) = rw (within-record r b f (Between k) refl) (ih (readAfter d r b f (Between k)) e)
+  on-byte r b bs e ih (To f (Tail k)) = rw (within-record r b f (Tail k) refl) (ih (readAfter d r b f (Tail k)) e)
   on-byte r b bs e ih (To f (Ends k)) = at-ending r b f k bs e
 
-  choose : (r : Read) (b : ℕ) (bs : Bytes) → bs ≡ drop (r .offset + 1) file → Ih bs → (x y : Bool) (s : Step) → Follows d target file rs (if x then failed FileTooLong r else if y then failed RecordTooLong r else stepped d r b (λ r′. nextRecord d r′ bs) s) (Rest (if x then stopped FileTooLong (redone rs r) else if y then stopped RecordTooLong (redone rs r) else move d target (redone rs r) b s) bs)
+  choose : (r : Read) (b : ℕ) (bs : Bytes) → bs ≡ drop (r .offset + 1) file → Ih bs → (x y : Bool) (s : Step) → ReadsAs d target file rs (if x then failed FileTooLong r else if y then failed RecordTooLong r else stepped d r b (λ r′. nextRecord d r′ bs) s) (Rest (if x then stopped FileTooLong (redone rs r) else if y then stopped RecordTooLong (redone rs r) else move d target (redone rs r) b s) bs)
   unfolding if_then_else_
   choose r b bs e ih true y s = faulty FileTooLong r bs refl
   choose r b bs e ih false true s = faulty RecordTooLong r bs refl
   choose r b bs e ih false false s = on-byte r b bs e ih s
 
   -- after the records rs, what reading comes to next, and in the end
-  pub follows : (bs : Bytes) → Ih bs
+  pub reads-as : (bs : Bytes) → Ih bs
   unfolding nextRecord readFrom readEnd readByte fileFull recordFull
-  follows [] r e = at-end r (formEnd d (r .form))
-  follows (b ∷ bs) r e =
-      choose r b bs (next-drop file (r .offset) b bs e) (follows bs) (leb MAXFILE (r .offset)) (leb MAXRECORD (r .size) && counts (r .form) b) (formStep d (r .form) b)
+  reads-as [] r e = at-end r (fileEnd d (r .state))
+  reads-as (b ∷ bs) r e =
+      choose r b bs (next-drop file (r .offset) b bs e) (reads-as bs) (leb MAXFILE (r .offset)) (leb MAXRECORD (r .size) && counts (r .state) b) (fileStep d (r .state) b)

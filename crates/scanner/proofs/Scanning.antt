@@ -13,31 +13,31 @@ use Rattle.model.specs.Base.{if_then_else_, Bytes}
 use Rattle.model.specs.Decode.{kindNumber, kindOf}
 use Rattle.model.specs.Text.{Value}
 use Rattle.model.specs.Report.{MAXFILE, MAXRECORD}
-use Rattle.model.specs.Form.{formEnd, lastCell, afterCell, counts}
+use Rattle.model.specs.File.{fileEnd, lastCell, afterCell, counts}
 use Rattle.model.specs.Cell.{isWhole}
 use Rattle.model.specs.Records.{Read, between-records, closing, cellNow, fileFull, recordFull}
-use Rattle.model.specs.Api.{startsOf, endsOf, kindsOf, part}
+use Rattle.model.specs.Api.{startsOf, endsOf, kindsOf, slice}
 use Rattle.model.proofs.Tests.{impossible}
-use Rattle.model.specs.Api.{part}
+use Rattle.model.specs.Api.{slice}
 use Rattle.runs.proofs.Runs.{part-end}
 use Rattle.model.specs.declared.Dialect.{Dialect}
 use Rattle.model.specs.declared.Dialect.the-variants.{Csvj, Tdif, CsvPlus}
 use Rattle.model.specs.declared.Cell.{Cell}
 use Rattle.model.specs.declared.ByteFault.{ByteFault}
-use Rattle.model.specs.declared.Form.{Form}
-use Rattle.model.specs.declared.Form.the-variants.{Top, Begin, Ended, Mark1, Mark2, PlainMark1, PlainMark2, Comment, Blanks, Wanting, Inside, After, Cr}
-use Rattle.model.specs.declared.Part.{Part}
-use Rattle.model.specs.declared.Part.the-variants.{Outside, Passed, OfCell, Between, Tail, Ends}
+use Rattle.model.specs.declared.FileState.{FileState}
+use Rattle.model.specs.declared.FileState.the-variants.{Top, Begin, Ended, Mark1, Mark2, PlainMark1, PlainMark2, Comment, Blanks, Wanting, Inside, After, Cr}
+use Rattle.model.specs.declared.ByteRole.{ByteRole}
+use Rattle.model.specs.declared.ByteRole.the-variants.{Outside, Passed, OfCell, Between, Tail, Ends}
 use Rattle.model.specs.declared.Step.{Step}
 use Rattle.model.specs.declared.Step.the-variants.{To, Reject}
 use Rattle.model.specs.declared.Ending.{Ending}
 use Rattle.model.specs.declared.Ending.the-variants.{Clean, Final, Cut}
 use Rattle.model.specs.declared.Fault.the-variants.{Byte, CutShort, FileTooLong, RecordTooLong}
-use Rattle.scanner.specs.Types.{InHand, Met, Is, Skipped, AfterCell, Refused, Open, Event, Completed, LastRecord, Failed, Finished}
-use Rattle.scanner.specs.Next.{Next, closesCell, endsRecord, oneMore, handAfter, grown, cellsAfter, failed, completed, ended, stepped, nextRecord, Fits}
-use Rattle.scanner.specs.Ahead.{readAt, steppedAt, metNext, outer, Lies, Comes}
-use Rattle.scanner.specs.Placed.{putIf, placed}
-use Rattle.scanner.proofs.Placing.{placed-snoc, length-put-if, length-placed}
+use Rattle.scanner.specs.Types.{RecordState, Token, Is, Skipped, AfterCell, Refused, Open, Event, Completed, LastRecord, Failed, Finished}
+use Rattle.scanner.specs.Next.{Next, closesCell, endsRecord, oneMore, stateAfterByte, extendedBy, cellsAfter, failed, completed, ended, stepped, nextRecord, EventInBounds}
+use Rattle.scanner.specs.Tokens.{readAt, steppedAt, metNext, outer, TokenInBounds, TokenCorrect}
+use Rattle.scanner.specs.Stored.{putIf, storedFrom}
+use Rattle.scanner.proofs.Placing.{stored-from-snoc, length-put-if, length-stored-from}
 use Rattle.scanner.proofs.Coming.{carried-at}
 use Rattle.scanner.proofs.Calm.{Calm, step-calm, after-calm, leaves, passes, grows, blanks, parts, tails, finishes}
 
@@ -53,11 +53,11 @@ abbrev numberOf : Value → ℕ
 numberOf v = kindNumber (v .kind)
 
 -- the cell that closes is put after the others
-closing-put : (φ : Value → ℕ) (room base n : ℕ) (old : List ℕ) (d : Dialect) (k : Bool) (r : Read) → length (r .cells) ≡ n → putIf k room (base + n) (φ (cellNow d r)) (placed room base (map φ (r .cells)) old) ≡ placed room base (map φ (closing d k r)) old
+closing-put : (φ : Value → ℕ) (room base n : ℕ) (old : List ℕ) (d : Dialect) (k : Bool) (r : Read) → length (r .cells) ≡ n → putIf k room (base + n) (φ (cellNow d r)) (storedFrom room base (map φ (r .cells)) old) ≡ storedFrom room base (map φ (closing d k r)) old
 unfolding putIf if_then_else_
 closing-put φ room base n old d true r e =
     let l : length (map φ (r .cells)) ≡ n = length-map (r .cells) φ ∙ e in
-    rw (map-append φ (r .cells) (cellNow d r ∷ []), placed-snoc room base (map φ (r .cells)) (φ (cellNow d r)) old, l)
+    rw (map-append φ (r .cells) (cellNow d r ∷ []), stored-from-snoc room base (map φ (r .cells)) (φ (cellNow d r)) old, l)
 closing-put φ room base n old d false r e = refl
 
 closing-counts : (d : Dialect) (k : Bool) (r : Read) (n : ℕ) → length (r .cells) ≡ n → length (closing d k r) ≡ oneMore k n
@@ -83,8 +83,8 @@ last-unclean (CsvPlus s) c e = go (isWhole (CsvPlus s) c) e
 cut-unclean : {A : Type 0} → Cut ≡ Clean → A
 cut-unclean e = let z : _≡_ {A = ℕ} 0 1 = cc in absurd (omega arith)
 
-clean-outer : (d : Dialect) (f : Form) → formEnd d f ≡ Clean → outer f ≡ true
-unfolding formEnd
+clean-outer : (d : Dialect) (f : FileState) → fileEnd d f ≡ Clean → outer f ≡ true
+unfolding fileEnd
 clean-outer d Top e = refl
 clean-outer d Begin e = refl
 clean-outer d Ended e = refl
@@ -105,7 +105,7 @@ clean-outer d Cr e = cut-unclean e
 pub record Call : Type 0 where
   pub d : Dialect
   pub file : Bytes
-  pub first : Form
+  pub first : FileState
   pub from : ℕ
   pub room : ℕ
   pub base : ℕ
@@ -121,12 +121,12 @@ module _ (call : Call) where
 
   -- the lists hold the cells of the record in hand
   pub record Holds (vs : List Value) (starts ends kinds : List ℕ) : Type 0 where
-    pub at-starts : starts ≡ placed room base (map fromOf vs) starts₀
-    pub at-ends : ends ≡ placed room base (map uptoOf vs) ends₀
-    pub at-kinds : kinds ≡ placed room base (map numberOf vs) kinds₀
+    pub at-starts : starts ≡ storedFrom room base (map fromOf vs) starts₀
+    pub at-ends : ends ≡ storedFrom room base (map uptoOf vs) ends₀
+    pub at-kinds : kinds ≡ storedFrom room base (map numberOf vs) kinds₀
 
   -- the file lies on before i, where these are in hand; nothing else is asked of i
-  pub record Reached (f : Form) (i : ℕ) (h : InHand) (vs : List Value) : Type 0 where
+  pub record Reached (f : FileState) (i : ℕ) (h : RecordState) (vs : List Value) : Type 0 where
     pub onward : from ≤ i
     pub inside : i ≤ length file
     pub under : i ≤ MAXFILE
@@ -136,63 +136,63 @@ module _ (call : Call) where
     pub opened : h .opened ≤ i
     pub rest : outer f ≡ true → vs ≡ []
 
-  pub record Scanning (f : Form) (i : ℕ) (h : InHand) (starts ends kinds : List ℕ) : Type 0 where
+  pub record Scanning (f : FileState) (i : ℕ) (h : RecordState) (starts ends kinds : List ℕ) : Type 0 where
     pub vs : List Value
     pub same : Whole ≡ nextRecord d (readAt file f i h vs) (drop i file)
     pub reached : Reached f i h vs
     pub lists : Holds vs starts ends kinds
 
   pub begins : from ≤ length file → from ≤ MAXFILE → base ≤ from → Scanning first from (record { start = from; size = 0; opened = from; cells = 0 }) starts₀ ends₀ kinds₀
-  unfolding placed
+  unfolding storedFrom
   begins l m b =
       record {
         vs = [];
-        same = ap (λ (raw : Bytes). nextRecord d (record { done = []; form = first; offset = from; start = from; size = 0; opened = from; raw = raw; cells = [] }) (drop from file)) (sym (part-end file from));
+        same = ap (λ (raw : Bytes). nextRecord d (record { done = []; state = first; offset = from; start = from; size = 0; opened = from; raw = raw; cells = [] }) (drop from file)) (sym (part-end file from));
         reached = record { onward = omega arith; inside = l; under = m; counted = refl; few = omega arith; sized = omega arith; opened = omega arith; rest = λ _. refl };
         lists = record { at-starts = refl; at-ends = refl; at-kinds = refl };
       }
 
   -- ---- one byte
 
-  module _ {f : Form} {i : ℕ} {h : InHand} {vs : List Value} (q : Reached f i h vs) where
+  module _ {f : FileState} {i : ℕ} {h : RecordState} {vs : List Value} (q : Reached f i h vs) where
     abbrev Here : Read
     Here = readAt file f i h vs
 
     -- what is put where this part closes a cell
-    abbrev PutStarts : Part → List ℕ → List ℕ
+    abbrev PutStarts : ByteRole → List ℕ → List ℕ
     PutStarts p xs = putIf (closesCell p) room (base + h .cells) (h .opened) xs
 
-    abbrev PutEnds : Part → List ℕ → List ℕ
+    abbrev PutEnds : ByteRole → List ℕ → List ℕ
     PutEnds p xs = putIf (closesCell p) room (base + h .cells) i xs
 
-    abbrev PutKinds : Part → List ℕ → List ℕ
-    PutKinds p xs = putIf (closesCell p) room (base + h .cells) (kindNumber (kindOf d (part file (h .opened) i))) xs
+    abbrev PutKinds : ByteRole → List ℕ → List ℕ
+    PutKinds p xs = putIf (closesCell p) room (base + h .cells) (kindNumber (kindOf d (slice file (h .opened) i))) xs
 
     -- the lists hold the record's cells after a byte that closes one or not
-    put-closing : (k : Bool) {starts ends kinds : List ℕ} → Holds vs starts ends kinds → Holds (closing d k Here) (putIf k room (base + h .cells) (h .opened) starts) (putIf k room (base + h .cells) i ends) (putIf k room (base + h .cells) (kindNumber (kindOf d (part file (h .opened) i))) kinds)
+    put-closing : (k : Bool) {starts ends kinds : List ℕ} → Holds vs starts ends kinds → Holds (closing d k Here) (putIf k room (base + h .cells) (h .opened) starts) (putIf k room (base + h .cells) i ends) (putIf k room (base + h .cells) (kindNumber (kindOf d (slice file (h .opened) i))) kinds)
     put-closing k y =
         record {
           at-starts = ap (λ (xs : List ℕ). putIf k room (base + h .cells) (h .opened) xs) (y .at-starts) ∙ closing-put fromOf room base (h .cells) starts₀ d k Here (q .counted);
           at-ends = ap (λ (xs : List ℕ). putIf k room (base + h .cells) i xs) (y .at-ends) ∙ closing-put uptoOf room base (h .cells) ends₀ d k Here (q .counted);
-          at-kinds = ap (λ (xs : List ℕ). putIf k room (base + h .cells) (kindNumber (kindOf d (part file (h .opened) i))) xs) (y .at-kinds) ∙ closing-put numberOf room base (h .cells) kinds₀ d k Here (q .counted);
+          at-kinds = ap (λ (xs : List ℕ). putIf k room (base + h .cells) (kindNumber (kindOf d (slice file (h .opened) i))) xs) (y .at-kinds) ∙ closing-put numberOf room base (h .cells) kinds₀ d k Here (q .counted);
         }
 
     -- no cell closes, and none was complete
-    put-none : {starts ends kinds : List ℕ} → vs ≡ [] → Holds vs starts ends kinds → Holds [] (putIf false room (base + h .cells) (h .opened) starts) (putIf false room (base + h .cells) i ends) (putIf false room (base + h .cells) (kindNumber (kindOf d (part file (h .opened) i))) kinds)
+    put-none : {starts ends kinds : List ℕ} → vs ≡ [] → Holds vs starts ends kinds → Holds [] (putIf false room (base + h .cells) (h .opened) starts) (putIf false room (base + h .cells) i ends) (putIf false room (base + h .cells) (kindNumber (kindOf d (slice file (h .opened) i))) kinds)
     unfolding putIf if_then_else_
     put-none {starts = starts} {ends = ends} {kinds = kinds} e y = subst (λ (ws : List Value). Holds ws starts ends kinds) e y
 
-    put-same : {starts ends kinds : List ℕ} → Holds vs starts ends kinds → Holds vs (putIf false room (base + h .cells) (h .opened) starts) (putIf false room (base + h .cells) i ends) (putIf false room (base + h .cells) (kindNumber (kindOf d (part file (h .opened) i))) kinds)
+    put-same : {starts ends kinds : List ℕ} → Holds vs starts ends kinds → Holds vs (putIf false room (base + h .cells) (h .opened) starts) (putIf false room (base + h .cells) i ends) (putIf false room (base + h .cells) (kindNumber (kindOf d (slice file (h .opened) i))) kinds)
     unfolding putIf if_then_else_
     put-same y = y
 
-    module _ (g : Form) (l : i < length file) (m : i < MAXFILE) where
-      goes-on : (p : Part) → endsRecord p ≡ false → Whole ≡ steppedAt d file f i h vs (To g p) → Whole ≡ nextRecord d (readAt file g (i + 1) (handAfter p i h) (cellsAfter d p Here)) (drop (i + 1) file)
+    module _ (g : FileState) (l : i < length file) (m : i < MAXFILE) where
+      goes-on : (p : ByteRole) → endsRecord p ≡ false → Whole ≡ steppedAt d file f i h vs (To g p) → Whole ≡ nextRecord d (readAt file g (i + 1) (stateAfterByte p i h) (cellsAfter d p Here)) (drop (i + 1) file)
       unfolding stepped if_then_else_
       goes-on p e w =
           w ∙ rw e (ap (λ (r : Read). nextRecord d r (drop (i + 1) file)) (carried-at d file p f g i h vs (q .opened) l))
 
-      pub on : (p : Part) → Calm f (getD file i 0) (To g p) → endsRecord p ≡ false → Whole ≡ steppedAt d file f i h vs (To g p) → {starts ends kinds : List ℕ} → Holds vs starts ends kinds → Scanning g (i + 1) (handAfter p i h) (PutStarts p starts) (PutEnds p ends) (PutKinds p kinds)
+      pub on : (p : ByteRole) → Calm f (getD file i 0) (To g p) → endsRecord p ≡ false → Whole ≡ steppedAt d file f i h vs (To g p) → {starts ends kinds : List ℕ} → Holds vs starts ends kinds → Scanning g (i + 1) (stateAfterByte p i h) (PutStarts p starts) (PutEnds p ends) (PutKinds p kinds)
       on Outside (leaves o) e w y =
           let b : base + h .cells ≤ i = q .few in
           let w′ : from ≤ i = q .onward in
@@ -229,20 +229,20 @@ module _ (call : Call) where
   -- the event, and the lists with the cells that go with it
   pub record Out (e : Event) (starts ends kinds : List ℕ) : Type 0 where
     pub event : e ≡ Whole .event
-    pub at-starts : starts ≡ placed room base (startsOf (Whole .cells)) starts₀
-    pub at-ends : ends ≡ placed room base (endsOf (Whole .cells)) ends₀
-    pub at-kinds : kinds ≡ placed room base (kindsOf (Whole .cells)) kinds₀
+    pub at-starts : starts ≡ storedFrom room base (startsOf (Whole .cells)) starts₀
+    pub at-ends : ends ≡ storedFrom room base (endsOf (Whole .cells)) ends₀
+    pub at-kinds : kinds ≡ storedFrom room base (kindsOf (Whole .cells)) kinds₀
 
   pub gives : (n : Next) {starts ends kinds : List ℕ} → Whole ≡ n → Holds (n .cells) starts ends kinds → Out (n .event) starts ends kinds
   gives n w y =
       record {
         event = ap (λ (x : Next). x .event) (sym w);
-        at-starts = y .at-starts ∙ ap (λ (x : Next). placed room base (startsOf (x .cells)) starts₀) (sym w);
-        at-ends = y .at-ends ∙ ap (λ (x : Next). placed room base (endsOf (x .cells)) ends₀) (sym w);
-        at-kinds = y .at-kinds ∙ ap (λ (x : Next). placed room base (kindsOf (x .cells)) kinds₀) (sym w);
+        at-starts = y .at-starts ∙ ap (λ (x : Next). storedFrom room base (startsOf (x .cells)) starts₀) (sym w);
+        at-ends = y .at-ends ∙ ap (λ (x : Next). storedFrom room base (endsOf (x .cells)) ends₀) (sym w);
+        at-kinds = y .at-kinds ∙ ap (λ (x : Next). storedFrom room base (kindsOf (x .cells)) kinds₀) (sym w);
       }
 
-  module _ {f : Form} {i : ℕ} {h : InHand} {starts ends kinds : List ℕ} (y : Scanning f i h starts ends kinds) where
+  module _ {f : FileState} {i : ℕ} {h : RecordState} {starts ends kinds : List ℕ} (y : Scanning f i h starts ends kinds) where
     abbrev There : Read
     There = readAt file f i h (y .vs)
 
@@ -258,44 +258,44 @@ module _ (call : Call) where
         let n : drop i file ≡ getD file i 0 ∷ drop (i + 1) file = rw (add-one, drop-cons file i 0) in
         gives (failed RecordTooLong There) (y .same ∙ rw (n, nextRecord, lt-leb MAXFILE i m, e)) (y .lists)
 
-    at-end : length file ≤ i → Whole ≡ ended d There (formEnd d f)
+    at-end : length file ≤ i → Whole ≡ ended d There (fileEnd d f)
     unfolding nextRecord
     at-end l =
         let n : drop i file ≡ [] = drop-of-length-le file l in
         y .same ∙ rw n
 
-    pub cut-short : length file ≤ i → formEnd d f ≡ Cut → Out (Failed CutShort i) starts ends kinds
+    pub cut-short : length file ≤ i → fileEnd d f ≡ Cut → Out (Failed CutShort i) starts ends kinds
     cut-short l e = gives (failed CutShort There) (at-end l ∙ ap (λ (x : Ending). ended d There x) e) (y .lists)
 
-    pub clean-end : length file ≤ i → formEnd d f ≡ Clean → Out (Finished i) starts ends kinds
+    pub clean-end : length file ≤ i → fileEnd d f ≡ Clean → Out (Finished i) starts ends kinds
     clean-end l e =
         let n : y .vs ≡ [] = y .reached .rest (clean-outer d f e) in
         gives (ended d There Clean) (at-end l ∙ ap (λ (x : Ending). ended d There x) e) (subst (λ (ws : List Value). Holds ws starts ends kinds) n (y .lists))
 
-    pub last-record : length file ≤ i → formEnd d f ≡ Final → Out (LastRecord (h .start) (h .cells + 1)) (putIf true room (base + h .cells) (h .opened) starts) (putIf true room (base + h .cells) i ends) (putIf true room (base + h .cells) (kindNumber (kindOf d (part file (h .opened) i))) kinds)
+    pub last-record : length file ≤ i → fileEnd d f ≡ Final → Out (LastRecord (h .start) (h .cells + 1)) (putIf true room (base + h .cells) (h .opened) starts) (putIf true room (base + h .cells) i ends) (putIf true room (base + h .cells) (kindNumber (kindOf d (slice file (h .opened) i))) kinds)
     last-record l e =
         let n : length (closing d true There) ≡ h .cells + 1 = closing-one d There (h .cells) (y .reached .counted) in
-        subst (λ (k : ℕ). Out (LastRecord (h .start) k) (putIf true room (base + h .cells) (h .opened) starts) (putIf true room (base + h .cells) i ends) (putIf true room (base + h .cells) (kindNumber (kindOf d (part file (h .opened) i))) kinds)) n
+        subst (λ (k : ℕ). Out (LastRecord (h .start) k) (putIf true room (base + h .cells) (h .opened) starts) (putIf true room (base + h .cells) i ends) (putIf true room (base + h .cells) (kindNumber (kindOf d (slice file (h .opened) i))) kinds)) n
         (gives (ended d There Final) (at-end l ∙ ap (λ (x : Ending). ended d There x) e) (put-closing (y .reached) true (y .lists)))
       where
         closing-one : (d′ : Dialect) (r : Read) (n : ℕ) → length (r .cells) ≡ n → length (closing d′ true r) ≡ n + 1
         closing-one d′ r n c = length-append (r .cells) (cellNow d′ r ∷ []) ∙ ap (λ (m : ℕ). m + 1) c
 
   -- a byte that ends its record, or that no record goes on with
-  module _ {f : Form} {i : ℕ} {h : InHand} {vs : List Value} (q : Reached f i h vs) {starts ends kinds : List ℕ} (y : Holds vs starts ends kinds) where
+  module _ {f : FileState} {i : ℕ} {h : RecordState} {vs : List Value} (q : Reached f i h vs) {starts ends kinds : List ℕ} (y : Holds vs starts ends kinds) where
     pub refused : (x : ByteFault) → Whole ≡ steppedAt d file f i h vs (Reject x) → Out (Failed (Byte x) i) starts ends kinds
     unfolding stepped
     refused x w = gives (failed (Byte x) (readAt file f i h vs)) w y
 
-    pub ends-here : (g : Form) (k : Bool) → Whole ≡ steppedAt d file f i h vs (To g (Ends k)) → Out (Completed (h .start) (oneMore k (h .cells)) g (i + 1)) (putIf k room (base + h .cells) (h .opened) starts) (putIf k room (base + h .cells) i ends) (putIf k room (base + h .cells) (kindNumber (kindOf d (part file (h .opened) i))) kinds)
+    pub ends-here : (g : FileState) (k : Bool) → Whole ≡ steppedAt d file f i h vs (To g (Ends k)) → Out (Completed (h .start) (oneMore k (h .cells)) g (i + 1)) (putIf k room (base + h .cells) (h .opened) starts) (putIf k room (base + h .cells) i ends) (putIf k room (base + h .cells) (kindNumber (kindOf d (slice file (h .opened) i))) kinds)
     unfolding stepped if_then_else_
     ends-here g k w =
         let r : Read = readAt file f i h vs in
         let n : length (closing d k r) ≡ oneMore k (h .cells) = closing-counts d k r (h .cells) (q .counted) in
-        subst (λ (m : ℕ). Out (Completed (h .start) m g (i + 1)) (putIf k room (base + h .cells) (h .opened) starts) (putIf k room (base + h .cells) i ends) (putIf k room (base + h .cells) (kindNumber (kindOf d (part file (h .opened) i))) kinds)) n
+        subst (λ (m : ℕ). Out (Completed (h .start) m g (i + 1)) (putIf k room (base + h .cells) (h .opened) starts) (putIf k room (base + h .cells) i ends) (putIf k room (base + h .cells) (kindNumber (kindOf d (slice file (h .opened) i))) kinds)) n
         (gives (completed r (closing d k r) g (i + 1)) w (put-closing q k y))
 
-    pub completes : (g : Form) (p : Part) → endsRecord p ≡ true → Whole ≡ steppedAt d file f i h vs (To g p) → Out (Completed (handAfter p i h .start) (handAfter p i h .cells) g (i + 1)) (putIf (closesCell p) room (base + h .cells) (h .opened) starts) (putIf (closesCell p) room (base + h .cells) i ends) (putIf (closesCell p) room (base + h .cells) (kindNumber (kindOf d (part file (h .opened) i))) kinds)
+    pub completes : (g : FileState) (p : ByteRole) → endsRecord p ≡ true → Whole ≡ steppedAt d file f i h vs (To g p) → Out (Completed (stateAfterByte p i h .start) (stateAfterByte p i h .cells) g (i + 1)) (putIf (closesCell p) room (base + h .cells) (h .opened) starts) (putIf (closesCell p) room (base + h .cells) i ends) (putIf (closesCell p) room (base + h .cells) (kindNumber (kindOf d (slice file (h .opened) i))) kinds)
     completes g Outside e w = impossible e
     completes g Passed e w = impossible e
     completes g OfCell e w = impossible e
@@ -305,7 +305,7 @@ module _ (call : Call) where
 
   -- ---- without a step
 
-  pub grows-to : {f : Form} {i j : ℕ} {h : InHand} {vs : List Value} → i ≤ j → j ≤ length file → j ≤ MAXFILE → Reached f i h vs → Reached f j (grown h (j - i)) vs
+  pub grows-to : {f : FileState} {i j : ℕ} {h : RecordState} {vs : List Value} → i ≤ j → j ≤ length file → j ≤ MAXFILE → Reached f i h vs → Reached f j (extendedBy h (j - i)) vs
   grows-to {i = i} {j = j} {h = h} l m n q =
       let b : base + h .cells ≤ i = q .few in
       let w′ : from ≤ i = q .onward in
@@ -313,7 +313,7 @@ module _ (call : Call) where
       let o : h .opened ≤ i = q .opened in
       record { onward = omega arith; inside = m; under = n; counted = q .counted; few = omega arith; sized = omega arith; opened = omega arith; rest = q .rest }
 
-  pub still-open : {f : Form} {c : Cell} {i j : ℕ} {h : InHand} {starts ends kinds : List ℕ} (y : Scanning f i h starts ends kinds) → i < j → j ≤ length file → j ≤ MAXFILE → Whole ≡ nextRecord d (readAt file (Inside c) j (grown h (j - i)) (y .vs)) (drop j file) → Scanning (Inside c) j (grown h (j - i)) starts ends kinds
+  pub still-open : {f : FileState} {c : Cell} {i j : ℕ} {h : RecordState} {starts ends kinds : List ℕ} (y : Scanning f i h starts ends kinds) → i < j → j ≤ length file → j ≤ MAXFILE → Whole ≡ nextRecord d (readAt file (Inside c) j (extendedBy h (j - i)) (y .vs)) (drop j file) → Scanning (Inside c) j (extendedBy h (j - i)) starts ends kinds
   still-open {i = i} {j = j} {h = h} y l m n w =
       let b : base + h .cells ≤ i = y .reached .few in
       let w′ : from ≤ i = y .reached .onward in
@@ -321,7 +321,7 @@ module _ (call : Call) where
       let o : h .opened ≤ i = y .reached .opened in
       record { vs = y .vs; same = w; reached = record { onward = omega arith; inside = m; under = n; counted = y .reached .counted; few = omega arith; sized = omega arith; opened = omega arith; rest = λ t. impossible t }; lists = y .lists }
 
-  pub skipped : {f : Form} {i j : ℕ} {h : InHand} {starts ends kinds : List ℕ} (y : Scanning f i h starts ends kinds) → outer f ≡ true → i < j → j ≤ length file → j ≤ MAXFILE → Whole ≡ nextRecord d (readAt file f j (handAfter Outside (j - 1) h) []) (drop j file) → Scanning f j (handAfter Outside (j - 1) h) starts ends kinds
+  pub skipped : {f : FileState} {i j : ℕ} {h : RecordState} {starts ends kinds : List ℕ} (y : Scanning f i h starts ends kinds) → outer f ≡ true → i < j → j ≤ length file → j ≤ MAXFILE → Whole ≡ nextRecord d (readAt file f j (stateAfterByte Outside (j - 1) h) []) (drop j file) → Scanning f j (stateAfterByte Outside (j - 1) h) starts ends kinds
   skipped {i = i} {j = j} {h = h} {starts = ss} {ends = es} {kinds = ks} y o l m n w =
       let b : base + h .cells ≤ i = y .reached .few in
       let w′ : from ≤ i = y .reached .onward in
@@ -331,9 +331,9 @@ module _ (call : Call) where
 
   pub lengths : {vs : List Value} {starts ends kinds : List ℕ} → Holds vs starts ends kinds → (length starts ≡ length starts₀) × (length ends ≡ length ends₀) × (length kinds ≡ length kinds₀)
   lengths {vs = vs} y = (
-    ap length (y .at-starts) ∙ length-placed room base (map fromOf vs) starts₀,
-    ap length (y .at-ends) ∙ length-placed room base (map uptoOf vs) ends₀,
-    ap length (y .at-kinds) ∙ length-placed room base (map numberOf vs) kinds₀,
+    ap length (y .at-starts) ∙ length-stored-from room base (map fromOf vs) starts₀,
+    ap length (y .at-ends) ∙ length-stored-from room base (map uptoOf vs) ends₀,
+    ap length (y .at-kinds) ∙ length-stored-from room base (map numberOf vs) kinds₀,
   )
 
   -- and after a cell was put or not
@@ -347,7 +347,7 @@ module _ (call : Call) where
 
   -- ---- the step of one byte, as the code takes it
 
-  pub record Stepping (f : Form) (i : ℕ) (h : InHand) (s : Step) (starts ends kinds : List ℕ) : Type 0 where
+  pub record Stepping (f : FileState) (i : ℕ) (h : RecordState) (s : Step) (starts ends kinds : List ℕ) : Type 0 where
     pub vs : List Value
     pub whole : Whole ≡ steppedAt d file f i h vs s
     pub reached : Reached f i h vs
@@ -357,15 +357,15 @@ module _ (call : Call) where
     pub under : i < MAXFILE
 
   -- the byte at i is not one too many, and this stands ahead
-  pub record Asked (f : Form) (i : ℕ) (h : InHand) (starts ends kinds : List ℕ) (met : Met) : Type 0 where
+  pub record Asked (f : FileState) (i : ℕ) (h : RecordState) (starts ends kinds : List ℕ) (met : Token) : Type 0 where
     pub scanning : Scanning f i h starts ends kinds
     pub inside : i < length file
     pub under : i < MAXFILE
     pub fits : (leb MAXRECORD (h .size) && counts f (getD file i 0)) ≡ false
-    pub lies : Lies d file f i met
-    pub comes : Comes d file f i (h .size) met
+    pub lies : TokenInBounds d file f i met
+    pub comes : TokenCorrect d file f i (h .size) met
 
-  module _ {f : Form} {i : ℕ} {h : InHand} {starts ends kinds : List ℕ} {met : Met} (a : Asked f i h starts ends kinds met) where
+  module _ {f : FileState} {i : ℕ} {h : RecordState} {starts ends kinds : List ℕ} {met : Token} (a : Asked f i h starts ends kinds met) where
     comes-to : Whole ≡ metNext d file f i h (a .scanning .vs) met
     unfolding recordFull
     comes-to = a .scanning .same ∙ a .comes .comes h (a .scanning .vs) refl (a .scanning .reached .opened) (a .fits)
@@ -373,55 +373,55 @@ module _ (call : Call) where
     pub by-byte : (s : Step) → met ≡ Is s → Stepping f i h s starts ends kinds
     unfolding metNext
     by-byte s q =
-        let n : Lies d file f i (Is s) = subst (λ (x : Met). Lies d file f i x) q (a .lies) in
-        let w : Whole ≡ metNext d file f i h (a .scanning .vs) (Is s) = comes-to ∙ ap (λ (x : Met). metNext d file f i h (a .scanning .vs) x) q in
+        let n : TokenInBounds d file f i (Is s) = subst (λ (x : Token). TokenInBounds d file f i x) q (a .lies) in
+        let w : Whole ≡ metNext d file f i h (a .scanning .vs) (Is s) = comes-to ∙ ap (λ (x : Token). metNext d file f i h (a .scanning .vs) x) q in
         record { vs = a .scanning .vs; whole = w; reached = a .scanning .reached; lists = a .scanning .lists; calm = subst (λ (x : Step). Calm f (getD file i 0) x) (sym n) (step-calm d f (getD file i 0)); inside = a .inside; under = a .under }
 
-    pub by-cell : (closes : Bool) (j : ℕ) → met ≡ AfterCell closes j → (g : InHand) → g ≡ grown h (j - i) → (s : Step) → s ≡ afterCell d closes (getD file j 0) → Stepping f j g s starts ends kinds
+    pub by-cell : (closes : Bool) (j : ℕ) → met ≡ AfterCell closes j → (g : RecordState) → g ≡ extendedBy h (j - i) → (s : Step) → s ≡ afterCell d closes (getD file j 0) → Stepping f j g s starts ends kinds
     unfolding metNext
     by-cell closes j q g eg s es =
-        let n : Lies d file f i (AfterCell closes j) = subst (λ (x : Met). Lies d file f i x) q (a .lies) in
-        let w : Whole ≡ metNext d file f i h (a .scanning .vs) (AfterCell closes j) = comes-to ∙ ap (λ (x : Met). metNext d file f i h (a .scanning .vs) x) q in
+        let n : TokenInBounds d file f i (AfterCell closes j) = subst (λ (x : Token). TokenInBounds d file f i x) q (a .lies) in
+        let w : Whole ≡ metNext d file f i h (a .scanning .vs) (AfterCell closes j) = comes-to ∙ ap (λ (x : Token). metNext d file f i h (a .scanning .vs) x) q in
         let k : j < length file = n .1 in
         let u : j < MAXFILE = n .2 in
-        subst (λ (x : InHand). Stepping f j x s starts ends kinds) (sym eg)
-        (subst (λ (x : Step). Stepping f j (grown h (j - i)) x starts ends kinds) (sym es)
+        subst (λ (x : RecordState). Stepping f j x s starts ends kinds) (sym eg)
+        (subst (λ (x : Step). Stepping f j (extendedBy h (j - i)) x starts ends kinds) (sym es)
         (record { vs = a .scanning .vs; whole = w; reached = grows-to (n .0) (omega arith) (omega arith) (a .scanning .reached); lists = a .scanning .lists; calm = after-calm f (getD file j 0) d closes; inside = k; under = u }))
 
-    pub by-skip : (j : ℕ) → met ≡ Skipped j → (g : InHand) → g ≡ handAfter Outside (j - 1) h → Scanning f j g starts ends kinds
+    pub by-skip : (j : ℕ) → met ≡ Skipped j → (g : RecordState) → g ≡ stateAfterByte Outside (j - 1) h → Scanning f j g starts ends kinds
     unfolding metNext
     by-skip j q g eg =
-        let n : Lies d file f i (Skipped j) = subst (λ (x : Met). Lies d file f i x) q (a .lies) in
-        let w : Whole ≡ metNext d file f i h (a .scanning .vs) (Skipped j) = comes-to ∙ ap (λ (x : Met). metNext d file f i h (a .scanning .vs) x) q in
-        subst (λ (x : InHand). Scanning f j x starts ends kinds) (sym eg) (skipped (a .scanning) (n .0) (n .1) (n .2) (n .3) w)
+        let n : TokenInBounds d file f i (Skipped j) = subst (λ (x : Token). TokenInBounds d file f i x) q (a .lies) in
+        let w : Whole ≡ metNext d file f i h (a .scanning .vs) (Skipped j) = comes-to ∙ ap (λ (x : Token). metNext d file f i h (a .scanning .vs) x) q in
+        subst (λ (x : RecordState). Scanning f j x starts ends kinds) (sym eg) (skipped (a .scanning) (n .0) (n .1) (n .2) (n .3) w)
 
-    pub by-open : (c : Cell) (j : ℕ) → met ≡ Open c j → (g : InHand) → g ≡ grown h (j - i) → Scanning (Inside c) j g starts ends kinds
+    pub by-open : (c : Cell) (j : ℕ) → met ≡ Open c j → (g : RecordState) → g ≡ extendedBy h (j - i) → Scanning (Inside c) j g starts ends kinds
     unfolding metNext
     by-open c j q g eg =
-        let n : Lies d file f i (Open c j) = subst (λ (x : Met). Lies d file f i x) q (a .lies) in
-        let w : Whole ≡ metNext d file f i h (a .scanning .vs) (Open c j) = comes-to ∙ ap (λ (x : Met). metNext d file f i h (a .scanning .vs) x) q in
-        subst (λ (x : InHand). Scanning (Inside c) j x starts ends kinds) (sym eg) (still-open (a .scanning) (n .0) (n .1) (n .2) w)
+        let n : TokenInBounds d file f i (Open c j) = subst (λ (x : Token). TokenInBounds d file f i x) q (a .lies) in
+        let w : Whole ≡ metNext d file f i h (a .scanning .vs) (Open c j) = comes-to ∙ ap (λ (x : Token). metNext d file f i h (a .scanning .vs) x) q in
+        subst (λ (x : RecordState). Scanning (Inside c) j x starts ends kinds) (sym eg) (still-open (a .scanning) (n .0) (n .1) (n .2) w)
 
     pub by-refusal : (x : ByteFault) (j : ℕ) → met ≡ Refused x j → Out (Failed (Byte x) j) starts ends kinds
     unfolding metNext
-    by-refusal x j q = gives (record { event = Failed (Byte x) j; cells = a .scanning .vs }) (comes-to ∙ ap (λ (t : Met). metNext d file f i h (a .scanning .vs) t) q) (a .scanning .lists)
+    by-refusal x j q = gives (record { event = Failed (Byte x) j; cells = a .scanning .vs }) (comes-to ∙ ap (λ (t : Token). metNext d file f i h (a .scanning .vs) t) q) (a .scanning .lists)
 
     -- where it lies
     pub lies-cell : (closes : Bool) (j : ℕ) → met ≡ AfterCell closes j → (i ≤ j) × (j < length file) × (j < MAXFILE)
-    lies-cell closes j q = subst (λ (x : Met). Lies d file f i x) q (a .lies)
+    lies-cell closes j q = subst (λ (x : Token). TokenInBounds d file f i x) q (a .lies)
 
     pub lies-skip : (j : ℕ) → met ≡ Skipped j → (i < j) × (j ≤ length file) × (j ≤ MAXFILE)
-    lies-skip j q = let n : Lies d file f i (Skipped j) = subst (λ (x : Met). Lies d file f i x) q (a .lies) in (n .1, n .2, n .3)
+    lies-skip j q = let n : TokenInBounds d file f i (Skipped j) = subst (λ (x : Token). TokenInBounds d file f i x) q (a .lies) in (n .1, n .2, n .3)
 
     pub lies-open : (c : Cell) (j : ℕ) → met ≡ Open c j → (i < j) × (j ≤ length file) × (j ≤ MAXFILE)
-    lies-open c j q = subst (λ (x : Met). Lies d file f i x) q (a .lies)
+    lies-open c j q = subst (λ (x : Token). TokenInBounds d file f i x) q (a .lies)
 
   -- what the code's calls say of a step
-  module _ {f : Form} {i : ℕ} {h : InHand} {starts ends kinds : List ℕ} {s : Step} (y : Stepping f i h s starts ends kinds) where
+  module _ {f : FileState} {i : ℕ} {h : RecordState} {starts ends kinds : List ℕ} {s : Step} (y : Stepping f i h s starts ends kinds) where
     pub step-refused : (x : ByteFault) → s ≡ Reject x → Out (Failed (Byte x) i) starts ends kinds
     step-refused x q = refused (y .reached) (y .lists) x (y .whole ∙ ap (λ (t : Step). steppedAt d file f i h (y .vs) t) q)
 
-    module _ (g : Form) (p : Part) (q : s ≡ To g p) (closes : Bool) (c : closes ≡ closesCell p) (starts′ ends′ kinds′ : List ℕ) (put : (starts′ ≡ putIf closes room (base + h .cells) (h .opened) starts) × ((ends′ ≡ putIf closes room (base + h .cells) i ends) × (kinds′ ≡ putIf closes room (base + h .cells) (kindNumber (kindOf d (part file (h .opened) i))) kinds))) (h′ : InHand) (eh : h′ ≡ handAfter p i h) (over : Bool) (eo : over ≡ endsRecord p) where
+    module _ (g : FileState) (p : ByteRole) (q : s ≡ To g p) (closes : Bool) (c : closes ≡ closesCell p) (starts′ ends′ kinds′ : List ℕ) (put : (starts′ ≡ putIf closes room (base + h .cells) (h .opened) starts) × ((ends′ ≡ putIf closes room (base + h .cells) i ends) × (kinds′ ≡ putIf closes room (base + h .cells) (kindNumber (kindOf d (slice file (h .opened) i))) kinds))) (h′ : RecordState) (eh : h′ ≡ stateAfterByte p i h) (over : Bool) (eo : over ≡ endsRecord p) where
       stepped-to : Whole ≡ steppedAt d file f i h (y .vs) (To g p)
       stepped-to = y .whole ∙ ap (λ (t : Step). steppedAt d file f i h (y .vs) t) q
 
@@ -431,8 +431,8 @@ module _ (call : Call) where
       put-ends : ends′ ≡ putIf (closesCell p) room (base + h .cells) i ends
       put-ends = put .1 .0 ∙ ap (λ (k : Bool). putIf k room (base + h .cells) i ends) c
 
-      put-kinds : kinds′ ≡ putIf (closesCell p) room (base + h .cells) (kindNumber (kindOf d (part file (h .opened) i))) kinds
-      put-kinds = put .1 .1 ∙ ap (λ (k : Bool). putIf k room (base + h .cells) (kindNumber (kindOf d (part file (h .opened) i))) kinds) c
+      put-kinds : kinds′ ≡ putIf (closesCell p) room (base + h .cells) (kindNumber (kindOf d (slice file (h .opened) i))) kinds
+      put-kinds = put .1 .1 ∙ ap (λ (k : Bool). putIf k room (base + h .cells) (kindNumber (kindOf d (slice file (h .opened) i))) kinds) c
 
       pub step-on : over ≡ false → Scanning g (i + 1) h′ starts′ ends′ kinds′
       step-on z =
@@ -444,7 +444,7 @@ module _ (call : Call) where
           rw (eh, put-starts, put-ends, put-kinds)
           (completes (y .reached) (y .lists) g p (sym eo ∙ z) stepped-to)
 
-      pub step-fits : over ≡ true → Fits (length file) from base (Completed (h′ .start) (h′ .cells) g (i + 1))
+      pub step-fits : over ≡ true → EventInBounds (length file) from base (Completed (h′ .start) (h′ .cells) g (i + 1))
       step-fits z =
           let b : base + h .cells ≤ i = y .reached .few in
           let w : from ≤ i = y .reached .onward in
@@ -453,7 +453,7 @@ module _ (call : Call) where
           let n : base + h′ .cells ≤ i + 1 = rw eh (few-after p (sym eo ∙ z)) in
           (omega arith, omega arith, omega arith, n)
         where
-          few-after : (t : Part) → endsRecord t ≡ true → base + handAfter t i h .cells ≤ i + 1
+          few-after : (t : ByteRole) → endsRecord t ≡ true → base + stateAfterByte t i h .cells ≤ i + 1
           few-after Outside k = impossible k
           few-after Passed k = impossible k
           few-after OfCell k = impossible k
@@ -463,23 +463,23 @@ module _ (call : Call) where
 
   -- ---- the last record, and numbers that stay small
 
-  pub last-put : {f : Form} {i : ℕ} {h : InHand} {starts ends kinds : List ℕ} → Scanning f i h starts ends kinds → length file ≤ i → formEnd d f ≡ Final → (starts′ ends′ kinds′ : List ℕ) → (starts′ ≡ putIf true room (base + h .cells) (h .opened) starts) × ((ends′ ≡ putIf true room (base + h .cells) i ends) × (kinds′ ≡ putIf true room (base + h .cells) (kindNumber (kindOf d (part file (h .opened) i))) kinds)) → Out (LastRecord (h .start) (h .cells + 1)) starts′ ends′ kinds′
+  pub last-put : {f : FileState} {i : ℕ} {h : RecordState} {starts ends kinds : List ℕ} → Scanning f i h starts ends kinds → length file ≤ i → fileEnd d f ≡ Final → (starts′ ends′ kinds′ : List ℕ) → (starts′ ≡ putIf true room (base + h .cells) (h .opened) starts) × ((ends′ ≡ putIf true room (base + h .cells) i ends) × (kinds′ ≡ putIf true room (base + h .cells) (kindNumber (kindOf d (slice file (h .opened) i))) kinds)) → Out (LastRecord (h .start) (h .cells + 1)) starts′ ends′ kinds′
   last-put y l e starts′ ends′ kinds′ put = rw (put .0, put .1 .0, put .1 .1) (last-record y l e)
 
-  pub last-fits : {f : Form} {i : ℕ} {h : InHand} {starts ends kinds : List ℕ} → Scanning f i h starts ends kinds → length file ≤ i → Fits (length file) from base (LastRecord (h .start) (h .cells + 1))
+  pub last-fits : {f : FileState} {i : ℕ} {h : RecordState} {starts ends kinds : List ℕ} → Scanning f i h starts ends kinds → length file ≤ i → EventInBounds (length file) from base (LastRecord (h .start) (h .cells + 1))
   last-fits {i = i} {h = h} y l =
       let b : base + h .cells ≤ i = y .reached .few in
       let u : i ≤ MAXFILE = y .reached .under in
       let n : i ≤ length file = y .reached .inside in
       (omega arith, omega arith)
 
-  pub small-sum : {f : Form} {i : ℕ} {h : InHand} {s : Step} {starts ends kinds : List ℕ} → Stepping f i h s starts ends kinds → base + h .cells < 2 ^ 64
+  pub small-sum : {f : FileState} {i : ℕ} {h : RecordState} {s : Step} {starts ends kinds : List ℕ} → Stepping f i h s starts ends kinds → base + h .cells < 2 ^ 64
   small-sum {i = i} {h = h} y =
       let b : base + h .cells ≤ i = y .reached .few in
       let u : i < MAXFILE = y .under in
       omega arith
 
-  pub small-step : {f : Form} {i : ℕ} {h : InHand} {s : Step} {starts ends kinds : List ℕ} → Stepping f i h s starts ends kinds → (i + 1 < 2 ^ 64) × (h .size + 1 < 2 ^ 64) × (h .cells + 1 < 2 ^ 64)
+  pub small-step : {f : FileState} {i : ℕ} {h : RecordState} {s : Step} {starts ends kinds : List ℕ} → Stepping f i h s starts ends kinds → (i + 1 < 2 ^ 64) × (h .size + 1 < 2 ^ 64) × (h .cells + 1 < 2 ^ 64)
   small-step {i = i} {h = h} y =
       let b : base + h .cells ≤ i = y .reached .few in
       let z : h .size ≤ i = y .reached .sized in

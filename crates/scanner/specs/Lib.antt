@@ -1,6 +1,6 @@
 pub mod Types
 pub mod Next
-pub mod Ahead
-pub mod Placed
+pub mod Tokens
+pub mod Stored
 pub mod Reading
 pub mod Stretches

@@ -5,26 +5,26 @@ use mathlib.Core.Bool.{Bool, true, false}
 use mathlib.Core.List.{List, [], _∷_, _++_}
 use lib.ListN.{length}
 use Rattle.model.specs.Base.{if_then_else_, Bytes}
-use Rattle.model.specs.Form.{formStep, formEnd}
+use Rattle.model.specs.File.{fileStep, fileEnd}
 use Rattle.model.specs.Text.{Value}
 use Rattle.model.specs.Report.{MAXFILE}
 use Rattle.model.specs.Records.{Read, closing, fileFull, recordFull}
 use Rattle.model.specs.declared.Dialect.{Dialect}
-use Rattle.model.specs.declared.Form.{Form}
-use Rattle.model.specs.declared.Part.{Part}
-use Rattle.model.specs.declared.Part.the-variants.{Outside, Passed, OfCell, Between, Tail, Ends}
+use Rattle.model.specs.declared.FileState.{FileState}
+use Rattle.model.specs.declared.ByteRole.{ByteRole}
+use Rattle.model.specs.declared.ByteRole.the-variants.{Outside, Passed, OfCell, Between, Tail, Ends}
 use Rattle.model.specs.declared.Step.{Step}
 use Rattle.model.specs.declared.Step.the-variants.{To, Reject}
 use Rattle.model.specs.declared.Ending.{Ending}
 use Rattle.model.specs.declared.Ending.the-variants.{Clean, Final, Cut}
 use Rattle.model.specs.declared.Fault.{Fault}
 use Rattle.model.specs.declared.Fault.the-variants.{Byte, CutShort, FileTooLong, RecordTooLong}
-use Rattle.scanner.specs.Types.{InHand, Event, Completed, LastRecord, Failed, Finished}
+use Rattle.scanner.specs.Types.{RecordState, Event, Completed, LastRecord, Failed, Finished}
 
 -- ---- what a byte does to the record in hand
 
 -- a cell ends before this byte
-abbrev pub closesCell : Part → Bool
+abbrev pub closesCell : ByteRole → Bool
 closesCell Outside = false
 closesCell Passed = false
 closesCell OfCell = false
@@ -33,7 +33,7 @@ closesCell (Tail closes) = closes
 closesCell (Ends closes) = closes
 
 -- this is a record's last byte
-abbrev pub endsRecord : Part → Bool
+abbrev pub endsRecord : ByteRole → Bool
 endsRecord Outside = false
 endsRecord Passed = false
 endsRecord OfCell = false
@@ -46,20 +46,20 @@ unfoldable pub oneMore : (closes : Bool) → ℕ → ℕ
 oneMore closes n = if closes then n + 1 else n
 
 -- the record in hand after the byte at i
-abbrev pub handAfter : Part → (i : ℕ) → InHand → InHand
-handAfter Outside i h = record { start = h .start; size = 0; opened = i + 1; cells = 0 }
-handAfter Passed i h = record { start = i + 1; size = 0; opened = i + 1; cells = 0 }
-handAfter OfCell i h = record { start = h .start; size = h .size + 1; opened = h .opened; cells = h .cells }
-handAfter (Between closes) i h = record { start = h .start; size = h .size + 1; opened = i + 1; cells = oneMore closes (h .cells) }
-handAfter (Tail closes) i h = record { start = h .start; size = h .size; opened = i + 1; cells = oneMore closes (h .cells) }
-handAfter (Ends closes) i h = record { start = h .start; size = h .size; opened = i + 1; cells = oneMore closes (h .cells) }
+abbrev pub stateAfterByte : ByteRole → (i : ℕ) → RecordState → RecordState
+stateAfterByte Outside i h = record { start = h .start; size = 0; opened = i + 1; cells = 0 }
+stateAfterByte Passed i h = record { start = i + 1; size = 0; opened = i + 1; cells = 0 }
+stateAfterByte OfCell i h = record { start = h .start; size = h .size + 1; opened = h .opened; cells = h .cells }
+stateAfterByte (Between closes) i h = record { start = h .start; size = h .size + 1; opened = i + 1; cells = oneMore closes (h .cells) }
+stateAfterByte (Tail closes) i h = record { start = h .start; size = h .size; opened = i + 1; cells = oneMore closes (h .cells) }
+stateAfterByte (Ends closes) i h = record { start = h .start; size = h .size; opened = i + 1; cells = oneMore closes (h .cells) }
 
 -- n more bytes of the cell in hand
-abbrev pub grown : InHand → ℕ → InHand
-grown h n = record { start = h .start; size = h .size + n; opened = h .opened; cells = h .cells }
+abbrev pub extendedBy : RecordState → ℕ → RecordState
+extendedBy h n = record { start = h .start; size = h .size + n; opened = h .opened; cells = h .cells }
 
 -- the bytes of the cell in hand after the byte b
-abbrev pub rawAfter : Part → (b : ℕ) → Bytes → Bytes
+abbrev pub rawAfter : ByteRole → (b : ℕ) → Bytes → Bytes
 rawAfter Outside b raw = []
 rawAfter Passed b raw = []
 rawAfter OfCell b raw = raw ++ (b ∷ [])
@@ -68,7 +68,7 @@ rawAfter (Tail closes) b raw = []
 rawAfter (Ends closes) b raw = []
 
 -- the record's complete cells after the next byte
-abbrev pub cellsAfter : Dialect → Part → Read → List Value
+abbrev pub cellsAfter : Dialect → ByteRole → Read → List Value
 cellsAfter d Outside r = []
 cellsAfter d Passed r = []
 cellsAfter d OfCell r = r .cells
@@ -77,16 +77,16 @@ cellsAfter d (Tail closes) r = closing d closes r
 cellsAfter d (Ends closes) r = closing d closes r
 
 -- the record in hand as numbers
-abbrev pub handOf : Read → InHand
-handOf r = record { start = r .start; size = r .size; opened = r .opened; cells = length (r .cells) }
+abbrev pub recordStateOf : Read → RecordState
+recordStateOf r = record { start = r .start; size = r .size; opened = r .opened; cells = length (r .cells) }
 
 -- reading after the byte b, which is this part of the file
-abbrev pub carried : Dialect → Read → (b : ℕ) → Form → Part → Read
-carried d r b f p =
-    let h : InHand = handAfter p (r .offset) (handOf r) in
+abbrev pub readAfter : Dialect → Read → (b : ℕ) → FileState → ByteRole → Read
+readAfter d r b f p =
+    let h : RecordState = stateAfterByte p (r .offset) (recordStateOf r) in
     record {
       done = r .done;
-      form = f;
+      state = f;
       offset = r .offset + 1;
       start = h .start;
       size = h .size;
@@ -106,14 +106,14 @@ abbrev pub failed : Fault → Read → Next
 failed e r = record { event = Failed e (r .offset); cells = r .cells }
 
 -- the record is complete with these cells; where the file stands after it, and the next offset
-abbrev pub completed : Read → List Value → Form → ℕ → Next
+abbrev pub completed : Read → List Value → FileState → ℕ → Next
 completed r vs f o = record { event = Completed (r .start) (length vs) f o; cells = vs }
 
 -- the next byte b takes this step, and `rest` says what comes of reading after it
 unfoldable pub stepped : Dialect → Read → (b : ℕ) → (rest : Read → Next) → Step → Next
 stepped d r b rest (Reject e) = failed (Byte e) r
 stepped d r b rest (To f p) =
-    if endsRecord p then completed r (closing d (closesCell p) r) f (r .offset + 1) else rest (carried d r b f p)
+    if endsRecord p then completed r (closing d (closesCell p) r) f (r .offset + 1) else rest (readAfter d r b f p)
 
 -- the file ends here; between records no cell is in hand
 abbrev pub ended : Dialect → Read → Ending → Next
@@ -122,18 +122,18 @@ ended d r Final = record { event = LastRecord (r .start) (length (closing d true
 ended d r Cut = failed CutShort r
 
 unfoldable pub nextRecord : Dialect → Read → Bytes → Next
-nextRecord d r [] = ended d r (formEnd d (r .form))
+nextRecord d r [] = ended d r (fileEnd d (r .state))
 nextRecord d r (b ∷ bs) =
     if fileFull r then failed FileTooLong r
     else if recordFull r b then failed RecordTooLong r
-    else stepped d r b (λ r′. nextRecord d r′ bs) (formStep d (r .form) b)
+    else stepped d r b (λ r′. nextRecord d r′ bs) (fileStep d (r .state) b)
 
 -- ---- how far an event lies
 
 -- the cells up to here are at most as many as the bytes read, and a complete record lies in the file and under its limit.
 -- `base`: how many cells came before; `from`: where reading began
-abbrev pub Fits : (length from base : ℕ) → Event → Type 0
-Fits n from base (Completed start cells f next) = (from < next) × (next ≤ n) × (next ≤ MAXFILE) × (base + cells ≤ next)
-Fits n from base (LastRecord start cells) = (n ≤ MAXFILE) × (base + cells ≤ n + 1)
-Fits n from base (Failed e offset) = Unit {0}
-Fits n from base (Finished offset) = Unit {0}
+abbrev pub EventInBounds : (length from base : ℕ) → Event → Type 0
+EventInBounds n from base (Completed start cells f next) = (from < next) × (next ≤ n) × (next ≤ MAXFILE) × (base + cells ≤ next)
+EventInBounds n from base (LastRecord start cells) = (n ≤ MAXFILE) × (base + cells ≤ n + 1)
+EventInBounds n from base (Failed e offset) = Unit {0}
+EventInBounds n from base (Finished offset) = Unit {0}

@@ -11,8 +11,8 @@ use Rattle.model.specs.Report.{isAtByte}
 use Rattle.model.specs.Records.{Rec, Read, Progress, stopped, complete, readFrom, readEnd, endBetween}
 use Rattle.model.specs.declared.Dialect.{Dialect}
 use Rattle.model.specs.declared.Target.{Target}
-use Rattle.model.specs.declared.Form.{Form}
-use Rattle.model.specs.declared.Form.the-variants.{Begin}
+use Rattle.model.specs.declared.FileState.{FileState}
+use Rattle.model.specs.declared.FileState.the-variants.{Begin}
 use Rattle.model.specs.declared.Fault.{Fault}
 use Rattle.scanner.specs.Types.{Completed, LastRecord, Failed, Finished}
 use Rattle.scanner.specs.Next.{Next}
@@ -22,7 +22,7 @@ abbrev pub redone : List Rec → Read → Read
 redone rs r =
     record {
       done = rs;
-      form = r .form;
+      state = r .state;
       offset = r .offset;
       start = r .start;
       size = r .size;
@@ -32,15 +32,15 @@ redone rs r =
     }
 
 -- after the records rs, reading comes to this next, and in the end to that
-pub data Follows (d : Dialect) (target : Option Target) (file : Bytes) (rs : List Rec) : Next → Progress → Type 0 where
+pub data ReadsAs (d : Dialect) (target : Option Target) (file : Bytes) (rs : List Rec) : Next → Progress → Type 0 where
   after-record :
-      (r : Read) (vs : List Value) (f : Form) (o : ℕ) → r .done ≡ rs →
-      Follows d target file rs (record { event = Completed (r .start) (length vs) f o; cells = vs })
+      (r : Read) (vs : List Value) (f : FileState) (o : ℕ) → r .done ≡ rs →
+      ReadsAs d target file rs (record { event = Completed (r .start) (length vs) f o; cells = vs })
       (readEnd d target (readFrom d target (complete d target r vs f o) (drop o file)))
   after-last :
       (r : Read) (vs : List Value) → r .done ≡ rs →
-      Follows d target file rs (record { event = LastRecord (r .start) (length vs); cells = vs }) (complete d target r vs Begin (r .offset))
+      ReadsAs d target file rs (record { event = LastRecord (r .start) (length vs); cells = vs }) (complete d target r vs Begin (r .offset))
   after-fault :
       (e : Fault) (r : Read) (vs : List Value) → r .done ≡ rs → isAtByte e ≡ true →
-      Follows d target file rs (record { event = Failed e (r .offset); cells = vs }) (stopped e r)
-  after-all : (r : Read) → r .done ≡ rs → Follows d target file rs (record { event = Finished (r .offset); cells = [] }) (endBetween r rs)
+      ReadsAs d target file rs (record { event = Failed e (r .offset); cells = vs }) (stopped e r)
+  after-all : (r : Read) → r .done ≡ rs → ReadsAs d target file rs (record { event = Finished (r .offset); cells = [] }) (endBetween r rs)

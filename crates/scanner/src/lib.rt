@@ -4,10 +4,10 @@
 //
 // The loop holds numbers and the place in the file; ahead.rt finds what stands ahead of it, which is mostly a whole cell. Each
 // function on this way is called from one place, or its answer would go through memory: that costs half of the speed.
-mod ahead;
-mod hand;
 mod limits;
-mod place;
+mod record_state;
+mod store;
+mod tokens;
 
 ghost use mathlib.Core.Path.{_≡_};
 ghost use mathlib.Core.List.{[]};
@@ -16,16 +16,16 @@ ghost use lib.ListN.{length, drop};
 ghost use Rattle.model.specs.Report.{MAXFILE};
 ghost use Rattle.model.specs.Records.{between-records};
 ghost use Rattle.model.specs.Api.{startsOf, endsOf, kindsOf};
-ghost use Rattle.scanner.specs.Next.{nextRecord, Fits};
-ghost use Rattle.scanner.specs.Placed.{placed};
-use ahead::Met;
-use hand::InHand;
+ghost use Rattle.scanner.specs.Next.{nextRecord, EventInBounds};
+ghost use Rattle.scanner.specs.Stored.{storedFrom};
+use model::ByteRole;
 use model::Dialect;
 use model::Ending;
 use model::Fault;
-use model::Form;
-use model::Part;
+use model::FileState;
 use model::Step;
+use record_state::RecordState;
+use tokens::Token;
 
 // What reading comes to next.
 pub enum Event {
@@ -33,7 +33,7 @@ pub enum Event {
     Completed {
         start: usize,
         cells: usize,
-        form: Form,
+        state: FileState,
         next: usize,
     },
     // The same for a last record that the file's end completes.
@@ -57,7 +57,7 @@ pub fn next_record(
     d: Dialect,
     file: &[u8],
     from: usize,
-    first: Form,
+    first: FileState,
     room: usize,
     base: usize,
     starts: &mut [usize],
@@ -67,14 +67,14 @@ pub fn next_record(
     requires { ⌜ (from ≤ length (now file)) × (from ≤ MAXFILE) × (base ≤ from) ⌝ }
     requires { ⌜ (room ≤ length (now starts)) × (room ≤ length (now ends)) × (room ≤ length (now kinds)) ⌝ }
     ensures { λ r. ⌜ r ≡ nextRecord d (between-records [] first from) (drop from (now (file .entry))) .event ⌝ }
-    ensures { λ r. ⌜ now (starts .exit) ≡ placed room base (startsOf (nextRecord d (between-records [] first from) (drop from (now (file .entry))) .cells)) (now (starts .entry)) ⌝ }
-    ensures { λ r. ⌜ now (ends .exit) ≡ placed room base (endsOf (nextRecord d (between-records [] first from) (drop from (now (file .entry))) .cells)) (now (ends .entry)) ⌝ }
-    ensures { λ r. ⌜ now (kinds .exit) ≡ placed room base (kindsOf (nextRecord d (between-records [] first from) (drop from (now (file .entry))) .cells)) (now (kinds .entry)) ⌝ }
-    ensures { λ r. ⌜ Fits (length (now (file .entry))) from base r ⌝ }
+    ensures { λ r. ⌜ now (starts .exit) ≡ storedFrom room base (startsOf (nextRecord d (between-records [] first from) (drop from (now (file .entry))) .cells)) (now (starts .entry)) ⌝ }
+    ensures { λ r. ⌜ now (ends .exit) ≡ storedFrom room base (endsOf (nextRecord d (between-records [] first from) (drop from (now (file .entry))) .cells)) (now (ends .entry)) ⌝ }
+    ensures { λ r. ⌜ now (kinds .exit) ≡ storedFrom room base (kindsOf (nextRecord d (between-records [] first from) (drop from (now (file .entry))) .cells)) (now (kinds .entry)) ⌝ }
+    ensures { λ r. ⌜ EventInBounds (length (now (file .entry))) from base r ⌝ }
 {
-    let mut form = first;
+    let mut state = first;
     let mut i = from;
-    let mut h = InHand {
+    let mut h = RecordState {
         start: from,
         size: 0,
         opened: from,
@@ -87,14 +87,14 @@ pub fn next_record(
                 offset: i,
             };
         }
-        if limits::is_full(form, h.size, file[i]) {
+        if limits::is_full(state, h.size, file[i]) {
             return Event::Failed {
                 fault: Fault::RecordTooLong,
                 offset: i,
             };
         }
-        match ahead::ahead(d, file, form, i, h.size) {
-            Met::Is(s) => match s {
+        match tokens::next_token(d, file, state, i, h.size) {
+            Token::Is(s) => match s {
                 Step::Reject(e) => {
                     return Event::Failed {
                         fault: Fault::Byte(e),
@@ -102,8 +102,8 @@ pub fn next_record(
                     };
                 }
                 Step::To(f, p) => {
-                    place::put(
-                        hand::closes_cell(p),
+                    store::put(
+                        record_state::closes_cell(p),
                         d,
                         file,
                         h.opened,
@@ -114,27 +114,27 @@ pub fn next_record(
                         ends,
                         kinds,
                     );
-                    h = hand::moved(p, i, h);
+                    h = record_state::after_byte(p, i, h);
                     i += 1;
-                    if hand::ends_record(p) {
+                    if record_state::ends_record(p) {
                         return Event::Completed {
                             start: h.start,
                             cells: h.cells,
-                            form: f,
+                            state: f,
                             next: i,
                         };
                     }
-                    form = f;
+                    state = f;
                     continue;
                 }
             },
-            Met::Skipped(j) => {
-                h = hand::moved(Part::Outside, j - 1, h);
+            Token::Skipped(j) => {
+                h = record_state::after_byte(ByteRole::Outside, j - 1, h);
                 i = j;
                 continue;
             }
-            Met::AfterCell { closes, at: j } => {
-                h = hand::grown_by(h, j - i);
+            Token::AfterCell { closes, at: j } => {
+                h = record_state::extended(h, j - i);
                 i = j;
                 match file_lexer::after_cell(d, closes, file[j]) {
                     Step::Reject(e) => {
@@ -144,8 +144,8 @@ pub fn next_record(
                         };
                     }
                     Step::To(f, p) => {
-                        place::put(
-                            hand::closes_cell(p),
+                        store::put(
+                            record_state::closes_cell(p),
                             d,
                             file,
                             h.opened,
@@ -156,39 +156,39 @@ pub fn next_record(
                             ends,
                             kinds,
                         );
-                        h = hand::moved(p, i, h);
+                        h = record_state::after_byte(p, i, h);
                         i += 1;
-                        if hand::ends_record(p) {
+                        if record_state::ends_record(p) {
                             return Event::Completed {
                                 start: h.start,
                                 cells: h.cells,
-                                form: f,
+                                state: f,
                                 next: i,
                             };
                         }
-                        form = f;
+                        state = f;
                         continue;
                     }
                 }
             }
-            Met::Refused(e, j) => {
+            Token::Refused(e, j) => {
                 return Event::Failed {
                     fault: Fault::Byte(e),
                     offset: j,
                 };
             }
-            Met::Open(c, j) => {
-                h = hand::grown_by(h, j - i);
-                form = Form::Inside(c);
+            Token::Open(c, j) => {
+                h = record_state::extended(h, j - i);
+                state = FileState::Inside(c);
                 i = j;
                 continue;
             }
         }
     }
-    match limits::file_end(d, form) {
+    match limits::file_end(d, state) {
         Ending::Clean => Event::Finished { offset: i },
         Ending::Final => {
-            place::put(
+            store::put(
                 true,
                 d,
                 file,

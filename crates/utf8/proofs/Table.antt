@@ -17,13 +17,13 @@ use Rattle.model.specs.declared.Advance.the-variants.{On, Broken}
 
 -- one part of each row
 abbrev pub column : (Row → ℕ) → List Lead → List ℕ
-column part ls = map (λ l. part (rowOf l)) ls
+column slice ls = map (λ l. slice (rowOf l)) ls
 
 -- an entry is that part of the row at its place
-pub entry : (part : Row → ℕ) (ls : List Lead) (i : ℕ) → i < length ls → getD (column part ls) i 0 ≡ part (rowOf (getD ls i C2ToDf))
-entry part [] i h = absurd (not-suc-le-zero h)
-entry part (l ∷ ls) zero h = refl
-entry part (l ∷ ls) (suc i) h = entry part ls i (le-of-suc-le-suc h)
+pub entry : (slice : Row → ℕ) (ls : List Lead) (i : ℕ) → i < length ls → getD (column slice ls) i 0 ≡ slice (rowOf (getD ls i C2ToDf))
+entry slice [] i h = absurd (not-suc-le-zero h)
+entry slice (l ∷ ls) zero h = refl
+entry slice (l ∷ ls) (suc i) h = entry slice ls i (le-of-suc-le-suc h)
 
 abbrev pub firsts : List ℕ
 firsts = column (λ r. r .lo) leads

@@ -2,9 +2,9 @@
 //
 // Each answer is the definition's, of the same state (model's specs/Cell.antt), with its tests in the same order. A return is proved
 // from the tests that led to it.
-use model::Added;
 use model::ByteFault;
 use model::Cell;
+use model::CellStep;
 use model::Char;
 use model::HexLeft;
 use model::Numeral;
@@ -81,90 +81,90 @@ fn is_short(b: u8) -> bool
 }
 
 // After the digits before a point or an exponent.
-fn after_integer(b: u8) -> Added
+fn after_integer(b: u8) -> CellStep
     ensures { λ r. ⌜ r ≡ numeralStep Numeral.Zero b ⌝ }
 {
     if b == 0x2E {
-        return Added::More(Cell::InNumber(Numeral::Point));
+        return CellStep::More(Cell::InNumber(Numeral::Point));
     }
     if b == 0x65 {
-        return Added::More(Cell::InNumber(Numeral::E));
+        return CellStep::More(Cell::InNumber(Numeral::E));
     }
     if b == 0x45 {
-        return Added::More(Cell::InNumber(Numeral::E));
+        return CellStep::More(Cell::InNumber(Numeral::E));
     }
-    Added::Stop
+    CellStep::Stop
 }
 
-fn after_fraction(b: u8) -> Added
+fn after_fraction(b: u8) -> CellStep
     ensures { λ r. ⌜ r ≡ numeralStep Numeral.Fraction b ⌝ }
 {
     if is_digit(b) {
-        return Added::More(Cell::InNumber(Numeral::Fraction));
+        return CellStep::More(Cell::InNumber(Numeral::Fraction));
     }
     if b == 0x65 {
-        return Added::More(Cell::InNumber(Numeral::E));
+        return CellStep::More(Cell::InNumber(Numeral::E));
     }
     if b == 0x45 {
-        return Added::More(Cell::InNumber(Numeral::E));
+        return CellStep::More(Cell::InNumber(Numeral::E));
     }
-    Added::Stop
+    CellStep::Stop
 }
 
-fn after_e(b: u8) -> Added
+fn after_e(b: u8) -> CellStep
     ensures { λ r. ⌜ r ≡ numeralStep Numeral.E b ⌝ }
 {
     if is_digit(b) {
-        return Added::More(Cell::InNumber(Numeral::Exponent));
+        return CellStep::More(Cell::InNumber(Numeral::Exponent));
     }
     if b == 0x2B {
-        return Added::More(Cell::InNumber(Numeral::ESign));
+        return CellStep::More(Cell::InNumber(Numeral::ESign));
     }
     if b == 0x2D {
-        return Added::More(Cell::InNumber(Numeral::ESign));
+        return CellStep::More(Cell::InNumber(Numeral::ESign));
     }
-    Added::Refuse(ByteFault::Syntax)
+    CellStep::Refuse(ByteFault::Syntax)
 }
 
-pub fn numeral_step(n: Numeral, b: u8) -> Added
+pub fn numeral_step(n: Numeral, b: u8) -> CellStep
     ensures { λ r. ⌜ r ≡ numeralStep n b ⌝ }
 {
     match n {
         Numeral::Minus => {
             if b == 0x30 {
-                return Added::More(Cell::InNumber(Numeral::Zero));
+                return CellStep::More(Cell::InNumber(Numeral::Zero));
             }
             if is_digit(b) {
-                return Added::More(Cell::InNumber(Numeral::Integer));
+                return CellStep::More(Cell::InNumber(Numeral::Integer));
             }
-            Added::Refuse(ByteFault::Syntax)
+            CellStep::Refuse(ByteFault::Syntax)
         }
         Numeral::Zero => after_integer(b),
         Numeral::Integer => {
             if is_digit(b) {
-                return Added::More(Cell::InNumber(Numeral::Integer));
+                return CellStep::More(Cell::InNumber(Numeral::Integer));
             }
             after_integer(b)
         }
         Numeral::Point => {
             if is_digit(b) {
-                return Added::More(Cell::InNumber(Numeral::Fraction));
+                return CellStep::More(Cell::InNumber(Numeral::Fraction));
             }
-            Added::Refuse(ByteFault::Syntax)
+            CellStep::Refuse(ByteFault::Syntax)
         }
         Numeral::Fraction => after_fraction(b),
         Numeral::E => after_e(b),
         Numeral::ESign => {
             if is_digit(b) {
-                return Added::More(Cell::InNumber(Numeral::Exponent));
+                return CellStep::More(Cell::InNumber(Numeral::Exponent));
             }
-            Added::Refuse(ByteFault::Syntax)
+            CellStep::Refuse(ByteFault::Syntax)
         }
         Numeral::Exponent => {
             if is_digit(b) {
-                return Added::More(Cell::InNumber(Numeral::Exponent));
+                return CellStep::More(Cell::InNumber(Numeral::Exponent));
             }
-            Added::Stop
+            CellStep::Stop
         }
     }
 }
@@ -216,53 +216,53 @@ pub fn after_hex(n: HexLeft) -> Cell
     }
 }
 
-pub fn escape_step(b: u8) -> Added
+pub fn escape_step(b: u8) -> CellStep
     ensures { λ r. ⌜ r ≡ cellStep Csvj Cell.Escape b ⌝ }
 {
     if is_short(b) {
-        return Added::More(Cell::Quoted(Char::Whole));
+        return CellStep::More(Cell::Quoted(Char::Whole));
     }
     if b == 0x75 {
-        return Added::More(Cell::Hex(HexLeft::Four));
+        return CellStep::More(Cell::Hex(HexLeft::Four));
     }
-    Added::Refuse(ByteFault::Syntax)
+    CellStep::Refuse(ByteFault::Syntax)
 }
 
-pub fn csvj_first(b: u8) -> Added
+pub fn csvj_first(b: u8) -> CellStep
     ensures { λ r. ⌜ r ≡ firstByte Csvj b ⌝ }
 {
     if b == 0x22 {
-        return Added::More(Cell::Quoted(Char::Whole));
+        return CellStep::More(Cell::Quoted(Char::Whole));
     }
     if b == 0x2D {
-        return Added::More(Cell::InNumber(Numeral::Minus));
+        return CellStep::More(Cell::InNumber(Numeral::Minus));
     }
     if b == 0x30 {
-        return Added::More(Cell::InNumber(Numeral::Zero));
+        return CellStep::More(Cell::InNumber(Numeral::Zero));
     }
     if is_digit(b) {
-        return Added::More(Cell::InNumber(Numeral::Integer));
+        return CellStep::More(Cell::InNumber(Numeral::Integer));
     }
     if b == 0x74 {
-        return Added::More(Cell::InWord(Word::T));
+        return CellStep::More(Cell::InWord(Word::T));
     }
     if b == 0x66 {
-        return Added::More(Cell::InWord(Word::F));
+        return CellStep::More(Cell::InWord(Word::F));
     }
     if b == 0x6E {
-        return Added::More(Cell::InWord(Word::N));
+        return CellStep::More(Cell::InWord(Word::N));
     }
-    Added::Refuse(ByteFault::Syntax)
+    CellStep::Refuse(ByteFault::Syntax)
 }
 
-pub fn tdif_first(b: u8) -> Added
+pub fn tdif_first(b: u8) -> CellStep
     ensures { λ r. ⌜ r ≡ firstByte Tdif b ⌝ }
 {
     if b == 0x22 {
-        return Added::More(Cell::Quoted(Char::Whole));
+        return CellStep::More(Cell::Quoted(Char::Whole));
     }
     if b == 0x5C {
-        return Added::More(Cell::InWord(Word::Backslash));
+        return CellStep::More(Cell::InWord(Word::Backslash));
     }
-    Added::Refuse(ByteFault::Syntax)
+    CellStep::Refuse(ByteFault::Syntax)
 }

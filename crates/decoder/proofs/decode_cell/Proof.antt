@@ -10,15 +10,15 @@ returns : tie.Need-returns
 returns c =
     let called = c .before .before .decode-sound in
     let told = c .before .before .before .before in
-    let judged = told .before .before in
-    let a = judged .before .before .before .args in
-    sound (a .d) (a .raw .now) (a .room .now) (called .result) (called .last .1 .1 .0) (sym (judged .judge-cell .ensures) ∙ told .enum-told .given .1) (called .ensures)
+    let validated = told .before .before in
+    let a = validated .before .before .before .args in
+    sound (a .d) (a .raw .now) (a .room .now) (called .result) (called .last .1 .1 .0) (sym (validated .validate-cell .ensures) ∙ told .enum-told .given .1) (called .ensures)
 
 returns-2 : tie.Need-returns-2
 returns-2 c =
-    let judged = c .before .before .before .before in
-    let a = judged .before .before .before .args in
-    unsound (a .d) (a .raw .now) (a .room .now) _ _ _ (sym (judged .judge-cell .ensures) ∙ c .before .before .fault .given .1) (c .on-record .ensures)
+    let validated = c .before .before .before .before in
+    let a = validated .before .before .before .args in
+    unsound (a .d) (a .raw .now) (a .room .now) _ _ _ (sym (validated .validate-cell .ensures) ∙ c .before .before .fault .given .1) (c .on-record .ensures)
 
 pub decode-cell-spec : {M : Type 1} → statement M
 decode-cell-spec =

@@ -1,10 +1,10 @@
 use Rattle.model.specs.Base.{if_then_else_}
-use Rattle.model.specs.Form.{formStep}
+use Rattle.model.specs.File.{fileStep}
 use Rattle.model.proofs.Tests.{tests}
 use borrow.Author.Needs.{needs}
 use Rattle.file_lexer.proofs.after_ended.Statement.{statement}
 use Rattle.file_lexer.proofs.after_ended.Tie as tie
 
 pub after-ended-spec : {M : Type 1} → statement M
-unfolding formStep if_then_else_
+unfolding fileStep if_then_else_
 after-ended-spec = tie.close (tie.spec (λ c. search tests) (λ c κs. search needs) (λ c. search tests))

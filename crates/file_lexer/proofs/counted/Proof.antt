@@ -1,6 +1,6 @@
 use mathlib.Core.Path.{sym, _∙_}
 use mathlib.Core.Bool.{or-false, or-true}
-use Rattle.model.specs.Form.{quotesOpen, counts}
+use Rattle.model.specs.File.{quotesOpen, counts}
 use Rattle.model.proofs.Tests.{tests}
 use borrow.Author.Needs.{needs}
 use Rattle.file_lexer.proofs.counted.Statement.{statement}

@@ -1,5 +1,5 @@
 use Rattle.model.specs.Base.{if_then_else_}
-use Rattle.model.specs.Form.{afterCell}
+use Rattle.model.specs.File.{afterCell}
 use Rattle.model.proofs.Tests.{tests}
 use borrow.Author.Needs.{needs}
 use Rattle.file_lexer.proofs.csvj_after.Statement.{statement}

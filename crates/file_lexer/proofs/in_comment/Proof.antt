@@ -1,12 +1,12 @@
 use Rattle.model.specs.Base.{if_then_else_}
-use Rattle.model.specs.Form.{formStep}
+use Rattle.model.specs.File.{fileStep}
 use Rattle.model.proofs.Tests.{tests}
 use borrow.Author.Needs.{needs}
 use Rattle.file_lexer.proofs.in_comment.Statement.{statement}
 use Rattle.file_lexer.proofs.in_comment.Tie as tie
 
 pub in-comment-spec : {M : Type 1} → statement M
-unfolding formStep if_then_else_
+unfolding fileStep if_then_else_
 in-comment-spec =
     tie.close
     (tie.spec

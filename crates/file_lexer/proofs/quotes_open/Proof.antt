@@ -5,10 +5,10 @@ use mathlib.Core.List.{List, [], _∷_}
 use Prim.Native.Nat.{ℕ}
 use types.Run.{OneOf, miss}
 use denote.Enum.Declared as declared
-use Rattle.model.specs.declared.Form.{Form}
-use Rattle.model.specs.declared.Form.the-variants.{Top, Begin, Ended, Mark1, Mark2, PlainMark1, PlainMark2, Comment, Blanks, Wanting, Inside, After, Cr}
-use Rattle.model.specs.Form.{quotesOpen}
-use Rattle.model.proofs.Form.{the-type}
+use Rattle.model.specs.declared.FileState.{FileState}
+use Rattle.model.specs.declared.FileState.the-variants.{Top, Begin, Ended, Mark1, Mark2, PlainMark1, PlainMark2, Comment, Blanks, Wanting, Inside, After, Cr}
+use Rattle.model.specs.File.{quotesOpen}
+use Rattle.model.proofs.FileState.{the-type}
 use Rattle.model.proofs.Tests.{tests}
 use borrow.Author.Needs.{needs}
 use Rattle.file_lexer.proofs.quotes_open.Statement.{statement}
@@ -18,7 +18,7 @@ use Rattle.file_lexer.proofs.quotes_open.Tie as tie
 abbrev others : List ℕ
 others = 0 ∷ 1 ∷ 2 ∷ 3 ∷ 4 ∷ 5 ∷ 6 ∷ 7 ∷ 8 ∷ 9 ∷ 11 ∷ 12 ∷ []
 
-not-inside : (f : Form) → OneOf others (declared.tagOf the-type f) → false ≡ quotesOpen f
+not-inside : (f : FileState) → OneOf others (declared.tagOf the-type f) → false ≡ quotesOpen f
 not-inside Top h = refl
 not-inside Begin h = refl
 not-inside Ended h = refl

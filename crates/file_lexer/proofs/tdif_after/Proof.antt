@@ -1,5 +1,5 @@
 use Rattle.model.specs.Base.{if_then_else_}
-use Rattle.model.specs.Form.{afterCell}
+use Rattle.model.specs.File.{afterCell}
 use Rattle.model.proofs.Tests.{tests}
 use Rattle.file_lexer.proofs.tdif_after.Statement.{statement}
 use Rattle.file_lexer.proofs.tdif_after.Tie as tie

@@ -4,7 +4,7 @@ use native.Mathlib.Omega.{arith}
 use mathlib.Core.Path.{_≡_, ap, _∙_}
 use lib.ListN.{length}
 use borrow.Author.Needs.{needs}
-use Rattle.scanner.proofs.Placing.{length-placed}
+use Rattle.scanner.proofs.Placing.{length-stored-from}
 use Rattle.reader.proofs.Passing.{held-lengths}
 use Rattle.reader.proofs.Answering.{header-bounds, unchanged, few-cells, data-refused, data-crowded, data-roomy}
 use Rattle.reader.proofs.header_and_data.Statement.{statement}
@@ -42,7 +42,7 @@ long : (u : tie.After-next-record)
 long u =
     let n = u .next-record .ensures in
     let k = kept (u .before .before .before .before .before .before .before .before .before .before .before .before .before .before) in
-    (ap length (n .1 .0) ∙ length-placed _ 0 _ _ ∙ ap length (k .0), ap length (n .1 .1 .0) ∙ length-placed _ 0 _ _ ∙ ap length (k .1), ap length (n .1 .1 .1 .0) ∙ length-placed _ 0 _ _ ∙ ap length (k .2))
+    (ap length (n .1 .0) ∙ length-stored-from _ 0 _ _ ∙ ap length (k .0), ap length (n .1 .1 .0) ∙ length-stored-from _ 0 _ _ ∙ ap length (k .1), ap length (n .1 .1 .1 .0) ∙ length-stored-from _ 0 _ _ ∙ ap length (k .2))
 
 data-records-requires-2 : tie.Need-data-records-requires-2
 data-records-requires-2 c κs =

@@ -5,16 +5,16 @@ use mathlib.Core.Path.{_≡_, refl, sym, ap, _∙_}
 use lib.ListN.{length, getD}
 use borrow.Author.Needs.{needs}
 use Rattle.model.specs.declared.Cell.{Cell}
-use Rattle.model.specs.declared.Added.the-variants.{More}
+use Rattle.model.specs.declared.CellStep.the-variants.{More}
 use Rattle.model.specs.Cell.{cellStep}
-use Rattle.model.specs.Api.{part}
+use Rattle.model.specs.Api.{slice}
 use Rattle.runs.specs.Run.{runStop, runLength, cellRun}
 use Rattle.runs.proofs.Runs.{run-rest, run-short, rest-more, rest-stops, rest-refused, rest-open}
 use Rattle.runs.proofs.cell_end.Statement.{statement}
 use Rattle.runs.proofs.cell_end.Tie as tie
 
 abbrev Inv-loop : tie.InvT-loop
-Inv-loop d s from stop c₀ i₀ c i = (i ≤ stop) × (stop ≤ length s) × (cellRun d c₀ from (part s from stop) ≡ cellRun d c i (part s i stop))
+Inv-loop d s from stop c₀ i₀ c i = (i ≤ stop) × (stop ≤ length s) × (cellRun d c₀ from (slice s from stop) ≡ cellRun d c i (slice s i stop))
 
 abbrev μ-loop : tie.MeasureT-loop
 μ-loop d s from stop c₀ i₀ c i = stop - i
@@ -43,7 +43,7 @@ loop-less c =
     let a = u .before .before .args in
     let j : ℕ = u .loop .i + 1 in
     let t : Cell = c .before .before .next .given .0 .0 in
-    let at : c .run-on .result ≡ j + runLength (a .d) (runStop (a .d) t) (part (a .s .now) j (a .stop)) = c .run-on .ensures in
+    let at : c .run-on .result ≡ j + runLength (a .d) (runStop (a .d) t) (slice (a .s .now) j (a .stop)) = c .run-on .ensures in
     omega arith
 
 loop-again : tie.Need-loop-again Inv-loop μ-loop
@@ -53,14 +53,14 @@ loop-again c =
     let j : ℕ = u .loop .i + 1 in
     let t : Cell = c .before .before .next .given .0 .0 in
     let next : cellStep (a .d) (u .loop .c) (getD (a .s .now) (u .loop .i) 0) ≡ More t = sym (c .before .before .before .before .cell-step .ensures) ∙ c .before .before .next .given .1 in
-    let fits : j + runLength (a .d) (runStop (a .d) t) (part (a .s .now) j (a .stop)) ≤ a .stop = run-short (a .d) (runStop (a .d) t) (a .s .now) j (a .stop) (omega arith) (u .loop .inv .1) in
-    let at : c .run-on .result ≡ j + runLength (a .d) (runStop (a .d) t) (part (a .s .now) j (a .stop)) = c .run-on .ensures in (
+    let fits : j + runLength (a .d) (runStop (a .d) t) (slice (a .s .now) j (a .stop)) ≤ a .stop = run-short (a .d) (runStop (a .d) t) (a .s .now) j (a .stop) (omega arith) (u .loop .inv .1) in
+    let at : c .run-on .result ≡ j + runLength (a .d) (runStop (a .d) t) (slice (a .s .now) j (a .stop)) = c .run-on .ensures in (
       omega arith,
       u .loop .inv .1,
       u .loop .inv .2
           ∙ rest-more (a .d) (u .loop .c) (a .s .now) (u .loop .i) (a .stop) (c .before .before .before .before .before .before .loop-test .taken) (u .loop .inv .1) t next
           ∙ run-rest (a .d) t (a .s .now) j (a .stop)
-          ∙ ap (λ (k : ℕ). cellRun (a .d) t k (part (a .s .now) k (a .stop))) (sym at),
+          ∙ ap (λ (k : ℕ). cellRun (a .d) t k (slice (a .s .now) k (a .stop))) (sym at),
     )
 
 returns-3 : tie.Need-returns-3 Inv-loop μ-loop

@@ -3,14 +3,14 @@ use Prim.Native.Nat.{_+_, _-_, _≤_}
 use native.Mathlib.Omega.{arith}
 use mathlib.Core.Path.{_≡_, refl, sym, _∙_}
 use lib.ListN.{length, getD}
-use Rattle.model.specs.Api.{part}
+use Rattle.model.specs.Api.{slice}
 use Rattle.runs.specs.Run.{leading}
 use Rattle.runs.proofs.Runs.{below, above, first-stop, second-stop, goes-on, leading-on, leading-ends, leading-none}
 use Rattle.runs.proofs.run.Statement.{statement}
 use Rattle.runs.proofs.run.Tie as tie
 
 abbrev Inv-loop : tie.InvT-loop
-Inv-loop s at stop p q i₀ i = (i ≤ stop) × (stop ≤ length s) × (at + leading p q (part s at stop) ≡ i + leading p q (part s i stop))
+Inv-loop s at stop p q i₀ i = (i ≤ stop) × (stop ≤ length s) × (at + leading p q (slice s at stop) ≡ i + leading p q (slice s i stop))
 
 abbrev μ-loop : tie.MeasureT-loop
 μ-loop s at stop p q i₀ i = stop - i

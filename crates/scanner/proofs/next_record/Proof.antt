@@ -7,30 +7,30 @@ use lib.ListN.{length, getD}
 use borrow.Author.Needs.{needs}
 use Rattle.model.specs.Report.{MAXFILE}
 use Rattle.model.specs.Records.{recordFull}
-use Rattle.scanner.specs.Ahead.{readAt}
+use Rattle.scanner.specs.Tokens.{readAt}
 use Rattle.scanner.proofs.Scanning.{Call, Scanning, Asked, begins, too-long-file, too-long-record, by-byte, by-cell, by-skip, by-open, by-refusal, lies-cell, lies-skip, lies-open, step-refused, step-on, step-over, step-fits, clean-end, cut-short, last-put, last-fits, lengths, put-lengths, small-sum, small-step}
 use Rattle.scanner.proofs.next_record.Statement.{statement}
 use Rattle.scanner.proofs.next_record.Tie as tie
 
 abbrev Inv-loop : tie.InvT-loop
-Inv-loop d file from room base starts₀ ends₀ kinds₀ form₀ i₀ h₀ starts ends kinds form i h =
-    Scanning (record { d = d; file = file; first = form₀; from = from; room = room; base = base; starts₀ = starts₀; ends₀ = ends₀; kinds₀ = kinds₀ }) form i h starts ends kinds
+Inv-loop d file from room base starts₀ ends₀ kinds₀ state₀ i₀ h₀ starts ends kinds state i h =
+    Scanning (record { d = d; file = file; first = state₀; from = from; room = room; base = base; starts₀ = starts₀; ends₀ = ends₀; kinds₀ = kinds₀ }) state i h starts ends kinds
 
 abbrev μ-loop : tie.MeasureT-loop
-μ-loop d file from room base starts₀ ends₀ kinds₀ form₀ i₀ h₀ starts ends kinds form i h = length file - i
+μ-loop d file from room base starts₀ ends₀ kinds₀ state₀ i₀ h₀ starts ends kinds state i h = length file - i
 
 -- what the code knows once it has asked what stands ahead
 
-abbrev call : tie.After-ahead Inv-loop μ-loop → Call
+abbrev call : tie.After-next-token Inv-loop μ-loop → Call
 call u =
     let a = u .before .before .before .before .before .before .before .before .before .before .before .args in
     record { d = a .d; file = a .file .now; first = a .first; from = a .from; room = a .room; base = a .base; starts₀ = a .starts .now; ends₀ = a .ends .now; kinds₀ = a .kinds .now }
 
-full-record : (v : tie.Then2 Inv-loop μ-loop) → let a = v .before .before .before .before .before .before .before .before .before .before .args in let l = v .before .before .before .before .before .loop in recordFull (readAt (a .file .now) (l .form) (l .i) (l .h) (l .inv .vs)) (getD (a .file .now) (l .i) 0) ≡ true
+full-record : (v : tie.Then2 Inv-loop μ-loop) → let a = v .before .before .before .before .before .before .before .before .before .before .args in let l = v .before .before .before .before .before .loop in recordFull (readAt (a .file .now) (l .state) (l .i) (l .h) (l .inv .vs)) (getD (a .file .now) (l .i) 0) ≡ true
 unfolding recordFull
 full-record v = sym (v .before .is-full .ensures) ∙ v .if2 .taken
 
-asked : (u : tie.After-ahead Inv-loop μ-loop) → let l = u .before .before .before .before .before .before .loop in Asked (call u) (l .form) (l .i) (l .h) (l .starts) (l .ends) (l .kinds) (u .ahead .result)
+asked : (u : tie.After-next-token Inv-loop μ-loop) → let l = u .before .before .before .before .before .before .loop in Asked (call u) (l .state) (l .i) (l .h) (l .starts) (l .ends) (l .kinds) (u .next-token .result)
 asked u =
     let at-if1 = u .before .before .before .before in
     record {
@@ -38,8 +38,8 @@ asked u =
       inside = at-if1 .before .loop-test .taken;
       under = at-if1 .if1 .left;
       fits = sym (u .before .before .is-full .ensures) ∙ u .before .if2 .left;
-      lies = u .ahead .ensures .0;
-      comes = u .ahead .ensures .1;
+      lies = u .next-token .ensures .0;
+      comes = u .next-token .ensures .1;
     }
 
 loop-holds : tie.Need-loop-holds Inv-loop μ-loop
@@ -59,8 +59,8 @@ returns-2 c =
     let o = too-long-record _ (l .inv) (at-if1 .before .loop-test .taken) (at-if1 .if1 .left) (full-record c) in
     (o .event, (o .at-starts, (o .at-ends, (o .at-kinds, tt))))
 
-ahead-requires : tie.Need-ahead-requires Inv-loop μ-loop
-ahead-requires c κs = (c .before .before .before .before .loop-test .taken, c .before .before .before .if1 .left)
+next-token-requires : tie.Need-next-token-requires Inv-loop μ-loop
+next-token-requires c κs = (c .before .before .before .before .loop-test .taken, c .before .before .before .if1 .left)
 
 returns-3 : tie.Need-returns-3 Inv-loop μ-loop
 returns-3 c =
@@ -81,8 +81,8 @@ put-requires c κs =
     let q = at-loop .before .before .before .before .before .pre .1 in
     ((l .inv .reached .opened, l .inv .reached .inside), (rw (n .0) (q .0), rw (n .1) (q .1), rw (n .2) (q .2)))
 
-moved-requires : tie.Need-moved-requires Inv-loop μ-loop
-moved-requires c κs =
+after-byte-requires : tie.Need-after-byte-requires Inv-loop μ-loop
+after-byte-requires c κs =
     let at-s = c .before .before .before .before .before .before .before .before .before .before .before .before .before .before .before .before in
     small-step _ (by-byte _ (asked (at-s .before .before)) _ (at-s .s .given .1))
 
@@ -93,14 +93,14 @@ add-i c =
 
 returns-4 : tie.Need-returns-4 Inv-loop μ-loop
 returns-4 c =
-    let at-moved = c .before .before in
-    let at-put = at-moved .before .before .before .before .before .before .before in
+    let at-after-byte = c .before .before in
+    let at-put = at-after-byte .before .before .before .before .before .before .before in
     let at-closes-cell = at-put .before .before .before .before .before in
     let at-s3 = at-closes-cell .before .before in
     let at-s = at-s3 .before .before .before in
     let u = at-s .before .before in
-    let o = step-over _ (by-byte _ (asked u) _ (at-s .s .given .1)) _ _ (at-s3 .s3 .given .1) _ (at-closes-cell .closes-cell .ensures) _ _ _ (at-put .put .ensures) _ (at-moved .moved .ensures) _ (c .before .ends-record .ensures) (c .if3 .taken) in
-    (o .event, (o .at-starts, (o .at-ends, (o .at-kinds, step-fits _ (by-byte _ (asked u) _ (at-s .s .given .1)) _ _ (at-s3 .s3 .given .1) _ (at-closes-cell .closes-cell .ensures) _ _ _ (at-put .put .ensures) _ (at-moved .moved .ensures) _ (c .before .ends-record .ensures) (c .if3 .taken)))))
+    let o = step-over _ (by-byte _ (asked u) _ (at-s .s .given .1)) _ _ (at-s3 .s3 .given .1) _ (at-closes-cell .closes-cell .ensures) _ _ _ (at-put .put .ensures) _ (at-after-byte .after-byte .ensures) _ (c .before .ends-record .ensures) (c .if3 .taken) in
+    (o .event, (o .at-starts, (o .at-ends, (o .at-kinds, step-fits _ (by-byte _ (asked u) _ (at-s .s .given .1)) _ _ (at-s3 .s3 .given .1) _ (at-closes-cell .closes-cell .ensures) _ _ _ (at-put .put .ensures) _ (at-after-byte .after-byte .ensures) _ (c .before .ends-record .ensures) (c .if3 .taken)))))
 
 loop-less : tie.Need-loop-less Inv-loop μ-loop
 loop-less c =
@@ -113,14 +113,14 @@ loop-again c =
     let at-put = c .before .before .before .before .before .before .before .before .before in
     let at-closes-cell = at-put .before .before .before .before .before in
     let at-s = at-closes-cell .before .before .before .before .before in
-    step-on _ (by-byte _ (asked (at-s .before .before)) _ (at-s .s .given .1)) _ _ (at-closes-cell .before .before .s3 .given .1) _ (at-closes-cell .closes-cell .ensures) _ _ _ (at-put .put .ensures) _ (c .before .before .moved .ensures) _ (c .before .ends-record .ensures) (c .if3 .left)
+    step-on _ (by-byte _ (asked (at-s .before .before)) _ (at-s .s .given .1)) _ _ (at-closes-cell .before .before .s3 .given .1) _ (at-closes-cell .closes-cell .ensures) _ _ _ (at-put .put .ensures) _ (c .before .before .after-byte .ensures) _ (c .before .ends-record .ensures) (c .if3 .left)
 
-sub-moved : tie.Need-sub-moved Inv-loop μ-loop
-sub-moved c =
+sub-after-byte : tie.Need-sub-after-byte Inv-loop μ-loop
+sub-after-byte c =
     let n = lies-skip _ (asked (c .before .before .before)) _ (c .before .j .given .1) in let j1 = n .0 in omega arith
 
-moved-requires-2 : tie.Need-moved-requires-2 Inv-loop μ-loop
-moved-requires-2 c κs =
+after-byte-requires-2 : tie.Need-after-byte-requires-2 Inv-loop μ-loop
+after-byte-requires-2 c κs =
     let a = c .before .before .before .before .before .before .before .before .before .before .before .before .before .before .args in
     let l = c .before .before .before .before .before .before .before .before .before .loop in
     let n = lies-skip _ (asked (c .before .before .before)) _ (c .before .j .given .1) in
@@ -134,13 +134,13 @@ loop-less-2 c =
 
 loop-again-2 : tie.Need-loop-again-2 Inv-loop μ-loop
 loop-again-2 c =
-    by-skip _ (asked (c .before .before .before .before)) _ (c .before .before .j .given .1) _ (c .moved2 .ensures)
+    by-skip _ (asked (c .before .before .before .before)) _ (c .before .before .j .given .1) _ (c .after-byte2 .ensures)
 
-sub-grown-by : tie.Need-sub-grown-by Inv-loop μ-loop
-sub-grown-by c = lies-cell _ (asked (c .before .before .before)) _ _ (c .before .closes .given .1) .0
+sub-extended : tie.Need-sub-extended Inv-loop μ-loop
+sub-extended c = lies-cell _ (asked (c .before .before .before)) _ _ (c .before .closes .given .1) .0
 
-grown-by-requires : tie.Need-grown-by-requires Inv-loop μ-loop
-grown-by-requires c κs =
+extended-requires : tie.Need-extended-requires Inv-loop μ-loop
+extended-requires c κs =
     let a = c .before .before .before .before .before .before .before .before .before .before .before .before .before .before .args in
     let l = c .before .before .before .before .before .before .before .before .before .loop in
     let few : a .base + l .h .cells ≤ l .i = l .inv .reached .few in
@@ -156,14 +156,14 @@ returns-5 : tie.Need-returns-5 Inv-loop μ-loop
 returns-5 c =
     let at-after-cell = c .before .before .before in
     let at-closes = at-after-cell .before .before .before .before in
-    let o = step-refused _ (by-cell _ (asked (at-closes .before .before)) _ _ (at-closes .closes .given .1) _ (at-after-cell .before .before .grown-by .ensures) _ (at-after-cell .after-cell .ensures)) _ (c .before .e .given .1) in
+    let o = step-refused _ (by-cell _ (asked (at-closes .before .before)) _ _ (at-closes .closes .given .1) _ (at-after-cell .before .before .extended .ensures) _ (at-after-cell .after-cell .ensures)) _ (c .before .e .given .1) in
     (o .event, (o .at-starts, (o .at-ends, (o .at-kinds, tt))))
 
 add-put-2 : tie.Need-add-put-2 Inv-loop μ-loop
 add-put-2 c =
     let at-after-cell = c .before .before .before .before .before in
     let at-closes = at-after-cell .before .before .before .before in
-    let g = by-cell _ (asked (at-closes .before .before)) _ _ (at-closes .closes .given .1) _ (at-after-cell .before .before .grown-by .ensures) _ (at-after-cell .after-cell .ensures) in
+    let g = by-cell _ (asked (at-closes .before .before)) _ _ (at-closes .closes .given .1) _ (at-after-cell .before .before .extended .ensures) _ (at-after-cell .after-cell .ensures) in
     let x = small-sum _ g in record { fits = x }
 
 put-requires-2 : tie.Need-put-requires-2 Inv-loop μ-loop
@@ -172,16 +172,16 @@ put-requires-2 c κs =
     let at-closes = at-after-cell .before .before .before .before in
     let at-loop = at-closes .before .before .before .before .before .before .before .before in
     let l = at-loop .loop in
-    let g = by-cell _ (asked (at-closes .before .before)) _ _ (at-closes .closes .given .1) _ (at-after-cell .before .before .grown-by .ensures) _ (at-after-cell .after-cell .ensures) in
+    let g = by-cell _ (asked (at-closes .before .before)) _ _ (at-closes .closes .given .1) _ (at-after-cell .before .before .extended .ensures) _ (at-after-cell .after-cell .ensures) in
     let n = lengths _ (l .inv .lists) in
     let q = at-loop .before .before .before .before .before .pre .1 in
     ((g .reached .opened, g .reached .inside), (rw (n .0) (q .0), rw (n .1) (q .1), rw (n .2) (q .2)))
 
-moved-requires-3 : tie.Need-moved-requires-3 Inv-loop μ-loop
-moved-requires-3 c κs =
+after-byte-requires-3 : tie.Need-after-byte-requires-3 Inv-loop μ-loop
+after-byte-requires-3 c κs =
     let at-after-cell = c .before .before .before .before .before .before .before .before .before .before .before .before .before .before .before in
     let at-closes = at-after-cell .before .before .before .before in
-    let g = by-cell _ (asked (at-closes .before .before)) _ _ (at-closes .closes .given .1) _ (at-after-cell .before .before .grown-by .ensures) _ (at-after-cell .after-cell .ensures) in
+    let g = by-cell _ (asked (at-closes .before .before)) _ _ (at-closes .closes .given .1) _ (at-after-cell .before .before .extended .ensures) _ (at-after-cell .after-cell .ensures) in
     small-step _ g
 
 add-i-2 : tie.Need-add-i-2 Inv-loop μ-loop
@@ -190,16 +190,16 @@ add-i-2 c =
 
 returns-6 : tie.Need-returns-6 Inv-loop μ-loop
 returns-6 c =
-    let at-moved3 = c .before .before in
-    let at-put2 = at-moved3 .before .before .before .before .before .before .before in
+    let at-after-byte3 = c .before .before in
+    let at-put2 = at-after-byte3 .before .before .before .before .before .before .before in
     let at-closes-cell2 = at-put2 .before .before .before .before .before in
     let at-f = at-closes-cell2 .before .before in
     let at-after-cell = at-f .before .before in
-    let at-grown-by = at-after-cell .before .before in
-    let at-closes = at-grown-by .before .before in
+    let at-extended = at-after-cell .before .before in
+    let at-closes = at-extended .before .before in
     let u = at-closes .before .before in
-    let o = step-over _ (by-cell _ (asked u) _ _ (at-closes .closes .given .1) _ (at-grown-by .grown-by .ensures) _ (at-after-cell .after-cell .ensures)) _ _ (at-f .f .given .1) _ (at-closes-cell2 .closes-cell2 .ensures) _ _ _ (at-put2 .put2 .ensures) _ (at-moved3 .moved3 .ensures) _ (c .before .ends-record2 .ensures) (c .if4 .taken) in
-    (o .event, (o .at-starts, (o .at-ends, (o .at-kinds, step-fits _ (by-cell _ (asked u) _ _ (at-closes .closes .given .1) _ (at-grown-by .grown-by .ensures) _ (at-after-cell .after-cell .ensures)) _ _ (at-f .f .given .1) _ (at-closes-cell2 .closes-cell2 .ensures) _ _ _ (at-put2 .put2 .ensures) _ (at-moved3 .moved3 .ensures) _ (c .before .ends-record2 .ensures) (c .if4 .taken)))))
+    let o = step-over _ (by-cell _ (asked u) _ _ (at-closes .closes .given .1) _ (at-extended .extended .ensures) _ (at-after-cell .after-cell .ensures)) _ _ (at-f .f .given .1) _ (at-closes-cell2 .closes-cell2 .ensures) _ _ _ (at-put2 .put2 .ensures) _ (at-after-byte3 .after-byte3 .ensures) _ (c .before .ends-record2 .ensures) (c .if4 .taken) in
+    (o .event, (o .at-starts, (o .at-ends, (o .at-kinds, step-fits _ (by-cell _ (asked u) _ _ (at-closes .closes .given .1) _ (at-extended .extended .ensures) _ (at-after-cell .after-cell .ensures)) _ _ (at-f .f .given .1) _ (at-closes-cell2 .closes-cell2 .ensures) _ _ _ (at-put2 .put2 .ensures) _ (at-after-byte3 .after-byte3 .ensures) _ (c .before .ends-record2 .ensures) (c .if4 .taken)))))
 
 loop-less-3 : tie.Need-loop-less-3 Inv-loop μ-loop
 loop-less-3 c =
@@ -211,19 +211,19 @@ loop-again-3 c =
     let at-closes-cell2 = at-put2 .before .before .before .before .before in
     let at-after-cell = at-closes-cell2 .before .before .before .before in
     let at-closes = at-after-cell .before .before .before .before in
-    step-on _ (by-cell _ (asked (at-closes .before .before)) _ _ (at-closes .closes .given .1) _ (at-after-cell .before .before .grown-by .ensures) _ (at-after-cell .after-cell .ensures)) _ _ (at-closes-cell2 .before .before .f .given .1) _ (at-closes-cell2 .closes-cell2 .ensures) _ _ _ (at-put2 .put2 .ensures) _ (c .before .before .moved3 .ensures) _ (c .before .ends-record2 .ensures) (c .if4 .left)
+    step-on _ (by-cell _ (asked (at-closes .before .before)) _ _ (at-closes .closes .given .1) _ (at-after-cell .before .before .extended .ensures) _ (at-after-cell .after-cell .ensures)) _ _ (at-closes-cell2 .before .before .f .given .1) _ (at-closes-cell2 .closes-cell2 .ensures) _ _ _ (at-put2 .put2 .ensures) _ (c .before .before .after-byte3 .ensures) _ (c .before .ends-record2 .ensures) (c .if4 .left)
 
 returns-7 : tie.Need-returns-7 Inv-loop μ-loop
 returns-7 c =
     let o = by-refusal _ (asked (c .before .before .before)) _ _ (c .before .e2 .given .1) in
     (o .event, (o .at-starts, (o .at-ends, (o .at-kinds, tt))))
 
-sub-grown-by-2 : tie.Need-sub-grown-by-2 Inv-loop μ-loop
-sub-grown-by-2 c =
+sub-extended-2 : tie.Need-sub-extended-2 Inv-loop μ-loop
+sub-extended-2 c =
     let n = lies-open _ (asked (c .before .before .before)) _ _ (c .before .c .given .1) in let j1 = n .0 in omega arith
 
-grown-by-requires-2 : tie.Need-grown-by-requires-2 Inv-loop μ-loop
-grown-by-requires-2 c κs =
+extended-requires-2 : tie.Need-extended-requires-2 Inv-loop μ-loop
+extended-requires-2 c κs =
     let a = c .before .before .before .before .before .before .before .before .before .before .before .before .before .before .args in
     let l = c .before .before .before .before .before .before .before .before .before .loop in
     let few : a .base + l .h .cells ≤ l .i = l .inv .reached .few in
@@ -236,7 +236,7 @@ loop-less-4 c =
 
 loop-again-4 : tie.Need-loop-again-4 Inv-loop μ-loop
 loop-again-4 c =
-    by-open _ (asked (c .before .before .before .before)) _ _ (c .before .before .c .given .1) _ (c .grown-by2 .ensures)
+    by-open _ (asked (c .before .before .before .before)) _ _ (c .before .before .c .given .1) _ (c .extended2 .ensures)
 
 add-put-3 : tie.Need-add-put-3 Inv-loop μ-loop
 add-put-3 c =
@@ -302,7 +302,7 @@ next-record-spec =
     (λ c. lengths _ (c .before .before .before .before .before .loop .inv .lists) .1)
     (λ c. lengths _ (c .before .before .before .before .before .loop .inv .lists) .2)
     returns-2
-    ahead-requires
+    next-token-requires
     (λ c. search needs)
     (λ c. search needs)
     (λ c. lengths _ (asked (c .before .before .before .before .before .before) .scanning .lists) .0)
@@ -313,7 +313,7 @@ next-record-spec =
     (λ c κs. search needs)
     add-put
     put-requires
-    moved-requires
+    after-byte-requires
     add-i
     (λ c κs. search needs)
     (λ c. put-lengths _ (asked (c .before .before .before .before .before .before .before .before .before .before .before .before .before .before .before .before .before .before .before .before .before) .scanning .lists) _ _ _ _ _ (c .before .before .before .before .before .before .before .before .before .put .ensures) .0)
@@ -323,13 +323,13 @@ next-record-spec =
     loop-less
     loop-again
     (λ c. search needs)
-    sub-moved
-    moved-requires-2
+    sub-after-byte
+    after-byte-requires-2
     loop-less-2
     loop-again-2
     (λ c. search needs)
-    sub-grown-by
-    grown-by-requires
+    sub-extended
+    extended-requires
     shared-slice-read-after-cell
     (λ c κs. search needs)
     (λ c. search needs)
@@ -341,7 +341,7 @@ next-record-spec =
     (λ c κs. search needs)
     add-put-2
     put-requires-2
-    moved-requires-3
+    after-byte-requires-3
     add-i-2
     (λ c κs. search needs)
     (λ c. put-lengths _ (asked (c .before .before .before .before .before .before .before .before .before .before .before .before .before .before .before .before .before .before .before .before .before .before .before .before) .scanning .lists) _ _ _ _ _ (c .before .before .before .before .before .before .before .before .before .put2 .ensures) .0)
@@ -356,8 +356,8 @@ next-record-spec =
     (λ c. lengths _ (asked (c .before .before .before) .scanning .lists) .2)
     returns-7
     (λ c. search needs)
-    sub-grown-by-2
-    grown-by-requires-2
+    sub-extended-2
+    extended-requires-2
     loop-less-4
     loop-again-4
     (λ c κs. search needs)

@@ -10,11 +10,11 @@ use Rattle.reader.proofs.records.data_records.Statement.{statement}
 use Rattle.reader.proofs.records.data_records.Tie as tie
 
 abbrev Inv-loop : tie.InvT-loop
-Inv-loop d file from columns room base starts₀ ends₀ kinds₀ form₀ i₀ cells₀ records₀ starts ends kinds form i cells records =
-    Going (record { d = d; file = file; from = from; first = form₀; columns = columns; room = room; base = base; s₀ = starts₀; e₀ = ends₀; k₀ = kinds₀ }) form i cells records starts ends kinds
+Inv-loop d file from columns room base starts₀ ends₀ kinds₀ state₀ i₀ cells₀ records₀ starts ends kinds state i cells records =
+    Going (record { d = d; file = file; from = from; first = state₀; columns = columns; room = room; base = base; s₀ = starts₀; e₀ = ends₀; k₀ = kinds₀ }) state i cells records starts ends kinds
 
 abbrev μ-loop : tie.MeasureT-loop
-μ-loop d file from columns room base starts₀ ends₀ kinds₀ form₀ i₀ cells₀ records₀ starts ends kinds form i cells records =
+μ-loop d file from columns room base starts₀ ends₀ kinds₀ state₀ i₀ cells₀ records₀ starts ends kinds state i cells records =
     length file - i
 
 -- the scanner leaves the lists as long as they were

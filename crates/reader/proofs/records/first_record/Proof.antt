@@ -1,20 +1,20 @@
 use native.Mathlib.Omega.{arith}
 use mathlib.Core.Path.{refl}
 use borrow.Author.Needs.{needs}
-use Rattle.model.specs.declared.Form.the-variants.{Top}
+use Rattle.model.specs.declared.FileState.the-variants.{Top}
 use Rattle.scanner.proofs.Stretches.{cells-stand}
 use Rattle.reader.proofs.Headers.{first-counts, only-counts, shows, header-sound, header-faulty, only-sound, only-faulty, byte-faulty, nothing-there}
 use Rattle.reader.proofs.records.first_record.Statement.{statement}
 use Rattle.reader.proofs.records.first_record.Tie as tie
 
-judged-requires : tie.Need-judged-requires
-judged-requires c κs =
+validated-requires : tie.Need-validated-requires
+validated-requires c κs =
     let a = c .before .before .before .before .before .before .before .before .before .before .before .before .before .args in
     let n = c .before .before .before .before .before .before .before .before .next-record .ensures in
     (first-counts (a .d) (a .file .now) _ (n .0) _ _ _ _ (c .before .before .before .start .given .1), (shows _ _ _ _ _ refl refl (n .1 .0) (n .1 .1 .0), cells-stand (a .d) (a .file .now) Top 0 (omega arith)))
 
-judged-requires-2 : tie.Need-judged-requires-2
-judged-requires-2 c κs =
+validated-requires-2 : tie.Need-validated-requires-2
+validated-requires-2 c κs =
     let a = c .before .before .before .before .before .before .before .before .before .before .before .before .before .args in
     let n = c .before .before .before .before .before .before .before .before .next-record .ensures in
     (only-counts (a .d) (a .file .now) _ (n .0) _ _ (c .before .before .before .start2 .given .1), (shows _ _ _ _ _ refl refl (n .1 .0) (n .1 .1 .0), cells-stand (a .d) (a .file .now) Top 0 (omega arith)))
@@ -25,16 +25,16 @@ returns c =
     let at-next-record = at-start .before .before .before .before .before in
     let a = at-next-record .before .before .before .before .before .args in
     let n = at-next-record .next-record .ensures in
-    header-sound (a .d) (a .file .now) _ (n .0) _ (c .before .before .judged .ensures) _ _ _ _ (at-start .start .given .1) (n .1 .1 .1 .1) (c .enum-told .given .1)
+    header-sound (a .d) (a .file .now) _ (n .0) _ (c .before .before .validated .ensures) _ _ _ _ (at-start .start .given .1) (n .1 .1 .1 .1) (c .enum-told .given .1)
 
 returns-2 : tie.Need-returns-2
 returns-2 c =
-    let at-judged = c .before .before .before .before in
-    let at-start = at-judged .before .before .before .before in
+    let at-validated = c .before .before .before .before in
+    let at-start = at-validated .before .before .before .before in
     let at-next-record = at-start .before .before .before .before .before in
     let a = at-next-record .before .before .before .before .before .args in
     let n = at-next-record .next-record .ensures in
-    header-faulty (a .d) (a .file .now) _ (n .0) _ (at-judged .judged .ensures) _ _ _ _ (at-start .start .given .1) _ (c .before .before .e .given .1) _ (c .on-record .ensures)
+    header-faulty (a .d) (a .file .now) _ (n .0) _ (at-validated .validated .ensures) _ _ _ _ (at-start .start .given .1) _ (c .before .before .e .given .1) _ (c .on-record .ensures)
 
 returns-3 : tie.Need-returns-3
 returns-3 c =
@@ -42,7 +42,7 @@ returns-3 c =
     let at-next-record = at-start2 .before .before .before .before .before in
     let a = at-next-record .before .before .before .before .before .args in
     let n = at-next-record .next-record .ensures in
-    only-sound (a .d) (a .file .now) _ (n .0) _ (c .before .before .judged2 .ensures) _ _ (at-start2 .start2 .given .1) (c .enum-told2 .given .1)
+    only-sound (a .d) (a .file .now) _ (n .0) _ (c .before .before .validated2 .ensures) _ _ (at-start2 .start2 .given .1) (c .enum-told2 .given .1)
 
 returns-4 : tie.Need-returns-4
 returns-4 c =
@@ -51,7 +51,7 @@ returns-4 c =
     let at-next-record = at-start2 .before .before .before .before .before in
     let a = at-next-record .before .before .before .before .before .args in
     let n = at-next-record .next-record .ensures in
-    only-faulty (a .d) (a .file .now) _ (n .0) _ (at-judged2 .judged2 .ensures) _ _ (at-start2 .start2 .given .1) _ (c .before .before .e2 .given .1) _ (c .on-record2 .ensures)
+    only-faulty (a .d) (a .file .now) _ (n .0) _ (at-judged2 .validated2 .ensures) _ _ (at-start2 .start2 .given .1) _ (c .before .before .e2 .given .1) _ (c .on-record2 .ensures)
 
 returns-5 : tie.Need-returns-5
 returns-5 c =
@@ -78,14 +78,14 @@ first-record-spec =
     (λ c. search needs)
     (λ c. search needs)
     (λ c. search needs)
-    judged-requires
+    validated-requires
     (λ c. search needs)
     (λ c. search needs)
     (λ c κs. search needs)
     (λ c. search needs)
     (λ c. search needs)
     (λ c. search needs)
-    judged-requires-2
+    validated-requires-2
     (λ c. search needs)
     (λ c. search needs)
     (λ c κs. search needs)

@@ -1,11 +1,11 @@
 use Rattle.model.proofs.Tests.{tests}
-use Rattle.model.specs.Form.{formEnd}
+use Rattle.model.specs.File.{fileEnd}
 use borrow.Author.Needs.{needs}
 use Rattle.scanner.proofs.limits.file_end.Statement.{statement}
 use Rattle.scanner.proofs.limits.file_end.Tie as tie
 
 pub file-end-spec : {M : Type 1} → statement M
-unfolding formEnd
+unfolding fileEnd
 file-end-spec =
     tie.close
     (tie.spec

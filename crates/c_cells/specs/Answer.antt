@@ -1,0 +1,6 @@
+-- What C's struct stands for, as an answer of the decoder.
+use Rattle.decoder.specs.Answer.{CellAnswer}
+use Rattle.c_cells.specs.declared.DecodeAnswer.{DecodeAnswer}
+
+abbrev pub structAnswer : DecodeAnswer → CellAnswer
+structAnswer r = record { report = r .report; kind = r .kind; length = r .length }

@@ -1,0 +1,15 @@
+use Rattle.model.specs.Cell.{cellStep}
+use Rattle.model.proofs.Tests.{tests}
+use borrow.Author.Needs.{needs}
+use Rattle.cell_lexer.proofs.classify_plain_text.Statement.{statement}
+use Rattle.cell_lexer.proofs.classify_plain_text.Tie as tie
+
+pub classify-plain-text-spec : {M : Type 1} → statement M
+unfolding cellStep
+classify-plain-text-spec =
+    tie.close (tie.spec
+    (λ c. search needs)
+    (λ c κs. search needs)
+    (λ c. search needs)
+    (λ c. search (tests, c .before .enum-told .given .1))
+    (λ c. search (tests, c .before .t .given .1)))

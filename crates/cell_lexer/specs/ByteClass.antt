@@ -1,0 +1,14 @@
+-- What the answers of the inner functions stand for, in the definition's terms.
+use Prim.Native.Nat.{ℕ}
+use Rattle.model.specs.declared.CellStep.{CellStep}
+use Rattle.model.specs.declared.Cell.the-variants.{Quoted, Plain}
+use Rattle.model.specs.Utf8.{charStep}
+use Rattle.model.specs.Cell.{textByte}
+use Rattle.cell_lexer.specs.declared.ByteClass.{ByteClass}
+use Rattle.cell_lexer.specs.declared.ByteClass.the-variants.{Is, InQuotes, InPlain}
+
+-- what a byte does to a cell
+abbrev pub cellStepOf : ByteClass → ℕ → CellStep
+cellStepOf (Is a) b = a
+cellStepOf (InQuotes t) b = textByte Quoted (charStep t b)
+cellStepOf (InPlain t) b = textByte Plain (charStep t b)

@@ -1,0 +1,99 @@
+// What stands ahead of reading, a cell at a time.
+ghost use mathlib.Core.Path.{_≡_};
+ghost use Prim.Native.Nat.{_+_, _≤_, _<_};
+ghost use lib.ListN.{length};
+ghost use Rattle.model.specs.Report.{MAXFILE};
+ghost use Rattle.scanner.specs.Tokens.{TokenCorrect, TokenInBounds, Free, commentEnd};
+use file_lexer::Dispatched;
+use model::ByteFault;
+use model::Cell;
+use model::Char;
+use model::Dialect;
+use model::FileState;
+use model::Step;
+use numbers::MAX_FILE;
+use numbers::MAX_RECORD;
+use numbers::least_of;
+use runs::CellEnd;
+
+// What stands ahead.
+pub enum Token {
+    // The next byte takes this step.
+    Is(Step),
+    // Ordinary bytes of a comment, up to here.
+    Skipped(usize),
+    // The byte here follows a cell that ends before it (closes), or blanks after a cell.
+    AfterCell { closes: bool, at: usize },
+    // This byte can't be in the cell.
+    Refused(ByteFault, usize),
+    // The cell is still open here.
+    Open(Cell, usize),
+}
+
+// How far bytes go from i before one can be too many for the file or the record.
+fn free_to(length: usize, i: usize, size: usize) -> usize
+    requires { ⌜ (i < length) × (i < MAXFILE) ⌝ }
+    ensures { λ r. ⌜ Free length i size r ⌝ }
+{
+    if MAX_RECORD <= size {
+        return i + 1;
+    }
+    least_of(least_of(length, MAX_FILE), i + (MAX_RECORD - size))
+}
+
+// Where the ordinary bytes of a comment end, if reading stands in one.
+fn comment_end(f: FileState, file: &[u8], i: usize) -> usize
+    requires { ⌜ (i < length (now file)) × (i < MAXFILE) ⌝ }
+    ensures { λ r. ⌜ r ≡ commentEnd f (now (file .entry)) i ⌝ }
+{
+    match f {
+        FileState::Top => i,
+        FileState::Begin => i,
+        FileState::Ended => i,
+        FileState::Mark1 => i,
+        FileState::Mark2 => i,
+        FileState::PlainMark1 => i,
+        FileState::PlainMark2 => i,
+        FileState::Comment(t) => match t {
+            Char::Whole => runs::comment_run(file, i, least_of(file.len(), MAX_FILE)),
+            Char::Within(_) => i,
+        },
+        FileState::Blanks => i,
+        FileState::Wanting => i,
+        FileState::Inside(_) => i,
+        FileState::After => i,
+        FileState::Cr => i,
+    }
+}
+
+// What stands ahead of the byte at i, which is not too many. A cell goes on until it ends or a limit is near.
+pub fn next_token(d: Dialect, file: &[u8], f: FileState, i: usize, size: usize) -> Token
+    requires { ⌜ (i < length (now file)) × (i < MAXFILE) ⌝ }
+    ensures lies { λ r. ⌜ TokenInBounds d (now (file .entry)) f i r ⌝ }
+    ensures { λ r. ⌜ TokenCorrect d (now (file .entry)) f i size r ⌝ }
+{
+    match file_lexer::dispatch(d, f, file[i]) {
+        Dispatched::Is(s) => {
+            let j = comment_end(f, file, i);
+            if i < j {
+                return Token::Skipped(j);
+            }
+            Token::Is(s)
+        }
+        Dispatched::AfterCell => Token::AfterCell {
+            closes: false,
+            at: i,
+        },
+        Dispatched::InCell(c) => {
+            let stop = free_to(file.len(), i, size);
+            match runs::cell_end(d, c, file, i, stop) {
+                CellEnd::Stopped(_, j) => Token::AfterCell {
+                    closes: true,
+                    at: j,
+                },
+                CellEnd::Refused(e, j) => Token::Refused(e, j),
+                CellEnd::Open(t) => Token::Open(t, stop),
+            }
+        }
+    }
+}
