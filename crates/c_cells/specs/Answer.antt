@@ -3,4 +3,4 @@ use Rattle.decoder.specs.Answer.{CellAnswer}
 use Rattle.c_cells.specs.declared.DecodeAnswer.{DecodeAnswer}
 
 abbrev pub structAnswer : DecodeAnswer → CellAnswer
-structAnswer r = record { report = r .report; kind = r .kind; length = r .length }
+structAnswer r = record { report = r .report; kind = r .kind; size = r .length }

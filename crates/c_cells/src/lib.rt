@@ -23,14 +23,14 @@ fn answer_of(d: Decoded) -> DecodeAnswer
     ensures { λ r. ⌜ structAnswer r ≡ givenAnswer d ⌝ }
 {
     match d {
-        Decoded::Content { length, kind } => DecodeAnswer {
+        Decoded::Content { size, kind } => DecodeAnswer {
             report: Report {
                 number: 0,
                 record_number: 0,
                 column: 0,
                 offset: 0,
             },
-            length,
+            length: size,
             kind: numbers::kind_number(kind) as usize,
         },
         Decoded::Refused(e) => DecodeAnswer {

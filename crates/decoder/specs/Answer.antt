@@ -14,17 +14,17 @@ use Rattle.decoder.specs.declared.Decoded.the-variants.{Content, Refused
 pub record CellAnswer : Type 0 where
   pub report : Report
   pub kind : ℕ
-  pub length : ℕ
+  pub size : ℕ
 
 -- what each case of the decoder's enum stands for: the content's length and kind, or a refusal, whose length and kind are 0 (§9.2 §11.1
 -- §19.7)
 abbrev pub givenAnswer : Decoded → CellAnswer
-givenAnswer (Content n k) = record { report = accepted; kind = kindNumber k; length = n }
-givenAnswer (Refused e) = record { report = e; kind = 0; length = 0 }
+givenAnswer (Content n k) = record { report = accepted; kind = kindNumber k; size = n }
+givenAnswer (Refused e) = record { report = e; kind = 0; size = 0 }
 
 -- the definition's answer, with its content by length; the content itself is what the room holds
 abbrev pub toAnswer : api.Decoded → CellAnswer
-toAnswer a = record { report = a .report; kind = a .kind; length = length (a .content) }
+toAnswer a = record { report = a .report; kind = a .kind; size = length (a .content) }
 
 -- the definition of a call that knows its dialect, for a cell that is known to be sound and for any
 abbrev pub soundCell : Dialect → Bytes → (room : ℕ) → api.Decoded

@@ -7,7 +7,6 @@ use model::Advance;
 use model::ByteFault;
 use model::ByteRole;
 use model::Cell;
-use model::CellStep;
 use model::Char;
 use model::Dialect;
 use model::FileState;
@@ -252,21 +251,6 @@ pub fn dispatch(d: Dialect, f: FileState, b: u8) -> Dispatched
         FileState::Inside(c) => Dispatched::InCell(c),
         FileState::After => Dispatched::AfterCell,
         FileState::Cr => Dispatched::Is(after_cr(b)),
-    }
-}
-
-// The next byte of a file.
-pub fn form_step(d: Dialect, f: FileState, b: u8) -> Step
-    ensures { λ r. ⌜ r ≡ fileStep d f b ⌝ }
-{
-    match dispatch(d, f, b) {
-        Dispatched::Is(s) => s,
-        Dispatched::AfterCell => after_cell(d, false, b),
-        Dispatched::InCell(c) => match cell_lexer::cell_step(d, c, b) {
-            CellStep::More(next) => Step::To(FileState::Inside(next), ByteRole::OfCell),
-            CellStep::Stop => after_cell(d, true, b),
-            CellStep::Refuse(e) => Step::Reject(e),
-        },
     }
 }
 

@@ -49,21 +49,21 @@ last-ends Csvj c = cut-anywhere
 last-ends Tdif c = cut-anywhere
 last-ends (CsvPlus s) c = split (EndsIn in-cell) (isWhole (CsvPlus s) c) (λ _. final-anywhere) λ _. cut-anywhere
 
-form-ends : (d : Dialect) (f : FileState) → EndsIn (stageOf d f) (fileEnd d f)
+file-ends : (d : Dialect) (f : FileState) → EndsIn (stageOf d f) (fileEnd d f)
 unfolding fileEnd
-form-ends d Top = clean-at-rest
-form-ends d Begin = clean-at-rest
-form-ends d Ended = clean-at-rest
-form-ends d Mark1 = cut-anywhere
-form-ends d Mark2 = cut-anywhere
-form-ends d PlainMark1 = cut-anywhere
-form-ends d PlainMark2 = cut-anywhere
-form-ends d (Comment c) = cut-anywhere
-form-ends d Blanks = cut-anywhere
-form-ends d Wanting = cut-anywhere
-form-ends d (Inside c) = last-ends d c
-form-ends d After = cut-anywhere
-form-ends d Cr = cut-anywhere
+file-ends d Top = clean-at-rest
+file-ends d Begin = clean-at-rest
+file-ends d Ended = clean-at-rest
+file-ends d Mark1 = cut-anywhere
+file-ends d Mark2 = cut-anywhere
+file-ends d PlainMark1 = cut-anywhere
+file-ends d PlainMark2 = cut-anywhere
+file-ends d (Comment c) = cut-anywhere
+file-ends d Blanks = cut-anywhere
+file-ends d Wanting = cut-anywhere
+file-ends d (Inside c) = last-ends d c
+file-ends d After = cut-anywhere
+file-ends d Cr = cut-anywhere
 
 not-clean : {A : Type 0} {g : Stage} → Recording g → EndsIn g Clean → A
 not-clean record-open = elim [ ]
@@ -95,7 +95,7 @@ module _ (d : Dialect) where
   its-moves f b s e = rw e at (step-moves d f b)
 
   reads-line : {f : FileState} {xs : Bytes} {ls : List (Line Bytes)} → Reads d f xs ls → Recording (stageOf d f) → HasLine ls
-  reads-line (reading.ends-clean {f} e) g = not-clean g (rw e at (form-ends d f))
+  reads-line (reading.ends-clean {f} e) g = not-clean g (rw e at (file-ends d f))
   reads-line (reading.ends-final e) g = has-line
   reads-line (reading.outside {f} {b} e k) g = not-outside g (its-moves f b _ e)
   reads-line (reading.passed {f} {b} e k) g = not-passed g (its-moves f b _ e)
@@ -108,7 +108,7 @@ module _ (d : Dialect) where
   reads-line (reading.ends-closing e k) g = has-line
 
   pub reads-cell : {f : FileState} {xs : Bytes} {ls : List (Line Bytes)} → Reads d f xs ls → stageOf d f ≡ in-cell → HasCell ls
-  reads-cell (reading.ends-clean {f} e) g = not-clean (rw g cell-open) (rw e at (form-ends d f))
+  reads-cell (reading.ends-clean {f} e) g = not-clean (rw g cell-open) (rw e at (file-ends d f))
   reads-cell (reading.ends-final e) g = has-cell
   reads-cell (reading.outside {f} {b} e k) g = not-outside (rw g cell-open) (its-moves f b _ e)
   reads-cell (reading.passed {f} {b} e k) g = not-passed (rw g cell-open) (its-moves f b _ e)

@@ -9,7 +9,7 @@ use Rattle.model.specs.Decode.{validateCell}
 use Rattle.grammar.specs.Derived.{Derived, cell, rawOf}
 use Rattle.grammar.specs.Derives.{DerivesCell}
 use Rattle.grammar.specs.Reading.{decoded}
-use Rattle.grammar.proofs.Spelling.{Spells, DerivedFrom, derived-from, spells-judged, judged-spells}
+use Rattle.grammar.proofs.Spelling.{Spells, DerivedFrom, derived-from, spells-validated, validated-spells}
 use Rattle.grammar.proofs.CsvjCells as csvj
 use Rattle.grammar.proofs.TdifCells as tdif
 use Rattle.grammar.proofs.PlusCells as plus
@@ -41,4 +41,4 @@ spells-derived d raw m = go (spells-some d raw m)
 -- ---- the theorem for a single cell
 
 pub cell-exact : (d : Dialect) (raw : Bytes) → DerivesCell d (decoded d raw) ↔ (validateCell d raw ≡ WholeCell)
-cell-exact d raw = ((λ v. spells-judged (derived-spells d (decoded d raw) v)), (λ e. spells-derived d raw (judged-spells d raw e)))
+cell-exact d raw = ((λ v. spells-validated (derived-spells d (decoded d raw) v)), (λ e. spells-derived d raw (validated-spells d raw e)))

@@ -81,9 +81,9 @@ module _ (d : Dialect) (end : Read) where
   between-same r [] q = stopped-going q
   between-same r (h ∷ rs) q = same-going q
 
-  judged-same : (r next : Read) (v : Verdict) → validated r next v ≡ going end → next ≡ end
-  judged-same r next Sound q = same-going q
-  judged-same r next (Faulty x) q = stopped-going q
+  validated-same : (r next : Read) (v : Verdict) → validated r next v ≡ going end → next ≡ end
+  validated-same r next Sound q = same-going q
+  validated-same r next (Faulty x) q = stopped-going q
 
   stepped : (r : Read) {f : FileState} (b : ℕ) (s : Step) → r .state ≡ f → fileStep d f b ≡ s → fileStep d (r .state) b ≡ s
   stepped r b s p e = ap (λ z. fileStep d z b) p ∙ e
@@ -100,7 +100,7 @@ module _ (d : Dialect) (end : Read) where
       let c : fileEnd d (r .state) ≡ Final = ap (fileEnd d) pf ∙ e in
       let made : Rec = record { start = r .start; size = r .size; cells = closing d true r } in
       let next : Read = between-records (r .done ++ (made ∷ [])) Begin (r .offset) in
-      let z : next ≡ end = judged-same r next (recordFault d none (r .done) (closing d true r)) (rw c at q) in
+      let z : next ≡ end = validated-same r next (recordFault d none (r .done) (closing d true r)) (rw c at q) in
       let a : shown (r .done ++ (made ∷ [])) ≡ shown (r .done ++ (made ∷ [])) ++ [] = sym (append-nil (shown (r .done ++ (made ∷ [])))) in
       sym (ap (λ (x : Read). shown (x .done)) z) ∙ a ∙ record-onto (r .done) made [] ∙ ap (λ z. shown (r .done) ++ z) (closing-onto r [] [] po pp)
   walk-shows (walks.outside {g} {b} {bs} e k) r pf po pp t q =

@@ -1,5 +1,5 @@
 -- Bytes that take the cell automaton from a state to a whole cell. From a fresh cell they are the raw cells that the decoder finds
--- sound (`spells-judged`, `judged-spells`); in a text they go by characters (`long-spells`); a word has one spelling.
+-- sound (`spells-validated`, `validated-spells`); in a text they go by characters (`long-spells`); a word has one spelling.
 use Prim.Native.Nat.{ℕ, _≤_}
 use mathlib.Core.Path.{_≡_, refl, ap, _∙_}
 use mathlib.Core.Bool.{Bool, true, false}
@@ -35,13 +35,13 @@ run-spells : {d : Dialect} {c e : Cell} {bs : Bytes} → Runs d c bs e → isWho
 run-spells here w = whole w
 run-spells (there e r) w = byte e (run-spells r w)
 
-pub spells-judged : {d : Dialect} {raw : Bytes} → Spells d Fresh raw → validateCell d raw ≡ WholeCell
+pub spells-validated : {d : Dialect} {raw : Bytes} → Spells d Fresh raw → validateCell d raw ≡ WholeCell
 unfolding validateCell
-spells-judged k = let r = record-run k in runs-sound 0 (r .runs) (r .whole)
+spells-validated k = let r = record-run k in runs-sound 0 (r .runs) (r .whole)
 
-pub judged-spells : (d : Dialect) (raw : Bytes) → validateCell d raw ≡ WholeCell → Spells d Fresh raw
+pub validated-spells : (d : Dialect) (raw : Bytes) → validateCell d raw ≡ WholeCell → Spells d Fresh raw
 unfolding validateCell
-judged-spells d raw e = let r = sound-runs d Fresh 0 raw e in run-spells (r .runs) (r .whole)
+validated-spells d raw e = let r = sound-runs d Fresh 0 raw e in run-spells (r .runs) (r .whole)
 
 -- ---- texts: f gives the cell's state from the character's
 

@@ -233,15 +233,15 @@ module _ (d : Dialect) (target : Option Target) where
   close-weighs r true i = weigh-last (cellNow d r) (r .raw) (record { kind = refl; content = refl }) (i .cells)
   close-weighs r false i = weigh-more (omega arith) (i .cells)
 
-  judged-counted : (r next : Read) (v : Verdict) → All BoundedRecord (r .done) → Counted next → CountedTo (validated r next v)
-  judged-counted r next Sound h i = c-going i
-  judged-counted r next (Faulty e) h i = c-stopped h
+  validated-counted : (r next : Read) (v : Verdict) → All BoundedRecord (r .done) → Counted next → CountedTo (validated r next v)
+  validated-counted r next Sound h i = c-going i
+  validated-counted r next (Faulty e) h i = c-stopped h
 
   complete-counted : (r : Read) (vs : List Value) (f : FileState) (o : ℕ) → Counted r → Bounded (r .size) vs → CountedTo (complete d target r vs f o)
   unfolding complete
   complete-counted r vs f o i b =
       let g : 0 + 0 ≤ 0 + slack f = omega arith in
-      judged-counted r _ (recordFault d target (r .done) vs) (i .done) (record { sum = 0; cells = weigh-none; fits = g; done = all-snoc (i .done) b })
+      validated-counted r _ (recordFault d target (r .done) vs) (i .done) (record { sum = 0; cells = weigh-none; fits = g; done = all-snoc (i .done) b })
 
   -- the record that ends here, with its last cell
   pub closed-bound : (r : Read) (k : Bool) (i : Counted r) → slack (r .state) ≡ 0 → Bounded (r .size) (closing d k r)

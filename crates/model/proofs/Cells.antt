@@ -1,5 +1,5 @@
 -- The cell in hand: each byte of a file either goes on with it or leaves none, and closes only a whole one (`step-fits`); the end
--- of the file completes a record only after a whole cell (`form-ends`).
+-- of the file completes a record only after a whole cell (`file-ends`).
 use Prim.Native.Nat.{ℕ, suc}
 use mathlib.Core.Path.{_≡_, refl}
 use mathlib.Core.Bool.{Bool, true, false}
@@ -119,18 +119,18 @@ last-ends Csvj c = ends-cut
 last-ends Tdif c = ends-cut
 last-ends (CsvPlus s) c = split (EndsAfter (CsvPlus s) c) _ (λ e. ends-final e) λ _. ends-cut
 
-pub form-ends : (d : Dialect) (f : FileState) → EndsAfter d (cellAt f) (fileEnd d f)
+pub file-ends : (d : Dialect) (f : FileState) → EndsAfter d (cellAt f) (fileEnd d f)
 unfolding fileEnd cellAt
-form-ends d Top = ends-clean
-form-ends d Begin = ends-clean
-form-ends d Ended = ends-clean
-form-ends d Mark1 = ends-cut
-form-ends d Mark2 = ends-cut
-form-ends d PlainMark1 = ends-cut
-form-ends d PlainMark2 = ends-cut
-form-ends d (Comment c) = ends-cut
-form-ends d Blanks = ends-cut
-form-ends d Wanting = ends-cut
-form-ends d (Inside c) = last-ends d c
-form-ends d After = ends-cut
-form-ends d Cr = ends-cut
+file-ends d Top = ends-clean
+file-ends d Begin = ends-clean
+file-ends d Ended = ends-clean
+file-ends d Mark1 = ends-cut
+file-ends d Mark2 = ends-cut
+file-ends d PlainMark1 = ends-cut
+file-ends d PlainMark2 = ends-cut
+file-ends d (Comment c) = ends-cut
+file-ends d Blanks = ends-cut
+file-ends d Wanting = ends-cut
+file-ends d (Inside c) = last-ends d c
+file-ends d After = ends-cut
+file-ends d Cr = ends-cut

@@ -49,13 +49,13 @@ grows-trans {a} g h =
     }
 
 module _ (d : Dialect) (target : Option Target) where
-  judged-grows : (r next : Read) (v : Verdict) → Grows (r .done) (next .done) → Grows (r .done) (recordsOf (validated r next v))
-  judged-grows r next Sound g = g
-  judged-grows r next (Faulty e) g = grows-refl (r .done)
+  validated-grows : (r next : Read) (v : Verdict) → Grows (r .done) (next .done) → Grows (r .done) (recordsOf (validated r next v))
+  validated-grows r next Sound g = g
+  validated-grows r next (Faulty e) g = grows-refl (r .done)
 
   complete-grows : (r : Read) (vs : List Value) (f : FileState) (o : ℕ) → Grows (r .done) (recordsOf (complete d target r vs f o))
   unfolding complete
-  complete-grows r vs f o = judged-grows r _ (recordFault d target (r .done) vs) (record { added = _; sum = refl })
+  complete-grows r vs f o = validated-grows r _ (recordFault d target (r .done) vs) (record { added = _; sum = refl })
 
   move-grows : (r : Read) (b : ℕ) (s : Step) → Grows (r .done) (recordsOf (move d target r b s))
   unfolding move

@@ -40,9 +40,9 @@ completes-after {d} zs h (leads-on {f} {f′} {p} {b} {bs} e l) k =
     let n : 0 < length (bs ++ zs) = omega (arith, length-append bs zs) in
     completes-after zs h l (next-completes d f f′ p b (bs ++ zs) e n k)
 
-judged-form : {A : Type 0} (r next : Read) (v : Verdict) (e : ByteFault) → OfRecord v → validated r next v ≡ stopped (Byte e) r → A
-judged-form r next Sound e of-sound h = let z : _≡_ {A = ℕ} 0 1 = cc in absurd (omega arith)
-judged-form r next (Faulty x) e (of-fault k) h = let q : x ≡ Byte e = cc in impossible (sym k ∙ ap byForm q)
+validated-form : {A : Type 0} (r next : Read) (v : Verdict) (e : ByteFault) → OfRecord v → validated r next v ≡ stopped (Byte e) r → A
+validated-form r next Sound e of-sound h = let z : _≡_ {A = ℕ} 0 1 = cc in absurd (omega arith)
+validated-form r next (Faulty x) e (of-fault k) h = let q : x ≡ Byte e = cc in impossible (sym k ∙ ap byForm q)
 
 module _ (d : Dialect) (target : Option Target) where
   -- a byte that was read moved the file by form
@@ -50,9 +50,9 @@ module _ (d : Dialect) (target : Option Target) where
     moves : {next : Read} {p : ByteRole} → fileStep d (r .state) b ≡ To (next .state) p → Moves r b (going next)
     halts : {e : Fault} {at : Read} → Moves r b (stopped e at)
 
-  judged-moves : (r next : Read) (b : ℕ) (p : ByteRole) (v : Verdict) → fileStep d (r .state) b ≡ To (next .state) p → Moves r b (validated r next v)
-  judged-moves r next b p Sound e = moves e
-  judged-moves r next b p (Faulty x) e = halts
+  validated-moves : (r next : Read) (b : ℕ) (p : ByteRole) (v : Verdict) → fileStep d (r .state) b ≡ To (next .state) p → Moves r b (validated r next v)
+  validated-moves r next b p Sound e = moves e
+  validated-moves r next b p (Faulty x) e = halts
 
   move-moves : (r : Read) (b : ℕ) (s : Step) → fileStep d (r .state) b ≡ s → Moves r b (move d target r b s)
   unfolding move complete
@@ -62,7 +62,7 @@ module _ (d : Dialect) (target : Option Target) where
   move-moves r b (To f OfCell) e = moves e
   move-moves r b (To f (Between k)) e = moves e
   move-moves r b (To f (Tail k)) e = moves e
-  move-moves r b (To f (Ends k)) e = judged-moves r _ b (Ends k) (recordFault d target (r .done) (closing d k r)) e
+  move-moves r b (To f (Ends k)) e = validated-moves r _ b (Ends k) (recordFault d target (r .done) (closing d k r)) e
 
   byte-moves : (r : Read) (b : ℕ) → Moves r b (readByte d target r b)
   unfolding readByte
@@ -81,7 +81,7 @@ module _ (d : Dialect) (target : Option Target) where
   move-refused r b (To f OfCell) e h = no-stop h
   move-refused r b (To f (Between k)) e h = no-stop h
   move-refused r b (To f (Tail k)) e h = no-stop h
-  move-refused r b (To f (Ends k)) e h = judged-form r _ (recordFault d target (r .done) (closing d k r)) e (fault-record d target (r .done) (closing d k r)) h
+  move-refused r b (To f (Ends k)) e h = validated-form r _ (recordFault d target (r .done) (closing d k r)) e (fault-record d target (r .done) (closing d k r)) h
 
   no-going : {A : Type 0} {e : Fault} {at r : Read} → stopped e at ≡ going r → A
   no-going x = let z : _≡_ {A = ℕ} 0 1 = cc in absurd (omega arith)

@@ -52,11 +52,11 @@ ran-append (in-comment t) r xs ys =
     cc
 ran-append elsewhere r xs ys = refl
 
-ran-form : (k : Place) (r : Read) (xs : Bytes) → ranAt k r xs .state ≡ r .state
+ran-state : (k : Place) (r : Read) (xs : Bytes) → ranAt k r xs .state ≡ r .state
 unfolding ranAt
-ran-form (in-cell c) r xs = refl
-ran-form (in-comment t) r xs = refl
-ran-form elsewhere r xs = refl
+ran-state (in-cell c) r xs = refl
+ran-state (in-comment t) r xs = refl
+ran-state elsewhere r xs = refl
 
 -- ---- a byte, and all of them
 
@@ -108,7 +108,7 @@ module _ (d : Dialect) (target : Option Target) where
       let a = all-ordinary p q b xs e in
       let j : ranAt k (ranAt k r (b ∷ [])) xs ≡ ranAt k r (b ∷ xs) = ran-append k r (b ∷ []) xs in
       rw (one r b xs g s (a .0) l)
-      (many k p q f one xs (a .1) (ranAt k r (b ∷ [])) (ran-form k r (b ∷ []) ∙ g) (ran-append k r (b ∷ []) []) (rw j l) ∙ ap going j)
+      (many k p q f one xs (a .1) (ranAt k r (b ∷ [])) (ran-state k r (b ∷ []) ∙ g) (ran-append k r (b ∷ []) []) (rw j l) ∙ ap going j)
 
   none : (k : Place) (xs : Bytes) → 0 ≡ length xs → (r : Read) → ranAt k r [] ≡ r → readFrom d target (going r) xs ≡ going (ranAt k r xs)
   unfolding readFrom
@@ -124,24 +124,24 @@ module _ (d : Dialect) (target : Option Target) where
   in-comment-run Whole r xs g s e l = many (in-comment Whole) 0 0 (Comment Whole) one-of-comment xs e r g s l
   in-comment-run (Within i) r xs g s e l = none (in-comment (Within i)) xs e r s
 
-  in-form-run : (f : FileState) (r : Read) (xs : Bytes) → r .state ≡ f → ranAt (placeIn f) r [] ≡ r → runAt d (placeIn f) xs ≡ length xs → InLimits (ranAt (placeIn f) r xs) → readFrom d target (going r) xs ≡ going (ranAt (placeIn f) r xs)
+  in-state-run : (f : FileState) (r : Read) (xs : Bytes) → r .state ≡ f → ranAt (placeIn f) r [] ≡ r → runAt d (placeIn f) xs ≡ length xs → InLimits (ranAt (placeIn f) r xs) → readFrom d target (going r) xs ≡ going (ranAt (placeIn f) r xs)
   unfolding runAt
-  in-form-run Top r xs g s e l = none elsewhere xs e r s
-  in-form-run Begin r xs g s e l = none elsewhere xs e r s
-  in-form-run Ended r xs g s e l = none elsewhere xs e r s
-  in-form-run Mark1 r xs g s e l = none elsewhere xs e r s
-  in-form-run Mark2 r xs g s e l = none elsewhere xs e r s
-  in-form-run PlainMark1 r xs g s e l = none elsewhere xs e r s
-  in-form-run PlainMark2 r xs g s e l = none elsewhere xs e r s
-  in-form-run (Comment t) r xs g s e l = in-comment-run t r xs g s e l
-  in-form-run Blanks r xs g s e l = none elsewhere xs e r s
-  in-form-run Wanting r xs g s e l = none elsewhere xs e r s
-  in-form-run (Inside c) r xs g s e l = in-cell-run c (runStop d c) refl r xs g s e l
-  in-form-run After r xs g s e l = none elsewhere xs e r s
-  in-form-run Cr r xs g s e l = none elsewhere xs e r s
+  in-state-run Top r xs g s e l = none elsewhere xs e r s
+  in-state-run Begin r xs g s e l = none elsewhere xs e r s
+  in-state-run Ended r xs g s e l = none elsewhere xs e r s
+  in-state-run Mark1 r xs g s e l = none elsewhere xs e r s
+  in-state-run Mark2 r xs g s e l = none elsewhere xs e r s
+  in-state-run PlainMark1 r xs g s e l = none elsewhere xs e r s
+  in-state-run PlainMark2 r xs g s e l = none elsewhere xs e r s
+  in-state-run (Comment t) r xs g s e l = in-comment-run t r xs g s e l
+  in-state-run Blanks r xs g s e l = none elsewhere xs e r s
+  in-state-run Wanting r xs g s e l = none elsewhere xs e r s
+  in-state-run (Inside c) r xs g s e l = in-cell-run c (runStop d c) refl r xs g s e l
+  in-state-run After r xs g s e l = none elsewhere xs e r s
+  in-state-run Cr r xs g s e l = none elsewhere xs e r s
 
   pub run : (r : Read) (xs : Bytes) → Stands r → runIn d (r .state) xs ≡ length xs → InLimits (ran r xs) → readFrom d target (going r) xs ≡ going (ran r xs)
-  run r xs s e l = in-form-run (r .state) r xs refl s e l
+  run r xs s e l = in-state-run (r .state) r xs refl s e l
 
 -- ---- the beginning of a run
 
@@ -249,9 +249,9 @@ resting (in-comment t) rs f o s = let n : o + 0 ≡ o = omega arith in cc
 resting elsewhere rs f o s = refl
 
 module _ (d : Dialect) (target : Option Target) where
-  judged-stands : (r : Read) (rs : List Rec) (f : FileState) (o : ℕ) (v : Verdict) → StandsAfter (validated r (between-records rs f o) v)
-  judged-stands r rs f o Sound = goes-on (resting (placeIn f) rs f o o)
-  judged-stands r rs f o (Faulty e) = stops
+  validated-stands : (r : Read) (rs : List Rec) (f : FileState) (o : ℕ) (v : Verdict) → StandsAfter (validated r (between-records rs f o) v)
+  validated-stands r rs f o Sound = goes-on (resting (placeIn f) rs f o o)
+  validated-stands r rs f o (Faulty e) = stops
 
   -- a step into a comment is outside records
   move-stands : (r : Read) (b : ℕ) {f : FileState} {s : Step} → Transition d f b s → StandsAfter (move d target r b s)
@@ -263,8 +263,8 @@ module _ (d : Dialect) (target : Option Target) where
   move-stands r b (blanks t n e) = goes-on (recording elsewhere _ at-none)
   move-stands r b (parts {g} t n l o) = goes-on (recording (placeIn g) _ (opens-record o))
   move-stands r b (turns t p l) = goes-on (recording elsewhere _ at-none)
-  move-stands r b (ends {g} {k} t p l x) = judged-stands r _ g (suc (r .offset)) (recordFault d target (r .done) (closing d k r))
-  move-stands r b (ends-cr t e p) = judged-stands r _ Begin (suc (r .offset)) (recordFault d target (r .done) (closing d false r))
+  move-stands r b (ends {g} {k} t p l x) = validated-stands r _ g (suc (r .offset)) (recordFault d target (r .done) (closing d k r))
+  move-stands r b (ends-cr t e p) = validated-stands r _ Begin (suc (r .offset)) (recordFault d target (r .done) (closing d false r))
 
   -- a byte leads to such a state, from any
   pub byte-stands : (r : Read) (b : ℕ) → StandsAfter (readByte d target r b)

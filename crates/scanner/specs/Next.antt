@@ -132,7 +132,7 @@ nextRecord d r (b ∷ bs) =
 
 -- the cells up to here are at most as many as the bytes read, and a complete record lies in the file and under its limit.
 -- `base`: how many cells came before; `from`: where reading began
-abbrev pub EventInBounds : (length from base : ℕ) → Event → Type 0
+abbrev pub EventInBounds : (file-length from base : ℕ) → Event → Type 0
 EventInBounds n from base (Completed start cells f next) = (from < next) × (next ≤ n) × (next ≤ MAXFILE) × (base + cells ≤ next)
 EventInBounds n from base (LastRecord start cells) = (n ≤ MAXFILE) × (base + cells ≤ n + 1)
 EventInBounds n from base (Failed e offset) = Unit {0}

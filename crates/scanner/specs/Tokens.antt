@@ -94,8 +94,8 @@ TokenInBounds d file f i (Refused e j) = Unit {0}
 TokenInBounds d file f i (Open c j) = (i < j) × (j ≤ length file) × (j ≤ MAXFILE)
 
 -- from i up to here no byte but the first can be one too many
-pub record Free (length i size stop : ℕ) : Type 0 where
+pub record Free (file-length i size stop : ℕ) : Type 0 where
   pub on : i < stop
-  pub inside : stop ≤ length
+  pub inside : stop ≤ file-length
   pub file : stop ≤ MAXFILE
   pub fits : i + 1 < stop → size + (stop - i) ≤ MAXRECORD

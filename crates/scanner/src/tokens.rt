@@ -31,14 +31,14 @@ pub enum Token {
 }
 
 // How far bytes go from i before one can be too many for the file or the record.
-fn free_to(length: usize, i: usize, size: usize) -> usize
-    requires { ⌜ (i < length) × (i < MAXFILE) ⌝ }
-    ensures { λ r. ⌜ Free length i size r ⌝ }
+fn free_to(total: usize, i: usize, size: usize) -> usize
+    requires { ⌜ (i < total) × (i < MAXFILE) ⌝ }
+    ensures { λ r. ⌜ Free total i size r ⌝ }
 {
     if MAX_RECORD <= size {
         return i + 1;
     }
-    least_of(least_of(length, MAX_FILE), i + (MAX_RECORD - size))
+    least_of(least_of(total, MAX_FILE), i + (MAX_RECORD - size))
 }
 
 // Where the ordinary bytes of a comment end, if reading stands in one.

@@ -100,11 +100,11 @@ fn second_byte(l: Lead, b: u8) -> Advance
     if HIGH[row] < b {
         return Advance::Broken;
     }
-    let length = LENGTH[row];
-    if length == 2 {
+    let size = LENGTH[row];
+    if size == 2 {
         return Advance::On(Char::Whole);
     }
-    if length == 3 {
+    if size == 3 {
         return Advance::On(Char::Within(Inner::Last));
     }
     Advance::On(Char::Within(Inner::LastTwo))
@@ -148,7 +148,7 @@ pub fn char_step(c: Char, b: u8) -> Advance
 // The bytes of a code point: the first `length` of `bytes`, with zeros after them.
 pub struct Packed {
     pub bytes: [u8; 4],
-    pub length: usize,
+    pub size: usize,
 }
 
 // The low six bits, as a later byte.
@@ -160,38 +160,38 @@ fn six_bits(u: u32) -> u8
 
 // A code point, a surrogate too, as its bytes. What is no code point has none.
 pub fn pack(u: u32) -> Packed
-    ensures { λ r. ⌜ Packs u (r .bytes) (r .length) ⌝ }
+    ensures { λ r. ⌜ Packs u (r .bytes) (r .size) ⌝ }
 {
     if u <= 0x7F {
         return Packed {
             bytes: [u as u8, 0, 0, 0],
-            length: 1,
+            size: 1,
         };
     }
     if u <= 0x7FF {
         let lead = ((u >> 6) | 0xC0) as u8;
         return Packed {
             bytes: [lead, six_bits(u), 0, 0],
-            length: 2,
+            size: 2,
         };
     }
     if u <= 0xFFFF {
         let lead = ((u >> 12) | 0xE0) as u8;
         return Packed {
             bytes: [lead, six_bits(u >> 6), six_bits(u), 0],
-            length: 3,
+            size: 3,
         };
     }
     if u <= 0x10FFFF {
         let lead = ((u >> 18) | 0xF0) as u8;
         return Packed {
             bytes: [lead, six_bits(u >> 12), six_bits(u >> 6), six_bits(u)],
-            length: 4,
+            size: 4,
         };
     }
     Packed {
         bytes: [0, 0, 0, 0],
-        length: 0,
+        size: 0,
     }
 }
 

@@ -42,7 +42,7 @@ module _ (d : Dialect) (raw old : Bytes) (h : length raw ≤ length old) where
       → (givenAnswer r ≡ toAnswer (soundCell d raw (length old))) × (new ≡ over (soundCell d raw (length old) .content) old)
       → (n ≡ length (contentOf d raw)) × (new ≡ over (contentOf d raw) old)
   decoded r n k new told ensured = (
-    ap (λ (s : CellAnswer). s .length) (sym (ap givenAnswer told) ∙ ensured .0 ∙ ap toAnswer fits),
+    ap (λ (s : CellAnswer). s .size) (sym (ap givenAnswer told) ∙ ensured .0 ∙ ap toAnswer fits),
     ensured .1 ∙ ap (λ (a : api.Decoded). over (a .content) old) fits,
   )
 

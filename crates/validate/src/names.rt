@@ -68,10 +68,10 @@ fn put_name(d: Dialect, raw: &[u8], room: &mut [u8]) -> usize
         × (now (room .exit) ≡ over (contentOf d (now (raw .entry))) (now (room .entry))) ⌝ }
 {
     // Content is no longer than its cell, so that the room is never too short: the refusal is proved away.
-    let Decoded::Content { length, kind: _ } = decoder::decode_sound(d, raw, room) else {
+    let Decoded::Content { size, kind: _ } = decoder::decode_sound(d, raw, room) else {
         return 0;
     };
-    length
+    size
 }
 
 // Whether a raw cell has this name. The room is for its content.

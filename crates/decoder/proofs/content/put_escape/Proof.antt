@@ -9,7 +9,7 @@ use Rattle.decoder.proofs.content.put_escape.Statement.{statement}
 use Rattle.decoder.proofs.content.put_escape.Tie as tie
 
 array-share-prefix-bytes : tie.Need-array-share-prefix-bytes
-array-share-prefix-bytes c = taken-whole (c .before .before .piece-at .result .length) (c .before .before .piece-at .result .bytes) (c .before .before .piece-at .ensures .sized)
+array-share-prefix-bytes c = taken-whole (c .before .before .piece-at .result .size) (c .before .before .piece-at .result .bytes) (c .before .before .piece-at .ensures .sized)
 
 slice-aggregate-put-bytes : tie.Need-slice-aggregate-put-bytes
 slice-aggregate-put-bytes c = sym (c .before .before .before .piece-at .ensures .sized)
@@ -24,7 +24,7 @@ returns : tie.Need-returns
 returns c =
     let g = c .before .before .before .before .before .before .piece-at .ensures in
     let p = c .before .before .put-bytes .ensures in
-    let w = take (c .before .before .before .before .before .before .piece-at .result .length) (c .before .before .before .before .before .before .piece-at .result .bytes) in
+    let w = take (c .before .before .before .before .before .before .piece-at .result .size) (c .before .before .before .before .before .before .piece-at .result .bytes) in
     record { w = w; stands = g .stands; on = omega (arith, g .on); inside = g .inside; place = p .0; text = p .1 }
 
 pub put-escape-spec : {M : Type 1} → statement M

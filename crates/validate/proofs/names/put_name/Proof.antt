@@ -15,7 +15,7 @@ returns-2 : tie.Need-returns-2
 returns-2 c =
     let at-decode-sound = c .before .before .before .before .before in
     let s = at-decode-sound .before .before .before .before in
-    decoded (s .args .d) (s .args .raw .now) (s .args .room .now) (s .pre) (at-decode-sound .decode-sound .result) _ _ _ (c .before .length .given .1) (at-decode-sound .decode-sound .ensures)
+    decoded (s .args .d) (s .args .raw .now) (s .args .room .now) (s .pre) (at-decode-sound .decode-sound .result) _ _ _ (c .before .size .given .1) (at-decode-sound .decode-sound .ensures)
 
 pub put-name-spec : {M : Type 1} → statement M
 put-name-spec =
