@@ -48,9 +48,9 @@ enum hk_report_number {
     HK_ENCODING = 2,       /* a byte breaks UTF-8 */
     HK_SYNTAX = 3,         /* a byte that can't stand here */
     HK_CUT_SHORT = 4,      /* the file ends too early */
-    HK_UNEVEN = 5,         /* the cell count is not the header's */
+    HK_CELL_COUNT = 5,     /* the cell count is not the header's */
     HK_REPEATED_NAME = 6,  /* a header name repeats an earlier one */
-    HK_NOT_TEXT = 7,       /* a header cell is not text */
+    HK_HEADER_KIND = 7,    /* a header cell is not text */
     HK_LIMIT = 8,          /* more bytes or columns than the limits allow */
     HK_NOT_CARRIED = 9,    /* the target can't carry the record */
     HK_ROOM = 10,          /* what was lent is too short, and nothing else is wrong */
