@@ -45,6 +45,5 @@ pub mod ScanLaws
 pub mod View
 pub mod ScanBound
 pub mod ScanSize
-pub mod ScanExample
 pub mod PlaceLaws
 pub mod AllDemands

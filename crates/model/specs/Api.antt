@@ -98,7 +98,7 @@ pub record Decoded : Type 0 where
 abbrev pub notDecoded : Report → Decoded
 notDecoded e = record { report = e; kind = 0; content = [] }
 
--- the answer on a cell that was judged: its fault with record and column 0, or 10 for too little room, or its kind and
+-- the answer on a cell that was validated: its fault with record and column 0, or 10 for too little room, or its kind and
 -- content (§11.2 §11.6)
 abbrev pub decodedAs : Dialect → Bytes → (room : ℕ) → CellCheck → Decoded
 decodedAs d bs room (Unsound e o) = notDecoded (report (numberOf e) 0 0 o)
@@ -106,7 +106,7 @@ decodedAs d bs room WholeCell =
     if ltb room (length (contentOf d bs)) then notDecoded (refusal 10)
     else record { report = accepted; kind = kindNumber (kindOf d bs); content = contentOf d bs }
 
--- the decoder: 11 first, then the judgement of the raw cell (§1.7 §9.1 §11.1)
+-- the decoder: 11 first, then the check of the raw cell (§1.7 §9.1 §11.1)
 unfoldable pub decoder : (dialect : ℕ) → Bytes → (room : ℕ) → Decoded
 decoder n bs room = elim (dialectOf n) [ none ↦ notDecoded (refusal 11) | some d ↦ decodedAs d bs room (validateCell d bs) ]
 
@@ -171,7 +171,7 @@ kindNamed n =
     else if n is 5 then some Null
     else none
 
--- the kind and the judgement of bytes, as a cell of CSVJ, are those of a number (§13.7)
+-- the kind and the check of bytes, as a cell of CSVJ, are those of a number (§13.7)
 abbrev pub isNumber : Kind → CellCheck → Bool
 isNumber Text j = false
 isNumber Number WholeCell = true

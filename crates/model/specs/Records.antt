@@ -187,7 +187,7 @@ abbrev pub validated : Read → Read → Verdict → Progress
 validated before next Sound = going next
 validated before next (Faulty e) = stopped e before
 
--- a record ends and is judged: the record in hand, with these cells; where the file stands then, and the next offset (§7.5
+-- a record ends and is validated: the record in hand, with these cells; where the file stands then, and the next offset (§7.5
 -- §7.8)
 unfoldable pub complete : Dialect → (target : Option Target) → Read → List Value → FileState → ℕ → Progress
 complete d target r vs f o =
@@ -241,7 +241,7 @@ abbrev pub endBetween : Read → List Rec → Progress
 endBetween r [] = stopped NoRecord r
 endBetween r (h ∷ rs) = going r
 
--- the end of the file: between records, or completing a last CSV+ record, which is judged there, or fault 4 (§5.11 §6.4
+-- the end of the file: between records, or completing a last CSV+ record, which is validated there, or fault 4 (§5.11 §6.4
 -- §6.26)
 abbrev pub endAt : Dialect → (target : Option Target) → Read → Ending → Progress
 endAt d target r Clean = endBetween r (r .done)

@@ -1,4 +1,4 @@
--- The first record, and what judging it comes to.
+-- The first record, and what validating it comes to.
 use Prim.Native.Nat.{ℕ, zero, suc, _+_, _≤_, _<_}
 use native.Mathlib.Omega.{arith}
 use mathlib.Core.Path.{_≡_, refl, sym, ap, subst, _∙_}

@@ -132,7 +132,7 @@ module _ (call : Call) where
       two-more : suc (suc records) ≡ records + 2
       two-more = omega arith
 
-      -- a record that is judged faulty
+      -- a record that is validated faulty
       faulty-outcome : (h : Rec) (ds : List Rec) (r : Read) (start : ℕ) (g : FileState) (o : ℕ) (x : Fault) (t : Report) → length (h .cells) ≡ columns → r .done ≡ h ∷ ds → length ds ≡ records → r .start ≡ start → dataFault columns (Here .cells) ≡ Faulty x → t ≡ report (numberOf x) (records + 2) (columnOf x) start → (complete d none r (Here .cells) g o ≡ stopped x r) × (t ≡ faultReport x r)
       faulty-outcome h ds r start g o x t q a c b w z =
           let fault : recordFault d none (r .done) (Here .cells) ≡ Faulty x = ap (λ (l : List Rec). recordFault d none l (Here .cells)) a ∙ data-fault d h ds (Here .cells) ∙ ap (λ (n : ℕ). dataFault n (Here .cells)) q ∙ w in (
@@ -140,7 +140,7 @@ module _ (call : Call) where
             z ∙ rw (sym two-more, sym b) (report-start x r (suc records) (starts-of x (data-starts columns (Here .cells)) w) (number r h ds a c)),
           )
 
-      -- a record that is judged sound
+      -- a record that is validated sound
       sound-record : (h : Rec) (ds : List Rec) (r : Read) (g : FileState) (o : ℕ) → length (h .cells) ≡ columns → r .done ≡ h ∷ ds → dataFault columns (Here .cells) ≡ Sound → complete d none r (Here .cells) g o ≡ going (between-records (h ∷ (ds ++ (recOf r (Here .cells) ∷ []))) g o)
       sound-record h ds r g o q a w =
           let fault : recordFault d none (r .done) (Here .cells) ≡ Sound = ap (λ (l : List Rec). recordFault d none l (Here .cells)) a ∙ data-fault d h ds (Here .cells) ∙ ap (λ (n : ℕ). dataFault n (Here .cells)) q ∙ w in

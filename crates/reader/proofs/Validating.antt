@@ -69,7 +69,7 @@ pub report-byte : (e : Fault) (r : Read) (n : ℕ) → isAtByte e ≡ true → l
 unfolding if_then_else_
 report-byte e r n q l = rw (q, l)
 
--- ---- a complete record is judged
+-- ---- a complete record is validated
 
 or-nothing : (x : Verdict) → (x orElse Sound) ≡ x
 unfolding _orElse_

@@ -1,4 +1,4 @@
-// The records of a file: its header, and then its data records, each judged when it is complete.
+// The records of a file: its header, and then its data records, each validated when it is complete.
 ghost use mathlib.Core.Path.{_≡_};
 ghost use Prim.Native.Nat.{_+_, _≤_};
 ghost use lib.ListN.{length};
@@ -43,7 +43,7 @@ fn validated(d: Dialect, file: &[u8], cells: usize, starts: &[usize], ends: &[us
     validate::header(d, file, &starts[..cells], &ends[..cells])
 }
 
-// The first record of a file, judged.
+// The first record of a file, validated.
 pub fn first_record(d: Dialect, file: &[u8]) -> Head
     ensures { λ r. ⌜ Heads d (now (file .entry)) r ⌝ }
 {

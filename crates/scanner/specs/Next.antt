@@ -1,5 +1,5 @@
 -- The next record of a file. Reading goes from record to record: a byte moves reading as `move` of model's Records says, but a
--- complete record is handed over before it is judged.
+-- complete record is handed over before it is validated.
 use Prim.Native.Nat.{ℕ, _+_, _≤_, _<_}
 use mathlib.Core.Bool.{Bool, true, false}
 use mathlib.Core.List.{List, [], _∷_, _++_}

@@ -1,5 +1,5 @@
 // The scanner: from record to record of a file, in any dialect, by form and limits alone. A complete record is handed over before it
-// is judged, and its cells are put into lent lists as far as there is room. The definition is `nextRecord` of specs/Next.antt, and
+// is validated, and its cells are put into lent lists as far as there is room. The definition is `nextRecord` of specs/Next.antt, and
 // proofs/Reading.antt has the law that reading a file goes from record to record so.
 //
 // The loop holds numbers and the place in the file; ahead.rt finds what stands ahead of it, which is mostly a whole cell. Each

@@ -1,4 +1,4 @@
--- `decoder::decode_cell` meets its contract: the judgement decides, and a refusal names its fault.
+-- `decoder::decode_cell` meets its contract: the check decides, and a refusal names its fault.
 -- Assumes nothing.
 use mathlib.Core.Path.{sym, _∙_}
 use borrow.Author.Needs.{needs}

@@ -46,12 +46,12 @@ returns-3 c =
 
 returns-4 : tie.Need-returns-4
 returns-4 c =
-    let at-judged2 = c .before .before .before .before in
-    let at-start2 = at-judged2 .before .before .before .before in
+    let at-validated2 = c .before .before .before .before in
+    let at-start2 = at-validated2 .before .before .before .before in
     let at-next-record = at-start2 .before .before .before .before .before in
     let a = at-next-record .before .before .before .before .before .args in
     let n = at-next-record .next-record .ensures in
-    only-faulty (a .d) (a .file .now) _ (n .0) _ (at-judged2 .validated2 .ensures) _ _ (at-start2 .start2 .given .1) _ (c .before .before .e2 .given .1) _ (c .on-record2 .ensures)
+    only-faulty (a .d) (a .file .now) _ (n .0) _ (at-validated2 .validated2 .ensures) _ _ (at-start2 .start2 .given .1) _ (c .before .before .e2 .given .1) _ (c .on-record2 .ensures)
 
 returns-5 : tie.Need-returns-5
 returns-5 c =
