@@ -29,8 +29,8 @@ JoinedOutputs =
     writtenIn (history m n cs) ≡ tableText (into t) (rows (recordsOf (seenIn d (into t) (history m n cs))))
 
 -- no call writes more than its room: the output that a call asks for is enough (§15.11)
-abbrev pub Fits : Type 0
-Fits = (m n : ℕ) (cs : List Call) → All (λ (x : Entry). length (x .answer .text) ≤ roomOf (x .call)) (history m n cs)
+abbrev pub OutputFits : Type 0
+OutputFits = (m n : ℕ) (cs : List Call) → All (λ (x : Entry). length (x .answer .text) ≤ roomOf (x .call)) (history m n cs)
 
 -- ---- whole and pieces
 
@@ -92,7 +92,7 @@ KeepsLedger {S} Carries =
 pub record Demands : Type 1 where
   pub round-trip : RoundTrip
   pub joined-outputs : JoinedOutputs
-  pub fits : Fits
+  pub fits : OutputFits
   pub whole-and-pieces : WholeAndPieces
   pub end-is-whole : EndIsWhole
   pub fault-of-every-file : FaultOfEveryFile
