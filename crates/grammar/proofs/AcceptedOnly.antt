@@ -18,16 +18,17 @@ use Rattle.model.specs.Report.{MAXFILE, MAXRECORD}
 use Rattle.model.specs.Records.{Rec, Read, going, stopped, between-records, closing, validated, complete, move, fileFull, recordFull, recordFault, readByte, readFrom, endBetween, endAt, readEnd}
 use Rattle.model.proofs.Tests.{split}
 use Rattle.model.proofs.Reading.{read-stopped}
+use Rattle.model.proofs.FileSteps.{cell-counts, between-counts, its-transition}
 use Rattle.grammar.specs.Derived.{Derived, Line, line, every-none, Each, each-none, each-cons}
 use Rattle.grammar.specs.Reading.{Reads, decoded, decodedLine}
 use Rattle.grammar.specs.Reading as reading
 use Rattle.grammar.specs.Accepted.{ShowsCell, ShowsRecord}
-use Rattle.grammar.proofs.Parts.{Stage, at-rest, in-cell, stageOf, Recording, record-open, cell-open, NoCell, Moves, parts, turns, completes, step-moves}
+use Rattle.grammar.proofs.Parts.{Stage, at-rest, in-cell, stageOf, Recording, record-open, cell-open, NoCell, outside-rests, passed-rests, cell-stage, between-stage, tail-stage, ends-stage, between-no-cell, tail-no-cell, ends-no-cell}
 use Rattle.grammar.proofs.Checks.{LineSound, ChecksFrom, checks-none, checks-next, record-checked}
 use Rattle.grammar.proofs.Standing.{each-snoc, length-snoc, joined, joined-rest, joined-of-cell, joined-between, joined-between-closing, joined-tail-closing, joined-ends, joined-ends-closing, Fit, fit-none, fit-line, rest-fit, Stands, closes-now, stands-reset, stands-more, Rested, rested, Parted, parted, recording-tidy, rest-tidy}
 use Rattle.grammar.proofs.Standing as standing
 use Rattle.grammar.specs.Types as types
-use Rattle.grammar.proofs.Standing.{moved-outside, moved-passed, moved-of-cell, moved-between, moved-between-closing, moved-tail, moved-tail-closing, moved-ends, moved-ends-closing}
+use Rattle.grammar.proofs.Standing.{moved-outside, moved-passed, moved-between, moved-tail, moved-ends}
 use Rattle.grammar.proofs.Accepting.{Some, some}
 
 -- ---- what is to come of a record and of a cell
@@ -69,36 +70,22 @@ not-clean : {A : Type 0} {g : Stage} → Recording g → EndsIn g Clean → A
 not-clean record-open = elim [ ]
 not-clean cell-open = elim [ ]
 
-not-outside : {A : Type 0} {d : Dialect} {f h : FileState} {b : ℕ} {g : Stage} → Recording g → Moves d f b g (To h Outside) → A
-not-outside record-open = elim [ ]
-not-outside cell-open = elim [ ]
+not-at-rest : {A : Type 0} → Recording at-rest → A
+not-at-rest = elim [ ]
 
-not-passed : {A : Type 0} {d : Dialect} {f h : FileState} {b : ℕ} {g : Stage} → Recording g → Moves d f b g (To h Passed) → A
-not-passed record-open = elim [ ]
-not-passed cell-open = elim [ ]
+cell-at-rest : {A : Type 0} {g : Stage} → g ≡ in-cell → g ≡ at-rest → A
+cell-at-rest c e = not-at-rest (rw (sym e ∙ c) cell-open)
 
 -- a cell is left only by closing it
 cell-left : {A : Type 0} → NoCell in-cell → A
 cell-left = elim [ ]
 
-cell-between : {A : Type 0} {d : Dialect} {f h : FileState} {b : ℕ} → Moves d f b in-cell (To h (Between false)) → A
-cell-between (parts c n r) = cell-left n
-
-cell-tail : {A : Type 0} {d : Dialect} {f h : FileState} {b : ℕ} → Moves d f b in-cell (To h (Tail false)) → A
-cell-tail (turns c n r) = cell-left n
-
-cell-ends : {A : Type 0} {d : Dialect} {f h : FileState} {b : ℕ} → Moves d f b in-cell (To h (Ends false)) → A
-cell-ends (completes c n r) = cell-left n
-
 module _ (d : Dialect) where
-  pub its-moves : (f : FileState) (b : ℕ) (s : Step) → fileStep d f b ≡ s → Moves d f b (stageOf d f) s
-  its-moves f b s e = rw e at (step-moves d f b)
-
   reads-line : {f : FileState} {xs : Bytes} {ls : List (Line Bytes)} → Reads d f xs ls → Recording (stageOf d f) → HasLine ls
   reads-line (reading.ends-clean {f} e) g = not-clean g (rw e at (file-ends d f))
   reads-line (reading.ends-final e) g = has-line
-  reads-line (reading.outside {f} {b} e k) g = not-outside g (its-moves f b _ e)
-  reads-line (reading.passed {f} {b} e k) g = not-passed g (its-moves f b _ e)
+  reads-line (reading.outside e k) g = not-at-rest (rw (outside-rests (its-transition e) .0) at g)
+  reads-line (reading.passed e k) g = not-at-rest (rw (passed-rests (its-transition e) .0) at g)
   reads-line (reading.of-cell e k) g = has-line
   reads-line (reading.between e k) g = has-line
   reads-line (reading.between-closing e k) g = has-line
@@ -110,14 +97,14 @@ module _ (d : Dialect) where
   pub reads-cell : {f : FileState} {xs : Bytes} {ls : List (Line Bytes)} → Reads d f xs ls → stageOf d f ≡ in-cell → HasCell ls
   reads-cell (reading.ends-clean {f} e) g = not-clean (rw g cell-open) (rw e at (file-ends d f))
   reads-cell (reading.ends-final e) g = has-cell
-  reads-cell (reading.outside {f} {b} e k) g = not-outside (rw g cell-open) (its-moves f b _ e)
-  reads-cell (reading.passed {f} {b} e k) g = not-passed (rw g cell-open) (its-moves f b _ e)
+  reads-cell (reading.outside e k) g = cell-at-rest g (outside-rests (its-transition e) .0)
+  reads-cell (reading.passed e k) g = cell-at-rest g (passed-rests (its-transition e) .0)
   reads-cell (reading.of-cell e k) g = has-cell
-  reads-cell (reading.between {f} {b} e k) g = cell-between (rw g at (its-moves f b _ e))
+  reads-cell (reading.between e k) g = cell-left (rw g at (between-no-cell (its-transition e)))
   reads-cell (reading.between-closing e k) g = has-cell
-  reads-cell (reading.tail {f} {b} e k) g = cell-tail (rw g at (its-moves f b _ e))
+  reads-cell (reading.tail e k) g = cell-left (rw g at (tail-no-cell (its-transition e)))
   reads-cell (reading.tail-closing e k) g = has-cell
-  reads-cell (reading.ends {f} {b} e k) g = cell-ends (rw g at (its-moves f b _ e))
+  reads-cell (reading.ends e k) g = cell-left (rw g at (ends-no-cell (its-transition e)))
   reads-cell (reading.ends-closing e k) g = has-cell
 
 some-last : (pre : List (Line Derived)) (l : Line Derived) → Some (pre ++ (l ∷ []))
@@ -279,13 +266,13 @@ module _ (d : Dialect) (file : Bytes) (end : Read) where
 
     between-closing-comes :
         (h : FileState) {text raw : Bytes} {cells : List Derived} → Stands d file seen r pre text raw cells → fileStep d (r .state) b ≡ To h (Between true) →
-        recordFull r b ≡ false → (counts (r .state) b ≡ true) × Recording (stageOf d h) → readEnd d none (readFrom d none (move d none r b (To h (Between true))) bs) ≡ going end →
+        recordFull r b ≡ false → readEnd d none (readFrom d none (move d none r b (To h (Between true))) bs) ≡ going end →
         Outcome r (b ∷ bs) pre text raw cells
     unfolding move
-    between-closing-comes h {text} {raw} {cells} s e f g q =
+    between-closing-comes h {text} {raw} {cells} s e f q =
         let l : length (text ++ (b ∷ [])) ≡ suc (length text) = length-snoc text b in
-        let w : length text < MAXRECORD = size-left s f (g .0) in
-        record-comes h (suc (r .size)) (closing d true r) (text ++ (b ∷ [])) (cells ++ (decoded d raw ∷ [])) s (ap suc (s .size) ∙ sym l) (omega arith) (closes-now s (b ∷ bs) place) (g .1)
+        let w : length text < MAXRECORD = size-left s f (between-counts (its-transition e)) in
+        record-comes h (suc (r .size)) (closing d true r) (text ++ (b ∷ [])) (cells ++ (decoded d raw ∷ [])) s (ap suc (s .size) ∙ sym l) (omega arith) (closes-now s (b ∷ bs) place) (between-stage (its-transition e))
         (λ n t cs ls m y. told (line (b ∷ t) ([] ∷ cs) ∷ ls) y (reading.between-closing e m) (longer text (y .fit)) (joined-between-closing d text raw cells b t cs ls)) q
 
     tail-comes :
@@ -302,10 +289,10 @@ module _ (d : Dialect) (file : Bytes) (end : Read) where
 
     tail-closing-comes :
         (h : FileState) {text raw : Bytes} {cells : List Derived} → Stands d file seen r pre text raw cells → fileStep d (r .state) b ≡ To h (Tail true) →
-        Recording (stageOf d h) → readEnd d none (readFrom d none (move d none r b (To h (Tail true))) bs) ≡ going end → Outcome r (b ∷ bs) pre text raw cells
+        readEnd d none (readFrom d none (move d none r b (To h (Tail true))) bs) ≡ going end → Outcome r (b ∷ bs) pre text raw cells
     unfolding move
-    tail-closing-comes h {text} {raw} {cells} s e g q =
-        record-comes h (r .size) (closing d true r) text (cells ++ (decoded d raw ∷ [])) s (s .size) (s .fits) (closes-now s (b ∷ bs) place) g
+    tail-closing-comes h {text} {raw} {cells} s e q =
+        record-comes h (r .size) (closing d true r) text (cells ++ (decoded d raw ∷ [])) s (s .size) (s .fits) (closes-now s (b ∷ bs) place) (tail-stage (its-transition e))
         (λ n t cs ls m y. told (line t ([] ∷ cs) ∷ ls) y (reading.tail-closing e m) (same-fit (y .fit)) (joined-tail-closing d text raw cells b t cs ls)) q
 
     ends-comes :
@@ -319,10 +306,10 @@ module _ (d : Dialect) (file : Bytes) (end : Read) where
 
     ends-closing-comes :
         (h : FileState) {text raw : Bytes} {cells : List Derived} → Stands d file seen r pre text raw cells → fileStep d (r .state) b ≡ To h (Ends true) →
-        stageOf d h ≡ at-rest → readEnd d none (readFrom d none (move d none r b (To h (Ends true))) bs) ≡ going end → Outcome r (b ∷ bs) pre text raw cells
+        readEnd d none (readFrom d none (move d none r b (To h (Ends true))) bs) ≡ going end → Outcome r (b ∷ bs) pre text raw cells
     unfolding move
-    ends-closing-comes h {text} {raw} {cells} s e g q =
-        complete-comes h (closing d true r) (cells ++ (decoded d raw ∷ [])) s (closes-now s (b ∷ bs) place) g ([] ∷ []) (λ ls m. reading.ends-closing e m)
+    ends-closing-comes h {text} {raw} {cells} s e q =
+        complete-comes h (closing d true r) (cells ++ (decoded d raw ∷ [])) s (closes-now s (b ∷ bs) place) (ends-stage (its-transition e)) ([] ∷ []) (λ ls m. reading.ends-closing e m)
         (λ ls. joined-ends-closing d pre text raw cells ls) (λ ls. rw (append-nil text, append-nil raw)) q
 
     step-comes :
@@ -330,15 +317,15 @@ module _ (d : Dialect) (file : Bytes) (end : Read) where
         readEnd d none (readFrom d none (move d none r b s) bs) ≡ going end → Outcome r (b ∷ bs) pre text raw cells
     unfolding move
     step-comes (Reject x) s e f q = not-going d (types.Byte x) r bs q
-    step-comes (To h Outside) s e f q = rest-comes h (r .start) s (moved-outside (its-moves d (r .state) b _ e) (s .tidy)) (λ ls m. reading.outside e m) q
-    step-comes (To h Passed) s e f q = rest-comes h (suc (r .offset)) s (moved-passed (its-moves d (r .state) b _ e) (s .tidy)) (λ ls m. reading.passed e m) q
-    step-comes (To h OfCell) s e f q = let g = moved-of-cell (its-moves d (r .state) b _ e) (s .tidy) in cell-comes h s e (g .1) (size-left s f (g .0)) q
-    step-comes (To h (Between false)) s e f q = between-comes h s e f (moved-between (its-moves d (r .state) b _ e) (s .tidy)) q
-    step-comes (To h (Between true)) s e f q = between-closing-comes h s e f (moved-between-closing (its-moves d (r .state) b _ e) (s .tidy)) q
-    step-comes (To h (Tail false)) s e f q = tail-comes h s e (moved-tail (its-moves d (r .state) b _ e) (s .tidy)) q
-    step-comes (To h (Tail true)) s e f q = tail-closing-comes h s e (moved-tail-closing (its-moves d (r .state) b _ e) (s .tidy) .1) q
-    step-comes (To h (Ends false)) s e f q = ends-comes h s e (moved-ends (its-moves d (r .state) b _ e) (s .tidy)) q
-    step-comes (To h (Ends true)) s e f q = ends-closing-comes h s e (moved-ends-closing (its-moves d (r .state) b _ e) (s .tidy) .1) q
+    step-comes (To h Outside) s e f q = rest-comes h (r .start) s (moved-outside (its-transition e) (s .tidy)) (λ ls m. reading.outside e m) q
+    step-comes (To h Passed) s e f q = rest-comes h (suc (r .offset)) s (moved-passed (its-transition e) (s .tidy)) (λ ls m. reading.passed e m) q
+    step-comes (To h OfCell) s e f q = cell-comes h s e (cell-stage (its-transition e)) (size-left s f (cell-counts (its-transition e))) q
+    step-comes (To h (Between false)) s e f q = between-comes h s e f (moved-between (its-transition e) (s .tidy)) q
+    step-comes (To h (Between true)) s e f q = between-closing-comes h s e f q
+    step-comes (To h (Tail false)) s e f q = tail-comes h s e (moved-tail (its-transition e) (s .tidy)) q
+    step-comes (To h (Tail true)) s e f q = tail-closing-comes h s e q
+    step-comes (To h (Ends false)) s e f q = ends-comes h s e (moved-ends (its-transition e) (s .tidy)) q
+    step-comes (To h (Ends true)) s e f q = ends-closing-comes h s e q
 
   byte-comes : (b : ℕ) (bs : Bytes) → Comes bs → Comes (b ∷ bs)
   unfolding readFrom readByte fileFull if_then_else_

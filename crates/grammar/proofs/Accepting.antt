@@ -18,10 +18,11 @@ use Rattle.grammar.specs.Derived.{Derived, Line, line, Each, each-none, 
 use Rattle.grammar.specs.Reading.{Reads, decoded}
 use Rattle.grammar.specs.Reading as reading
 use Rattle.grammar.specs.Accepted.{ShowsCell, ShowsRecord}
-use Rattle.grammar.proofs.Parts.{Moves, at-rest, stageOf, Recording, step-moves}
+use Rattle.model.proofs.FileSteps.{Transition, tail-uncounted, ends-uncounted, its-transition}
+use Rattle.grammar.proofs.Parts.{at-rest, stageOf, Recording, cell-stage, between-stage, tail-stage, ends-stage}
 use Rattle.grammar.proofs.Checks.{LineSound, ChecksFrom, checks-next, record-sound-checked}
 use Rattle.grammar.proofs.Standing.{each-snoc, length-snoc, joined, joined-rest, joined-of-cell, joined-between, joined-between-closing, joined-tail-closing, joined-ends, joined-ends-closing, Fit, fit-line, fit-rest, Stands, closes-now, stands-reset, stands-more, Rested, rested, Parted, parted, Ended, ended, recording-tidy, rest-tidy}
-use Rattle.grammar.proofs.Standing.{moved-outside, moved-passed, moved-of-cell, moved-between, moved-between-closing, moved-tail, moved-tail-closing, moved-ends, moved-ends-closing}
+use Rattle.grammar.proofs.Standing.{moved-outside, moved-passed, moved-between, moved-tail, moved-ends}
 
 -- at least one line
 pub data Some : List (Line Derived) → Type 0 where
@@ -85,8 +86,8 @@ module _ (d : Dialect) (file : Bytes) (total : List (Line Derived)) (limit : len
     at-step : (s : Step) → fileStep d f b ≡ s → fileStep d (r .state) b ≡ s
     at-step s e = ap (λ z. fileStep d z b) p ∙ e
 
-    its-moves : (s : Step) → fileStep d f b ≡ s → Moves d (r .state) b (stageOf d (r .state)) s
-    its-moves s e = rw (at-step s e) at (step-moves d (r .state) b)
+    read-transition : (s : Step) → fileStep d f b ≡ s → Transition d (r .state) b s
+    read-transition s e = its-transition (at-step s e)
 
     module _ {ls : List (Line Bytes)} {text raw : Bytes} {cells : List Derived} (y : Ready r (b ∷ bs) ls seen pre text raw cells) where
       has-room : suc (length seen) ≤ MAXFILE
@@ -166,12 +167,12 @@ module _ (d : Dialect) (file : Bytes) (total : List (Line Derived)) (limit : len
     after-outside : (ls : List (Line Bytes)) → fileStep d f b ≡ To h Outside → Goes h bs ls → Goes f (b ∷ bs) ls
     unfolding move
     after-outside ls e k r seen pre text raw cells p y =
-        rest-goes f h b bs r seen pre p (To h Outside) (r .start) e refl k y (moved-outside (its-moves f h b bs r seen pre p (To h Outside) e) (y .stands .tidy))
+        rest-goes f h b bs r seen pre p (To h Outside) (r .start) e refl k y (moved-outside (read-transition f h b bs r seen pre p (To h Outside) e) (y .stands .tidy))
 
     after-passed : (ls : List (Line Bytes)) → fileStep d f b ≡ To h Passed → Goes h bs ls → Goes f (b ∷ bs) ls
     unfolding move
     after-passed ls e k r seen pre text raw cells p y =
-        rest-goes f h b bs r seen pre p (To h Passed) (suc (r .offset)) e refl k y (moved-passed (its-moves f h b bs r seen pre p (To h Passed) e) (y .stands .tidy))
+        rest-goes f h b bs r seen pre p (To h Passed) (suc (r .offset)) e refl k y (moved-passed (read-transition f h b bs r seen pre p (To h Passed) e) (y .stands .tidy))
 
     module _ (t : Bytes) (cs : List Bytes) (ls : List (Line Bytes)) where
       after-of-cell : (c : Bytes) → fileStep d f b ≡ To h OfCell → Goes h bs (line t (c ∷ cs) ∷ ls) → Goes f (b ∷ bs) (line (b ∷ t) ((b ∷ c) ∷ cs) ∷ ls)
@@ -183,13 +184,12 @@ module _ (d : Dialect) (file : Bytes) (total : List (Line Derived)) (limit : len
 
           go : Fit (length text) (line (b ∷ t) ((b ∷ c) ∷ cs) ∷ ls) → Accepted r (b ∷ bs)
           go (fit-line x m) =
-              let g = moved-of-cell (its-moves f h b bs r seen pre p (To h OfCell) e) (y .stands .tidy) in
               let q = joined-of-cell d text raw cells b t cs ls c in
               let l : length (text ++ (b ∷ [])) ≡ suc (length text) = length-snoc text b in
               next-accepted r next b (counted-byte f h b bs r seen pre p y (To h OfCell) e (omega arith))
               (k next (seen ++ (b ∷ [])) pre (text ++ (b ∷ [])) (raw ++ (b ∷ [])) cells refl
               (record {
-                stands = stands-more (y .stands) b next (has-room f h b bs r seen pre p y) refl refl refl refl (omega arith) refl refl (g .1);
+                stands = stands-more (y .stands) b next (has-room f h b bs r seen pre p y) refl refl refl refl (omega arith) refl refl (cell-stage (its-transition e));
                 place = further seen bs b (y .place);
                 fit = fit-line (omega arith) m;
                 checks = rw q at (y .checks);
@@ -198,7 +198,7 @@ module _ (d : Dialect) (file : Bytes) (total : List (Line Derived)) (limit : len
 
       after-between : fileStep d f b ≡ To h (Between false) → Goes h bs (line t cs ∷ ls) → Goes f (b ∷ bs) (line (b ∷ t) cs ∷ ls)
       unfolding move
-      after-between e k r seen pre text raw cells p y = go y (y .fit) (moved-between (its-moves f h b bs r seen pre p (To h (Between false)) e) (y .stands .tidy))
+      after-between e k r seen pre text raw cells p y = go y (y .fit) (moved-between (read-transition f h b bs r seen pre p (To h (Between false)) e) (y .stands .tidy))
         where
           go : {raw : Bytes} → Ready r (b ∷ bs) (line (b ∷ t) cs ∷ ls) seen pre text raw cells → Fit (length text) (line (b ∷ t) cs ∷ ls) → Parted d h (counts (r .state) b ≡ true) text raw → Accepted r (b ∷ bs)
           go y (fit-line x m) (parted c g) =
@@ -214,16 +214,15 @@ module _ (d : Dialect) (file : Bytes) (total : List (Line Derived)) (limit : len
         where
           go : Fit (length text) (line (b ∷ t) ([] ∷ cs) ∷ ls) → Accepted r (b ∷ bs)
           go (fit-line x m) =
-              let g = moved-between-closing (its-moves f h b bs r seen pre p (To h (Between true)) e) (y .stands .tidy) in
               let l : length (text ++ (b ∷ [])) ≡ suc (length text) = length-snoc text b in
               let z : r .size ≡ length text = y .stands .size in
               record-goes f h b bs r seen pre p (To h (Between true)) (suc (r .size)) (closing d true r) (text ++ (b ∷ []))
-              (counted-byte f h b bs r seen pre p y (To h (Between true)) e (omega arith)) refl k y (ap suc z ∙ sym l) (omega arith) (closes-now (y .stands) (b ∷ bs) (y .place)) (g .1)
+              (counted-byte f h b bs r seen pre p y (To h (Between true)) e (omega arith)) refl k y (ap suc z ∙ sym l) (omega arith) (closes-now (y .stands) (b ∷ bs) (y .place)) (between-stage (its-transition e))
               (fit-line (omega arith) m) (joined-between-closing d text raw cells b t cs ls)
 
       after-tail : fileStep d f b ≡ To h (Tail false) → Goes h bs (line t cs ∷ ls) → Goes f (b ∷ bs) (line t cs ∷ ls)
       unfolding move
-      after-tail e k r seen pre text raw cells p y = go y (moved-tail (its-moves f h b bs r seen pre p (To h (Tail false)) e) (y .stands .tidy))
+      after-tail e k r seen pre text raw cells p y = go y (moved-tail (read-transition f h b bs r seen pre p (To h (Tail false)) e) (y .stands .tidy))
         where
           go : {raw : Bytes} → Ready r (b ∷ bs) (line t cs ∷ ls) seen pre text raw cells → Parted d h (counts (r .state) b ≡ false) text raw → Accepted r (b ∷ bs)
           go y (parted c g) =
@@ -236,13 +235,12 @@ module _ (d : Dialect) (file : Bytes) (total : List (Line Derived)) (limit : len
         where
           go : Fit (length text) (line t ([] ∷ cs) ∷ ls) → Accepted r (b ∷ bs)
           go (fit-line x m) =
-              let g = moved-tail-closing (its-moves f h b bs r seen pre p (To h (Tail true)) e) (y .stands .tidy) in
-              record-goes f h b bs r seen pre p (To h (Tail true)) (r .size) (closing d true r) text (uncounted-byte f h b bs r seen pre p y (To h (Tail true)) e (g .0)) refl k y
-              (y .stands .size) (y .stands .fits) (closes-now (y .stands) (b ∷ bs) (y .place)) (g .1) (fit-line x m) (joined-tail-closing d text raw cells b t cs ls)
+              record-goes f h b bs r seen pre p (To h (Tail true)) (r .size) (closing d true r) text (uncounted-byte f h b bs r seen pre p y (To h (Tail true)) e (tail-uncounted (read-transition f h b bs r seen pre p (To h (Tail true)) e))) refl k y
+              (y .stands .size) (y .stands .fits) (closes-now (y .stands) (b ∷ bs) (y .place)) (tail-stage (its-transition e)) (fit-line x m) (joined-tail-closing d text raw cells b t cs ls)
 
     after-ends : (ls : List (Line Bytes)) → fileStep d f b ≡ To h (Ends false) → Goes h bs ls → Goes f (b ∷ bs) (line [] [] ∷ ls)
     unfolding move
-    after-ends ls e k r seen pre text raw cells p y = go y (y .fit) (moved-ends (its-moves f h b bs r seen pre p (To h (Ends false)) e) (y .stands .tidy))
+    after-ends ls e k r seen pre text raw cells p y = go y (y .fit) (moved-ends (read-transition f h b bs r seen pre p (To h (Ends false)) e) (y .stands .tidy))
       where
         go : {raw : Bytes} → Ready r (b ∷ bs) (line [] [] ∷ ls) seen pre text raw cells → Fit (length text) (line [] [] ∷ ls) → Ended d h (counts (r .state) b ≡ false) text raw → Accepted r (b ∷ bs)
         go y (fit-line x m) (ended c g) =
@@ -257,12 +255,11 @@ module _ (d : Dialect) (file : Bytes) (total : List (Line Derived)) (limit : len
       where
         go : Fit (length text) (line [] ([] ∷ []) ∷ ls) → Accepted r (b ∷ bs)
         go (fit-line x m) =
-            let g = moved-ends-closing (its-moves f h b bs r seen pre p (To h (Ends true)) e) (y .stands .tidy) in
             let cells′ : List Derived = cells ++ (decoded d raw ∷ []) in
             let a : LineSound d pre cells′ × ChecksFrom d (pre ++ (line text cells′ ∷ [])) (joined d [] [] [] ls) =
             rw (append-nil text, append-nil raw, ← (joined-rest d ls)) at (checks-line (y .checks)) in
-            complete-goes f h b bs r seen pre p (To h (Ends true)) (closing d true r) (uncounted-byte f h b bs r seen pre p y (To h (Ends true)) e (g .0)) refl k y
-            (closes-now (y .stands) (b ∷ bs) (y .place)) (g .1) (fit-rest ls m) (joined-ends-closing d pre text raw cells ls) (a .0) (a .1)
+            complete-goes f h b bs r seen pre p (To h (Ends true)) (closing d true r) (uncounted-byte f h b bs r seen pre p y (To h (Ends true)) e (ends-uncounted (read-transition f h b bs r seen pre p (To h (Ends true)) e))) refl k y
+            (closes-now (y .stands) (b ∷ bs) (y .place)) (ends-stage (its-transition e)) (fit-rest ls m) (joined-ends-closing d pre text raw cells ls) (a .0) (a .1)
 
   -- ---- the end
 

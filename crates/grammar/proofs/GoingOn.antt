@@ -13,24 +13,23 @@ use Rattle.model.specs.File.{fileStep, fileEnd}
 use Rattle.model.specs.Records.{Read, going, fileFull, recordFull, readBytes}
 use Rattle.model.specs.Viable.{Completes, completed, onward, CanGoOn}
 use Rattle.model.proofs.Laws.{laws}
-use Rattle.grammar.specs.Derived.{Derived, Line, line}
+use Rattle.model.proofs.FileSteps.{Next, n-begin, n-ended, its-transition}
+use Rattle.grammar.specs.Derived.{Line, line}
 use Rattle.grammar.specs.Reading.{Reads, decodedLine}
 use Rattle.grammar.specs.Reading as reading
 use Rattle.grammar.specs.NextByte.{GoesOn, NextByte}
-use Rattle.grammar.proofs.Parts.{in-cell, stageOf, RecordEnded, ended-rests, then-begin, then-ended}
-use Rattle.grammar.proofs.Standing.{Tidy, tidy-rest, tidy-cell, Rested, rested, recording-tidy, rest-tidy, parted-tidy}
-use Rattle.grammar.proofs.Standing.{moved-outside, moved-passed, moved-of-cell, moved-between, moved-between-closing, moved-tail, moved-tail-closing, moved-complete}
-use Rattle.grammar.proofs.AcceptedOnly.{HasCell, has-cell, its-moves, reads-cell}
+use Rattle.grammar.proofs.Parts.{in-cell, stageOf, cell-stage, ends-next}
+use Rattle.grammar.proofs.AcceptedOnly.{HasCell, has-cell, reads-cell}
 use Rattle.grammar.proofs.FileGrammar.{derived-reads, reads-derived}
 
 -- these bytes are read to the end of the file, with a record
 data Recorded (d : Dialect) (f : FileState) (xs : Bytes) : Type 0 where
   recorded : (l : Line Bytes) (ls : List (Line Bytes)) → Reads d f xs (l ∷ ls) → Recorded d f xs
 
-ended-clean : (d : Dialect) {f : FileState} → RecordEnded f → fileEnd d f ≡ Clean
+next-clean : (d : Dialect) {f : FileState} → Next f → fileEnd d f ≡ Clean
 unfolding fileEnd
-ended-clean d then-begin = refl
-ended-clean d then-ended = refl
+next-clean d n-begin = refl
+next-clean d n-ended = refl
 
 module _ (d : Dialect) where
   -- ---- where a record is completed, the bytes so far are a file
@@ -46,9 +45,9 @@ module _ (d : Dialect) where
         go : {ls : List (Line Bytes)} → Reads d h bs ls → HasCell ls → Recorded d f (b ∷ bs)
         go r has-cell = recorded _ _ (reading.of-cell e r)
 
-    last-reads : (k : Bool) → fileStep d f b ≡ To h (Ends k) → RecordEnded h → Recorded d f (b ∷ [])
-    last-reads true e n = recorded _ _ (reading.ends-closing e (reading.ends-clean (ended-clean d n)))
-    last-reads false e n = recorded _ _ (reading.ends e (reading.ends-clean (ended-clean d n)))
+    last-reads : (k : Bool) → fileStep d f b ≡ To h (Ends k) → Next h → Recorded d f (b ∷ [])
+    last-reads true e n = recorded _ _ (reading.ends-closing e (reading.ends-clean (next-clean d n)))
+    last-reads false e n = recorded _ _ (reading.ends e (reading.ends-clean (next-clean d n)))
 
     record-reads : Told f h b bs → Recorded d h bs → Recorded d f (b ∷ bs)
     record-reads k (recorded (line text cells) ls r) = k text cells ls r
@@ -57,31 +56,19 @@ module _ (d : Dialect) where
     next-reads true e (recorded l ls r) = recorded _ _ (reading.ends-closing e r)
     next-reads false e (recorded l ls r) = recorded _ _ (reading.ends e r)
 
-    rest-reads : {text raw : Bytes} {cells : List Derived} → Rested d h text raw cells → ((t : Tidy {A = Derived} (stageOf d h) [] [] []) → Recorded d h bs) → ((ls : List (Line Bytes)) → Reads d h bs ls → Reads d f (b ∷ bs) ls) → Recorded d f (b ∷ bs)
-    rest-reads (rested g) ih k = go (ih (rest-tidy g))
-      where
-        go : Recorded d h bs → Recorded d f (b ∷ bs)
-        go (recorded l ls r) = recorded l ls (k (l ∷ ls) r)
+    rest-reads : ((ls : List (Line Bytes)) → Reads d h bs ls → Reads d f (b ∷ bs) ls) → Recorded d h bs → Recorded d f (b ∷ bs)
+    rest-reads k (recorded l ls r) = recorded l ls (k (l ∷ ls) r)
 
-  completes-reads : {f : FileState} {xs text raw : Bytes} {cells : List Derived} → Completes d f xs → Tidy (stageOf d f) text raw cells → Recorded d f xs
-  completes-reads (completed {f} {k = k} {b} e) t = last-reads b [] k e (moved-complete (its-moves d f b _ e) t)
-  completes-reads (onward {f} {p = Outside} {b} {bs} e k) t =
-      rest-reads b bs (moved-outside (its-moves d f b _ e) t) (λ t. completes-reads k t) (λ ls r. reading.outside e r)
-  completes-reads (onward {f} {p = Passed} {b} {bs} e k) t =
-      rest-reads b bs (moved-passed (its-moves d f b _ e) t) (λ t. completes-reads k t) (λ ls r. reading.passed e r)
-  completes-reads {text} {raw} {cells} (onward {f} {f′ = h} {p = OfCell} {b} {bs} e k) t =
-      let g = moved-of-cell (its-moves d f b _ e) t .1 in
-      let s : Tidy (stageOf d h) text raw cells = rw g tidy-cell in of-cell-reads b bs e g (completes-reads k s)
-  completes-reads {cells} (onward {f} {p = Between false} {b} {bs} e k) t =
-      record-reads b bs (λ text cells ls r. recorded _ _ (reading.between e r)) (completes-reads k (parted-tidy {cells = cells} (moved-between (its-moves d f b _ e) t)))
-  completes-reads {text} {cells} (onward {f} {p = Between true} {b} {bs} e k) t =
-      record-reads b bs (λ text cells ls r. recorded _ _ (reading.between-closing e r)) (completes-reads k (recording-tidy {text = text} {cells = cells} (moved-between-closing (its-moves d f b _ e) t .1)))
-  completes-reads {cells} (onward {f} {p = Tail false} {b} {bs} e k) t =
-      record-reads b bs (λ text cells ls r. recorded _ _ (reading.tail e r)) (completes-reads k (parted-tidy {cells = cells} (moved-tail (its-moves d f b _ e) t)))
-  completes-reads {text} {cells} (onward {f} {p = Tail true} {b} {bs} e k) t =
-      record-reads b bs (λ text cells ls r. recorded _ _ (reading.tail-closing e r)) (completes-reads k (recording-tidy {text = text} {cells = cells} (moved-tail-closing (its-moves d f b _ e) t .1)))
-  completes-reads (onward {f} {p = Ends k} {b} {bs} e m) t =
-      next-reads b bs k e (completes-reads m (rest-tidy (ended-rests d (moved-complete (its-moves d f b _ e) t))))
+  completes-reads : {f : FileState} {xs : Bytes} → Completes d f xs → Recorded d f xs
+  completes-reads (completed {k = k} {b} e) = last-reads b [] k e (ends-next (its-transition e))
+  completes-reads (onward {p = Outside} {b} {bs} e k) = rest-reads b bs (λ ls r. reading.outside e r) (completes-reads k)
+  completes-reads (onward {p = Passed} {b} {bs} e k) = rest-reads b bs (λ ls r. reading.passed e r) (completes-reads k)
+  completes-reads (onward {p = OfCell} {b} {bs} e k) = of-cell-reads b bs e (cell-stage (its-transition e)) (completes-reads k)
+  completes-reads (onward {p = Between false} {b} {bs} e k) = record-reads b bs (λ text cells ls r. recorded _ _ (reading.between e r)) (completes-reads k)
+  completes-reads (onward {p = Between true} {b} {bs} e k) = record-reads b bs (λ text cells ls r. recorded _ _ (reading.between-closing e r)) (completes-reads k)
+  completes-reads (onward {p = Tail false} {b} {bs} e k) = record-reads b bs (λ text cells ls r. recorded _ _ (reading.tail e r)) (completes-reads k)
+  completes-reads (onward {p = Tail true} {b} {bs} e k) = record-reads b bs (λ text cells ls r. recorded _ _ (reading.tail-closing e r)) (completes-reads k)
+  completes-reads (onward {p = Ends k} {b} {bs} e m) = next-reads b bs k e (completes-reads m)
 
   -- ---- what is read can be completed
 
@@ -110,7 +97,7 @@ module _ (d : Dialect) where
   -- ---- so a byte can go on exactly when a derivation's text begins so
 
   pub can-go-on : (xs : Bytes) (b : ℕ) → CanGoOn d xs b ↔ GoesOn d xs b
-  can-go-on xs b = (λ g. derived (g .0) (completes-reads (g .1) tidy-rest), λ g. completed-from (g .0) (reads-complete (derived-reads d (xs ++ (b ∷ (g .0))) (g .1) (g .2))))
+  can-go-on xs b = (λ g. derived (g .0) (completes-reads (g .1)), λ g. completed-from (g .0) (reads-complete (derived-reads d (xs ++ (b ∷ (g .0))) (g .1) (g .2))))
     where
       derived : (ys : Bytes) → Recorded d Top (xs ++ (b ∷ ys)) → GoesOn d xs b
       derived ys (recorded l ls r) = (ys, map (decodedLine d) (l ∷ ls), reads-derived d r)

@@ -18,12 +18,13 @@ use Rattle.model.specs.Api.{answered, readAnswer, reader}
 use Rattle.grammar.specs.Derived.{Derived, Line}
 use Rattle.grammar.specs.Derives.{Derives}
 use Rattle.grammar.specs.Stretches.{Stretch, stretch, stretches, stretchOf, shown}
-use Rattle.grammar.proofs.Parts.{stageOf, ended-rests}
+use Rattle.model.proofs.FileSteps.{its-transition}
+use Rattle.grammar.proofs.Parts.{stageOf, cell-stage, between-stage, tail-stage, ends-stage}
 use Rattle.grammar.proofs.Standing.{Tidy, tidy-rest, tidy-cell, recording-tidy, rest-tidy, rested-none, parted-tidy}
-use Rattle.grammar.proofs.Standing.{moved-outside, moved-passed, moved-of-cell, moved-between, moved-between-closing, moved-tail, moved-tail-closing, moved-complete}
+use Rattle.grammar.proofs.Standing.{moved-outside, moved-passed, moved-between, moved-tail}
 use Rattle.grammar.proofs.Walks.{Walks}
 use Rattle.grammar.proofs.Walks as walks
-use Rattle.grammar.proofs.AcceptedOnly.{its-moves, not-going, same-going, stopped-going}
+use Rattle.grammar.proofs.AcceptedOnly.{not-going, same-going, stopped-going}
 use Rattle.grammar.proofs.FileGrammar.{derived-walks}
 use Rattle.grammar.proofs.Acceptance.{accepted-going, ten}
 
@@ -105,41 +106,41 @@ module _ (d : Dialect) (end : Read) where
       sym (ap (λ (x : Read). shown (x .done)) z) ∙ a ∙ record-onto (r .done) made [] ∙ ap (λ z. shown (r .done) ++ z) (closing-onto r [] [] po pp)
   walk-shows (walks.outside {g} {b} {bs} e k) r pf po pp t q =
       let s = stepped r b (To g Outside) pf e in
-      let m = rested-none (moved-outside (its-moves d (r .state) b (To g Outside) s) t) in
+      let m = rested-none (moved-outside (its-transition s) t) in
       rw (m .0) (walk-shows k _ refl (ap suc po) (ap suc po) (rest-tidy (m .1)) (byte-read r b bs (To g Outside) s q))
   walk-shows (walks.passed {g} {b} {bs} e k) r pf po pp t q =
       let s = stepped r b (To g Passed) pf e in
-      let m = rested-none (moved-passed (its-moves d (r .state) b (To g Passed) s) t) in
+      let m = rested-none (moved-passed (its-transition s) t) in
       rw (m .0) (walk-shows k _ refl (ap suc po) (ap suc po) (rest-tidy (m .1)) (byte-read r b bs (To g Passed) s q))
   walk-shows {text} {raw} (walks.of-cell {g} {b} {bs} e k) r pf po pp t q =
       let s = stepped r b (To g OfCell) pf e in
-      let m : Tidy (stageOf d g) text raw (r .cells) = rw (moved-of-cell (its-moves d (r .state) b (To g OfCell) s) t .1) tidy-cell in
+      let m : Tidy (stageOf d g) text raw (r .cells) = rw (cell-stage (its-transition s)) tidy-cell in
       walk-shows k _ refl (ap suc po) pp m (byte-read r b bs (To g OfCell) s q)
   walk-shows (walks.between {g} {b} {bs} e k) r pf po pp t q =
       let s = stepped r b (To g (Between false)) pf e in
-      walk-shows k _ refl (ap suc po) (ap suc po) (parted-tidy (moved-between (its-moves d (r .state) b (To g (Between false)) s) t)) (byte-read r b bs (To g (Between false)) s q)
+      walk-shows k _ refl (ap suc po) (ap suc po) (parted-tidy (moved-between (its-transition s) t)) (byte-read r b bs (To g (Between false)) s q)
   walk-shows {text} (walks.between-closing {g} {b} {bs} {ps} {ss} e k) r pf po pp t q =
       let s = stepped r b (To g (Between true)) pf e in
-      let m = recording-tidy {text = text} (moved-between-closing (its-moves d (r .state) b (To g (Between true)) s) t .1) in
+      let m = recording-tidy {text = text} (between-stage (its-transition s)) in
       walk-shows k _ refl (ap suc po) (ap suc po) m (byte-read r b bs (To g (Between true)) s q) ∙ ap (λ z. shown (r .done) ++ z) (closing-onto r ps ss po pp)
   walk-shows (walks.tail {g} {b} {bs} e k) r pf po pp t q =
       let s = stepped r b (To g (Tail false)) pf e in
-      walk-shows k _ refl (ap suc po) (ap suc po) (parted-tidy (moved-tail (its-moves d (r .state) b (To g (Tail false)) s) t)) (byte-read r b bs (To g (Tail false)) s q)
+      walk-shows k _ refl (ap suc po) (ap suc po) (parted-tidy (moved-tail (its-transition s) t)) (byte-read r b bs (To g (Tail false)) s q)
   walk-shows {text} (walks.tail-closing {g} {b} {bs} {ps} {ss} e k) r pf po pp t q =
       let s = stepped r b (To g (Tail true)) pf e in
-      let m = recording-tidy {text = text} (moved-tail-closing (its-moves d (r .state) b (To g (Tail true)) s) t .1) in
+      let m = recording-tidy {text = text} (tail-stage (its-transition s)) in
       walk-shows k _ refl (ap suc po) (ap suc po) m (byte-read r b bs (To g (Tail true)) s q) ∙ ap (λ z. shown (r .done) ++ z) (closing-onto r ps ss po pp)
   walk-shows (walks.ends {g} {b} {bs} {ss} e k) r pf po pp t q =
       let s = stepped r b (To g (Ends false)) pf e in
       let made : Rec = record { start = r .start; size = r .size; cells = r .cells } in
       let next : Read = between-records (r .done ++ (made ∷ [])) g (suc (r .offset)) in
-      let m = rest-tidy (ended-rests d (moved-complete (its-moves d (r .state) b (To g (Ends false)) s) t)) in
+      let m = rest-tidy (ends-stage (its-transition s)) in
       walk-shows k next refl (ap suc po) (ap suc po) m (verdict-read r next bs (recordFault d none (r .done) (r .cells)) (byte-read r b bs (To g (Ends false)) s q)) ∙ record-onto (r .done) made ss
   walk-shows (walks.ends-closing {g} {b} {bs} {ss} e k) r pf po pp t q =
       let s = stepped r b (To g (Ends true)) pf e in
       let made : Rec = record { start = r .start; size = r .size; cells = closing d true r } in
       let next : Read = between-records (r .done ++ (made ∷ [])) g (suc (r .offset)) in
-      let m = rest-tidy (ended-rests d (moved-complete (its-moves d (r .state) b (To g (Ends true)) s) t)) in
+      let m = rest-tidy (ends-stage (its-transition s)) in
       walk-shows k next refl (ap suc po) (ap suc po) m (verdict-read r next bs (recordFault d none (r .done) (closing d true r)) (byte-read r b bs (To g (Ends true)) s q)) ∙
       record-onto (r .done) made ss ∙ ap (λ z. shown (r .done) ++ z) (closing-onto r [] ss po pp)
 

@@ -3,10 +3,10 @@
 use Prim.Native.Nat.{ℕ, suc, _+_, _≤_}
 use native.Mathlib.Omega.{arith}
 use mathlib.Core.Path.{_≡_, refl, sym, ap, _∙_}
-use mathlib.Core.Bool.{Bool, true, false}
+use mathlib.Core.Bool.{true, false}
 use mathlib.Core.List.{List, [], _∷_, _++_, map, append-assoc, append-nil}
 use lib.ListN.{length, length-append}
-use Rattle.grammar.specs.Types.{Dialect, FileState, OfCell, Outside, Passed, Between, Tail, Ends, To}
+use Rattle.grammar.specs.Types.{Dialect, FileState, Outside, Passed, Between, Tail, Ends, To}
 use Rattle.model.specs.Base.{Bytes}
 use Rattle.model.specs.Decode.{kindOf, contentOf}
 use Rattle.model.specs.Report.{MAXFILE, MAXRECORD}
@@ -15,7 +15,8 @@ use Rattle.model.specs.Records.{Read, cellNow, closing}
 use Rattle.grammar.specs.Derived.{Derived, Line, line, textIn, Every, every-none, every-cons, Each, each-none, each-cons}
 use Rattle.grammar.specs.Reading.{decoded, decodedLine}
 use Rattle.grammar.specs.Accepted.{ShowsCell, ShowsRecord}
-use Rattle.grammar.proofs.Parts.{Stage, at-rest, in-record, in-cell, nowhere, stageOf, Recording, record-open, cell-open, RecordEnded, ended-rests, none-at-rest, none-in-record, Moves, unreached, leaves, passes, adds, parts, parts-closing, turns, turns-closing, completes, completes-closing}
+use Rattle.model.proofs.FileSteps.{Transition, between-counts, tail-uncounted, ends-uncounted}
+use Rattle.grammar.proofs.Parts.{Stage, at-rest, in-record, in-cell, stageOf, Recording, record-open, cell-open, NoCell, none-at-rest, none-in-record, outside-rests, passed-rests, between-stage, tail-stage, ends-stage, between-no-cell, tail-no-cell, ends-no-cell}
 
 pub each-snoc : {A B : Type 0} {R : A → B → Type 0} {xs : List A} {ys : List B} {x : A} {y : B} → Each R xs ys → R x y → Each R (xs ++ (x ∷ [])) (ys ++ (y ∷ []))
 each-snoc each-none r = each-cons r each-none
@@ -172,9 +173,6 @@ module _ {d : Dialect} {file seen : Bytes} {r : Read} {pre : List (Line Derived)
 
 -- ---- what a step says of what is in hand
 
-no-standing : {A B : Type 0} {text raw : Bytes} {cells : List B} → Tidy nowhere text raw cells → A
-no-standing = elim [ ]
-
 -- nothing was in hand, and nothing is
 pub data Rested (d : Dialect) (h : FileState) {A : Type 0} : (text raw : Bytes) → List A → Type 0 where
   rested : stageOf d h ≡ at-rest → Rested d h [] [] []
@@ -200,46 +198,25 @@ rested-none (rested g) = (refl, g)
 pub parted-tidy : {d : Dialect} {h : FileState} {c A : Type 0} {text raw : Bytes} {cells : List A} → Parted d h c text raw → Tidy (stageOf d h) text [] cells
 parted-tidy (parted c g) = recording-tidy g
 
-pub moved-outside : {d : Dialect} {f h : FileState} {b : ℕ} {g : Stage} {A : Type 0} {text raw : Bytes} {cells : List A} → Moves d f b g (To h Outside) → Tidy g text raw cells → Rested d h text raw cells
-moved-outside unreached t = no-standing t
-moved-outside (leaves s) tidy-rest = rested s
+rest-stays : {d : Dialect} {h : FileState} {A : Type 0} {text raw : Bytes} {cells : List A} → stageOf d h ≡ at-rest → Tidy at-rest text raw cells → Rested d h text raw cells
+rest-stays e tidy-rest = rested e
 
-pub moved-passed : {d : Dialect} {f h : FileState} {b : ℕ} {g : Stage} {A : Type 0} {text raw : Bytes} {cells : List A} → Moves d f b g (To h Passed) → Tidy g text raw cells → Rested d h text raw cells
-moved-passed unreached t = no-standing t
-moved-passed (passes s) tidy-rest = rested s
+no-raw : {g : Stage} {A : Type 0} {text raw : Bytes} {cells : List A} → NoCell g → Tidy g text raw cells → raw ≡ []
+no-raw none-at-rest tidy-rest = refl
+no-raw none-in-record tidy-record = refl
 
-pub moved-of-cell : {d : Dialect} {f h : FileState} {b : ℕ} {g : Stage} {A : Type 0} {text raw : Bytes} {cells : List A} → Moves d f b g (To h OfCell) → Tidy g text raw cells → (counts f b ≡ true) × (stageOf d h ≡ in-cell)
-moved-of-cell unreached t = no-standing t
-moved-of-cell (adds c s) t = (c, s)
+module _ {d : Dialect} {f h : FileState} {b : ℕ} {A : Type 0} {text raw : Bytes} {cells : List A} where
+  pub moved-outside : Transition d f b (To h Outside) → Tidy (stageOf d f) text raw cells → Rested d h text raw cells
+  moved-outside x t = let e = outside-rests x in rest-stays (e .1) (rw (e .0) at t)
 
-pub moved-between : {d : Dialect} {f h : FileState} {b : ℕ} {g : Stage} {A : Type 0} {text raw : Bytes} {cells : List A} → Moves d f b g (To h (Between false)) → Tidy g text raw cells → Parted d h (counts f b ≡ true) text raw
-moved-between unreached t = no-standing t
-moved-between (parts c none-at-rest r) tidy-rest = parted c r
-moved-between (parts c none-in-record r) tidy-record = parted c r
+  pub moved-passed : Transition d f b (To h Passed) → Tidy (stageOf d f) text raw cells → Rested d h text raw cells
+  moved-passed x t = let e = passed-rests x in rest-stays (e .1) (rw (e .0) at t)
 
-pub moved-between-closing : {d : Dialect} {f h : FileState} {b : ℕ} {g : Stage} {A : Type 0} {text raw : Bytes} {cells : List A} → Moves d f b g (To h (Between true)) → Tidy g text raw cells → (counts f b ≡ true) × Recording (stageOf d h)
-moved-between-closing unreached t = no-standing t
-moved-between-closing (parts-closing c r) t = (c, r)
+  pub moved-between : Transition d f b (To h (Between false)) → Tidy (stageOf d f) text raw cells → Parted d h (counts f b ≡ true) text raw
+  moved-between x t = rw (no-raw (between-no-cell x) t) (parted (between-counts x) (between-stage x))
 
-pub moved-tail : {d : Dialect} {f h : FileState} {b : ℕ} {g : Stage} {A : Type 0} {text raw : Bytes} {cells : List A} → Moves d f b g (To h (Tail false)) → Tidy g text raw cells → Parted d h (counts f b ≡ false) text raw
-moved-tail unreached t = no-standing t
-moved-tail (turns c none-at-rest r) tidy-rest = parted c r
-moved-tail (turns c none-in-record r) tidy-record = parted c r
+  pub moved-tail : Transition d f b (To h (Tail false)) → Tidy (stageOf d f) text raw cells → Parted d h (counts f b ≡ false) text raw
+  moved-tail x t = rw (no-raw (tail-no-cell x) t) (parted (tail-uncounted x) (tail-stage x))
 
-pub moved-tail-closing : {d : Dialect} {f h : FileState} {b : ℕ} {g : Stage} {A : Type 0} {text raw : Bytes} {cells : List A} → Moves d f b g (To h (Tail true)) → Tidy g text raw cells → (counts f b ≡ false) × Recording (stageOf d h)
-moved-tail-closing unreached t = no-standing t
-moved-tail-closing (turns-closing c r) t = (c, r)
-
-pub moved-ends : {d : Dialect} {f h : FileState} {b : ℕ} {g : Stage} {A : Type 0} {text raw : Bytes} {cells : List A} → Moves d f b g (To h (Ends false)) → Tidy g text raw cells → Ended d h (counts f b ≡ false) text raw
-moved-ends unreached t = no-standing t
-moved-ends {d} (completes c none-at-rest r) tidy-rest = ended c (ended-rests d r)
-moved-ends {d} (completes c none-in-record r) tidy-record = ended c (ended-rests d r)
-
-pub moved-ends-closing : {d : Dialect} {f h : FileState} {b : ℕ} {g : Stage} {A : Type 0} {text raw : Bytes} {cells : List A} → Moves d f b g (To h (Ends true)) → Tidy g text raw cells → (counts f b ≡ false) × (stageOf d h ≡ at-rest)
-moved-ends-closing unreached t = no-standing t
-moved-ends-closing {d} (completes-closing c r) t = (c, ended-rests d r)
-
-pub moved-complete : {d : Dialect} {f h : FileState} {b : ℕ} {g : Stage} {k : Bool} {A : Type 0} {text raw : Bytes} {cells : List A} → Moves d f b g (To h (Ends k)) → Tidy g text raw cells → RecordEnded h
-moved-complete unreached t = no-standing t
-moved-complete (completes c n r) t = r
-moved-complete (completes-closing c r) t = r
+  pub moved-ends : Transition d f b (To h (Ends false)) → Tidy (stageOf d f) text raw cells → Ended d h (counts f b ≡ false) text raw
+  moved-ends x t = rw (no-raw (ends-no-cell x) t) (ended (ends-uncounted x) (ends-stage x))

@@ -173,14 +173,14 @@ free-slack steps.f-after = refl
 
 leaves-slack : {d : Dialect} {b : ℕ} {f : FileState} {k : Bool} → Leaves d b f k → slack f ≡ 0
 leaves-slack (steps.none e) = free-slack e
-leaves-slack (steps.stops h s) = holds-slack h
+leaves-slack (steps.stops h s w) = holds-slack h
 
 steady : {d : Dialect} {f : FileState} {b : ℕ} {s : Step} → Transition d f b s → Steady f s
 steady (steps.refuses t) = y-fault
 steady (steps.outside t r g) = y-outside
 steady (steps.passes t r g) = y-passed
 steady (steps.adds t n h g i s) = y-cell (holds-slack h)
-steady (steps.blanks t n e) = y-between (free-slack (steps.starts-free e))
+steady (steps.blanks t n e c) = y-between (free-slack (steps.starts-free e))
 steady (steps.parts t n l o) = y-between (leaves-slack l)
 steady (steps.turns t p l) = y-tail (leaves-slack l)
 steady (steps.ends t p l g) = y-ends (leaves-slack l)

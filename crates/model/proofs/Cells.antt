@@ -6,7 +6,7 @@ use mathlib.Core.Bool.{Bool, true, false}
 use mathlib.Core.Option.{Option}
 use mathlib.Core.List.{List, [], _∷_}
 use Rattle.model.specs.Types.{Dialect, Csvj, Tdif, CsvPlus, EeToEf, Second, Last, Within}
-use Rattle.model.specs.Types.{Cell, Fresh, Plain, More, Stop, ByteFault}
+use Rattle.model.specs.Types.{Cell, Fresh, Plain, More, ByteFault}
 use Rattle.model.specs.Types.{FileState, Top, Begin, Ended, Mark1, Mark2, PlainMark1, PlainMark2, Comment, Blanks, Wanting, Inside, After, Cr, Outside, Passed, OfCell, Between, Tail, Ends, Step, To, Reject, Ending, Clean, Final, Cut}
 use Rattle.model.specs.Types.{Fault, Verdict, Faulty}
 use Rattle.model.specs.Types as types
@@ -18,7 +18,6 @@ use Rattle.model.specs.Text.{Value}
 use Rattle.model.specs.Records.{Rec, Read, Progress, going, stopped, nothingRead, readByte, readFrom, readBytes, readEnd, readFile, recordsOf, recordFault, move, complete, validated, closing, endBetween, endAt}
 use Rattle.model.specs.Laws.{All, all-none, SoundCell, SoundRecord}
 use Rattle.model.proofs.Tests.{split}
-use Rattle.model.proofs.CellSteps.{CellTransition, takes-stop, cell-transition}
 use Rattle.model.proofs.CellRuns.{Runs, here, snoc, runs-sound, all-snoc}
 use Rattle.model.proofs.FileSteps as steps
 use Rattle.model.proofs.FileSteps.{Rests, Holds, Opens, Next, Leaves, Transition, step-transition}
@@ -85,19 +84,16 @@ opens-cell steps.o-after = refl
 opens-cell steps.o-wanting = refl
 opens-cell steps.o-fresh = refl
 
-whole-of : {d : Dialect} {c : Cell} {t : Bool} → CellTransition d c t Stop → isWhole d c ≡ true
-whole-of (takes-stop w) = w
-
 closes-of : {d : Dialect} {b : ℕ} {f : FileState} {k : Bool} → Leaves d b f k → Closes d (cellAt f) k
 closes-of (steps.none e) = tt
-closes-of {d} {b} (steps.stops {c = c} h s) = rw (holds-cell h) (whole-of (rw s at (cell-transition d c b)))
+closes-of (steps.stops h s w) = rw (holds-cell h) w
 
 fits-of : {d : Dialect} {f : FileState} {b : ℕ} {s : Step} → Transition d f b s → Fits d (cellAt f) b s
 fits-of (steps.refuses t) = rejects
 fits-of (steps.outside t r g) = leaves (rests-cell g)
 fits-of (steps.passes t r g) = passes (next-cell g)
 fits-of {b = b} (steps.adds {g = to} t n h g i s) = adds {f = to} (rw (holds-cell h, holds-cell i) s)
-fits-of (steps.blanks t n e) = unfold cellAt in parts refl tt
+fits-of (steps.blanks t n e c) = unfold cellAt in parts refl tt
 fits-of (steps.parts t n l o) = parts (opens-cell o) (closes-of l)
 fits-of (steps.turns t p l) = unfold cellAt in turns refl (closes-of l)
 fits-of (steps.ends t p l g) = completes (next-cell g) (closes-of l)

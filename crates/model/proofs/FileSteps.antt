@@ -2,21 +2,21 @@
 -- states before and after it says of each byte whether the record counts it and whether it breaks a text.
 use Prim.Native.Nat.{ℕ, _≤_}
 use native.Mathlib.Omega.{arith}
-use mathlib.Core.Path.{_≡_, refl, ap}
+use mathlib.Core.Path.{_≡_, refl, ap, _∙_}
 use mathlib.Core.Bool.{Bool, true, false}
 use Rattle.model.specs.Types.{Dialect, Csvj, Tdif, CsvPlus, EeToEf, Second, Last, Char, Whole, Within, Advance, On, Broken}
-use Rattle.model.specs.Types.{Cell, Fresh, Plain, CellStep, More, Stop, Refuse, ByteFault, Encoding, Syntax}
+use Rattle.model.specs.Types.{Cell, Fresh, Quoted, Closed, Escape, Hex, InNumber, InWord, Plain, Complete, CellStep, More, Stop, Refuse, ByteFault, Encoding, Syntax}
 use Rattle.model.specs.Types.{FileState, Top, Begin, Ended, Mark1, Mark2, PlainMark1, PlainMark2, Comment, Blanks, Wanting, Inside, After, Cr, ByteRole, Outside, Passed, OfCell, Between, Tail, Ends, Step, To, Reject}
 use Rattle.model.specs.Base.{if_then_else_, LF, CR, COMMA, _is_}
 use Rattle.model.specs.Dialect.{delimiterOf}
 use Rattle.model.specs.Utf8.{rowOf, leads, leadByte, innerStep, charStep}
-use Rattle.model.specs.Cell.{cellStep, inQuotes}
+use Rattle.model.specs.Cell.{cellStep, isWhole, inQuotes}
 use Rattle.model.specs.File.{isBlank, afterCell, grow, inCell, beginRecord, beginFile, commented, fileStep, quotesOpen, counts}
 use Rattle.model.specs.Viable.{freshText, cellTextAt, textAt, isBroken, breaks}
-use Rattle.model.proofs.Tests.{split, split-on, is→eq}
+use Rattle.model.proofs.Tests.{split, split-on, impossible, is→eq}
 use Rattle.model.proofs.Utf8.{is-ascii}
 use Rattle.model.proofs.CellSteps.{broken-not, CellTransition, takes-more, takes-stop, takes-two, takes-three, cell-transition}
-use Rattle.model.proofs.Counted.{counted, more-counted, blank-counted, delimiter-counted}
+use Rattle.model.proofs.Counted.{counted, lf-uncounted, cr-uncounted, more-counted, blank-counted, delimiter-counted}
 use Rattle.model.proofs.CellRuns.{mark-cell, mark-rest}
 
 -- between records
@@ -89,10 +89,10 @@ pub data Next : FileState → Type 0 where
   n-begin : Next Begin
   n-ended : Next Ended
 
--- no cell is in hand, or the one in hand stops before the byte
+-- no cell is in hand, or the one in hand is whole and stops before the byte
 pub data Leaves (d : Dialect) (b : ℕ) (f : FileState) : Bool → Type 0 where
   none : Free f → Leaves d b f false
-  stops : {c : Cell} → Holds f c → cellStep d c b ≡ Stop → Leaves d b f true
+  stops : {c : Cell} → Holds f c → cellStep d c b ≡ Stop → isWhole d c ≡ true → Leaves d b f true
 
 pub data Breaks (b : ℕ) : Type 0 where
   lf : (b is LF) ≡ true → Breaks b
@@ -113,7 +113,7 @@ pub data Transition (d : Dialect) (f : FileState) (b : ℕ) : Step → Type 0 wh
   outside : {g : FileState} → Fine d f b → Around d f → Rests g → Transition d f b (To g Outside)
   passes : {g : FileState} → Fine d f b → Rests f → Next g → Transition d f b (To g Passed)
   adds : {g : FileState} {c c′ : Cell} → Fine d f b → counts f b ≡ true → Holds f c → Grown g → Holds g c′ → cellStep d c b ≡ More c′ → Transition d f b (To g OfCell)
-  blanks : Fine d f b → counts f b ≡ true → Starts f → Transition d f b (To Blanks (Between false))
+  blanks : Fine d f b → counts f b ≡ true → Starts f → d ≡ Csvj → Transition d f b (To Blanks (Between false))
   parts : {g : FileState} {k : Bool} → Fine d f b → counts f b ≡ true → Leaves d b f k → Opens g → Transition d f b (To g (Between k))
   turns : {k : Bool} → Fine d f b → (b is CR) ≡ true → Leaves d b f k → Transition d f b (To Cr (Tail k))
   ends : {g : FileState} {k : Bool} → Fine d f b → Breaks b → Leaves d b f k → Next g → Transition d f b (To g (Ends k))
@@ -124,7 +124,7 @@ tells (refuses t) = t
 tells (outside t r g) = rw t tells-to
 tells (passes t r g) = rw t tells-to
 tells (adds t n h g i s) = rw t tells-to
-tells (blanks t n e) = rw t tells-to
+tells (blanks t n e c) = rw t tells-to
 tells (parts t n l o) = rw t tells-to
 tells (turns t p l) = rw t tells-to
 tells (ends t p l g) = rw t tells-to
@@ -135,7 +135,7 @@ pub cell-counts : {d : Dialect} {f g : FileState} {b : ℕ} → Transition d f b
 cell-counts (adds t n h g i s) = n
 
 pub between-counts : {d : Dialect} {f g : FileState} {b : ℕ} {k : Bool} → Transition d f b (To g (Between k)) → counts f b ≡ true
-between-counts (blanks t n e) = n
+between-counts (blanks t n e c) = n
 between-counts (parts t n l o) = n
 
 pub holds-quotes : {f : FileState} {c : Cell} → Holds f c → quotesOpen f ≡ inQuotes c
@@ -147,6 +147,42 @@ holds-quotes at-wanting = refl
 holds-quotes inside = refl
 holds-quotes plain1 = refl
 holds-quotes plain2 = refl
+
+free-quotes : {f : FileState} → Free f → quotesOpen f ≡ false
+free-quotes f-top = refl
+free-quotes f-begin = refl
+free-quotes f-ended = refl
+free-quotes f-blanks = refl
+free-quotes f-wanting = refl
+free-quotes f-after = refl
+
+whole-open : (d : Dialect) (c : Cell) → isWhole d c ≡ true → inQuotes c ≡ false
+unfolding isWhole
+whole-open d Fresh w = refl
+whole-open d (Quoted c) w = impossible w
+whole-open d Closed w = refl
+whole-open d Escape w = impossible w
+whole-open d (Hex n) w = impossible w
+whole-open d (InNumber n) w = refl
+whole-open d (InWord x) w = refl
+whole-open d (Plain c) w = refl
+whole-open d Complete w = refl
+
+leaves-quotes : {d : Dialect} {f : FileState} {b : ℕ} {k : Bool} → Leaves d b f k → quotesOpen f ≡ false
+leaves-quotes (none e) = free-quotes e
+leaves-quotes {d} (stops {c = c} h s w) = holds-quotes h ∙ whole-open d c w
+
+break-uncounted : (f : FileState) (b : ℕ) → quotesOpen f ≡ false → Breaks b → counts f b ≡ false
+break-uncounted f b q (lf p) = rw (is→eq b LF p) (lf-uncounted f q)
+break-uncounted f b q (cr p) = rw (is→eq b CR p) (cr-uncounted f q)
+
+-- a CR or LF that ends a record does not count in it
+pub tail-uncounted : {d : Dialect} {f g : FileState} {b : ℕ} {k : Bool} → Transition d f b (To g (Tail k)) → counts f b ≡ false
+tail-uncounted {f} {b} (turns t p l) = break-uncounted f b (leaves-quotes l) (cr p)
+
+pub ends-uncounted : {d : Dialect} {f g : FileState} {b : ℕ} {k : Bool} → Transition d f b (To g (Ends k)) → counts f b ≡ false
+ends-uncounted {f} {b} (ends t p l n) = break-uncounted f b (leaves-quotes l) p
+ends-uncounted {f} {b} (ends-cr t e p) = break-uncounted f b (rw e) (lf p)
 
 holds-text : (d : Dialect) {f : FileState} {c : Cell} → Holds f c → textAt d f ≡ cellTextAt d c
 holds-text d at-top = refl
@@ -184,80 +220,83 @@ blank-ascii b e = split-on (b is 0x20) (λ p. is-ascii b 0x20 (omega arith) p) �
 
 -- after a cell, or blanks after one
 module _ {f : FileState} (b : ℕ) where
-  after-goes : (d : Dialect) (k : Bool) → Fine d f b → Leaves d b f k → Transition d f b (afterCell d k b)
+  after-transition : (d : Dialect) (k : Bool) → Fine d f b → Leaves d b f k → Transition d f b (afterCell d k b)
   unfolding afterCell
-  after-goes Csvj k t l =
+  after-transition Csvj k t l =
       let P : Step → Type 0 = Transition Csvj f b in
       split P (isBlank b) (λ p. parts t (blank-counted f b p) l o-after) λ _.
       split P (b is COMMA) (λ p. parts t (delimiter-counted Csvj f b p) l o-wanting) λ _.
       split P (b is LF) (λ p. ends t (lf p) l n-begin) λ _. split P (b is CR) (λ p. turns t p l) λ _. refuses {e = Syntax} (rw t tells-three)
-  after-goes Tdif k t l =
+  after-transition Tdif k t l =
       let P : Step → Type 0 = Transition Tdif f b in
       split P (b is COMMA) (λ p. parts t (delimiter-counted Tdif f b p) l o-fresh) λ _.
       split P (b is LF) (λ p. ends t (lf p) l n-begin) λ _. split P (b is CR) (λ p. ends t (cr p) l n-ended) λ _. refuses {e = Syntax} (rw t tells-three)
-  after-goes (CsvPlus s) k t l =
+  after-transition (CsvPlus s) k t l =
       let P : Step → Type 0 = Transition (CsvPlus s) f b in
       split P (b is delimiterOf (CsvPlus s)) (λ p. parts t (delimiter-counted (CsvPlus s) f b p) l o-fresh) λ _.
       split P (b is LF) (λ p. ends t (lf p) l n-begin) λ _. split P (b is CR) (λ p. turns t p l) λ _. refuses {e = Syntax} (rw t tells-three)
 
-  in-cell-goes : (d : Dialect) {c : Cell} → Holds f c → Transition d f b (inCell d c b)
+  in-cell-transition : (d : Dialect) {c : Cell} → Holds f c → Transition d f b (inCell d c b)
   unfolding inCell
-  in-cell-goes d {c} h = go (breaks (cellTextAt d c) b) (cellStep d c b) (ap (λ x. breaks x b) (holds-text d h)) refl (cell-transition d c b)
+  in-cell-transition d {c} h = go (breaks (cellTextAt d c) b) (cellStep d c b) (ap (λ x. breaks x b) (holds-text d h)) refl (cell-transition d c b)
     where
       go : (t : Bool) (a : CellStep) → breaks (textAt d f) b ≡ t → cellStep d c b ≡ a → CellTransition d c t a → Transition d f b (grow a (afterCell d true b))
       go false (More e) t s takes-more = adds t (more-counted d f c e b (holds-quotes h) s) h g-inside inside s
-      go false Stop t s (takes-stop w) = after-goes d true t (stops h s)
+      go false Stop t s (takes-stop w) = after-transition d true t (stops h s w)
       go true (Refuse e) t s takes-two = refuses {e = Encoding} (rw t tells-two)
       go false (Refuse e) t s takes-three = refuses {e = Syntax} (rw t tells-three)
 
   -- where a record may begin: outside records, or after blanks, which TDIF and CSV+ never read
-  record-goes : Around Tdif f → Starts f → ((d : Dialect) → textAt d f ≡ freshText d) → (d : Dialect) → Transition d f b (beginRecord d b)
+  record-transition : Around Tdif f → Starts f → ((d : Dialect) → textAt d f ≡ freshText d) → (d : Dialect) → Transition d f b (beginRecord d b)
   unfolding beginRecord
-  record-goes r e x Csvj =
+  record-transition r e x Csvj =
       let P : Step → Type 0 = Transition Csvj f b in
       let t : Fine Csvj f b = rw (x Csvj) in
-      split P (isBlank b) (λ p. blanks t (blank-counted f b p) e) λ _.
-      split P (b is LF) (λ p. ends t (lf p) (none (starts-free e)) n-begin) λ _. split P (b is CR) (λ p. turns t p (none (starts-free e))) λ _. in-cell-goes Csvj (starts-holds e)
-  record-goes r e x Tdif = split (Transition Tdif f b) (b is 0x23) (λ _. outside (rw (x Tdif)) r comment) λ _. in-cell-goes Tdif (starts-holds e)
-  record-goes r e x (CsvPlus s) = in-cell-goes (CsvPlus s) (starts-holds e)
+      split P (isBlank b) (λ p. blanks t (blank-counted f b p) e refl) λ _.
+      split P (b is LF) (λ p. ends t (lf p) (none (starts-free e)) n-begin) λ _. split P (b is CR) (λ p. turns t p (none (starts-free e))) λ _. in-cell-transition Csvj (starts-holds e)
+  record-transition r e x Tdif = split (Transition Tdif f b) (b is 0x23) (λ _. outside (rw (x Tdif)) r comment) λ _. in-cell-transition Tdif (starts-holds e)
+  record-transition r e x (CsvPlus s) = in-cell-transition (CsvPlus s) (starts-holds e)
 
-commented-goes : {d : Dialect} (b : ℕ) (c : Char) (o : Advance) → charStep c b ≡ o → Transition d (Comment c) b (commented o)
-commented-goes b c Broken e = refuses {e = Encoding} (rw e tells-two)
-commented-goes b c (On x) e = outside (rw e) (rests comment) comment
+comment-transition : {d : Dialect} (b : ℕ) (c : Char) (o : Advance) → charStep c b ≡ o → Transition d (Comment c) b (commented o)
+comment-transition b c Broken e = refuses {e = Encoding} (rw e tells-two)
+comment-transition b c (On x) e = outside (rw e) (rests comment) comment
 
 -- a byte of the mark that is one of a plain cell is counted
 high-counted : (f : FileState) (b n : ℕ) → 0x0E ≤ n → (b is n) ≡ true → counts f b ≡ true
 high-counted f b n h p = let z : b ≡ n = is→eq b n p in counted f b (λ y. omega arith) (λ y. omega arith)
 
-file-goes : (d : Dialect) (b : ℕ) → Transition d Top b (beginFile d b)
+file-transition : (d : Dialect) (b : ℕ) → Transition d Top b (beginFile d b)
 unfolding beginFile
-file-goes Csvj b = split (Transition Csvj Top b) _ (λ _. outside refl (rests top) mark1) λ _. record-goes b (rests top) s-top (λ d. refl) Csvj
-file-goes Tdif b = record-goes b (rests top) s-top (λ d. refl) Tdif
-file-goes (CsvPlus s) b =
+file-transition Csvj b = split (Transition Csvj Top b) _ (λ _. outside refl (rests top) mark1) λ _. record-transition b (rests top) s-top (λ d. refl) Csvj
+file-transition Tdif b = record-transition b (rests top) s-top (λ d. refl) Tdif
+file-transition (CsvPlus s) b =
     split (Transition (CsvPlus s) Top b) (b is 0xEF) (λ p. adds (rw (is→eq b 0xEF p) mark-fine) (high-counted Top b 0xEF (omega arith) p) at-top g-plain1 plain1 (rw (is→eq b 0xEF p) (mark-cell s))) λ _.
-    record-goes b (rests top) s-top (λ d. refl) (CsvPlus s)
+    record-transition b (rests top) s-top (λ d. refl) (CsvPlus s)
 
 pub step-transition : (d : Dialect) (f : FileState) (b : ℕ) → Transition d f b (fileStep d f b)
 unfolding fileStep
-step-transition d Top b = file-goes d b
-step-transition d Begin b = record-goes b (rests begin) s-begin (λ d. refl) d
+step-transition d Top b = file-transition d b
+step-transition d Begin b = record-transition b (rests begin) s-begin (λ d. refl) d
 step-transition d Ended b =
-    split (Transition d Ended b) (b is LF) (λ p. passes (fresh-fine d b (is-ascii b LF (omega arith) p)) ended n-begin) λ _. record-goes b (rests ended) s-ended (λ d. refl) d
+    split (Transition d Ended b) (b is LF) (λ p. passes (fresh-fine d b (is-ascii b LF (omega arith) p)) ended n-begin) λ _. record-transition b (rests ended) s-ended (λ d. refl) d
 step-transition d Mark1 b = split (Transition d Mark1 b) _ (λ _. outside refl (rests mark1) mark2) λ _. refuses {e = Syntax} tells-three
 step-transition d Mark2 b = split (Transition d Mark2 b) _ (λ _. passes refl mark2 n-begin) λ _. refuses {e = Syntax} tells-three
 step-transition d PlainMark1 b =
     split (Transition d PlainMark1 b) (b is 0xBB) (λ p. adds (rw (is→eq b 0xBB p) mark-one-fine) (high-counted PlainMark1 b 0xBB (omega arith) p) plain1 g-plain2 plain2 (rw (is→eq b 0xBB p) (mark-rest d))) λ _.
-    in-cell-goes b d plain1
+    in-cell-transition b d plain1
 step-transition d PlainMark2 b =
-    split (Transition d PlainMark2 b) (b is 0xBF) (λ p. refuses {e = Syntax} (rw (is→eq b 0xBF p, mark-two-fine) tells-three)) λ _. in-cell-goes b d plain2
+    split (Transition d PlainMark2 b) (b is 0xBF) (λ p. refuses {e = Syntax} (rw (is→eq b 0xBF p, mark-two-fine) tells-three)) λ _. in-cell-transition b d plain2
 step-transition d (Comment Whole) b =
     let P : Step → Type 0 = Transition d (Comment Whole) b in
     split P (b is LF) (λ p. passes (broken-not b (is-ascii b LF (omega arith) p)) comment n-begin) λ _.
-    split P (b is CR) (λ p. passes (broken-not b (is-ascii b CR (omega arith) p)) comment n-ended) λ _. commented-goes b Whole (charStep Whole b) refl
-step-transition d (Comment (Within i)) b = commented-goes b (Within i) (charStep (Within i) b) refl
-step-transition d Blanks b = record-goes b unread s-blanks (λ d. refl) d
+    split P (b is CR) (λ p. passes (broken-not b (is-ascii b CR (omega arith) p)) comment n-ended) λ _. comment-transition b Whole (charStep Whole b) refl
+step-transition d (Comment (Within i)) b = comment-transition b (Within i) (charStep (Within i) b) refl
+step-transition d Blanks b = record-transition b unread s-blanks (λ d. refl) d
 step-transition d Wanting b =
-    split (Transition d Wanting b) (isBlank b) (λ p. parts (fresh-fine d b (blank-ascii b p)) (blank-counted Wanting b p) (none f-wanting) o-wanting) λ _. in-cell-goes b d at-wanting
-step-transition d (Inside c) b = in-cell-goes b d inside
-step-transition d After b = after-goes b d false refl (none f-after)
+    split (Transition d Wanting b) (isBlank b) (λ p. parts (fresh-fine d b (blank-ascii b p)) (blank-counted Wanting b p) (none f-wanting) o-wanting) λ _. in-cell-transition b d at-wanting
+step-transition d (Inside c) b = in-cell-transition b d inside
+step-transition d After b = after-transition b d false refl (none f-after)
 step-transition d Cr b = split (Transition d Cr b) (b is LF) (λ p. ends-cr refl refl p) λ _. refuses {e = Syntax} tells-three
+
+pub its-transition : {d : Dialect} {f : FileState} {b : ℕ} {s : Step} → fileStep d f b ≡ s → Transition d f b s
+its-transition {d} {f} {b} e = rw e at (step-transition d f b)

@@ -260,7 +260,7 @@ module _ (d : Dialect) (target : Option Target) where
   move-stands r b (outside {g} t w x) = goes-on (resting (placeIn g) (r .done) g (suc (r .offset)) (r .start))
   move-stands r b (passes {g} t w x) = goes-on (resting (placeIn g) (r .done) g (suc (r .offset)) (suc (r .offset)))
   move-stands r b (adds {g} t n h x i e) = goes-on (recording (placeIn g) _ (grown-record x))
-  move-stands r b (blanks t n e) = goes-on (recording elsewhere _ at-none)
+  move-stands r b (blanks t n e c) = goes-on (recording elsewhere _ at-none)
   move-stands r b (parts {g} t n l o) = goes-on (recording (placeIn g) _ (opens-record o))
   move-stands r b (turns t p l) = goes-on (recording elsewhere _ at-none)
   move-stands r b (ends {g} {k} t p l x) = validated-stands r _ g (suc (r .offset)) (recordFault d target (r .done) (closing d k r))
