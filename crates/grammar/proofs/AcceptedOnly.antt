@@ -23,7 +23,7 @@ use Rattle.grammar.specs.Derived.{Derived, Line, line, every-none, Each,
 use Rattle.grammar.specs.Reading.{Reads, decoded, decodedLine}
 use Rattle.grammar.specs.Reading as reading
 use Rattle.grammar.specs.Accepted.{ShowsCell, ShowsRecord}
-use Rattle.grammar.proofs.Parts.{Stage, at-rest, in-cell, stageOf, Recording, record-open, cell-open, NoCell, outside-rests, passed-rests, cell-stage, between-stage, tail-stage, ends-stage, between-no-cell, tail-no-cell, ends-no-cell}
+use Rattle.grammar.proofs.Stages.{Stage, at-rest, in-cell, stageOf, Recording, record-open, cell-open, NoCell, outside-rests, passed-rests, cell-stage, between-stage, tail-stage, ends-stage, between-no-cell, tail-no-cell, ends-no-cell}
 use Rattle.grammar.proofs.Checks.{LineSound, ChecksFrom, checks-none, checks-next, record-checked}
 use Rattle.grammar.proofs.Standing.{each-snoc, length-snoc, joined, joined-rest, joined-of-cell, joined-between, joined-between-closing, joined-tail-closing, joined-ends, joined-ends-closing, Fit, fit-none, fit-line, rest-fit, Stands, closes-now, stands-reset, stands-more, Rested, rested, Parted, parted, recording-tidy, rest-tidy}
 use Rattle.grammar.proofs.Standing as standing

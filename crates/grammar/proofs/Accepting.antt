@@ -19,7 +19,7 @@ use Rattle.grammar.specs.Reading.{Reads, decoded}
 use Rattle.grammar.specs.Reading as reading
 use Rattle.grammar.specs.Accepted.{ShowsCell, ShowsRecord}
 use Rattle.model.proofs.FileSteps.{Transition, tail-uncounted, ends-uncounted, its-transition}
-use Rattle.grammar.proofs.Parts.{at-rest, stageOf, Recording, cell-stage, between-stage, tail-stage, ends-stage}
+use Rattle.grammar.proofs.Stages.{at-rest, stageOf, Recording, cell-stage, between-stage, tail-stage, ends-stage}
 use Rattle.grammar.proofs.Checks.{LineSound, ChecksFrom, checks-next, record-sound-checked}
 use Rattle.grammar.proofs.Standing.{each-snoc, length-snoc, joined, joined-rest, joined-of-cell, joined-between, joined-between-closing, joined-tail-closing, joined-ends, joined-ends-closing, Fit, fit-line, fit-rest, Stands, closes-now, stands-reset, stands-more, Rested, rested, Parted, parted, Ended, ended, recording-tidy, rest-tidy}
 use Rattle.grammar.proofs.Standing.{moved-outside, moved-passed, moved-between, moved-tail, moved-ends}

@@ -18,7 +18,7 @@ use Rattle.grammar.specs.Derived.{Line, line}
 use Rattle.grammar.specs.Reading.{Reads, decodedLine}
 use Rattle.grammar.specs.Reading as reading
 use Rattle.grammar.specs.NextByte.{GoesOn, NextByte}
-use Rattle.grammar.proofs.Parts.{in-cell, stageOf, cell-stage, ends-next}
+use Rattle.grammar.proofs.Stages.{in-cell, stageOf, cell-stage, ends-next}
 use Rattle.grammar.proofs.AcceptedOnly.{HasCell, has-cell, reads-cell}
 use Rattle.grammar.proofs.FileGrammar.{derived-reads, reads-derived}
 

@@ -21,7 +21,7 @@ pub mod TdifFiles
 pub mod PlusFiles
 pub mod CsvjFiles
 pub mod FileGrammar
-pub mod Parts
+pub mod Stages
 pub mod Checks
 pub mod Standing
 pub mod Accepting

@@ -19,7 +19,7 @@ use Rattle.grammar.specs.Derived.{Derived, Line}
 use Rattle.grammar.specs.Derives.{Derives}
 use Rattle.grammar.specs.Stretches.{Stretch, stretch, stretches, stretchOf, shown}
 use Rattle.model.proofs.FileSteps.{its-transition}
-use Rattle.grammar.proofs.Parts.{stageOf, cell-stage, between-stage, tail-stage, ends-stage}
+use Rattle.grammar.proofs.Stages.{stageOf, cell-stage, between-stage, tail-stage, ends-stage}
 use Rattle.grammar.proofs.Standing.{Tidy, tidy-rest, tidy-cell, recording-tidy, rest-tidy, rested-none, parted-tidy}
 use Rattle.grammar.proofs.Standing.{moved-outside, moved-passed, moved-between, moved-tail}
 use Rattle.grammar.proofs.Walks.{Walks}

@@ -16,7 +16,7 @@ use Rattle.grammar.specs.Derived.{Derived, Line, line, textIn, Every, ev
 use Rattle.grammar.specs.Reading.{decoded, decodedLine}
 use Rattle.grammar.specs.Accepted.{ShowsCell, ShowsRecord}
 use Rattle.model.proofs.FileSteps.{Transition, between-counts, tail-uncounted, ends-uncounted}
-use Rattle.grammar.proofs.Parts.{Stage, at-rest, in-record, in-cell, stageOf, Recording, record-open, cell-open, NoCell, none-at-rest, none-in-record, outside-rests, passed-rests, between-stage, tail-stage, ends-stage, between-no-cell, tail-no-cell, ends-no-cell}
+use Rattle.grammar.proofs.Stages.{Stage, at-rest, in-record, in-cell, stageOf, Recording, record-open, cell-open, NoCell, none-at-rest, none-in-record, outside-rests, passed-rests, between-stage, tail-stage, ends-stage, between-no-cell, tail-no-cell, ends-no-cell}
 
 pub each-snoc : {A B : Type 0} {R : A → B → Type 0} {xs : List A} {ys : List B} {x : A} {y : B} → Each R xs ys → R x y → Each R (xs ++ (x ∷ [])) (ys ++ (y ∷ []))
 each-snoc each-none r = each-cons r each-none

@@ -4,16 +4,15 @@ use native.Mathlib.Omega.{arith}
 use mathlib.Core.Path.{_≡_, refl}
 use mathlib.Core.Bool.{Bool, true, false}
 use mathlib.Core.List.{List, [], _∷_, _++_}
-use Rattle.model.specs.Types.{Delimiter, Comma, Semicolon, Tab, Bar, Quote, Double, Single, Settings, Dialect, Csvj, Tdif, CsvPlus, EeToEf, Second, Last, Char, Whole, Within, Advance, On, Broken}
-use Rattle.model.specs.Types.{Numeral, Minus, Zero, Integer, Point, Fraction, E, ESign, Exponent, Cell, Fresh, Quoted, Closed, Escape, Hex, InNumber, InWord, Plain, Complete, CellStep, More, Stop, Refuse, ByteFault}
+use Rattle.model.specs.Types.{Delimiter, Comma, Semicolon, Tab, Bar, Quote, Double, Single, Settings, Dialect, CsvPlus, EeToEf, Second, Last, Within}
+use Rattle.model.specs.Types.{Cell, Fresh, Plain, CellStep, More, Stop, Refuse}
 use Rattle.model.specs.Types.{Fault, CellCheck, WholeCell, Unsound}
 use Rattle.model.specs.Types as types
 use Rattle.model.specs.Base.{Bytes, if_then_else_}
 use Rattle.model.specs.Utf8.{rowOf, leads, leadByte, innerStep, charStep}
-use Rattle.model.specs.Cell.{textByte, numeralStep, firstByte, quotedByte, plainByte, cellStep, isWhole}
+use Rattle.model.specs.Cell.{firstByte, cellStep, isWhole}
 use Rattle.model.specs.Decode.{validateFrom}
 use Rattle.model.specs.Laws.{All, all-none, all-cons}
-use Rattle.model.proofs.Tests.{split}
 
 -- ---- a cell that begins like the mark
 

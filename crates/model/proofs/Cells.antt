@@ -1,24 +1,15 @@
 -- The cell in hand: each byte of a file either goes on with it or leaves none, and closes only a whole one (`step-fits`); the end
 -- of the file completes a record only after a whole cell (`file-ends`).
-use Prim.Native.Nat.{ℕ, suc}
+use Prim.Native.Nat.{ℕ}
 use mathlib.Core.Path.{_≡_, refl}
 use mathlib.Core.Bool.{Bool, true, false}
-use mathlib.Core.Option.{Option}
-use mathlib.Core.List.{List, [], _∷_}
 use Rattle.model.specs.Types.{Dialect, Csvj, Tdif, CsvPlus, EeToEf, Second, Last, Within}
 use Rattle.model.specs.Types.{Cell, Fresh, Plain, More, ByteFault}
 use Rattle.model.specs.Types.{FileState, Top, Begin, Ended, Mark1, Mark2, PlainMark1, PlainMark2, Comment, Blanks, Wanting, Inside, After, Cr, Outside, Passed, OfCell, Between, Tail, Ends, Step, To, Reject, Ending, Clean, Final, Cut}
-use Rattle.model.specs.Types.{Fault, Verdict, Faulty}
 use Rattle.model.specs.Types as types
-use Rattle.model.specs.Base.{Bytes}
 use Rattle.model.specs.Cell.{cellStep, isWhole}
 use Rattle.model.specs.File.{fileStep, fileEnd, lastCell}
-use Rattle.model.specs.Decode.{validateCell}
-use Rattle.model.specs.Text.{Value}
-use Rattle.model.specs.Records.{Rec, Read, Progress, going, stopped, nothingRead, readByte, readFrom, readBytes, readEnd, readFile, recordsOf, recordFault, move, complete, validated, closing, endBetween, endAt}
-use Rattle.model.specs.Laws.{All, all-none, SoundCell, SoundRecord}
 use Rattle.model.proofs.Tests.{split}
-use Rattle.model.proofs.CellRuns.{Runs, here, snoc, runs-sound, all-snoc}
 use Rattle.model.proofs.FileSteps as steps
 use Rattle.model.proofs.FileSteps.{Rests, Holds, Opens, Next, Leaves, Transition, step-transition}
 

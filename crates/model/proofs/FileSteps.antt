@@ -156,7 +156,8 @@ free-quotes f-blanks = refl
 free-quotes f-wanting = refl
 free-quotes f-after = refl
 
-whole-open : (d : Dialect) (c : Cell) → isWhole d c ≡ true → inQuotes c ≡ false
+-- a whole cell is not in quotes
+pub whole-open : (d : Dialect) (c : Cell) → isWhole d c ≡ true → inQuotes c ≡ false
 unfolding isWhole
 whole-open d Fresh w = refl
 whole-open d (Quoted c) w = impossible w
