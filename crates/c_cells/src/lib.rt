@@ -24,12 +24,7 @@ fn answer_of(d: Decoded) -> DecodeAnswer
 {
     match d {
         Decoded::Content { size, kind } => DecodeAnswer {
-            report: Report {
-                number: 0,
-                record_number: 0,
-                column: 0,
-                offset: 0,
-            },
+            report: numbers::on_call(numbers::ACCEPTED),
             length: size,
             kind: numbers::kind_number(kind) as usize,
         },
