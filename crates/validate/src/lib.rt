@@ -3,8 +3,8 @@
 // comes out, or none.
 //
 // The definitions are `headerFault` and `dataFault` of model's specs/Records.antt, over the cells that stand in the stretches
-// (specs/Cells.antt). names.rt goes by specs/Keys.antt: another rule for upper and lower case changes `fold_byte` and the law
-// `key-folds` of proofs/Keys.antt, and no loop.
+// (specs/Cells.antt). names.rt goes by specs/Keys.antt: another rule for upper and lower case changes `put_folded`, with what is said of
+// a key in proofs/Keys.antt, and no other function.
 ghost use mathlib.Core.Path.{_≡_};
 ghost use mathlib.Core.List.{List};
 ghost use lib.ListN.{length};
@@ -15,9 +15,10 @@ use model::Dialect;
 use model::Fault;
 use model::Kind;
 use model::Verdict;
+use names::Repeat;
 use numbers::MAX_COLUMNS;
 
-mod names;
+pub mod names;
 
 // ---- headers
 
@@ -62,7 +63,10 @@ pub fn header(d: Dialect, file: &[u8], starts: &[usize], ends: &[usize]) -> Verd
     if let Verdict::Faulty(e) = first_not_text(d, file, starts, ends) {
         return Verdict::Faulty(e);
     }
-    names::first_repeat(d, file, starts, ends)
+    match names::first_repeat(d, d, file, starts, ends) {
+        Repeat::NoRepeat => Verdict::Sound,
+        Repeat::AtColumn(column) => Verdict::Faulty(Fault::RepeatedName { column }),
+    }
 }
 
 // ---- data records
