@@ -18,6 +18,8 @@ use model::Verdict;
 use names::Repeat;
 use numbers::MAX_COLUMNS;
 
+mod content;
+pub mod conversion;
 pub mod names;
 
 // ---- headers

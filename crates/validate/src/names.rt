@@ -12,7 +12,7 @@ ghost use Rattle.model.specs.Records.{lower, nameKey, among, repeatFault};
 ghost use Rattle.model.specs.Report.{MAXRECORD};
 ghost use Rattle.validate.specs.Cells.{valuesOf, Inside};
 ghost use Rattle.validate.specs.Keys.{folded, keyAt, keysBefore, repeatedAs};
-use decoder::Decoded;
+use crate::content;
 use model::Dialect;
 use numbers::MAX_RECORD;
 
@@ -56,19 +56,6 @@ fn put_folded(rule: Dialect, name: &[u8], room: &mut [u8]) -> usize
     i
 }
 
-// The content of a cell, at the beginning of a room that is as long as the cell; how long it is.
-fn put_name(d: Dialect, raw: &[u8], room: &mut [u8]) -> usize
-    requires { ⌜ length (now raw) ≤ length (now room) ⌝ }
-    ensures { λ r. ⌜ (r ≡ length (contentOf d (now (raw .entry))))
-        × (now (room .exit) ≡ over (contentOf d (now (raw .entry))) (now (room .entry))) ⌝ }
-{
-    // Content is no longer than its cell, so that the room is never too short: the refusal is proved away.
-    let Decoded::Content { size, kind: _ } = decoder::decode_sound(d, raw, room) else {
-        return 0;
-    };
-    size
-}
-
 // The key of the name in a raw cell, at the beginning of a room that is as long as a record may be; how long it is.
 fn put_key(d: Dialect, rule: Dialect, raw: &[u8], room: &mut [u8]) -> usize
     requires { ⌜ (length (now raw) ≤ MAXRECORD) × (length (now room) ≡ MAXRECORD) ⌝ }
@@ -76,7 +63,7 @@ fn put_key(d: Dialect, rule: Dialect, raw: &[u8], room: &mut [u8]) -> usize
         × (now (room .exit) ≡ over (nameKey rule (contentOf d (now (raw .entry)))) (now (room .entry))) ⌝ }
 {
     let mut name = [0u8; MAX_RECORD];
-    let size = put_name(d, raw, &mut name);
+    let size = content::put_content(d, raw, &mut name);
     put_folded(rule, &name[..size], room)
 }
 

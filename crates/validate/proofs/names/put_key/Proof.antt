@@ -20,8 +20,8 @@ name c = contentOf (c .args .d) (c .args .raw .now)
 abbrev zeros : Bytes
 zeros = replicate MAXRECORD 0
 
-held : (c : tie.After-name2) → Holds (name (c .before .before .before .before .before)) (c .before .put-name .last .1 .1 .0) (c .before .put-name .result)
-held c = holds (name (c .before .before .before .before .before)) zeros _ _ (c .before .put-name .ensures)
+held : (c : tie.After-name2) → Holds (name (c .before .before .before .before .before)) (c .before .put-content .last .1 .1 .0) (c .before .put-content .result)
+held c = holds (name (c .before .before .before .before .before)) zeros _ _ (c .before .put-content .ensures)
 
 put-folded-requires : tie.Need-put-folded-requires
 put-folded-requires c κs =
