@@ -1,6 +1,6 @@
 // What is asked of a complete record, in the rules' order (§7.8): columns, then for a header kinds and repeated names, for a data record
 // the count of its cells. A header comes as the stretches of its cells in the file, a data record as its count; the first fault
-// comes out, or none.
+// comes out, or none. conversion.rt is what a target asks of the cells.
 //
 // The definitions are `headerFault` and `dataFault` of model's specs/Records.antt, over the cells that stand in the stretches
 // (specs/Cells.antt). names.rt goes by specs/Keys.antt: another rule for upper and lower case changes `put_folded`, with what is said of
