@@ -3,7 +3,7 @@
 // comes out, or none. conversion.rt is what a target asks of the cells.
 //
 // The definitions are `headerFault` and `dataFault` of model's specs/Records.antt, over the cells that stand in the stretches
-// (specs/Cells.antt). names.rt goes by specs/Keys.antt: another rule for upper and lower case changes `put_folded`, with what is said of
+// (specs/Cells.antt). names.rt goes by specs/Keys.antt: another rule for upper and lower case changes `fold`, with what is said of
 // a key in proofs/Keys.antt, and no other function.
 ghost use mathlib.Core.Path.{_≡_};
 ghost use mathlib.Core.List.{List};

@@ -4,7 +4,7 @@
 // most 64 passes over a header of at most 4,096 bytes, and no room for all keys at once.
 ghost use mathlib.Core.Path.{_≡_};
 ghost use Prim.Native.Nat.{ℕ, _<_, _≤_};
-ghost use lib.ListN.{length, getD};
+ghost use lib.ListN.{length, getD, take};
 ghost use Rattle.model.specs.declared.Fault.{Fault};
 ghost use Rattle.model.specs.Base.{same, over};
 ghost use Rattle.model.specs.Decode.{contentOf};
@@ -42,18 +42,16 @@ fn fold_byte(rule: Dialect, b: u8) -> u8
     }
 }
 
-// The key of a name, at the beginning of a room that is as long as the name; how long it is. The one place that folds.
-fn put_folded(rule: Dialect, name: &[u8], room: &mut [u8]) -> usize
-    requires { ⌜ length (now name) ≤ length (now room) ⌝ }
-    ensures { λ r. ⌜ (r ≡ length (nameKey rule (now (name .entry))))
-        × (now (room .exit) ≡ over (nameKey rule (now (name .entry))) (now (room .entry))) ⌝ }
+// The name that stands in the first n bytes of a room becomes its key, which is as long. The one place that folds.
+fn fold(rule: Dialect, room: &mut [u8], n: usize)
+    requires { ⌜ n ≤ length (now room) ⌝ }
+    ensures { λ r. ⌜ now (room .exit) ≡ over (nameKey rule (take n (now (room .entry)))) (now (room .entry)) ⌝ }
 {
     let mut i = 0;
-    while i < name.len() {
-        room[i] = fold_byte(rule, name[i]);
+    while i < n {
+        room[i] = fold_byte(rule, room[i]);
         i += 1;
     }
-    i
 }
 
 // The key of the name in a raw cell, at the beginning of a room that is as long as a record may be; how long it is.
@@ -62,9 +60,9 @@ fn put_key(d: Dialect, rule: Dialect, raw: &[u8], room: &mut [u8]) -> usize
     ensures { λ r. ⌜ (r ≡ length (nameKey rule (contentOf d (now (raw .entry)))))
         × (now (room .exit) ≡ over (nameKey rule (contentOf d (now (raw .entry)))) (now (room .entry))) ⌝ }
 {
-    let mut name = [0u8; MAX_RECORD];
-    let size = content::put_content(d, raw, &mut name);
-    put_folded(rule, &name[..size], room)
+    let size = content::put_content(d, raw, room);
+    fold(rule, room, size);
+    size
 }
 
 // ---- two names
