@@ -17,9 +17,9 @@ use Rattle.validate.specs.Cells.{valueAt, valuesOf, Stretch, Inside}
 
 -- ---- stretches
 
--- a room as long as a record may be holds every stretch
-pub part-fits : (file : Bytes) (i j : ℕ) → Stretch (length file) i j → (room : Bytes) → length room ≡ MAXRECORD → length (slice file i j) ≤ length room
-part-fits file i j s room e =
+-- no stretch is longer than a record may be
+pub part-short : (file : Bytes) (i j : ℕ) → Stretch (length file) i j → length (slice file i j) ≤ MAXRECORD
+part-short file i j s =
     let left : length (drop i file) ≡ length file - i = length-drop i file in
     let size : length (slice file i j) ≡ j - i = length-take-le (j - i) (drop i file) (omega (arith, s .forward, s .within)) in
     omega (arith, s .short)

@@ -43,20 +43,7 @@ module _ (d : Dialect) (file : Bytes) (starts ends : List ℕ) where
   abbrev pub notTextAt : ℕ → Verdict
   notTextAt n = headerKindFrom (n + 1) (valuesFrom d file starts ends n)
 
-  abbrev pub repeatAt : ℕ → Verdict
-  repeatAt n = repeatFrom d RepeatedName (keysBefore d file starts ends n) (n + 1) (valuesFrom d file starts ends n)
-
-  pub repeat-start : repeatFault d RepeatedName (valuesOf d file starts ends) ≡ repeatAt 0
-  unfolding repeatFault keysBefore
-  repeat-start = refl
-
-  keys-next : (n : ℕ) → keysBefore d file starts ends (n + 1) ≡ keyOf d file starts ends n ∷ keysBefore d file starts ends n
-  unfolding keysBefore
-  keys-next n = rw add-one
-
   module _ (p : length starts ≡ length ends) (n : ℕ) where
-    -- ---- kinds
-
     pub not-text-end : length starts ≤ n → notTextAt n ≡ Sound
     unfolding headerKindFrom
     not-text-end h = rw (values-end d file starts ends p n h)
@@ -70,20 +57,33 @@ module _ (d : Dialect) (file : Bytes) (starts ends : List ℕ) where
       unfolding headerKindFrom when _orElse_
       not-text-next e = rw (values-next d file starts ends p n h, e) (ap (λ (k : ℕ). headerKindFrom k (valuesFrom d file starts ends (n + 1))) (sym (add-one (n + 1))))
 
-    -- ---- names
+-- ---- the names of a header, from place n on, with those before them seen
 
+module _ (d rule : Dialect) (fault : ℕ → Fault) (file : Bytes) (starts ends : List ℕ) where
+  abbrev pub repeatAt : ℕ → Verdict
+  repeatAt n = repeatFrom rule fault (keysBefore d rule file starts ends n) (n + 1) (valuesFrom d file starts ends n)
+
+  pub repeat-start : repeatFault rule fault (valuesOf d file starts ends) ≡ repeatAt 0
+  unfolding repeatFault keysBefore
+  repeat-start = refl
+
+  keys-next : (n : ℕ) → keysBefore d rule file starts ends (n + 1) ≡ keyOf d rule file starts ends n ∷ keysBefore d rule file starts ends n
+  unfolding keysBefore
+  keys-next n = rw add-one
+
+  module _ (p : length starts ≡ length ends) (n : ℕ) where
     pub repeat-end : length starts ≤ n → repeatAt n ≡ Sound
     unfolding repeatFrom
     repeat-end h = rw (values-end d file starts ends p n h)
 
     module _ (h : n < length starts) where
-      pub repeat-here : among (keyOf d file starts ends n) (keysBefore d file starts ends n) ≡ true → repeatAt n ≡ Faulty (RepeatedName (n + 1))
+      pub repeat-here : among (keyOf d rule file starts ends n) (keysBefore d rule file starts ends n) ≡ true → repeatAt n ≡ Faulty (fault (n + 1))
       unfolding repeatFrom if_then_else_
       repeat-here e = rw (values-next d file starts ends p n h, e)
 
-      pub repeat-next : among (keyOf d file starts ends n) (keysBefore d file starts ends n) ≡ false → repeatAt n ≡ repeatAt (n + 1)
+      pub repeat-next : among (keyOf d rule file starts ends n) (keysBefore d rule file starts ends n) ≡ false → repeatAt n ≡ repeatAt (n + 1)
       unfolding repeatFrom if_then_else_
-      repeat-next e = rw (values-next d file starts ends p n h, e, keys-next n) (ap (λ (k : ℕ). repeatFrom d RepeatedName (keyOf d file starts ends n ∷ keysBefore d file starts ends n) k (valuesFrom d file starts ends (n + 1))) (sym (add-one (n + 1))))
+      repeat-next e = rw (values-next d file starts ends p n h, e, keys-next n) (ap (λ (k : ℕ). repeatFrom rule fault (keyOf d rule file starts ends n ∷ keysBefore d rule file starts ends n) k (valuesFrom d file starts ends (n + 1))) (sym (add-one (n + 1))))
 
 -- ---- headers
 

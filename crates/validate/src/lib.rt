@@ -1,10 +1,10 @@
 // What is asked of a complete record, in the rules' order (§7.8): columns, then for a header kinds and repeated names, for a data record
 // the count of its cells. A header comes as the stretches of its cells in the file, a data record as its count; the first fault
-// comes out, or none.
+// comes out, or none. conversion.rt is what a target asks of the cells.
 //
 // The definitions are `headerFault` and `dataFault` of model's specs/Records.antt, over the cells that stand in the stretches
-// (specs/Cells.antt). names.rt goes by specs/Keys.antt: another rule for upper and lower case changes `fold_byte` and the law
-// `key-folds` of proofs/Keys.antt, and no loop.
+// (specs/Cells.antt). names.rt goes by specs/Keys.antt: another rule for upper and lower case changes `fold`, with what is said of
+// a key in proofs/Keys.antt, and no other function.
 ghost use mathlib.Core.Path.{_≡_};
 ghost use mathlib.Core.List.{List};
 ghost use lib.ListN.{length};
@@ -15,9 +15,12 @@ use model::Dialect;
 use model::Fault;
 use model::Kind;
 use model::Verdict;
+use names::Repeat;
 use numbers::MAX_COLUMNS;
 
-mod names;
+mod content;
+pub mod conversion;
+pub mod names;
 
 // ---- headers
 
@@ -62,7 +65,10 @@ pub fn header(d: Dialect, file: &[u8], starts: &[usize], ends: &[usize]) -> Verd
     if let Verdict::Faulty(e) = first_not_text(d, file, starts, ends) {
         return Verdict::Faulty(e);
     }
-    names::first_repeat(d, file, starts, ends)
+    match names::first_repeat(d, d, file, starts, ends) {
+        Repeat::NoRepeat => Verdict::Sound,
+        Repeat::AtColumn(column) => Verdict::Faulty(Fault::RepeatedName { column }),
+    }
 }
 
 // ---- data records

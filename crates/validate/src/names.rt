@@ -1,22 +1,22 @@
-// Names of a header: the first that repeats an earlier one.
+// Names of a header: the first that repeats an earlier one, by the rule of any dialect.
 //
-// Names are compared by content, each earlier one decoded anew: at most 64 passes over a header of at most 4,096 bytes, and no room
-// for all names at once.
+// Names are compared by their keys (§6.6): content, folded as the rule asks. The key of an earlier name is written anew each time: at
+// most 64 passes over a header of at most 4,096 bytes, and no room for all keys at once.
 ghost use mathlib.Core.Path.{_≡_};
-ghost use Prim.Native.Nat.{_<_, _≤_};
-ghost use lib.ListN.{length, getD};
+ghost use Prim.Native.Nat.{ℕ, _<_, _≤_};
+ghost use lib.ListN.{length, getD, take};
+ghost use Rattle.model.specs.declared.Fault.{Fault};
 ghost use Rattle.model.specs.Base.{same, over};
 ghost use Rattle.model.specs.Decode.{contentOf};
 ghost use Rattle.model.specs.Records.{lower, nameKey, among, repeatFault};
+ghost use Rattle.model.specs.Report.{MAXRECORD};
 ghost use Rattle.validate.specs.Cells.{valuesOf, Inside};
-ghost use Rattle.validate.specs.Keys.{folded, keyAt, keysBefore};
-use decoder::Decoded;
+ghost use Rattle.validate.specs.Keys.{folded, keyAt, keysBefore, repeatedAs};
+use crate::content;
 use model::Dialect;
-use model::Fault;
-use model::Verdict;
 use numbers::MAX_RECORD;
 
-// ---- two names
+// ---- the key of a name
 
 // A to Z taken as a to z (§4.10).
 fn lower_case(b: u8) -> u8
@@ -31,27 +31,52 @@ fn lower_case(b: u8) -> u8
     b + 0x20
 }
 
-// A byte of a name as names are compared: the one place that knows how a dialect takes upper and lower case.
-fn fold_byte(d: Dialect, b: u8) -> u8
-    ensures { λ r. ⌜ r ≡ folded d b ⌝ }
+// A byte of a name as a dialect's rule takes upper and lower case.
+fn fold_byte(rule: Dialect, b: u8) -> u8
+    ensures { λ r. ⌜ r ≡ folded rule b ⌝ }
 {
-    match d {
+    match rule {
         Dialect::Csvj => b,
         Dialect::Tdif => lower_case(b),
         Dialect::CsvPlus(_) => b,
     }
 }
 
-// Whether two names are the same.
-fn same_name(d: Dialect, a: &[u8], b: &[u8]) -> bool
-    ensures { λ r. ⌜ r ≡ same (nameKey d (now (a .entry))) (nameKey d (now (b .entry))) ⌝ }
+// The name that stands in the first n bytes of a room becomes its key, which is as long. The one place that folds.
+fn fold(rule: Dialect, room: &mut [u8], n: usize)
+    requires { ⌜ n ≤ length (now room) ⌝ }
+    ensures { λ r. ⌜ now (room .exit) ≡ over (nameKey rule (take n (now (room .entry)))) (now (room .entry)) ⌝ }
+{
+    let mut i = 0;
+    while i < n {
+        room[i] = fold_byte(rule, room[i]);
+        i += 1;
+    }
+}
+
+// The key of the name in a raw cell, at the beginning of a room that is as long as a record may be; how long it is.
+fn put_key(d: Dialect, rule: Dialect, raw: &[u8], room: &mut [u8]) -> usize
+    requires { ⌜ (length (now raw) ≤ MAXRECORD) × (length (now room) ≡ MAXRECORD) ⌝ }
+    ensures { λ r. ⌜ (r ≡ length (nameKey rule (contentOf d (now (raw .entry)))))
+        × (now (room .exit) ≡ over (nameKey rule (contentOf d (now (raw .entry)))) (now (room .entry))) ⌝ }
+{
+    let size = content::put_content(d, raw, room);
+    fold(rule, room, size);
+    size
+}
+
+// ---- two names
+
+// Whether two keys are the same.
+fn same_key(a: &[u8], b: &[u8]) -> bool
+    ensures { λ r. ⌜ r ≡ same (now (a .entry)) (now (b .entry)) ⌝ }
 {
     if a.len() != b.len() {
         return false;
     }
     let mut i = 0;
     while i < a.len() {
-        if fold_byte(d, a[i]) != fold_byte(d, b[i]) {
+        if a[i] != b[i] {
             return false;
         }
         i += 1;
@@ -59,36 +84,22 @@ fn same_name(d: Dialect, a: &[u8], b: &[u8]) -> bool
     true
 }
 
-// ---- a name is the content of its cell
-
-// The content of a cell, at the beginning of a room that is as long as the cell; how long it is.
-fn put_name(d: Dialect, raw: &[u8], room: &mut [u8]) -> usize
-    requires { ⌜ length (now raw) ≤ length (now room) ⌝ }
-    ensures { λ r. ⌜ (r ≡ length (contentOf d (now (raw .entry))))
-        × (now (room .exit) ≡ over (contentOf d (now (raw .entry))) (now (room .entry))) ⌝ }
+// Whether the name in a raw cell has this key. The room is for its own.
+fn has_key(d: Dialect, rule: Dialect, key: &[u8], raw: &[u8], room: &mut [u8]) -> bool
+    requires { ⌜ (length (now raw) ≤ MAXRECORD) × (length (now room) ≡ MAXRECORD) ⌝ }
+    ensures { λ r. ⌜ r ≡ same (now (key .entry)) (nameKey rule (contentOf d (now (raw .entry)))) ⌝ }
 {
-    // Content is no longer than its cell, so that the room is never too short: the refusal is proved away.
-    let Decoded::Content { size, kind: _ } = decoder::decode_sound(d, raw, room) else {
-        return 0;
-    };
-    size
-}
-
-// Whether a raw cell has this name. The room is for its content.
-fn has_name(d: Dialect, name: &[u8], raw: &[u8], room: &mut [u8]) -> bool
-    requires { ⌜ length (now raw) ≤ length (now room) ⌝ }
-    ensures { λ r. ⌜ r ≡ same (nameKey d (now (name .entry))) (nameKey d (contentOf d (now (raw .entry)))) ⌝ }
-{
-    let size = put_name(d, raw, room);
-    same_name(d, name, &room[..size])
+    let size = put_key(d, rule, raw, room);
+    same_key(key, &room[..size])
 }
 
 // ---- names of a header
 
-// Whether one of the first n cells has this name, from the latest to the first.
+// Whether one of the first n cells has this key, from the latest to the first.
 fn is_among(
     d: Dialect,
-    name: &[u8],
+    rule: Dialect,
+    key: &[u8],
     file: &[u8],
     starts: &[usize],
     ends: &[usize],
@@ -96,7 +107,7 @@ fn is_among(
 ) -> bool
     requires { ⌜ Inside (length (now file)) (now starts) (now ends) ⌝ }
     requires { ⌜ n ≤ length (now starts) ⌝ }
-    ensures { λ r. ⌜ r ≡ among (nameKey d (now (name .entry))) (keysBefore d (now (file .entry)) (now (starts .entry)) (now (ends .entry)) n) ⌝ }
+    ensures { λ r. ⌜ r ≡ among (now (key .entry)) (keysBefore d rule (now (file .entry)) (now (starts .entry)) (now (ends .entry)) n) ⌝ }
 {
     let mut room = [0u8; MAX_RECORD];
     let mut j = n;
@@ -104,7 +115,7 @@ fn is_among(
         j -= 1;
         let from = starts[j];
         let upto = ends[j];
-        if has_name(d, name, &file[from..upto], &mut room) {
+        if has_key(d, rule, key, &file[from..upto], &mut room) {
             return true;
         }
     }
@@ -112,31 +123,50 @@ fn is_among(
 }
 
 // Whether the name of cell n repeats an earlier one.
-fn repeats(d: Dialect, file: &[u8], starts: &[usize], ends: &[usize], n: usize) -> bool
+fn repeats(
+    d: Dialect,
+    rule: Dialect,
+    file: &[u8],
+    starts: &[usize],
+    ends: &[usize],
+    n: usize,
+) -> bool
     requires { ⌜ Inside (length (now file)) (now starts) (now ends) ⌝ }
     requires { ⌜ n < length (now starts) ⌝ }
-    ensures { λ r. ⌜ r ≡ among (keyAt d (now (file .entry)) (getD (now (starts .entry)) n 0) (getD (now (ends .entry)) n 0))
-        (keysBefore d (now (file .entry)) (now (starts .entry)) (now (ends .entry)) n) ⌝ }
+    ensures { λ r. ⌜ r ≡ among (keyAt d rule (now (file .entry)) (getD (now (starts .entry)) n 0) (getD (now (ends .entry)) n 0))
+        (keysBefore d rule (now (file .entry)) (now (starts .entry)) (now (ends .entry)) n) ⌝ }
 {
     let from = starts[n];
     let upto = ends[n];
     let mut room = [0u8; MAX_RECORD];
-    let size = put_name(d, &file[from..upto], &mut room);
-    is_among(d, &room[..size], file, starts, ends, n)
+    let size = put_key(d, rule, &file[from..upto], &mut room);
+    is_among(d, rule, &room[..size], file, starts, ends, n)
 }
 
-// The first name that repeats an earlier one.
-pub fn first_repeat(d: Dialect, file: &[u8], starts: &[usize], ends: &[usize]) -> Verdict
+// Whether a name repeats an earlier one, and the column of the first that does.
+pub enum Repeat {
+    NoRepeat,
+    AtColumn(usize),
+}
+
+// The first name that repeats an earlier one by this rule, which need not be that of the dialect in which the names are spelt. The
+// fault is the caller's: 6 by the rule of the source, 9 by that of the target (§6.6 §8.4).
+pub fn first_repeat(
+    d: Dialect,
+    rule: Dialect,
+    file: &[u8],
+    starts: &[usize],
+    ends: &[usize],
+) -> Repeat
     requires { ⌜ Inside (length (now file)) (now starts) (now ends) ⌝ }
-    ensures { λ r. ⌜ r ≡ repeatFault d Fault.RepeatedName (valuesOf d (now (file .entry)) (now (starts .entry)) (now (ends .entry))) ⌝ }
+    ensures { λ r. ⌜ ((fault : ℕ → Fault) → repeatedAs fault r ≡ repeatFault rule fault (valuesOf d (now (file .entry)) (now (starts .entry)) (now (ends .entry)))) ⌝ }
 {
     let mut n = 0;
     while n < starts.len() {
-        if repeats(d, file, starts, ends, n) {
-            let column = n + 1;
-            return Verdict::Faulty(Fault::RepeatedName { column });
+        if repeats(d, rule, file, starts, ends, n) {
+            return Repeat::AtColumn(n + 1);
         }
         n += 1;
     }
-    Verdict::Sound
+    Repeat::NoRepeat
 }

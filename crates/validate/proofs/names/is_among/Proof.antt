@@ -1,24 +1,24 @@
--- `validate::names::is_among` meets its contract. The invariant: the name is among the first n exactly when it is among those that are left.
+-- `validate::names::is_among` meets its contract. The invariant: the key is among the first n exactly when it is among those that are left.
 -- Assumes nothing.
 use mathlib.Core.Path.{_≡_, refl, sym, _∙_}
 use Prim.Native.Nat.{_-_, _≤_}
 use native.Mathlib.Omega.{arith}
 use lib.ListN.{length, getD}
 use Rattle.model.specs.Report.{MAXRECORD}
-use Rattle.model.specs.Records.{nameKey, among}
+use Rattle.model.specs.Records.{among}
 use Rattle.validate.specs.Cells.{Stretch}
 use Rattle.validate.specs.Keys.{keysBefore}
-use Rattle.validate.proofs.Cells.{part-fits}
+use Rattle.validate.proofs.Cells.{part-short}
 use Rattle.validate.proofs.Keys.{among-none, among-last, among-before}
 use Rattle.validate.proofs.names.is_among.Statement.{statement}
 use Rattle.validate.proofs.names.is_among.Tie as tie
 
 abbrev Inv-loop : tie.InvT-loop
-Inv-loop d name file starts ends n room₀ j₀ room j =
-    (j ≤ length starts) × (length room ≡ MAXRECORD) × (among (nameKey d name) (keysBefore d file starts ends n) ≡ among (nameKey d name) (keysBefore d file starts ends j))
+Inv-loop d rule key file starts ends n room₀ j₀ room j =
+    (j ≤ length starts) × (length room ≡ MAXRECORD) × (among key (keysBefore d rule file starts ends n) ≡ among key (keysBefore d rule file starts ends j))
 
 abbrev μ-loop : tie.MeasureT-loop
-μ-loop d name file starts ends n room₀ j₀ room j = j
+μ-loop d rule key file starts ends n room₀ j₀ room j = j
 
 loop-holds : tie.Need-loop-holds Inv-loop μ-loop
 loop-holds c = (c .before .before .before .before .pre .1, refl, refl)
@@ -35,40 +35,39 @@ before-j : (c : tie.After-shared-slice-known6 Inv-loop μ-loop)
     Stretch (length (s .file .now)) (getD (s .starts .now) (j - 1) 0) (getD (s .ends .now) (j - 1) 0)
 before-j c = c .before .before .before .before .before .before .before .before .pre .0 .each (c .before .before .before .loop .j - 1) (omega arith)
 
-sub-has-name : tie.Need-sub-has-name Inv-loop μ-loop
-sub-has-name c = before-j c .forward
+sub-has-key : tie.Need-sub-has-key Inv-loop μ-loop
+sub-has-key c = before-j c .forward
 
-part-has-name-start : tie.Need-part-has-name-start Inv-loop μ-loop
-part-has-name-start c = before-j c .forward
+part-has-key-start : tie.Need-part-has-key-start Inv-loop μ-loop
+part-has-key-start c = before-j c .forward
 
-part-has-name-end : tie.Need-part-has-name-end Inv-loop μ-loop
-part-has-name-end c = before-j c .within
+part-has-key-end : tie.Need-part-has-key-end Inv-loop μ-loop
+part-has-key-end c = before-j c .within
 
-has-name-requires : tie.Need-has-name-requires Inv-loop μ-loop
-has-name-requires c κs =
-    let l = c .before .before .before .before .before .loop in
-    part-fits _ _ _ (before-j (c .before .before)) (l .room) (l .inv .1)
+has-key-requires : tie.Need-has-key-requires Inv-loop μ-loop
+has-key-requires c κs =
+    (part-short _ _ _ (before-j (c .before .before)), c .before .before .before .before .before .loop .inv .1)
 
 returns : tie.Need-returns Inv-loop μ-loop
 returns c =
     let s = c .before .before .before .before .before .before .before .before .before .before .before .before .before .args in
     let l = c .before .before .before .before .before .before .before .before .loop in
-    sym (l .inv .2 ∙ among-last (s .d) (s .file .now) (s .starts .now) (s .ends .now) (nameKey (s .d) (s .name .now)) (l .j) (omega arith) (sym (c .before .before .has-name .ensures) ∙ c .if1 .taken))
+    sym (l .inv .2 ∙ among-last (s .d) (s .rule) (s .file .now) (s .starts .now) (s .ends .now) (s .key .now) (l .j) (omega arith) (sym (c .before .before .has-key .ensures) ∙ c .if1 .taken))
 
 loop-again : tie.Need-loop-again Inv-loop μ-loop
 loop-again c =
     let s = c .before .before .before .before .before .before .before .before .before .before .before .before .before .args in
     let l = c .before .before .before .before .before .before .before .before .loop in (
       omega arith,
-      c .before .before .has-name .kept .1 .1 .1 .0 ∙ l .inv .1,
-      l .inv .2 ∙ among-before (s .d) (s .file .now) (s .starts .now) (s .ends .now) (nameKey (s .d) (s .name .now)) (l .j) (omega arith) (sym (c .before .before .has-name .ensures) ∙ c .if1 .left),
+      c .before .before .has-key .kept .1 .1 .1 .1 .0 ∙ l .inv .1,
+      l .inv .2 ∙ among-before (s .d) (s .rule) (s .file .now) (s .starts .now) (s .ends .now) (s .key .now) (l .j) (omega arith) (sym (c .before .before .has-key .ensures) ∙ c .if1 .left),
     )
 
 returns-2 : tie.Need-returns-2 Inv-loop μ-loop
 returns-2 c =
     let s = c .before .before .before .before .before .before .args in
     let none : c .before .loop .j ≡ 0 = omega arith in
-    sym (c .before .loop .inv .2 ∙ rw none (among-none (s .d) (s .file .now) (s .starts .now) (s .ends .now) (nameKey (s .d) (s .name .now))))
+    sym (c .before .loop .inv .2 ∙ rw none (among-none (s .d) (s .rule) (s .file .now) (s .starts .now) (s .ends .now) (s .key .now)))
 
 pub is-among-spec : {M : Type 1} → statement M
 is-among-spec =
@@ -82,11 +81,11 @@ is-among-spec =
     (λ c. omega arith)
     (λ c. omega arith)
     shared-slice-read-upto
-    sub-has-name
-    part-has-name-start
-    part-has-name-end
+    sub-has-key
+    part-has-key-start
+    part-has-key-end
     (λ c. omega arith)
-    has-name-requires
+    has-key-requires
     returns
     (λ c. omega arith)
     loop-again

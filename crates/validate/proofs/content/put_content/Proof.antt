@@ -1,9 +1,9 @@
--- `validate::names::put_name` meets its contract: the decoder refuses nothing here, and what it answers is the content.
+-- `validate::content::put_content` meets its contract: the decoder refuses nothing here, and what it answers is the content.
 -- Assumes nothing.
 use borrow.Author.Needs.{needs}
 use Rattle.validate.proofs.Decoding.{never-refused, decoded}
-use Rattle.validate.proofs.names.put_name.Statement.{statement}
-use Rattle.validate.proofs.names.put_name.Tie as tie
+use Rattle.validate.proofs.content.put_content.Statement.{statement}
+use Rattle.validate.proofs.content.put_content.Tie as tie
 
 returns : tie.Need-returns
 returns c =
@@ -17,8 +17,8 @@ returns-2 c =
     let s = at-decode-sound .before .before .before .before in
     decoded (s .args .d) (s .args .raw .now) (s .args .room .now) (s .pre) (at-decode-sound .decode-sound .result) _ _ _ (c .before .size .given .1) (at-decode-sound .decode-sound .ensures)
 
-pub put-name-spec : {M : Type 1} → statement M
-put-name-spec =
+pub put-content-spec : {M : Type 1} → statement M
+put-content-spec =
     tie.close
     (tie.spec
     (λ c κs. search needs)
