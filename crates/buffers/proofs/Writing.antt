@@ -1,16 +1,20 @@
 -- A writer's progress as one record: what the room holds, and what is still to come. A turn of a loop is one law.
 -- Assumes nothing.
 use mathlib.Core.Path.{_≡_, refl, sym, ap, ap₂, _∙_}
-use mathlib.Core.List.{[], _∷_, _++_, append-assoc, append-nil}
+use mathlib.Core.Bool.{Bool, true, false}
+use mathlib.Core.List.{List, [], _∷_, _++_, append-assoc, append-nil}
 use Prim.Native.Nat.{ℕ, _+_, _≤_, _<_}
 use native.Mathlib.Nat.{add-zero, add-assoc}
 use native.Mathlib.Numerals.{add-one}
 use native.Mathlib.Omega.{arith}
-use lib.ListN.{length, take, drop, set, length-append, length-take, length-drop, take-append-drop}
-use lib.Seq.{take-at, drop-at, drop-drop, set-split}
-use Rattle.model.specs.Base.{Bytes, over}
-use Rattle.decoder.specs.Strings.{stringFrom}
-use Rattle.decoder.specs.Wrote.{written, Turned}
+use lib.ListN.{length, take, drop, getD, set, length-append, length-take, length-drop, take-append-drop}
+use lib.Seq.{take-at, drop-at, drop-drop, drop-cons, set-split}
+use Rattle.model.specs.Base.{Bytes, over, if_then_else_}
+use Rattle.buffers.specs.Wrote.{written, Room, Put}
+
+-- a list from a place on, by its next element
+pub drop-next : (xs : List ℕ) (i j : ℕ) → i < length xs → i + 1 ≡ j → drop i xs ≡ getD xs i 0 ∷ drop j xs
+drop-next xs i j h n = rw (← n, add-one, drop-cons xs i 0)
 
 pub length-written : (d : Bytes) (at : ℕ) (w : Bytes) → at + length w ≤ length d → length (written d at w) ≡ length d
 length-written d at w h = simp (length-append, length-take, length-drop) (omega arith)
@@ -32,7 +36,7 @@ written-more d at w v h =
     ∙ simp (append-assoc, length-append, add-assoc)
 
 -- a store is a text of one byte
-set-written : (l : Bytes) (o x : ℕ) → o < length l → set l o x ≡ written l o (x ∷ [])
+pub set-written : (l : Bytes) (o x : ℕ) → o < length l → set l o x ≡ written l o (x ∷ [])
 set-written l o x h = set-split l o x h ∙ ap (λ (k : ℕ). take o l ++ (x ∷ drop k l)) (sym (add-one o))
 
 -- old is being written over from at with the text whole: out is what it holds now, o the next place, and rest what is still to come
@@ -73,11 +77,6 @@ module _ {old : Bytes} {at : ℕ} {whole out : Bytes} {o : ℕ} where
   pub room-left : {rest : Bytes} → Writing old at whole out o rest → o + length rest ≤ length out
   room-left p = omega (arith, p .place, p .long, p .room)
 
-  -- a part of a string goes out
-  pub turned : (raw : Bytes) (i : ℕ) → Writing old at whole out o (stringFrom raw i)
-      → {new : Bytes} {read write : ℕ} → Turned raw i out o new read write → Writing old at whole new write (stringFrom raw read)
-  turned raw i p t = rw (t .text, t .place) (put (t .w) (rw (t .stands) at p))
-
   -- nothing is left
   pub done : Writing old at whole out o [] → (o ≡ at + length whole) × (out ≡ written old at whole)
   done p =
@@ -90,3 +89,14 @@ written-first old w = let from-zero : 0 + length w ≡ length w = omega arith in
 
 pub filled : {old whole out : Bytes} {o : ℕ} → Writing old 0 whole out o [] → out ≡ over whole old
 filled {old} {whole} p = done p .1 ∙ written-first old whole
+
+-- ---- written, or only measured
+
+module _ {write : Bool} {old : Bytes} {o : ℕ} {w new : Bytes} {r : ℕ} where
+  pub put-written : write ≡ true → (r ≡ o + length w) × (new ≡ written old o w) → Put write old o w new r
+  unfolding if_then_else_
+  put-written e p = record { place = p .0; text = rw e (p .1) }
+
+  pub put-measured : write ≡ false → r ≡ o + length w → new ≡ old → Put write old o w new r
+  unfolding if_then_else_
+  put-measured e p q = record { place = p; text = rw e q }
