@@ -2,4 +2,5 @@
 // (run.rt); what stops a run is a unit of content, and escape.rt has the text of one in each target.
 //
 // The definitions are model's specs/Text.antt. A rule that changes there changes a law of proofs/, and no loop.
+mod escape;
 mod run;
