@@ -16,6 +16,10 @@ use Rattle.buffers.specs.Wrote.{written, Room, Put}
 pub drop-next : (xs : List ℕ) (i j : ℕ) → i < length xs → i + 1 ≡ j → drop i xs ≡ getD xs i 0 ∷ drop j xs
 drop-next xs i j h n = rw (← n, add-one, drop-cons xs i 0)
 
+-- a list of which n elements can be taken has them
+pub taken-whole : (n : ℕ) (l : Bytes) → length (take n l) ≡ n → n ≤ length l
+taken-whole n l e = omega (arith, length-take n l, e)
+
 pub length-written : (d : Bytes) (at : ℕ) (w : Bytes) → at + length w ≤ length d → length (written d at w) ≡ length d
 length-written d at w h = simp (length-append, length-take, length-drop) (omega arith)
 
@@ -100,3 +104,10 @@ module _ {write : Bool} {old : Bytes} {o : ℕ} {w new : Bytes} {r : ℕ} where
   pub put-measured : write ≡ false → r ≡ o + length w → new ≡ old → Put write old o w new r
   unfolding if_then_else_
   put-measured e p q = record { place = p; text = rw e q }
+
+-- the same text by another name
+pub room-as : {write : Bool} {o : ℕ} {w v out : Bytes} → w ≡ v → Room write o v out → Room write o w out
+room-as e p = rw e p
+
+pub put-as : {write : Bool} {old : Bytes} {o : ℕ} {w v new : Bytes} {r : ℕ} → w ≡ v → Put write old o v new r → Put write old o w new r
+put-as e p = rw e p

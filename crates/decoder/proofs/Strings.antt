@@ -245,9 +245,6 @@ module _ (raw : Bytes) (i h : ℕ) (u : UnitThere raw i) (e : h ≡ unitAt raw (
 pub goes-length : {raw : Bytes} {i : ℕ} {bytes : Bytes} {size next : ℕ} → Goes raw i bytes size next → length (stringFrom raw i) ≡ size + length (stringFrom raw next)
 goes-length {raw} {i} {bytes} {size} {next} g = ap length (g .stands) ∙ length-append (take size bytes) (stringFrom raw next) ∙ ap (λ (n : ℕ). n + length (stringFrom raw next)) (g .sized)
 
-pub taken-whole : (n : ℕ) (l : Bytes) → length (take n l) ≡ n → n ≤ length l
-taken-whole n l e = omega (arith, length-take n l, e)
-
 -- ---- what a string says at a place
 
 module _ (raw : Bytes) (i : ℕ) where

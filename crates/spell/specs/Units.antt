@@ -22,6 +22,11 @@ bodyText Csvj bs = jsonBody bs
 bodyText Tdif bs = doubled QUOTE bs
 bodyText (CsvPlus s) bs = doubled (quoteOf (CsvPlus s)) bs
 
+-- the first byte of a character of two or four bytes
+pub record Lead (a : ℕ) : Type 0 where
+  pub least : 0x80 ≤ a
+  pub other : a ≡ 0xED → ⊥
+
 -- a byte after the first of a character
 pub record Later (b : ℕ) : Type 0 where
   pub least : 0x80 ≤ b
@@ -30,9 +35,9 @@ pub record Later (b : ℕ) : Type 0 where
 -- a unit of content; a character of three bytes may be a lone surrogate
 pub data Unit : Bytes → Type 0 where
   one : (b : ℕ) → Unit (b ∷ [])
-  two : (a b : ℕ) → 0x80 ≤ a → Later b → Unit (a ∷ b ∷ [])
+  two : (a b : ℕ) → Lead a → Later b → Unit (a ∷ b ∷ [])
   three : (a b c : ℕ) → 0x80 ≤ a → Later b → Later c → Unit (a ∷ b ∷ c ∷ [])
-  four : (a b c d : ℕ) → 0x80 ≤ a → Later b → Later c → Later d → Unit (a ∷ b ∷ c ∷ d ∷ [])
+  four : (a b c d : ℕ) → Lead a → Later b → Later c → Later d → Unit (a ∷ b ∷ c ∷ d ∷ [])
 
 -- a unit is a lone surrogate
 abbrev pub isLone : Bytes → Bool
@@ -41,3 +46,10 @@ isLone (a ∷ []) = false
 isLone (a ∷ b ∷ []) = false
 isLone (a ∷ b ∷ c ∷ []) = isSurrogate a b
 isLone (a ∷ b ∷ c ∷ d ∷ bs) = false
+
+-- content begins with a lone surrogate
+abbrev pub beginsLone : Bytes → Bool
+beginsLone [] = false
+beginsLone (a ∷ []) = false
+beginsLone (a ∷ b ∷ []) = false
+beginsLone (a ∷ b ∷ c ∷ bs) = isSurrogate a b

@@ -4,6 +4,7 @@ ghost use mathlib.Core.List.{[], _∷_};
 ghost use Prim.Native.Nat.{_<_, _≤_};
 ghost use lib.ListN.{take};
 ghost use Rattle.model.specs.Base.{BACKSLASH};
+ghost use Rattle.model.specs.Dialect.{isCsvj};
 ghost use Rattle.model.specs.Text.{hexDigit, escaped, surrogate, doubled};
 ghost use Rattle.buffers.specs.Wrote.{Room, Put};
 ghost use Rattle.spell.specs.Units.{Spells, Unit, isLone, bodyText};
@@ -117,4 +118,78 @@ fn double(q: u8, b: u8) -> UnitText
         };
     }
     itself(b)
+}
+
+// ---- units
+
+fn byte_text(t: Dialect, b: u8) -> UnitText
+    ensures { λ r. ⌜ Spells (bodyText t (b ∷ [])) (r .bytes) (r .size) ⌝ }
+{
+    let q = cell_lexer::quote_of(t);
+    match t {
+        Dialect::Csvj => escape(b),
+        Dialect::Tdif => double(q, b),
+        Dialect::CsvPlus(_) => double(q, b),
+    }
+}
+
+// Whether a unit, the first `size` of `bytes`, is a lone surrogate.
+pub fn is_lone(bytes: [u8; 4], size: usize) -> bool
+    requires { ⌜ size ≤ 4 ⌝ }
+    ensures { λ r. ⌜ r ≡ isLone (take size bytes) ⌝ }
+{
+    if size != 3 {
+        return false;
+    }
+    if bytes[0] != 0xED {
+        return false;
+    }
+    0xA0 <= bytes[1]
+}
+
+fn is_csvj(t: Dialect) -> bool
+    ensures { λ r. ⌜ r ≡ isCsvj t ⌝ }
+{
+    match t {
+        Dialect::Csvj => true,
+        Dialect::Tdif => false,
+        Dialect::CsvPlus(_) => false,
+    }
+}
+
+fn unit_text(t: Dialect, bytes: [u8; 4], size: usize) -> UnitText
+    requires { ⌜ (size ≤ 4) × Unit (take size bytes) ⌝ }
+    ensures { λ r. ⌜ Spells (bodyText t (take size bytes)) (r .bytes) (r .size) ⌝ }
+{
+    if size == 1 {
+        return byte_text(t, bytes[0]);
+    }
+    if is_csvj(t) {
+        if is_lone(bytes, size) {
+            return lone(bytes[1], bytes[2]);
+        }
+    }
+    UnitText {
+        bytes: [bytes[0], bytes[1], bytes[2], bytes[3], 0, 0],
+        size,
+    }
+}
+
+// The text of a unit, the first `size` of `bytes`, at o, or only measured from there.
+pub fn put_unit(
+    t: Dialect,
+    bytes: [u8; 4],
+    size: usize,
+    out: &mut [u8],
+    o: usize,
+    write: bool,
+) -> usize
+    requires { ⌜ (size ≤ 4) × Unit (take size bytes) ⌝ }
+    requires { ⌜ Room write o (bodyText t (take size bytes)) (now out) ⌝ }
+    ensures { λ r. ⌜ Put write (now (out .entry)) o (bodyText t (take size bytes)) (now (out .exit)) r ⌝ }
+{
+    let text = unit_text(t, bytes, size);
+    let spelt = text.bytes;
+    let length = text.size;
+    buffers::put(out, o, &spelt[..length], write)
 }

@@ -4,7 +4,8 @@ use mathlib.Core.Path.{sym}
 use native.Mathlib.Omega.{arith}
 use lib.ListN.{take}
 use borrow.Author.Needs.{needs}
-use Rattle.decoder.proofs.Strings.{goes-length, taken-whole}
+use Rattle.buffers.proofs.Writing.{taken-whole}
+use Rattle.decoder.proofs.Strings.{goes-length}
 use Rattle.decoder.proofs.content.put_escape.Statement.{statement}
 use Rattle.decoder.proofs.content.put_escape.Tie as tie
 
