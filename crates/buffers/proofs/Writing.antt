@@ -111,3 +111,65 @@ room-as e p = rw e p
 
 pub put-as : {write : Bool} {old : Bytes} {o : ℕ} {w v new : Bytes} {r : ℕ} → w ≡ v → Put write old o v new r → Put write old o w new r
 put-as e p = rw e p
+
+-- ---- a text in parts, written or only measured
+
+length-put : (write : Bool) {old : Bytes} {o : ℕ} {w new : Bytes} {r : ℕ} → Room write o w old → Put write old o w new r → length new ≡ length old
+unfolding if_then_else_
+length-put true {old} {o} {w} h p = ap length (p .text) ∙ length-written old o w (h .inside refl)
+length-put false h p = ap length (p .text)
+
+-- w was put, and v is put after it
+put-then : (write : Bool) {old : Bytes} {at : ℕ} {w mid : Bytes} {o : ℕ} {v new : Bytes} {r : ℕ}
+    → Room write at (w ++ v) old → Put write old at w mid o → Put write mid o v new r → Put write old at (w ++ v) new r
+unfolding if_then_else_
+put-then true {old} {at} {w} {mid} {o} {v} {new} {r} h p q =
+    let fits : at + (length w + length v) ≤ length old = rw length-append at (h .inside refl) in
+    record {
+      place = simp length-append (omega (arith, p .place, q .place));
+      text = q .text ∙ rw (p .text, p .place) (written-more old at w v (omega arith));
+    }
+put-then false {old} {at} {w} {mid} {o} {v} {new} {r} h p q =
+    record { place = simp length-append (omega (arith, p .place, q .place)); text = q .text ∙ p .text }
+
+-- as `Writing`, where the text may be only measured
+pub record Putting (write : Bool) (old : Bytes) (at : ℕ) (whole out : Bytes) (o : ℕ) (rest : Bytes) : Type 0 where
+  pub w : Bytes
+  pub so-far : Put write old at w out o
+  pub left : w ++ rest ≡ whole
+  pub room : Room write at whole old
+
+pub putting : (write : Bool) {old : Bytes} {at : ℕ} {whole : Bytes} → Room write at whole old → Putting write old at whole old at whole
+unfolding if_then_else_
+putting true {old} {at} h = record { w = []; so-far = record { place = omega arith; text = sym (written-nil old at) }; left = refl; room = h }
+putting false h = record { w = []; so-far = record { place = omega arith; text = refl }; left = refl; room = h }
+
+module _ {write : Bool} {old : Bytes} {at : ℕ} {whole out : Bytes} {o : ℕ} where
+  so-long : {rest : Bytes} (p : Putting write old at whole out o rest) → length whole ≡ length (p .w) + length rest
+  so-long {rest} p = sym (ap length (p .left)) ∙ length-append (p .w) rest
+
+  room-before : {rest : Bytes} (p : Putting write old at whole out o rest) → Room write at (p .w) old
+  room-before p = record { counts = omega (arith, so-long p, p .room .counts); inside = λ e. omega (arith, so-long p, p .room .inside e) }
+
+  pub same-long : {rest : Bytes} → Putting write old at whole out o rest → length out ≡ length old
+  same-long p = length-put write (room-before p) (p .so-far)
+
+  -- there is room for the next part, and it goes out
+  pub room-next : (v rest : Bytes) → Putting write old at whole out o (v ++ rest) → Room write o v out
+  room-next v rest p =
+      let all : length whole ≡ length (p .w) + (length v + length rest) = rw length-append at (so-long p) in
+      record {
+        counts = omega (arith, all, p .room .counts, p .so-far .place);
+        inside = λ e. omega (arith, all, p .room .inside e, p .so-far .place, same-long p);
+      }
+
+  pub put-next : (v : Bytes) {rest new : Bytes} {r : ℕ} → Putting write old at whole out o (v ++ rest) → Put write out o v new r → Putting write old at whole new r rest
+  put-next v {rest} p q =
+      let all : length whole ≡ length (p .w) + (length v + length rest) = rw length-append at (so-long p) in
+      let both : Room write at (p .w ++ v) old =
+      record { counts = simp length-append (omega (arith, all, p .room .counts)); inside = λ e. simp length-append (omega (arith, all, p .room .inside e)) } in
+      record { w = p .w ++ v; so-far = put-then write both (p .so-far) q; left = append-assoc (p .w) v rest ∙ p .left; room = p .room }
+
+  -- nothing is left
+  pub put-whole : Putting write old at whole out o [] → Put write old at whole out o
+  put-whole p = put-as (sym (p .left) ∙ append-nil (p .w)) (p .so-far)

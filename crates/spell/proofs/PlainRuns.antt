@@ -1,17 +1,21 @@
 -- Runs by place, and what the definitions of canonical text make of a run: the run itself.
 -- Assumes nothing.
-use mathlib.Core.Path.{_≡_, refl}
+use mathlib.Core.Path.{_≡_, refl, ap, _∙_}
 use mathlib.Core.Bool.{Bool, true, false, not}
-use mathlib.Core.List.{[], _∷_}
+use mathlib.Core.List.{[], _∷_, _++_}
 use Prim.Native.Nat.{ℕ, _+_, _≤_, _<_}
 use native.Mathlib.Omega.{arith}
 use lib.Dec.{leb}
-use lib.ListN.{length, drop, getD, drop-of-length-le}
+use lib.ListN.{length, take, drop, getD, drop-of-length-le}
 use Rattle.model.specs.Base.{Bytes, if_then_else_, _is_, QUOTE, BACKSLASH}
+use Rattle.model.specs.declared.Dialect.{Dialect}
+use Rattle.model.specs.declared.Dialect.the-variants.{Csvj, Tdif, CsvPlus}
+use Rattle.model.specs.Dialect.{quoteOf}
 use Rattle.model.specs.Text.{escaped, jsonBody, doubled}
-use Rattle.model.proofs.Tests.{and-true, impossible}
+use Rattle.model.proofs.Tests.{split-on, and-true, impossible}
 use Rattle.buffers.proofs.Writing.{drop-next}
 use Rattle.spell.specs.PlainRuns.{isPlain, plainRun}
+use Rattle.spell.specs.Units.{bodyText}
 
 module _ (p q : ℕ) (s : Bytes) (i : ℕ) where
   pub run-on : i < length s → isPlain p q (getD s i 0) ≡ true → i + plainRun p q (drop i s) ≡ (i + 1) + plainRun p q (drop (i + 1) s)
@@ -25,6 +29,14 @@ module _ (p q : ℕ) (s : Bytes) (i : ℕ) where
   pub run-ends : length s ≤ i → i + plainRun p q (drop i s) ≡ i
   unfolding plainRun
   run-ends h = rw (drop-of-length-le s h) (omega arith)
+
+-- a run lies in its bytes
+pub run-inside : (p q : ℕ) (bs : Bytes) → plainRun p q bs ≤ length bs
+unfolding plainRun if_then_else_
+run-inside p q [] = omega arith
+run-inside p q (b ∷ bs) =
+    let h : plainRun p q bs ≤ length bs = run-inside p q bs in
+    split-on (isPlain p q b) (λ e. rw e (omega arith)) (λ e. rw e (omega arith))
 
 -- ---- a run is its own text
 
@@ -66,3 +78,17 @@ body-plain p q b (c ∷ d ∷ bs) t = rw (t .no-lone, escaped-plain p q b t)
 pub doubled-plain : (u b : ℕ) (bs : Bytes) → (b is u) ≡ false → doubled u (b ∷ bs) ≡ b ∷ doubled u bs
 unfolding doubled if_then_else_
 doubled-plain u b bs e = rw e
+
+-- a run goes out as it is, before the text of the rest, in a target whose quote stops it
+text-byte : (t : Dialect) (p b : ℕ) (bs : Bytes) → Plain p (quoteOf t) b → bodyText t (b ∷ bs) ≡ b ∷ bodyText t bs
+text-byte Csvj p b bs h = body-plain p QUOTE b bs h
+text-byte Tdif p b bs h = doubled-plain QUOTE b bs (h .no-second)
+text-byte (CsvPlus s) p b bs h = doubled-plain (quoteOf (CsvPlus s)) b bs (h .no-second)
+
+pub text-run : (t : Dialect) (p : ℕ) (bs : Bytes) → let n = plainRun p (quoteOf t) bs in bodyText t bs ≡ take n bs ++ bodyText t (drop n bs)
+unfolding plainRun if_then_else_
+text-run t p [] = refl
+text-run t p (b ∷ bs) =
+    split-on (isPlain p (quoteOf t) b)
+    (λ e. rw e (text-byte t p b bs (plain-is p (quoteOf t) b e) ∙ ap (λ (l : Bytes). b ∷ l) (text-run t p bs)))
+    (λ e. rw e)

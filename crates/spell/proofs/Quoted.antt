@@ -3,28 +3,21 @@
 use mathlib.Core.Path.{_≡_, refl, sym, ap, _∙_}
 use mathlib.Core.Bool.{Bool, true, false, _&&_, _||_, and-false}
 use mathlib.Core.List.{[], _∷_}
-use Prim.Native.Nat.{ℕ, suc, _+_, _≤_, _<_}
+use Prim.Native.Nat.{ℕ, _+_, _≤_, _<_}
 use native.Mathlib.Omega.{arith}
-use lib.ListN.{length, drop, getD, drop-of-length-le, length-drop}
+use lib.ListN.{length, drop, getD, drop-of-length-le}
 use lib.Seq.{drop-drop}
 use borrow.Author.Tests.{eq-eqb, ne-eqb, leb-true}
 use Rattle.model.specs.declared.Settings.{Settings}
 use Rattle.model.specs.declared.Dialect.the-variants.{CsvPlus}
 use Rattle.model.specs.Base.{Bytes, if_then_else_, _is_, CR, LF, holds, isEmpty}
 use Rattle.model.specs.Dialect.{quoteOf, delimiterOf}
-use Rattle.model.specs.Text.{special, beginsMark}
+use Rattle.model.specs.Text.{special, beginsMark, quotedText, csvPlusCell}
 use Rattle.model.proofs.Tests.{split-on}
 use Rattle.buffers.proofs.Writing.{drop-next}
 use Rattle.spell.specs.Quoted.{hasQuotes}
 use Rattle.spell.specs.PlainRuns.{isPlain, plainRun}
 use Rattle.spell.proofs.PlainRuns.{Plain, plain-is}
-
-pub run-inside : (p q : ℕ) (bs : Bytes) → plainRun p q bs ≤ length bs
-unfolding plainRun if_then_else_
-run-inside p q [] = omega arith
-run-inside p q (b ∷ bs) =
-    let h : plainRun p q bs ≤ length bs = run-inside p q bs in
-    split-on (isPlain p q b) (λ e. rw e (omega arith)) (λ e. rw e (omega arith))
 
 module _ (s : Settings) where
   abbrev Q : ℕ
@@ -129,3 +122,8 @@ module _ (s : Settings) (only first : Bool) (c : Bytes) where
 
   pub not-empty : (length c ≡ 0 → ⊥) → (only && isEmpty c) ≡ false
   not-empty h = rw (some c h) (and-false only)
+
+-- by this test CSV+ writes a cell in quotes
+pub cell-by : (s : Settings) (only first : Bool) (c : Bytes) → csvPlusCell s only first c ≡ (if hasQuotes s only first c then quotedText (quoteOf (CsvPlus s)) c else c)
+unfolding csvPlusCell
+cell-by s only first c = refl
