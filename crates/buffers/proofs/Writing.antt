@@ -163,6 +163,9 @@ module _ {write : Bool} {old : Bytes} {at : ℕ} {whole out : Bytes} {o : ℕ} w
         inside = λ e. omega (arith, all, p .room .inside e, p .so-far .place, same-long p);
       }
 
+  pub room-rest : {rest : Bytes} → Putting write old at whole out o rest → Room write o rest out
+  room-rest {rest} p = room-next rest [] (rw append-nil p)
+
   pub put-next : (v : Bytes) {rest new : Bytes} {r : ℕ} → Putting write old at whole out o (v ++ rest) → Put write out o v new r → Putting write old at whole new r rest
   put-next v {rest} p q =
       let all : length whole ≡ length (p .w) + (length v + length rest) = rw length-append at (so-long p) in

@@ -67,10 +67,10 @@ lone-spells e f g = record { spells = cc; sized = refl }
 
 -- ---- a lone surrogate
 
-no-surrogate : (a b : ℕ) → (a ≡ 0xED → ⊥) → isSurrogate a b ≡ false
+pub no-surrogate : (a b : ℕ) → (a ≡ 0xED → ⊥) → isSurrogate a b ≡ false
 no-surrogate a b e = rw (ne-eqb a 0xED e)
 
-surrogate-by : (a b : ℕ) → a ≡ 0xED → isSurrogate a b ≡ leb 0xA0 b
+pub surrogate-by : (a b : ℕ) → a ≡ 0xED → isSurrogate a b ≡ leb 0xA0 b
 surrogate-by a b e = rw (eq-eqb a 0xED e)
 
 -- the first bytes of a list that has them
@@ -205,7 +205,7 @@ body-later b bs h = body-byte b bs (begins-none b bs λ e. omega (arith, h .most
 body-lead : (a : ℕ) (bs : Bytes) → Lead a → jsonBody (a ∷ bs) ≡ escaped a ++ jsonBody bs
 body-lead a bs h = body-byte a bs (begins-none a bs (h .other))
 
-surrogate-append : (a b c : ℕ) (bs : Bytes) → isSurrogate a b ≡ true → jsonBody (a ∷ b ∷ c ∷ bs) ≡ surrogate b c ++ jsonBody bs
+pub surrogate-append : (a b c : ℕ) (bs : Bytes) → isSurrogate a b ≡ true → jsonBody (a ∷ b ∷ c ∷ bs) ≡ surrogate b c ++ jsonBody bs
 unfolding jsonBody if_then_else_
 surrogate-append a b c bs e = rw e
 

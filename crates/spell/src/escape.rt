@@ -1,7 +1,7 @@
 // The text of one unit of content between the quotes of a target: a byte, a character of more than one byte, or a lone surrogate.
 ghost use mathlib.Core.Path.{_≡_};
 ghost use mathlib.Core.List.{[], _∷_};
-ghost use Prim.Native.Nat.{_<_, _≤_};
+ghost use Prim.Native.Nat.{_-_, _<_, _≤_};
 ghost use lib.ListN.{take};
 ghost use Rattle.model.specs.Base.{BACKSLASH};
 ghost use Rattle.model.specs.Dialect.{isCsvj};
@@ -12,8 +12,8 @@ use model::Dialect;
 
 // The first `size` of `bytes`.
 pub struct UnitText {
-    bytes: [u8; 6],
-    size: usize,
+    pub bytes: [u8; 6],
+    pub size: usize,
 }
 
 // ---- strings of CSVJ
@@ -91,14 +91,24 @@ fn escape(b: u8) -> UnitText
     control(b)
 }
 
+// The bits of a later byte, none where it is no later byte.
+fn later_bits(c: u8) -> u8
+    ensures { λ r. ⌜ r ≡ c - 0x80 ⌝ }
+{
+    if c < 0x80 {
+        return 0;
+    }
+    c - 0x80
+}
+
 // The lone surrogate ED b c: \ud and three digits.
-fn lone(b: u8, c: u8) -> UnitText
-    requires { ⌜ (0x80 ≤ b) × (0x80 ≤ c) ⌝ }
+pub fn lone(b: u8, c: u8) -> UnitText
+    requires { ⌜ 0x80 ≤ b ⌝ }
     ensures { λ r. ⌜ Spells (surrogate b c) (r .bytes) (r .size) ⌝ }
 {
     let bits = (b - 0x80) % 0x40;
     let second = hex_digit(bits / 4);
-    let third = hex_digit(bits % 4 * 4 + (c - 0x80) / 0x10);
+    let third = hex_digit(bits % 4 * 4 + later_bits(c) / 0x10);
     let fourth = hex_digit(c % 0x10);
     UnitText {
         bytes: [0x5C, 0x75, 0x64, second, third, fourth],
@@ -122,7 +132,7 @@ fn double(q: u8, b: u8) -> UnitText
 
 // ---- units
 
-fn byte_text(t: Dialect, b: u8) -> UnitText
+pub fn byte_text(t: Dialect, b: u8) -> UnitText
     ensures { λ r. ⌜ Spells (bodyText t (b ∷ [])) (r .bytes) (r .size) ⌝ }
 {
     let q = cell_lexer::quote_of(t);
@@ -147,7 +157,7 @@ pub fn is_lone(bytes: [u8; 4], size: usize) -> bool
     0xA0 <= bytes[1]
 }
 
-fn is_csvj(t: Dialect) -> bool
+pub fn is_csvj(t: Dialect) -> bool
     ensures { λ r. ⌜ r ≡ isCsvj t ⌝ }
 {
     match t {

@@ -22,7 +22,7 @@ lone-requires : tie.Need-lone-requires
 lone-requires c κs =
     let start = c .before .before .before .before .before in
     let a = start .args in
-    lone-high (a .t2) (a .size) (omega (arith, start .pre .0)) (start .pre .1) (sym (c .before .is-lone .ensures) ∙ c .if3 .taken)
+    lone-high (a .t2) (a .size) (omega (arith, start .pre .0)) (start .pre .1) (sym (c .before .is-lone .ensures) ∙ c .if3 .taken) .0
 
 returns-2 : tie.Need-returns-2
 returns-2 c =
