@@ -5,7 +5,7 @@ use mathlib.Core.Bool.{true, false, and-false}
 use mathlib.Core.List.{List, [], _∷_, _++_, append-nil}
 use Prim.Native.Nat.{ℕ, _+_, _-_, _*_, _<_, _≤_}
 use native.Mathlib.Omega.{arith}
-use lib.ListN.{length, take, drop, getD, drop-of-length-le, length-append, length-take, length-drop}
+use lib.ListN.{length, take, drop, getD, drop-of-length-le, length-append, length-drop}
 use borrow.Author.Tests.{ne-eqb, le-leb, lt-leb}
 use Rattle.model.specs.Base.{if_then_else_, Bytes, _is_, within, QUOTE, BACKSLASH}
 use Rattle.model.specs.Utf8.{pack, joined, isHigh, isLow}

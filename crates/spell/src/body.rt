@@ -1,6 +1,6 @@
 // A content between the quotes of a target: the one loop, over runs and what stops them.
 ghost use mathlib.Core.Path.{_≡_};
-ghost use Prim.Native.Nat.{_-_, _<_, _≤_};
+ghost use Prim.Native.Nat.{_<_};
 ghost use lib.ListN.{length, drop};
 ghost use Rattle.buffers.specs.Wrote.{Room, Put};
 ghost use Rattle.spell.specs.Units.{bodyText, beginsLone};

@@ -1,7 +1,6 @@
 -- `spell::body::put` meets its contract. The invariant: what is still to be put is the text of the rest of the content.
 -- Assumes nothing.
-use mathlib.Core.Path.{_≡_, refl, sym, _∙_}
-use mathlib.Core.List.{[], _++_, append-nil}
+use mathlib.Core.List.{_++_}
 use Prim.Native.Nat.{_-_}
 use native.Mathlib.Omega.{arith}
 use lib.ListN.{length, take, drop}

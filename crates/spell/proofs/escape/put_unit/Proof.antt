@@ -1,7 +1,6 @@
 -- `spell::escape::put_unit` meets its contract: the text of the unit is put.
 -- Assumes nothing.
 use mathlib.Core.Path.{_≡_, sym, ap, _∙_}
-use native.Mathlib.Omega.{arith}
 use lib.ListN.{length, take}
 use borrow.Author.Needs.{needs}
 use Rattle.buffers.proofs.Writing.{taken-whole, room-as, put-as}

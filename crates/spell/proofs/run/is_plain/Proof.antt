@@ -1,6 +1,5 @@
 -- `spell::run::is_plain` meets its contract: it tests as the definition does.
 -- Assumes nothing.
-use Rattle.model.specs.Base.{if_then_else_}
 use Rattle.model.proofs.Tests.{tests}
 use Rattle.spell.specs.PlainRuns.{isPlain}
 use Rattle.spell.proofs.run.is_plain.Statement.{statement}

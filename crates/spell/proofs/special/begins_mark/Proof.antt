@@ -1,7 +1,6 @@
 -- `spell::special::begins_mark` meets its contract, by its tests.
 -- Assumes nothing.
 use mathlib.Core.Path.{sym}
-use native.Mathlib.Omega.{arith}
 use borrow.Author.Needs.{needs}
 use Rattle.spell.proofs.Quoted.{mark-short, mark-first, mark-second, mark-third}
 use Rattle.spell.proofs.special.begins_mark.Statement.{statement}

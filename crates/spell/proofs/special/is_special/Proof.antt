@@ -1,6 +1,6 @@
 -- `spell::special::is_special` meets its contract, by its tests.
 -- Assumes nothing.
-use mathlib.Core.Path.{_≡_, sym, _∙_}
+use mathlib.Core.Path.{sym, _∙_}
 use borrow.Author.Needs.{needs}
 use Rattle.spell.proofs.Quoted.{by-quote, by-delimiter, by-cr, by-lf}
 use Rattle.spell.proofs.special.is_special.Statement.{statement}
