@@ -8,7 +8,7 @@ use lib.ListN.{length, drop, getD, drop-of-length-le}
 use borrow.Author.Tests.{eq-eqb, ne-eqb}
 use Rattle.model.specs.Base.{if_then_else_, Bytes}
 use Rattle.model.specs.Decode.{undouble}
-use Rattle.decoder.proofs.Strings.{drop-next}
+use Rattle.buffers.proofs.Writing.{drop-next}
 
 pub at-end : (q : ℕ) (seen : Bool) (raw : Bytes) (i : ℕ) → length raw ≤ i → undouble q seen (drop i raw) ≡ []
 unfolding undouble

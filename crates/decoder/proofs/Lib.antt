@@ -1,5 +1,4 @@
 pub mod Strings
-pub mod Writing
 pub mod Doubled
 pub mod FirstByte
 pub mod Validating

@@ -4,23 +4,19 @@ use mathlib.Core.Path.{_≡_, refl, sym, ap, _∙_}
 use mathlib.Core.Bool.{true, false, and-false}
 use mathlib.Core.List.{List, [], _∷_, _++_, append-nil}
 use Prim.Native.Nat.{ℕ, _+_, _-_, _*_, _<_, _≤_}
-use native.Mathlib.Numerals.{add-one}
 use native.Mathlib.Omega.{arith}
-use lib.ListN.{length, take, drop, getD, drop-of-length-le, length-append, length-take, length-drop}
-use lib.Seq.{drop-cons}
+use lib.ListN.{length, take, drop, getD, drop-of-length-le, length-append, length-drop}
 use borrow.Author.Tests.{ne-eqb, le-leb, lt-leb}
 use Rattle.model.specs.Base.{if_then_else_, Bytes, _is_, within, QUOTE, BACKSLASH}
 use Rattle.model.specs.Utf8.{pack, joined, isHigh, isLow}
 use Rattle.model.specs.Decode.{Unit16, byte, unit, shortOf, hexOf, InString, between, escape, digits, units, textOf}
 use Rattle.model.specs.declared.HexLeft.the-variants.{Four}
 use Rattle.model.proofs.Tests.{split, is→eq, within-true}
+use Rattle.buffers.proofs.Writing.{drop-next, Writing, put}
 use Rattle.utf8.specs.Codes.{Packs, Joins}
 use Rattle.utf8.proofs.Codes.{packed-is, packed-most}
 use Rattle.decoder.specs.Strings.{stringFrom, unitAt, Lone, UnitThere, LowThere, LowAt, Goes}
-
--- a list from a place on, by its next element
-pub drop-next : (xs : List ℕ) (i j : ℕ) → i < length xs → i + 1 ≡ j → drop i xs ≡ getD xs i 0 ∷ drop j xs
-drop-next xs i j h n = rw (← n, add-one, drop-cons xs i 0)
+use Rattle.decoder.specs.Wrote.{Turned}
 
 -- ---- the bytes that stand at a place
 
@@ -249,9 +245,6 @@ module _ (raw : Bytes) (i h : ℕ) (u : UnitThere raw i) (e : h ≡ unitAt raw (
 pub goes-length : {raw : Bytes} {i : ℕ} {bytes : Bytes} {size next : ℕ} → Goes raw i bytes size next → length (stringFrom raw i) ≡ size + length (stringFrom raw next)
 goes-length {raw} {i} {bytes} {size} {next} g = ap length (g .stands) ∙ length-append (take size bytes) (stringFrom raw next) ∙ ap (λ (n : ℕ). n + length (stringFrom raw next)) (g .sized)
 
-pub taken-whole : (n : ℕ) (l : Bytes) → length (take n l) ≡ n → n ≤ length l
-taken-whole n l e = omega (arith, length-take n l, e)
-
 -- ---- what a string says at a place
 
 module _ (raw : Bytes) (i : ℕ) where
@@ -266,3 +259,8 @@ module _ (raw : Bytes) (i : ℕ) where
   pub string-byte : i < length raw → (getD raw i 0 ≡ QUOTE → ⊥) → (getD raw i 0 ≡ BACKSLASH → ⊥) → stringFrom raw i ≡ getD raw i 0 ∷ stringFrom raw (i + 1)
   unfolding textOf
   string-byte h q b = ap textOf (at-byte raw i (i + 1) h refl q b)
+
+-- a part of a string goes out
+pub turned : {old : Bytes} {at : ℕ} {whole out : Bytes} {o : ℕ} (raw : Bytes) (i : ℕ) → Writing old at whole out o (stringFrom raw i)
+    → {new : Bytes} {read write : ℕ} → Turned raw i out o new read write → Writing old at whole new write (stringFrom raw read)
+turned raw i p t = rw (t .text, t .place) (put (t .w) (rw (t .stands) at p))

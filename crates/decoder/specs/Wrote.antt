@@ -1,14 +1,11 @@
--- What the writers leave in a lent room.
+-- What a part of a string leaves in a lent room.
 use Prim.Native.Nat.{ℕ, _+_, _<_, _≤_}
 use mathlib.Core.Path.{_≡_}
 use mathlib.Core.List.{_++_}
-use lib.ListN.{length, take, drop}
+use lib.ListN.{length}
 use Rattle.model.specs.Base.{Bytes}
+use Rattle.buffers.specs.Wrote.{written}
 use Rattle.decoder.specs.Strings.{stringFrom}
-
--- old with w over it from place at
-abbrev pub written : Bytes → ℕ → Bytes → Bytes
-written old at w = take at old ++ (w ++ drop (at + length w) old)
 
 -- a part w of the string was read from i to `read` and written from o to `write`, over old
 pub record Turned (raw : Bytes) (i : ℕ) (old : Bytes) (o : ℕ) (new : Bytes) (read write : ℕ) : Type 0 where

@@ -19,7 +19,7 @@ use Rattle.model.specs.Text.{isText}
 use Rattle.model.specs.Utf8.{isSurrogate, holdsLone}
 use Rattle.model.specs.Records.{_orElse_, when, hasKind, uncarriedFrom}
 use Rattle.model.specs.Api.{slice}
-use Rattle.decoder.proofs.Strings.{drop-next}
+use Rattle.buffers.proofs.Writing.{drop-next}
 use Rattle.validate.specs.Carried.{uncarriedCell}
 use Rattle.validate.proofs.Cells.{valuesFrom, values-next, values-end}
 

@@ -12,7 +12,7 @@ use Rattle.model.specs.Base.{Bytes}
 use Rattle.model.specs.Text.{Value}
 use Rattle.model.specs.Report.{MAXRECORD}
 use Rattle.model.specs.Api.{slice}
-use Rattle.decoder.proofs.Strings.{drop-next}
+use Rattle.buffers.proofs.Writing.{drop-next}
 use Rattle.validate.specs.Cells.{valueAt, valuesOf, Stretch, Inside}
 
 -- ---- stretches

@@ -12,7 +12,7 @@ use Rattle.model.specs.declared.Dialect.{Dialect}
 use Rattle.model.specs.declared.Dialect.the-variants.{Csvj, Tdif, CsvPlus}
 use Rattle.model.specs.Base.{if_then_else_, Bytes, same}
 use Rattle.model.specs.Records.{lower, nameKey, among}
-use Rattle.decoder.proofs.Strings.{drop-next}
+use Rattle.buffers.proofs.Writing.{drop-next}
 use Rattle.validate.specs.Keys.{folded, keyAt, keysBefore}
 
 -- the key is the name with each byte folded

@@ -4,18 +4,19 @@ use mathlib.Core.Path.{sym}
 use native.Mathlib.Omega.{arith}
 use lib.ListN.{take}
 use borrow.Author.Needs.{needs}
-use Rattle.decoder.proofs.Strings.{goes-length, taken-whole}
+use Rattle.buffers.proofs.Writing.{taken-whole}
+use Rattle.decoder.proofs.Strings.{goes-length}
 use Rattle.decoder.proofs.content.put_escape.Statement.{statement}
 use Rattle.decoder.proofs.content.put_escape.Tie as tie
 
 array-share-prefix-bytes : tie.Need-array-share-prefix-bytes
 array-share-prefix-bytes c = taken-whole (c .before .before .piece-at .result .size) (c .before .before .piece-at .result .bytes) (c .before .before .piece-at .ensures .sized)
 
-slice-aggregate-put-bytes : tie.Need-slice-aggregate-put-bytes
-slice-aggregate-put-bytes c = sym (c .before .before .before .piece-at .ensures .sized)
+slice-aggregate-copy : tie.Need-slice-aggregate-copy
+slice-aggregate-copy c = sym (c .before .before .before .piece-at .ensures .sized)
 
-put-bytes-requires : tie.Need-put-bytes-requires
-put-bytes-requires c κs =
+copy-requires : tie.Need-copy-requires
+copy-requires c κs =
     let at-piece-at = c .before .before .before in
     let at-pre = at-piece-at .before .before .before in
     omega (arith, at-piece-at .piece-at .ensures .sized, goes-length (at-piece-at .piece-at .ensures), at-pre .pre .1)
@@ -23,7 +24,7 @@ put-bytes-requires c κs =
 returns : tie.Need-returns
 returns c =
     let g = c .before .before .before .before .before .before .piece-at .ensures in
-    let p = c .before .before .put-bytes .ensures in
+    let p = c .before .before .copy .ensures in
     let w = take (c .before .before .before .before .before .before .piece-at .result .size) (c .before .before .before .before .before .before .piece-at .result .bytes) in
     record { w = w; stands = g .stands; on = omega (arith, g .on); inside = g .inside; place = p .0; text = p .1 }
 
@@ -33,7 +34,7 @@ put-escape-spec =
     (tie.spec
     (λ c κs. search needs)
     array-share-prefix-bytes
-    slice-aggregate-put-bytes
-    put-bytes-requires
+    slice-aggregate-copy
+    copy-requires
     (λ c. search needs)
     returns)

@@ -3,12 +3,12 @@
 use mathlib.Core.Path.{_∙_}
 use native.Mathlib.Omega.{arith}
 use borrow.Author.Needs.{needs}
-use Rattle.decoder.proofs.Writing.{written-first}
+use Rattle.buffers.proofs.Writing.{written-first}
 use Rattle.decoder.proofs.content.put_in.Statement.{statement}
 use Rattle.decoder.proofs.content.put_in.Tie as tie
 
-put-bytes-requires : tie.Need-put-bytes-requires
-put-bytes-requires c κs = let h = rw (c .before .enum-told2 .given .1) at (c .before .before .before .before .before .pre) in omega arith
+copy-requires : tie.Need-copy-requires
+copy-requires c κs = let h = rw (c .before .enum-told2 .given .1) at (c .before .before .before .before .before .pre) in omega arith
 
 put-undoubled-requires : tie.Need-put-undoubled-requires
 put-undoubled-requires c κs =
@@ -19,7 +19,7 @@ returns-2 : tie.Need-returns-2
 returns-2 c =
     let at-enum-told2 = c .before .before .before .before in
     let a = at-enum-told2 .before .before .before .before .args in
-    rw (at-enum-told2 .enum-told2 .given .1) (c .before .before .put-bytes .ensures .1 ∙ written-first (a .out .now) (a .raw .now))
+    rw (at-enum-told2 .enum-told2 .given .1) (c .before .before .copy .ensures .1 ∙ written-first (a .out .now) (a .raw .now))
 
 returns-3 : tie.Need-returns-3
 returns-3 c = rw (c .before .before .before .before .before .s .given .1) (c .before .before .put-undoubled .ensures)
@@ -33,7 +33,7 @@ put-in-spec =
     (tie.spec
     (λ c. search needs)
     (λ c. search needs)
-    put-bytes-requires
+    copy-requires
     (λ c. search needs)
     put-undoubled-requires
     (λ c. search needs)

@@ -5,8 +5,8 @@ use Prim.Native.Nat.{_+_, _-_}
 use native.Mathlib.Omega.{arith}
 use lib.ListN.{length, getD}
 use Rattle.decoder.specs.Strings.{stringFrom}
-use Rattle.decoder.proofs.Strings.{string-end, string-quote, string-byte}
-use Rattle.decoder.proofs.Writing.{Writing, start, here, store, turned, room-left, filled}
+use Rattle.decoder.proofs.Strings.{string-end, string-quote, string-byte, turned}
+use Rattle.buffers.proofs.Writing.{Writing, start, here, store, room-left, filled}
 use Rattle.decoder.proofs.content.put_string.Statement.{statement}
 use Rattle.decoder.proofs.content.put_string.Tie as tie
 

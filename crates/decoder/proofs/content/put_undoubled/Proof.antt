@@ -9,7 +9,7 @@ use native.Mathlib.Omega.{arith}
 use lib.ListN.{length, drop, getD}
 use Rattle.model.specs.Decode.{undouble}
 use Rattle.decoder.proofs.Doubled.{at-end, at-other, at-double, at-close, at-last}
-use Rattle.decoder.proofs.Writing.{Writing, start, here, store, filled}
+use Rattle.buffers.proofs.Writing.{Writing, start, here, store, filled}
 use Rattle.decoder.proofs.content.put_undoubled.Statement.{statement}
 use Rattle.decoder.proofs.content.put_undoubled.Tie as tie
 

@@ -10,7 +10,7 @@ use borrow.Author.Needs.{needs}
 use Rattle.model.specs.declared.Dialect.{Dialect}
 use Rattle.model.specs.Base.{Bytes}
 use Rattle.model.specs.Records.{nameKey}
-use Rattle.decoder.proofs.Writing.{Writing, start, here, store, filled}
+use Rattle.buffers.proofs.Writing.{Writing, start, here, store, filled}
 use Rattle.validate.specs.Keys.{folded}
 use Rattle.validate.proofs.Keys.{key-length, key-next, key-end}
 use Rattle.validate.proofs.names.fold.Statement.{statement}

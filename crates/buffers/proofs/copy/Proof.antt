@@ -1,13 +1,12 @@
--- `decoder::content::put_bytes` meets its contract. The invariant: what is still to be written is the rest of `src`.
+-- `buffers::copy` meets its contract. The invariant: what is still to be written is the rest of `src`.
 -- Assumes nothing.
 use mathlib.Core.Path.{refl}
 use Prim.Native.Nat.{_-_, _≤_}
 use native.Mathlib.Omega.{arith}
 use lib.ListN.{length, drop, drop-of-length-le}
-use Rattle.decoder.proofs.Strings.{drop-next}
-use Rattle.decoder.proofs.Writing.{Writing, start, here, store, done}
-use Rattle.decoder.proofs.content.put_bytes.Statement.{statement}
-use Rattle.decoder.proofs.content.put_bytes.Tie as tie
+use Rattle.buffers.proofs.Writing.{drop-next, Writing, start, here, store, done}
+use Rattle.buffers.proofs.copy.Statement.{statement}
+use Rattle.buffers.proofs.copy.Tie as tie
 
 abbrev Inv-loop : tie.InvT-loop
 Inv-loop out₀ at src i₀ o₀ out i o = (i ≤ length src) × Writing out₀ at src out o (drop i src)
@@ -30,8 +29,8 @@ loop-again c = (omega arith, store (rw (drop-next _ _ _ (c .before .loop-test .t
 returns : tie.Need-returns Inv-loop μ-loop
 returns c = done (rw (drop-of-length-le _ (c .loop-test .left)) at (c .before .loop .inv .1))
 
-pub put-bytes-spec : {M : Type 1} → statement M
-put-bytes-spec =
+pub copy-spec : {M : Type 1} → statement M
+copy-spec =
     tie.close
     (tie.spec
     Inv-loop

@@ -1,0 +1,19 @@
+-- `buffers::put` meets its contract: a copy, or nothing but a sum.
+-- Assumes nothing.
+use mathlib.Core.Path.{refl}
+use borrow.Author.Needs.{needs}
+use Rattle.buffers.proofs.Writing.{put-written, put-measured}
+use Rattle.buffers.proofs.put.Statement.{statement}
+use Rattle.buffers.proofs.put.Tie as tie
+
+copy-requires : tie.Need-copy-requires
+copy-requires c κs = c .before .before .before .before .pre .inside (c .before .if1 .taken)
+
+returns : tie.Need-returns
+returns c = put-written (c .before .before .before .before .if1 .taken) (c .before .before .copy .ensures)
+
+returns-2 : tie.Need-returns-2
+returns-2 c = put-measured (c .if1 .left) refl refl
+
+pub put-spec : {M : Type 1} → statement M
+put-spec = tie.close (tie.spec copy-requires (λ c. search needs) returns (λ c. search needs) returns-2)

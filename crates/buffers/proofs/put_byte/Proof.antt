@@ -1,0 +1,22 @@
+-- `buffers::put_byte` meets its contract: a store, or nothing but a sum.
+-- Assumes nothing.
+use mathlib.Core.Path.{refl}
+use native.Mathlib.Omega.{arith}
+use borrow.Author.Needs.{needs}
+use Rattle.buffers.proofs.Writing.{set-written, put-written, put-measured}
+use Rattle.buffers.proofs.put_byte.Statement.{statement}
+use Rattle.buffers.proofs.put_byte.Tie as tie
+
+slice-write-out : tie.Need-slice-write-out
+slice-write-out c = omega (arith, c .before .pre .inside (c .if1 .taken))
+
+returns : tie.Need-returns
+returns c =
+    let a = c .before .args in
+    put-written (c .if1 .taken) (refl, set-written (a .out .now) (a .o) (a .b) (omega (arith, c .before .pre .inside (c .if1 .taken))))
+
+returns-2 : tie.Need-returns-2
+returns-2 c = put-measured (c .if1 .left) refl refl
+
+pub put-byte-spec : {M : Type 1} → statement M
+put-byte-spec = tie.close (tie.spec slice-write-out (λ c. search needs) (λ c. search needs) returns (λ c. search needs) returns-2)

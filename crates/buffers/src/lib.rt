@@ -1,0 +1,49 @@
+// Bytes into a lent buffer at a place. Whoever writes bytes over others does it by these, or by `Writing` of proofs/Writing.antt:
+// what the buffer holds and what is still to come, with a law for each way to go on.
+//
+// `put` and `put_byte` measure where `write` is false and leave the buffer alone, so that measuring a text and writing it are one walk
+// with one proof.
+ghost use mathlib.Core.Path.{_≡_};
+ghost use Prim.Native.Nat.{_+_, _≤_};
+ghost use lib.ListN.{length};
+ghost use mathlib.Core.List.{[], _∷_};
+ghost use Rattle.buffers.specs.Wrote.{written, Room, Put};
+
+// Copies all of src into out from place at.
+pub fn copy(out: &mut [u8], at: usize, src: &[u8]) -> usize
+    requires { ⌜ at + length (now src) ≤ length (now out) ⌝ }
+    ensures { λ r. ⌜ (r ≡ at + length (now (src .entry)))
+        × (now (out .exit) ≡ written (now (out .entry)) at (now (src .entry))) ⌝ }
+{
+    let mut i = 0;
+    let mut o = at;
+    while i < src.len() {
+        out[o] = src[i];
+        o += 1;
+        i += 1;
+    }
+    o
+}
+
+// All of s at o.
+pub fn put(out: &mut [u8], o: usize, s: &[u8], write: bool) -> usize
+    requires { ⌜ Room write o (now s) (now out) ⌝ }
+    ensures { λ r. ⌜ Put write (now (out .entry)) o (now (s .entry)) (now (out .exit)) r ⌝ }
+{
+    if write {
+        return copy(out, o, s);
+    }
+    o + s.len()
+}
+
+// One byte at o.
+pub fn put_byte(out: &mut [u8], o: usize, b: u8, write: bool) -> usize
+    requires { ⌜ Room write o (b ∷ []) (now out) ⌝ }
+    ensures { λ r. ⌜ Put write (now (out .entry)) o (b ∷ []) (now (out .exit)) r ⌝ }
+{
+    if write {
+        out[o] = b;
+        return o + 1;
+    }
+    o + 1
+}

@@ -1,0 +1,4 @@
+pub mod PlainRuns
+pub mod Units
+pub mod Quoted
+pub mod Bodies

@@ -1,0 +1,47 @@
+// Runs of bytes that stand for themselves in every source and every target.
+ghost use mathlib.Core.Path.{_≡_};
+ghost use Prim.Native.Nat.{_+_, _≤_};
+ghost use lib.ListN.{length, drop};
+ghost use Rattle.spell.specs.PlainRuns.{isPlain, plainRun};
+
+// Whether a byte stands for itself: one from 20 hex on that is no quote, no backslash, not ED hex, which may begin a lone surrogate,
+// and neither p nor q.
+fn is_plain(p: u8, q: u8, b: u8) -> bool
+    ensures { λ r. ⌜ r ≡ isPlain p q b ⌝ }
+{
+    if b < 0x20 {
+        return false;
+    }
+    if b == 0x22 {
+        return false;
+    }
+    if b == 0x5C {
+        return false;
+    }
+    if b == 0xED {
+        return false;
+    }
+    if b == p {
+        return false;
+    }
+    if b == q {
+        return false;
+    }
+    true
+}
+
+// How far such bytes go from `at`.
+pub fn plain(s: &[u8], at: usize, p: u8, q: u8) -> usize
+    requires { ⌜ at ≤ length (now s) ⌝ }
+    ensures { λ r. ⌜ r ≡ at + plainRun p q (drop at (now (s .entry))) ⌝ }
+{
+    let mut i = at;
+    while i < s.len() {
+        if is_plain(p, q, s[i]) {
+            i += 1;
+        } else {
+            return i;
+        }
+    }
+    i
+}
