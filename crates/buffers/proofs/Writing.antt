@@ -9,8 +9,12 @@ use native.Mathlib.Numerals.{add-one}
 use native.Mathlib.Omega.{arith}
 use lib.ListN.{length, take, drop, getD, set, length-append, length-take, length-drop, take-append-drop}
 use lib.Seq.{take-at, drop-at, drop-drop, drop-cons, set-split}
+use lib.Dec.{leb}
+use borrow.Author.Tests.{le-leb, leb-true, leb-false}
 use Rattle.model.specs.Base.{Bytes, over, if_then_else_}
-use Rattle.buffers.specs.Wrote.{written, Room, Put}
+use Rattle.model.specs.Report.{MAXFILE}
+use Rattle.model.proofs.Tests.{split, impossible}
+use Rattle.buffers.specs.Wrote.{written, measure, Room, Put}
 
 -- a list from a place on, by its next element
 pub drop-next : (xs : List ℕ) (i j : ℕ) → i < length xs → i + 1 ≡ j → drop i xs ≡ getD xs i 0 ∷ drop j xs
@@ -94,16 +98,37 @@ written-first old w = let from-zero : 0 + length w ≡ length w = omega arith in
 pub filled : {old whole out : Bytes} {o : ℕ} → Writing old 0 whole out o [] → out ≡ over whole old
 filled {old} {whole} p = done p .1 ∙ written-first old whole
 
+-- ---- a place as it is measured
+
+pub measure-within : (n : ℕ) → n ≤ MAXFILE → measure n ≡ n
+unfolding measure
+measure-within n h = split (λ (r : ℕ). r ≡ n) (leb MAXFILE n) (λ e. omega (arith, leb-true MAXFILE n e)) λ _. refl
+
+pub measure-beyond : (n : ℕ) → MAXFILE ≤ n → measure n ≡ MAXFILE
+unfolding measure if_then_else_
+measure-beyond n h = rw (le-leb MAXFILE n h) refl
+
+pub measure-least : (n : ℕ) → measure n ≤ MAXFILE
+unfolding measure
+measure-least n = split (λ (r : ℕ). r ≤ MAXFILE) (leb MAXFILE n) (λ _. omega arith) λ e. omega (arith, leb-false MAXFILE n e)
+
+-- measured in two parts
+measure-more : (n k : ℕ) → measure (measure n + k) ≡ measure (n + k)
+unfolding measure
+measure-more n k =
+    split (λ (r : ℕ). measure (r + k) ≡ measure (n + k)) (leb MAXFILE n)
+    (λ e. measure-beyond (MAXFILE + k) (omega arith) ∙ sym (measure-beyond (n + k) (omega (arith, leb-true MAXFILE n e)))) λ _. refl
+
 -- ---- written, or only measured
 
 module _ {write : Bool} {old : Bytes} {o : ℕ} {w new : Bytes} {r : ℕ} where
   pub put-written : write ≡ true → (r ≡ o + length w) × (new ≡ written old o w) → Put write old o w new r
   unfolding if_then_else_
-  put-written e p = record { place = p .0; text = rw e (p .1) }
+  put-written e p = record { place = rw e (p .0); text = rw e (p .1) }
 
-  pub put-measured : write ≡ false → r ≡ o + length w → new ≡ old → Put write old o w new r
+  pub put-measured : write ≡ false → r ≡ measure (o + length w) → new ≡ old → Put write old o w new r
   unfolding if_then_else_
-  put-measured e p q = record { place = p; text = rw e q }
+  put-measured e p q = record { place = rw e p; text = rw e q }
 
 -- the same text by another name
 pub room-as : {write : Bool} {o : ℕ} {w v out : Bytes} → w ≡ v → Room write o v out → Room write o w out
@@ -130,7 +155,12 @@ put-then true {old} {at} {w} {mid} {o} {v} {new} {r} h p q =
       text = q .text ∙ rw (p .text, p .place) (written-more old at w v (omega arith));
     }
 put-then false {old} {at} {w} {mid} {o} {v} {new} {r} h p q =
-    record { place = simp length-append (omega (arith, p .place, q .place)); text = q .text ∙ p .text }
+    record {
+      place =
+          q .place ∙ ap (λ (n : ℕ). measure (n + length v)) (p .place) ∙ measure-more (at + length w) (length v)
+          ∙ ap measure (add-assoc at (length w) (length v) ∙ ap (λ (n : ℕ). at + n) (sym (length-append w v)));
+      text = q .text ∙ p .text;
+    }
 
 -- as `Writing`, where the text may be only measured
 pub record Putting (write : Bool) (old : Bytes) (at : ℕ) (whole out : Bytes) (o : ℕ) (rest : Bytes) : Type 0 where
@@ -142,14 +172,28 @@ pub record Putting (write : Bool) (old : Bytes) (at : ℕ) (whole out : Bytes) (
 pub putting : (write : Bool) {old : Bytes} {at : ℕ} {whole : Bytes} → Room write at whole old → Putting write old at whole old at whole
 unfolding if_then_else_
 putting true {old} {at} h = record { w = []; so-far = record { place = omega arith; text = sym (written-nil old at) }; left = refl; room = h }
-putting false h = record { w = []; so-far = record { place = omega arith; text = refl }; left = refl; room = h }
+putting false {old} {at} h =
+    let same : at + 0 ≡ at = omega arith in
+    record { w = []; so-far = record { place = sym (measure-within at (h .measured refl)) ∙ ap measure (sym same); text = refl }; left = refl; room = h }
+
+-- a place that was measured is within the limit
+put-within : (write : Bool) {old : Bytes} {o : ℕ} {w new : Bytes} {r : ℕ} → Put write old o w new r → write ≡ false → r ≤ MAXFILE
+unfolding if_then_else_
+put-within true p e = impossible (sym e)
+put-within false {old} {o} {w} p e = rw (p .place) (measure-least (o + length w))
+
+-- a place after a text that was written
+put-place : (write : Bool) {old : Bytes} {o : ℕ} {w new : Bytes} {r : ℕ} → Put write old o w new r → write ≡ true → r ≡ o + length w
+unfolding if_then_else_
+put-place true p e = p .place
+put-place false p e = impossible e
 
 module _ {write : Bool} {old : Bytes} {at : ℕ} {whole out : Bytes} {o : ℕ} where
   so-long : {rest : Bytes} (p : Putting write old at whole out o rest) → length whole ≡ length (p .w) + length rest
   so-long {rest} p = sym (ap length (p .left)) ∙ length-append (p .w) rest
 
   room-before : {rest : Bytes} (p : Putting write old at whole out o rest) → Room write at (p .w) old
-  room-before p = record { counts = omega (arith, so-long p, p .room .counts); inside = λ e. omega (arith, so-long p, p .room .inside e) }
+  room-before p = record { measured = p .room .measured; inside = λ e. omega (arith, so-long p, p .room .inside e) }
 
   pub same-long : {rest : Bytes} → Putting write old at whole out o rest → length out ≡ length old
   same-long p = length-put write (room-before p) (p .so-far)
@@ -159,8 +203,8 @@ module _ {write : Bool} {old : Bytes} {at : ℕ} {whole out : Bytes} {o : ℕ} w
   room-next v rest p =
       let all : length whole ≡ length (p .w) + (length v + length rest) = rw length-append at (so-long p) in
       record {
-        counts = omega (arith, all, p .room .counts, p .so-far .place);
-        inside = λ e. omega (arith, all, p .room .inside e, p .so-far .place, same-long p);
+        measured = λ e. put-within write (p .so-far) e;
+        inside = λ e. omega (arith, all, p .room .inside e, put-place write (p .so-far) e, same-long p);
       }
 
   pub room-rest : {rest : Bytes} → Putting write old at whole out o rest → Room write o rest out
@@ -170,7 +214,7 @@ module _ {write : Bool} {old : Bytes} {at : ℕ} {whole out : Bytes} {o : ℕ} w
   put-next v {rest} p q =
       let all : length whole ≡ length (p .w) + (length v + length rest) = rw length-append at (so-long p) in
       let both : Room write at (p .w ++ v) old =
-      record { counts = simp length-append (omega (arith, all, p .room .counts)); inside = λ e. simp length-append (omega (arith, all, p .room .inside e)) } in
+      record { measured = p .room .measured; inside = λ e. simp length-append (omega (arith, all, p .room .inside e)) } in
       record { w = p .w ++ v; so-far = put-then write both (p .so-far) q; left = append-assoc (p .w) v rest ∙ p .left; room = p .room }
 
   -- nothing is left

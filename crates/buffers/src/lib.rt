@@ -2,12 +2,13 @@
 // what the buffer holds and what is still to come, with a law for each way to go on.
 //
 // `put` and `put_byte` measure where `write` is false and leave the buffer alone, so that measuring a text and writing it are one walk
-// with one proof.
+// with one proof. Nothing is measured beyond the limit of a file: any text has a measure, and no sum overflows.
 ghost use mathlib.Core.Path.{_≡_};
 ghost use Prim.Native.Nat.{_+_, _≤_};
 ghost use lib.ListN.{length};
 ghost use mathlib.Core.List.{[], _∷_};
-ghost use Rattle.buffers.specs.Wrote.{written, Room, Put};
+ghost use Rattle.buffers.specs.Wrote.{written, measure, Room, Put};
+use numbers::MAX_FILE;
 
 // Copies all of src into out from place at.
 pub fn copy(out: &mut [u8], at: usize, src: &[u8]) -> usize
@@ -25,6 +26,19 @@ pub fn copy(out: &mut [u8], at: usize, src: &[u8]) -> usize
     o
 }
 
+// The place after n bytes from o on, where they are only measured.
+fn measured(o: usize, n: usize) -> usize
+    ensures { λ r. ⌜ r ≡ measure (o + n) ⌝ }
+{
+    if MAX_FILE <= o {
+        return MAX_FILE;
+    }
+    if MAX_FILE - o < n {
+        return MAX_FILE;
+    }
+    o + n
+}
+
 // All of s at o.
 pub fn put(out: &mut [u8], o: usize, s: &[u8], write: bool) -> usize
     requires { ⌜ Room write o (now s) (now out) ⌝ }
@@ -33,7 +47,7 @@ pub fn put(out: &mut [u8], o: usize, s: &[u8], write: bool) -> usize
     if write {
         return copy(out, o, s);
     }
-    o + s.len()
+    measured(o, s.len())
 }
 
 // One byte at o.
@@ -45,5 +59,5 @@ pub fn put_byte(out: &mut [u8], o: usize, b: u8, write: bool) -> usize
         out[o] = b;
         return o + 1;
     }
-    o + 1
+    measured(o, 1)
 }

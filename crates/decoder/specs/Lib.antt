@@ -2,3 +2,4 @@ pub mod Strings
 pub mod Wrote
 pub mod FirstByte
 pub mod Answer
+pub mod Sources

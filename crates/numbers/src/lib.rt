@@ -8,8 +8,8 @@ ghost use mathlib.Core.Path.{_≡_};
 ghost use Rattle.model.specs.Dialect.{dialectOf};
 ghost use Rattle.model.specs.Decode.{kindNumber};
 ghost use Rattle.model.specs.Report.{numberOf, columnOf, report, refusal};
-ghost use Rattle.model.specs.Api.{least, kindNamed};
-ghost use Rattle.numbers.specs.Named.{dialectIn, kindIn};
+ghost use Rattle.model.specs.Api.{least, kindNamed, unwritten};
+ghost use Rattle.numbers.specs.Named.{dialectIn, kindIn, textAnswer};
 use model::ByteFault;
 use model::Delimiter;
 use model::Dialect;
@@ -182,6 +182,8 @@ pub const NO_ROOM: usize = 10;
 
 pub const UNKNOWN_DIALECT: usize = 11;
 
+pub const NOT_A_TABLE: usize = 12;
+
 pub fn on_call(number: usize) -> Report
     ensures { λ r. ⌜ r ≡ refusal number ⌝ }
 {
@@ -190,5 +192,24 @@ pub fn on_call(number: usize) -> Report
         record_number: 0,
         column: 0,
         offset: 0,
+    }
+}
+
+// ---- answers with a text
+
+// What a call that writes a text answers: how long the text is, 0 on refusal. It is laid out for C, so that the C boundary hands it on
+// as it is.
+#[repr(C)]
+pub struct TextAnswer {
+    pub report: Report,
+    pub length: usize,
+}
+
+pub fn refused(e: Report) -> TextAnswer
+    ensures { λ r. ⌜ r ≡ textAnswer (unwritten e) ⌝ }
+{
+    TextAnswer {
+        report: e,
+        length: 0,
     }
 }

@@ -13,7 +13,7 @@ returns : tie.Need-returns
 returns c = put-written (c .before .before .before .before .if1 .taken) (c .before .before .copy .ensures)
 
 returns-2 : tie.Need-returns-2
-returns-2 c = put-measured (c .if1 .left) refl refl
+returns-2 c = put-measured (c .before .if1 .left) (c .measured .ensures) refl
 
 pub put-spec : {M : Type 1} → statement M
 put-spec = tie.close (tie.spec copy-requires (λ c. search needs) returns (λ c. search needs) returns-2)

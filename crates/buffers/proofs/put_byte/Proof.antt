@@ -8,15 +8,15 @@ use Rattle.buffers.proofs.put_byte.Statement.{statement}
 use Rattle.buffers.proofs.put_byte.Tie as tie
 
 slice-write-out : tie.Need-slice-write-out
-slice-write-out c = omega (arith, c .before .pre .inside (c .if1 .taken))
+slice-write-out c = omega (arith, c .before .before .pre .inside (c .if1 .taken))
 
 returns : tie.Need-returns
 returns c =
-    let a = c .before .args in
-    put-written (c .if1 .taken) (refl, set-written (a .out .now) (a .o) (a .b) (omega (arith, c .before .pre .inside (c .if1 .taken))))
+    let a = c .before .before .args in
+    put-written (c .if1 .taken) (refl, set-written (a .out .now) (a .o) (a .b) (omega (arith, c .before .before .pre .inside (c .if1 .taken))))
 
 returns-2 : tie.Need-returns-2
-returns-2 c = put-measured (c .if1 .left) refl refl
+returns-2 c = put-measured (c .before .if1 .left) (c .measured .ensures) refl
 
 pub put-byte-spec : {M : Type 1} → statement M
-put-byte-spec = tie.close (tie.spec slice-write-out (λ c. search needs) (λ c. search needs) returns (λ c. search needs) returns-2)
+put-byte-spec = tie.close (tie.spec slice-write-out (λ c. search (needs, c .before .before .pre .inside (c .if1 .taken))) (λ c. search needs) returns (λ c. search needs) returns-2)

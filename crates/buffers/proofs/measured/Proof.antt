@@ -1,0 +1,21 @@
+-- `buffers::measured` meets its contract: the sum, or the limit.
+-- Assumes nothing.
+use Prim.Native.Nat.{_+_}
+use mathlib.Core.Path.{sym}
+use native.Mathlib.Omega.{arith}
+use borrow.Author.Needs.{needs}
+use Rattle.buffers.proofs.Writing.{measure-within, measure-beyond}
+use Rattle.buffers.proofs.measured.Statement.{statement}
+use Rattle.buffers.proofs.measured.Tie as tie
+
+returns : tie.Need-returns
+returns c = let a = c .before .args in sym (measure-beyond (a .o + a .n) (omega (arith, c .if1 .taken)))
+
+returns-2 : tie.Need-returns-2
+returns-2 c = let a = c .before .before .args in sym (measure-beyond (a .o + a .n) (omega (arith, c .before .if1 .left, c .if2 .taken)))
+
+returns-3 : tie.Need-returns-3
+returns-3 c = let a = c .before .before .args in sym (measure-within (a .o + a .n) (omega (arith, c .before .if1 .left, c .if2 .left)))
+
+pub measured-spec : {M : Type 1} → statement M
+measured-spec = tie.close (tie.spec returns (λ c. search needs) returns-2 (λ c. search needs) returns-3)

@@ -1,0 +1,23 @@
+-- `decoder::source::spelling_in` meets its contract: in a file the first byte says how the content is spelt.
+-- Assumes nothing.
+use mathlib.Core.Path.{sym, ap, _∙_}
+use borrow.Author.Needs.{needs}
+use Rattle.decoder.specs.FirstByte.{spellingBy, contentIn}
+use Rattle.decoder.specs.Sources.{contentBy}
+use Rattle.decoder.specs.declared.first.Spelling.{Spelling}
+use Rattle.decoder.specs.declared.source.Source.{Source}
+use Rattle.decoder.proofs.FirstByte.{content-first}
+use Rattle.decoder.proofs.source.spelling_in.Statement.{statement}
+use Rattle.decoder.proofs.source.spelling_in.Tie as tie
+
+returns : tie.Need-returns
+returns c =
+    let asked = c .before .before .before in
+    let a = asked .before .before .before .args in
+    let raw = a .raw .now in
+    ap (λ (s : Spelling). contentIn s raw) (c .spelling-by .ensures ∙ ap (spellingBy (asked .src .given .0 .0)) (c .before .first-of .ensures))
+    ∙ content-first (asked .src .given .0 .0) raw
+    ∙ ap (λ (src : Source). contentBy src raw) (sym (asked .src .given .1))
+
+pub spelling-in-spec : {M : Type 1} → statement M
+spelling-in-spec = tie.close (tie.spec (λ c. search needs) (λ c κs. search needs) (λ c κs. search needs) (λ c. search needs) returns (λ c. search needs))

@@ -1,0 +1,62 @@
+-- The cells of a record that stand in lists: their bytes in stretches of a file or of a table's content, their kinds as numbers.
+use Prim.Native.Nat.{ℕ, _<_, _≤_}
+use mathlib.Core.Path.{_≡_}
+use mathlib.Core.Option.{Option, none, some}
+use mathlib.Core.List.{List, [], _∷_}
+use lib.ListN.{length, getD}
+use Rattle.model.specs.declared.Dialect.{Dialect}
+use Rattle.model.specs.declared.Kind.{Kind}
+use Rattle.model.specs.declared.Kind.the-variants.{Null}
+use Rattle.model.specs.declared.CellCheck.the-variants.{WholeCell}
+use Rattle.model.specs.Base.{Bytes}
+use Rattle.model.specs.Decode.{kindOf, contentOf, validateCell}
+use Rattle.model.specs.Text.{Value}
+use Rattle.model.specs.Report.{MAXRECORD}
+use Rattle.model.specs.Api.{kindNamed, slice}
+use Rattle.decoder.specs.declared.source.Source.{Source}
+use Rattle.decoder.specs.declared.source.Source.the-variants.{File, Contents}
+
+-- a kind if there is one
+abbrev pub orNull : Option Kind → Kind
+orNull none = Null
+orNull (some k) = k
+
+-- the kind of a number, where numbers of no kind have been refused before it is asked (§2.3 §13.6)
+abbrev pub kindFrom : ℕ → Kind
+kindFrom n = orNull (kindNamed n)
+
+-- the content of a cell: decoded from its raw bytes in a file, or the bytes themselves (§2.4 §13.4)
+abbrev pub contentBy : Source → Bytes → Bytes
+contentBy (File d) raw = contentOf d raw
+contentBy Contents raw = raw
+
+-- the cell of this stretch and of the kind that this number names
+abbrev pub cellIn : Source → Bytes → (from upto kind : ℕ) → Value
+cellIn src s i j k = record { from = i; upto = j; kind = kindFrom k; content = contentBy src (slice s i j) }
+
+-- the cells of these lists
+unfoldable pub cellsIn : Source → Bytes → (starts ends kinds : List ℕ) → List Value
+cellsIn src s [] ends kinds = []
+cellsIn src s (i ∷ starts) [] kinds = []
+cellsIn src s (i ∷ starts) (j ∷ ends) [] = []
+cellsIn src s (i ∷ starts) (j ∷ ends) (k ∷ kinds) = cellIn src s i j k ∷ cellsIn src s starts ends kinds
+
+-- bytes that a cell of this kind may have: in a file those of a sound cell, which is no longer than a record and tells its own
+-- kind; as contents any
+pub data Spelt : Source → Kind → Bytes → Type 0 where
+  in-file :
+      {d : Dialect} {k : Kind} {raw : Bytes} → length raw ≤ MAXRECORD → validateCell d raw ≡ WholeCell → k ≡ kindOf d raw →
+      Spelt (File d) k raw
+  as-content : {k : Kind} {raw : Bytes} → Spelt Contents k raw
+
+-- a stretch of s whose bytes a cell of the kind that this number names may have
+pub record Stretch (src : Source) (s : Bytes) (from upto kind : ℕ) : Type 0 where
+  pub forward : from ≤ upto
+  pub within : upto ≤ length s
+  pub spelt : Spelt src (kindFrom kind) (slice s from upto)
+
+-- as many ends and kinds as starts, and each start with its end and its kind such a stretch
+pub record Cells (src : Source) (s : Bytes) (starts ends kinds : List ℕ) : Type 0 where
+  pub with-ends : length starts ≡ length ends
+  pub with-kinds : length starts ≡ length kinds
+  pub each : (k : ℕ) → k < length starts → Stretch src s (getD starts k 0) (getD ends k 0) (getD kinds k 0)

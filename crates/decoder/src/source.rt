@@ -1,0 +1,35 @@
+// What the bytes of a cell are: its raw spelling in a file of some dialect, or its content itself, as the writer is given it.
+ghost use mathlib.Core.Path.{_≡_};
+ghost use Rattle.decoder.specs.FirstByte.{contentIn};
+ghost use Rattle.decoder.specs.Sources.{kindFrom, contentBy};
+use crate::first;
+use crate::first::Spelling;
+use model::Dialect;
+use model::Kind;
+use numbers::NamedKind;
+use numbers::cell;
+
+pub enum Source {
+    File(Dialect),
+    Contents,
+}
+
+// The kind that a number names, and null for a number that names none.
+pub fn kind_of_number(number: u8) -> Kind
+    ensures { λ r. ⌜ r ≡ kindFrom number ⌝ }
+{
+    match numbers::kind_named(number) {
+        NamedKind::Known(k) => k,
+        NamedKind::Unknown => Kind::Null,
+    }
+}
+
+// How the content of a cell is spelt.
+pub fn spelling_in(src: Source, raw: &[u8]) -> Spelling
+    ensures { λ r. ⌜ contentIn r (now (raw .entry)) ≡ contentBy src (now (raw .entry)) ⌝ }
+{
+    match src {
+        Source::File(d) => first::spelling_by(d, cell::first_of(raw)),
+        Source::Contents => Spelling::AsItStands,
+    }
+}
