@@ -18,6 +18,7 @@ use Rattle.model.proofs.Tests.{split-on, impossible, and-true}
 use Rattle.buffers.proofs.Writing.{drop-next}
 use Rattle.decoder.specs.declared.source.Source.the-variants.{Contents}
 use Rattle.decoder.specs.Sources.{orNull, kindFrom, cellIn, cellsIn, Stretch, as-content, Cells}
+use Rattle.decoder.proofs.CellsIn.{cells-length}
 use Rattle.table.specs.Given.{given, isThere}
 
 -- ---- one cell
@@ -152,13 +153,6 @@ all-there bs (s ∷ ss) (e ∷ es) (k ∷ ks) h =
       same = rw (cell-there bs s e k (x .0), i .same);
     }
 
-pub cells-length : (bs : Bytes) (ss es ks : List ℕ) → length ss ≡ length es → length ss ≡ length ks → length (cellsIn Contents bs ss es ks) ≡ length ss
-unfolding cellsIn
-cells-length bs [] es ks p q = refl
-cells-length bs (s ∷ ss) [] ks p q = absurd (omega arith)
-cells-length bs (s ∷ ss) (e ∷ es) [] p q = absurd (omega arith)
-cells-length bs (s ∷ ss) (e ∷ es) (k ∷ ks) p q = ap suc (cells-length bs ss es ks (omega arith) (omega arith))
-
 -- ---- the records
 
 and-false : (x : Bool) → (x && false) ≡ false
@@ -182,7 +176,7 @@ module _ (bs : Bytes) (ss es ks : List ℕ) (columns records : ℕ) where
   -- with all of them, the records are there by their number
   by-number : AllThere bs ss es ks → rowsIn (given bs ss es ks columns records) ≡ (if eqb (length ss) (columns * records) && ltb 0 records then some (rowsOf records columns (cellsIn Contents bs ss es ks)) else none)
   unfolding rowsIn
-  by-number a = rw (a .same, cells-length bs ss es ks (a .cells .with-ends) (a .cells .with-kinds))
+  by-number a = rw (a .same, cells-length Contents bs ss es ks (a .cells .with-ends) (a .cells .with-kinds))
 
   -- as many cells as the records have, and a record
   abbrev counted : Bool

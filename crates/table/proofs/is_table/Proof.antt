@@ -1,6 +1,7 @@
 -- `table::is_table` meets its contract: lists of one length, a record, as many cells as the records have, and each of them there.
 -- Assumes nothing.
 use mathlib.Core.Path.{sym, _∙_}
+use native.Mathlib.Omega.{arith}
 use borrow.Author.Needs.{needs}
 use borrow.Author.Tests.{not-true, not-false}
 use Rattle.table.proofs.Tables.{no-ends, no-kinds, no-record, no-product, by-cells}
@@ -10,12 +11,12 @@ use Rattle.table.proofs.is_table.Tie as tie
 returns : tie.Need-returns
 returns c =
     let a = c .before .before .before .before .before .args in
-    sym (no-ends (a .content .now) (a .starts .now) (a .ends .now) (a .kinds .now) (a .columns) (a .records) (c .if1 .taken))
+    sym (no-ends (a .content .now) (a .starts .now) (a .ends .now) (a .kinds .now) (a .columns) (a .records) λ e. omega (arith, e, c .if1 .taken))
 
 returns-2 : tie.Need-returns-2
 returns-2 c =
     let a = c .before .before .before .before .before .before .args in
-    sym (no-kinds (a .content .now) (a .starts .now) (a .ends .now) (a .kinds .now) (a .columns) (a .records) (c .if2 .taken))
+    sym (no-kinds (a .content .now) (a .starts .now) (a .ends .now) (a .kinds .now) (a .columns) (a .records) λ e. omega (arith, e, c .if2 .taken))
 
 returns-3 : tie.Need-returns-3
 returns-3 c =
