@@ -222,7 +222,7 @@ module _ (call : Call) where
           let w′ : from ≤ i = q .onward in
           let s : h .size ≤ i = q .sized in
           record { vs = closing d k Here; same = goes-on (Tail k) e w; reached = record { onward = omega arith; inside = omega arith; under = omega arith; counted = closing-counts d k Here (h .cells) (q .counted); few = one-more-few k base (h .cells) i b; sized = omega arith; opened = omega arith; rest = λ t. impossible (sym o ∙ t) }; lists = put-closing k y }
-      on (Ends k) finishes e w y = impossible (sym e)
+      on (Ends k) (finishes o) e w y = impossible (sym e)
 
   -- ---- the ways out of the loop
 
