@@ -1,4 +1,5 @@
 pub mod PlainRuns
 pub mod Units
+pub mod Contents
 pub mod Quoted
 pub mod Bodies

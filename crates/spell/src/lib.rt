@@ -7,3 +7,4 @@ mod body;
 mod escape;
 mod run;
 mod special;
+mod unit;

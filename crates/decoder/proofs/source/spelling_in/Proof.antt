@@ -15,11 +15,12 @@ returns c =
     let asked = c .before .before .before in
     let a = asked .before .before .before .args in
     let raw = a .raw .now in
-    let r = c .spelling-by .ensures ∙ ap (spellingBy (asked .src .given .0 .0)) (c .before .first-of .ensures) in
-    (ap (λ (s : Spelling). contentIn s raw) r
-    ∙ content-first (asked .src .given .0 .0) raw
-    ∙ ap (λ (src : Source). contentBy src raw) (sym (asked .src .given .1)),
-    r ∙ ap (λ (src : Source). spellingIn src raw) (sym (asked .src .given .1)))
+    let r = c .spelling-by .ensures ∙ ap (spellingBy (asked .src .given .0 .0)) (c .before .first-of .ensures) in (
+      ap (λ (s : Spelling). contentIn s raw) r
+          ∙ content-first (asked .src .given .0 .0) raw
+          ∙ ap (λ (src : Source). contentBy src raw) (sym (asked .src .given .1)),
+      r ∙ ap (λ (src : Source). spellingIn src raw) (sym (asked .src .given .1)),
+    )
 
 returns-2 : tie.Need-returns-2
 returns-2 c = (search needs, search needs)
