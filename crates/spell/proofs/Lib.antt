@@ -4,3 +4,4 @@ pub mod Contents
 pub mod Followed
 pub mod Quoted
 pub mod Bodies
+pub mod Cells

@@ -3,3 +3,4 @@ pub mod Units
 pub mod Contents
 pub mod Quoted
 pub mod Bodies
+pub mod Cells
