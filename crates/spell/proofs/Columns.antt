@@ -21,6 +21,7 @@ use Rattle.model.specs.Dialect.{isCsvj, delimiterOf, into}
 use Rattle.model.specs.Text.{Value, isText, cellText, moreCells, allCells, recordText}
 use Rattle.model.specs.Utf8.{holdsLone}
 use Rattle.model.specs.Records.{_orElse_, when, hasKind, uncarriedFrom}
+use Rattle.model.proofs.Verdicts.{else-assoc}
 use Rattle.buffers.specs.Wrote.{Room, Put}
 use Rattle.buffers.proofs.Writing.{Putting, putting, put-next, put-whole}
 use Rattle.decoder.specs.declared.source.Source.{Source}
@@ -81,11 +82,6 @@ pub orElse-sound : (a : Verdict) → a orElse Sound ≡ a
 unfolding _orElse_
 orElse-sound Sound = refl
 orElse-sound (Faulty e) = refl
-
-orElse-assoc : (a b c : Verdict) → a orElse b orElse c ≡ (a orElse b) orElse c
-unfolding _orElse_
-orElse-assoc Sound b c = refl
-orElse-assoc (Faulty e) b c = refl
 
 -- ---- the cells from place n on
 
@@ -154,7 +150,7 @@ module _ (src : Source) (t : Dialect) (s : Bytes) (starts ends kinds : List ℕ)
       uncarried-next =
           let v : Value = cellAt src s starts ends kinds n in
           rw (cells-next src s starts ends kinds e k n h)
-          (orElse-assoc _ _ _
+          (sym (else-assoc _ _ _)
           ∙ ap (λ (m : ℕ). uncarriedCell t (n + 1) (v .kind) (v .content) orElse uncarriedFrom t m (cellsFrom src s starts ends kinds (n + 1))) (sym (add-one (n + 1))))
 
       -- the verdict so far, and then that of the cell at n
@@ -163,7 +159,7 @@ module _ (src : Source) (t : Dialect) (s : Bytes) (starts ends kinds : List ℕ)
       says-next all carries v r kind same here joined before =
           let content : Bytes = cellAt src s starts ends kinds n .content in
           let told : v ≡ uncarriedCell t (n + 1) (cellAt src s starts ends kinds n .kind) content = here ∙ ap (λ (k : Kind). uncarriedCell t (n + 1) k content) same in
-          before ∙ ap (λ (x : Verdict). carries orElse x) uncarried-next ∙ orElse-assoc carries _ (uncarriedAt (n + 1))
+          before ∙ ap (λ (x : Verdict). carries orElse x) uncarried-next ∙ sym (else-assoc carries _ (uncarriedAt (n + 1)))
           ∙ ap (λ (x : Verdict). (carries orElse x) orElse uncarriedAt (n + 1)) (sym told) ∙ ap (λ (x : Verdict). x orElse uncarriedAt (n + 1)) (sym joined)
 
 -- the last part goes out
