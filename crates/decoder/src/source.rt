@@ -2,7 +2,7 @@
 ghost use mathlib.Core.Path.{_≡_};
 ghost use Rattle.model.specs.Text.{isText};
 ghost use Rattle.decoder.specs.FirstByte.{contentIn};
-ghost use Rattle.decoder.specs.Sources.{kindFrom, contentBy};
+ghost use Rattle.decoder.specs.Sources.{kindFrom, contentBy, spellingIn};
 use crate::first;
 use crate::first::Spelling;
 use model::Dialect;
@@ -40,6 +40,7 @@ pub fn is_text(k: Kind) -> bool
 // How the content of a cell is spelt.
 pub fn spelling_in(src: Source, raw: &[u8]) -> Spelling
     ensures { λ r. ⌜ contentIn r (now (raw .entry)) ≡ contentBy src (now (raw .entry)) ⌝ }
+    ensures { λ r. ⌜ r ≡ spellingIn src (now (raw .entry)) ⌝ }
 {
     match src {
         Source::File(d) => first::spelling_by(d, cell::first_of(raw)),

@@ -27,7 +27,7 @@ pub data Calm (f : FileState) (b : ℕ) : Step → Type 0 where
   blanks : {g : FileState} → counts f b ≡ true → outer f ≡ true → Calm f b (To g (Between false))
   parts : {g : FileState} {k : Bool} → counts f b ≡ true → outer g ≡ false → Calm f b (To g (Between k))
   tails : {g : FileState} {k : Bool} → outer g ≡ false → Calm f b (To g (Tail k))
-  finishes : {g : FileState} {k : Bool} → Calm f b (To g (Ends k))
+  finishes : {g : FileState} {k : Bool} → outer g ≡ true → Calm f b (To g (Ends k))
 
 module _ (f : FileState) (b : ℕ) where
   pub after-calm : (d : Dialect) (k : Bool) → Calm f b (afterCell d k b)
@@ -36,15 +36,15 @@ module _ (f : FileState) (b : ℕ) where
       let P : Step → Type 0 = Calm f b in
       split P (isBlank b) (λ p. parts (blank-counted f b p) refl) λ _.
       split P (b is COMMA) (λ p. parts (delimiter-counted Csvj f b p) refl) λ _.
-      split P _ (λ _. finishes) λ _. split P _ (λ _. tails refl) λ _. refuses
+      split P _ (λ _. finishes refl) λ _. split P _ (λ _. tails refl) λ _. refuses
   after-calm Tdif k =
       let P : Step → Type 0 = Calm f b in
       split P (b is COMMA) (λ p. parts (delimiter-counted Tdif f b p) refl) λ _.
-      split P _ (λ _. finishes) λ _. split P _ (λ _. finishes) λ _. refuses
+      split P _ (λ _. finishes refl) λ _. split P _ (λ _. finishes refl) λ _. refuses
   after-calm (CsvPlus s) k =
       let P : Step → Type 0 = Calm f b in
       split P (b is delimiterOf (CsvPlus s)) (λ p. parts (delimiter-counted (CsvPlus s) f b p) refl) λ _.
-      split P _ (λ _. finishes) λ _. split P _ (λ _. tails refl) λ _. refuses
+      split P _ (λ _. finishes refl) λ _. split P _ (λ _. tails refl) λ _. refuses
 
 rests-outer : {f : FileState} → Rests f → outer f ≡ true
 rests-outer steps.top = refl
@@ -64,6 +64,10 @@ starts-outer steps.s-begin = refl
 starts-outer steps.s-ended = refl
 starts-outer steps.s-blanks = refl
 
+next-outer : {g : FileState} → steps.Next g → outer g ≡ true
+next-outer steps.n-begin = refl
+next-outer steps.n-ended = refl
+
 grown-inner : {g : FileState} → Grown g → outer g ≡ false
 grown-inner steps.g-inside = refl
 grown-inner steps.g-plain1 = refl
@@ -82,8 +86,8 @@ calm (steps.adds t n h g i s) = grows n (grown-inner g)
 calm (steps.blanks t n e c) = blanks n (starts-outer e)
 calm (steps.parts t n l o) = parts n (opens-inner o)
 calm (steps.turns t p l) = tails refl
-calm (steps.ends t p l g) = finishes
-calm (steps.ends-cr t e p) = finishes
+calm (steps.ends t p l g) = finishes (next-outer g)
+calm (steps.ends-cr t e p) = finishes refl
 
 pub step-calm : (d : Dialect) (f : FileState) (b : ℕ) → Calm f b (fileStep d f b)
 step-calm d f b = calm (step-transition d f b)

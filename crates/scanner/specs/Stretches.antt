@@ -1,18 +1,20 @@
--- What a cell of a file is: its kind and its content are those of its stretch.
+-- What a cell of a file is: its stretch is a whole cell, and its kind and its content are those of the stretch.
 use Prim.Native.Nat.{_+_, _≤_}
 use mathlib.Core.Path.{_≡_}
 use lib.ListN.{length}
 use Rattle.model.specs.Base.{Bytes}
-use Rattle.model.specs.Decode.{kindOf, contentOf}
+use Rattle.model.specs.Decode.{kindOf, contentOf, validateCell}
 use Rattle.model.specs.Text.{Value}
 use Rattle.model.specs.Report.{MAXRECORD}
 use Rattle.model.specs.Api.{slice}
 use Rattle.model.specs.declared.Dialect.{Dialect}
+use Rattle.model.specs.declared.CellCheck.the-variants.{WholeCell}
 
--- a cell that stands in a file: its kind and content are those of its stretch, which is no longer than a record may be
+-- a cell that stands in a file: its stretch is a whole cell, no longer than a record may be, and has its kind and content
 pub record StandsIn (d : Dialect) (file : Bytes) (v : Value) : Type 0 where
   pub kind : v .kind ≡ kindOf d (slice file (v .from) (v .upto))
   pub content : v .content ≡ contentOf d (slice file (v .from) (v .upto))
   pub forward : v .from ≤ v .upto
   pub within : v .upto ≤ length file
   pub short : v .upto ≤ v .from + MAXRECORD
+  pub sound : validateCell d (slice file (v .from) (v .upto)) ≡ WholeCell

@@ -2,7 +2,6 @@
 use Prim.Native.Nat.{ℕ, zero, suc}
 use mathlib.Core.Bool.{Bool, false, not, _&&_}
 use mathlib.Core.List.{[], _∷_, _++_}
-use lib.ListN.{length}
 use Rattle.model.specs.declared.Dialect.{Dialect}
 use Rattle.model.specs.declared.Fault.the-variants.{LacksKind, LoneSurrogate}
 use Rattle.model.specs.declared.Kind.{Kind}
@@ -12,12 +11,6 @@ use Rattle.model.specs.Dialect.{isCsvj, delimiterOf}
 use Rattle.model.specs.Text.{Value, isText, cellText}
 use Rattle.model.specs.Utf8.{holdsLone}
 use Rattle.model.specs.Records.{_orElse_, when, hasKind}
-use Rattle.decoder.specs.declared.source.Source.{Source}
-use Rattle.decoder.specs.Sources.{contentBy}
-
--- the cell of this kind that these bytes are
-abbrev pub cellOf : Source → Kind → Bytes → Value
-cellOf src k raw = record { from = 0; upto = length raw; kind = k; content = contentBy src raw }
 
 -- what stands before the cell at place n: a delimiter, but for the first (§14.1)
 abbrev pub beforeCell : Dialect → ℕ → Bytes

@@ -1,5 +1,7 @@
 pub mod Columns
 pub mod PlainRuns
 pub mod Units
+pub mod Contents
 pub mod Quoted
 pub mod Bodies
+pub mod Cells

@@ -11,7 +11,8 @@ ghost use Rattle.model.specs.Utf8.{holdsLone};
 ghost use Rattle.model.specs.Records.{_orElse_, hasKind, uncarriedFrom};
 ghost use Rattle.buffers.specs.Wrote.{Room, Put};
 ghost use Rattle.decoder.specs.Sources.{kindFrom, contentBy, cellsIn, Spelt, Cells};
-ghost use Rattle.spell.specs.Columns.{cellOf, beforeCell, isFirst, columnText, uncarriedCell};
+ghost use Rattle.spell.specs.Cells.{valueOf};
+ghost use Rattle.spell.specs.Columns.{beforeCell, isFirst, columnText, uncarriedCell};
 use crate::cell;
 use crate::escape;
 use decoder::source;
@@ -119,9 +120,9 @@ fn column(
     write: bool,
 ) -> RecordText
     requires { ⌜ Spelt src kind (now raw) ⌝ }
-    requires { ⌜ Room write at (columnText t n only header (cellOf src kind (now raw))) (now out) ⌝ }
+    requires { ⌜ Room write at (columnText t n only header (valueOf src kind (now raw))) (now out) ⌝ }
     requires { ⌜ n < 0xFFFFFFFFFFFFFFFF ⌝ }
-    ensures { λ r. ⌜ Put write (now (out .entry)) at (columnText t n only header (cellOf src kind (now (raw .entry)))) (now (out .exit)) (r .end) ⌝ }
+    ensures { λ r. ⌜ Put write (now (out .entry)) at (columnText t n only header (valueOf src kind (now (raw .entry)))) (now (out .exit)) (r .end) ⌝ }
     ensures { λ r. ⌜ r .carries ≡ uncarriedCell t (n + 1) kind (contentBy src (now (raw .entry))) ⌝ }
 {
     let from = put_delimiter(t, n, out, at, write);

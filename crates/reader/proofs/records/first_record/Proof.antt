@@ -11,13 +11,13 @@ validated-requires : tie.Need-validated-requires
 validated-requires c κs =
     let a = c .before .before .before .before .before .before .before .before .before .before .before .before .before .args in
     let n = c .before .before .before .before .before .before .before .before .next-record .ensures in
-    (first-counts (a .d) (a .file .now) _ (n .0) _ _ _ _ (c .before .before .before .start .given .1), (shows _ _ _ _ _ refl refl (n .1 .0) (n .1 .1 .0), cells-stand (a .d) (a .file .now) Top 0 (omega arith)))
+    (first-counts (a .d) (a .file .now) _ (n .0) _ _ _ _ (c .before .before .before .start .given .1), (shows _ _ _ _ _ refl refl (n .1 .0) (n .1 .1 .0), cells-stand (a .d) (a .file .now) Top 0 refl (omega arith)))
 
 validated-requires-2 : tie.Need-validated-requires-2
 validated-requires-2 c κs =
     let a = c .before .before .before .before .before .before .before .before .before .before .before .before .before .args in
     let n = c .before .before .before .before .before .before .before .before .next-record .ensures in
-    (only-counts (a .d) (a .file .now) _ (n .0) _ _ (c .before .before .before .start2 .given .1), (shows _ _ _ _ _ refl refl (n .1 .0) (n .1 .1 .0), cells-stand (a .d) (a .file .now) Top 0 (omega arith)))
+    (only-counts (a .d) (a .file .now) _ (n .0) _ _ (c .before .before .before .start2 .given .1), (shows _ _ _ _ _ refl refl (n .1 .0) (n .1 .1 .0), cells-stand (a .d) (a .file .now) Top 0 refl (omega arith)))
 
 returns : tie.Need-returns
 returns c =

@@ -7,14 +7,15 @@ use Rattle.model.specs.Base.{Bytes}
 use Rattle.model.specs.Text.{cellText}
 use Rattle.buffers.proofs.Writing.{Putting, putting, room-as, put-as, room-next, room-rest, put-next}
 use Rattle.decoder.specs.Sources.{contentBy}
-use Rattle.spell.specs.Columns.{cellOf, beforeCell, isFirst, columnText}
+use Rattle.spell.specs.Cells.{valueOf}
+use Rattle.spell.specs.Columns.{beforeCell, isFirst, columnText}
 use Rattle.spell.proofs.Columns.{put-last}
 use Rattle.spell.proofs.record.column.Statement.{statement}
 use Rattle.spell.proofs.record.column.Tie as tie
 
 -- the cell's text
 abbrev cell : tie.Start → Bytes
-cell c = let a = c .args in cellText (a .t) (a .only) (isFirst (a .n) (a .header)) (cellOf (a .src) (a .kind) (a .raw .now))
+cell c = let a = c .args in cellText (a .t) (a .only) (isFirst (a .n) (a .header)) (valueOf (a .src) (a .kind) (a .raw .now))
 
 put-delimiter-requires : tie.Need-put-delimiter-requires
 put-delimiter-requires c κs =
@@ -25,7 +26,7 @@ put-delimiter-requires c κs =
 cell-next : (c : tie.After-put-delimiter)
     → let u = c .before .before .before .before in
     let a = u .args in
-    Putting (a .write) (a .out .now) (a .at) (columnText (a .t) (a .n) (a .only) (a .header) (cellOf (a .src) (a .kind) (a .raw .now))) (c .put-delimiter .last .1 .1 .0) (c .put-delimiter .result) (cell u)
+    Putting (a .write) (a .out .now) (a .at) (columnText (a .t) (a .n) (a .only) (a .header) (valueOf (a .src) (a .kind) (a .raw .now))) (c .put-delimiter .last .1 .1 .0) (c .put-delimiter .result) (cell u)
 cell-next c =
     let u = c .before .before .before .before in
     put-next (beforeCell (u .args .t) (u .args .n)) (putting (u .args .write) (u .pre .1 .0)) (c .put-delimiter .ensures)
@@ -33,11 +34,11 @@ cell-next c =
 -- the cell is the first of a header or not
 first : (c : tie.After-is-first)
     → let a = c .before .before .before .before .before .before .before .args in
-    let v = cellOf (a .src) (a .kind) (a .raw .now) in
+    let v = valueOf (a .src) (a .kind) (a .raw .now) in
     cellText (a .t) (a .only) (c .is-first .result) v ≡ cellText (a .t) (a .only) (isFirst (a .n) (a .header)) v
 first c =
     let a = c .before .before .before .before .before .before .before .args in
-    ap (λ (b : Bool). cellText (a .t) (a .only) b (cellOf (a .src) (a .kind) (a .raw .now))) (c .is-first .ensures)
+    ap (λ (b : Bool). cellText (a .t) (a .only) b (valueOf (a .src) (a .kind) (a .raw .now))) (c .is-first .ensures)
 
 put-requires : tie.Need-put-requires
 put-requires c κs = (

@@ -15,7 +15,8 @@ use Rattle.model.specs.Records.{_orElse_}
 use Rattle.model.specs.Api.{slice}
 use Rattle.buffers.proofs.Writing.{Putting, same-long, room-next, put-next, put-whole}
 use Rattle.decoder.specs.Sources.{cellsIn, Stretch}
-use Rattle.spell.specs.Columns.{cellOf, columnText}
+use Rattle.spell.specs.Cells.{valueOf}
+use Rattle.spell.specs.Columns.{columnText}
 use Rattle.spell.proofs.Columns.{PutUpTo, textAt, put-none, text-at, text-end, says-next, uncarried-end, orElse-sound}
 use Rattle.spell.proofs.record.put.Statement.{statement}
 use Rattle.spell.proofs.record.put.Tie as tie
@@ -42,14 +43,14 @@ at-n c =
 cell-next : (c : tie.After-kind-of-number Inv-loop μ-loop)
     → let l = c .before .before .before .before .before .loop in
     let a = c .before .before .before .before .before .before .before .before .before .before .before .args in
-    let v = cellOf (a .src) (c .kind-of-number .result) (slice (a .s .now) (getD (a .starts .now) (l .n) 0) (getD (a .ends .now) (l .n) 0)) in
+    let v = valueOf (a .src) (c .kind-of-number .result) (slice (a .s .now) (getD (a .starts .now) (l .n) 0) (getD (a .ends .now) (l .n) 0)) in
     Putting (a .write) (a .out .now) (a .at) (recordText (into (a .t)) (a .header) (cellsIn (a .src) (a .s .now) (a .starts .now) (a .ends .now) (a .kinds .now))) (l .out) (l .o)
     (columnText (a .t) (l .n) (eqb (length (a .starts .now)) 1) (a .header) v ++ textAt (a .src) (a .t) (a .s .now) (a .starts .now) (a .ends .now) (a .kinds .now) (a .header) (l .n + 1))
 cell-next c =
     let l = c .before .before .before .before .before .loop in
     let u = c .before .before .before .before .before .before .before .before .before .before .before in
     let a = u .args in
-    let v = cellOf (a .src) (c .kind-of-number .result) (slice (a .s .now) (getD (a .starts .now) (l .n) 0) (getD (a .ends .now) (l .n) 0)) in
+    let v = valueOf (a .src) (c .kind-of-number .result) (slice (a .s .now) (getD (a .starts .now) (l .n) 0) (getD (a .ends .now) (l .n) 0)) in
     rw
     (text-at (a .src) (a .t) (a .s .now) (a .starts .now) (a .ends .now) (a .kinds .now) (a .header) (u .pre .0 .with-ends) (u .pre .0 .with-kinds) (l .n) (c .before .before .before .before .loop-test .taken)
     (eqb (length (a .starts .now)) 1) v refl (sym (c .kind-of-number .ensures)) refl)
