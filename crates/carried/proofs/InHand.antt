@@ -103,7 +103,7 @@ hand-kinds {bytes} d starts h e = ap₂ (λ (ss es : List ℕ). kindsOf (valuesI
 -- ---- more is kept
 
 -- what is written after what is kept stands after it
-take-written : (l : List ℕ) (at : ℕ) (w : List ℕ) → at ≤ length l → take (at + length w) (written l at w) ≡ take at l ++ w
+pub take-written : (l : List ℕ) (at : ℕ) (w : List ℕ) → at ≤ length l → take (at + length w) (written l at w) ≡ take at l ++ w
 take-written l at w h =
     let n : length (take at l ++ w) ≡ at + length w = simp (length-append, length-take) (omega arith) in
     let e : take at l ++ (w ++ drop (at + length w) l) ≡ take at l ++ w ++ drop (at + length w) l = sym (append-assoc (take at l) w (drop (at + length w) l)) in

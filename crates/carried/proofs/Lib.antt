@@ -1,5 +1,6 @@
 pub mod Codes
 pub mod Keeping
 pub mod InHand
+pub mod Joining
 pub mod Checking
 pub mod Soundness
