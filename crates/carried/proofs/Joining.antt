@@ -1,13 +1,12 @@
 -- Which cells of a part go on with the open one: while a cell is in hand every byte is its own or closes it, so what is kept of it is
 -- joined by the first cell that ends in the part and by no other. Keeping the cells of a part, and then the bytes of the one that is open
 -- at its end, keeps the record in hand.
-use Prim.Native.Nat.{ℕ, suc, _+_, _<_, _≤_}
+use Prim.Native.Nat.{ℕ, _+_, _<_, _≤_}
 use native.Mathlib.Omega.{arith}
-use mathlib.Core.Path.{_≡_, refl, sym, ap, ap₂, _∙_}
-use mathlib.Core.Bool.{Bool, true, false, _&&_}
+use mathlib.Core.Path.{_≡_, refl, sym, ap, _∙_}
+use mathlib.Core.Bool.{Bool, true, false}
 use mathlib.Core.List.{List, [], _∷_, _++_, append-nil}
 use lib.ListN.{length, take, drop, take-append-drop}
-use lib.Dec.{leb}
 use borrow.Author.Tests.{eq-eqb, ne-eqb}
 use Rattle.model.specs.declared.Dialect.{Dialect}
 use Rattle.model.specs.declared.FileState.{FileState}
@@ -19,7 +18,7 @@ use Rattle.model.specs.declared.ByteFault.{ByteFault}
 use Rattle.model.specs.declared.Fault.{Fault}
 use Rattle.model.specs.Base.{Bytes, if_then_else_, _is_}
 use Rattle.model.specs.File.{fileStep}
-use Rattle.model.specs.Laws.{All, all-none, all-cons}
+use Rattle.model.specs.Laws.{All, all-none}
 use Rattle.model.specs.Scans.{RawCell, Scan, ScanResult, pends, fails, completes, closingRaw, scanStep, scan, inRecord, Kept, joinedRaw, joinedCells}
 use Rattle.model.specs.Places.{keptBytes, keptEnds}
 use Rattle.model.proofs.Tests.{split, impossible}

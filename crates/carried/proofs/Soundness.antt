@@ -7,12 +7,12 @@ use mathlib.Core.List.{List, [], _∷_, _++_}
 use lib.ListN.{length, take, drop, getD, length-append, length-take, List·getD-append}
 use lib.Seq.{getD-take}
 use lib.Dec.{leb}
-use borrow.Author.Tests.{le-leb, lt-leb, leb-true}
-use Rattle.model.specs.Base.{Bytes, over}
+use borrow.Author.Tests.{eq-eqb, le-leb, lt-leb, leb-true}
+use Rattle.model.specs.Base.{Bytes, _is_, over}
 use Rattle.model.specs.Report.{MAXFILE, MAXRECORD, MAXCOLUMNS}
 use Rattle.model.specs.Api.{least}
-use Rattle.model.proofs.Tests.{and-true}
-use Rattle.model.specs.Scans.{RawCell}
+use Rattle.model.proofs.Tests.{and-true, is→eq}
+use Rattle.model.specs.Scans.{RawCell, inRecord}
 use Rattle.model.specs.Places.{keptBytes, keptEnds}
 use Rattle.buffers.specs.Wrote.{written}
 use Rattle.buffers.proofs.Writing.{drop-next}
@@ -20,7 +20,7 @@ use Rattle.carried.specs.declared.place.Place.{Place}
 use Rattle.carried.specs.Hand.{Stand, InHand}
 use Rattle.carried.proofs.Keeping.{ends-count}
 use Rattle.carried.proofs.InHand.{take-written}
-use Rattle.carried.specs.Sound.{MAXCELLS, inRange, inOrder, isSound, InOrder, order-end, order-next, SoundPlace}
+use Rattle.carried.specs.Sound.{MAXCELLS, inRange, keptInRecord, inOrder, isSound, InOrder, order-end, order-next, SoundPlace}
 
 -- ---- ends in order
 
@@ -124,12 +124,28 @@ module _ (ends : List ℕ) (n fill k at : ℕ) where
 
 -- ---- the check as a whole
 
+kept-outside : (p : Place) → keptInRecord p ≡ true → inRecord (p .state) ≡ false → (p .fill ≡ 0) × (p .cells ≡ 0)
+unfolding keptInRecord
+kept-outside p h e =
+    let both = and-true (leb (p .fill) 0) (p .cells is 0) (rw e at h) in
+    let none : p .fill ≤ 0 = leb-true (p .fill) 0 (both .0) in
+    (omega arith, is→eq (p .cells) 0 (both .1))
+
+is-kept-by : (p : Place) (in-hand : Bool) → inRecord (p .state) ≡ in-hand → (in-hand ≡ false → (p .fill ≡ 0) × (p .cells ≡ 0)) → keptInRecord p ≡ true
+unfolding keptInRecord
+is-kept-by p true e h = rw e
+is-kept-by p false e h = rw (e, le-leb (p .fill) 0 (omega (arith, h refl .0)), eq-eqb (p .cells) 0 (h refl .1))
+
+is-kept : (p : Place) → (inRecord (p .state) ≡ false → (p .fill ≡ 0) × (p .cells ≡ 0)) → keptInRecord p ≡ true
+is-kept p h = is-kept-by p (inRecord (p .state)) refl h
+
 pub sound-gives : (p : Place) (ends : List ℕ) → isSound p ends ≡ true → SoundPlace p ends
 unfolding isSound inRange
 sound-gives p ends h =
     let n : ℕ = least (p .cells) MAXCOLUMNS in
-    let all = and-true (inRange p) (inOrder 0 (take n ends) (p .fill)) h in
-    let g = and-true (leb (p .size) MAXRECORD && leb (p .fill) (p .size) && leb (p .offset) MAXFILE && leb (p .written) MAXFILE && leb (p .records) MAXFILE && leb (p .cells) MAXCELLS) (leb (p .columns) MAXCOLUMNS) (all .0) in
+    let all = and-true (inRange p && keptInRecord p) (inOrder 0 (take n ends) (p .fill)) h in
+    let numbers = and-true (inRange p) (keptInRecord p) (all .0) in
+    let g = and-true (leb (p .size) MAXRECORD && leb (p .fill) (p .size) && leb (p .offset) MAXFILE && leb (p .written) MAXFILE && leb (p .records) MAXFILE && leb (p .cells) MAXCELLS) (leb (p .columns) MAXCOLUMNS) (numbers .0) in
     let f = and-true (leb (p .size) MAXRECORD && leb (p .fill) (p .size) && leb (p .offset) MAXFILE && leb (p .written) MAXFILE && leb (p .records) MAXFILE) (leb (p .cells) MAXCELLS) (g .0) in
     let e = and-true (leb (p .size) MAXRECORD && leb (p .fill) (p .size) && leb (p .offset) MAXFILE && leb (p .written) MAXFILE) (leb (p .records) MAXFILE) (f .0) in
     let d = and-true (leb (p .size) MAXRECORD && leb (p .fill) (p .size) && leb (p .offset) MAXFILE) (leb (p .written) MAXFILE) (e .0) in
@@ -143,6 +159,7 @@ sound-gives p ends h =
       records-within = leb-true (p .records) MAXFILE (e .1);
       cells-within = leb-true (p .cells) MAXCELLS (f .1);
       columns-within = leb-true (p .columns) MAXCOLUMNS (g .1);
+      kept-in-record = kept-outside p (numbers .1);
       ends-in-order = ordered 0 (take n ends) (p .fill) (all .1);
     }
 
@@ -157,5 +174,6 @@ sound-when p ends h =
       le-leb (p .records) MAXFILE (h .records-within),
       le-leb (p .cells) MAXCELLS (h .cells-within),
       le-leb (p .columns) MAXCOLUMNS (h .columns-within),
+      is-kept p (h .kept-in-record),
     )
     (is-ordered 0 (take (least (p .cells) MAXCOLUMNS) ends) (p .fill) (h .ends-in-order))
