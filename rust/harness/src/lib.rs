@@ -11,6 +11,7 @@ pub mod json;
 pub mod ledger;
 pub mod lists;
 pub mod rng;
+pub mod rooms;
 pub mod runner;
 pub mod sampled;
 pub mod vectors;
