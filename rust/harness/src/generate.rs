@@ -362,16 +362,32 @@ pub fn table_lists(rng: &mut Rng) -> TableLists {
         15..=18 => fill_record(rng, &mut records),
         _ => {}
     }
-    let cells: Vec<Cell> = records.iter().flatten().map(content).collect();
-    let (columns, count) = (records[0].len(), records.len());
-    let mut lists = match rng.percent(50) {
-        true => TableLists::of_cells(columns, count, &cells),
-        false => scattered(rng, columns, count, &cells),
-    };
+    let mut lists = lists_of(rng, &cells_in(&records));
     if rng.percent(40) {
         spoil(rng, &mut lists);
     }
     lists
+}
+
+/// A random table for the writer, of cells that some dialect has, and its records.
+pub fn sound_lists(rng: &mut Rng) -> (TableLists, Vec<Vec<Cell>>) {
+    let (_, dialect) = rng.pick(&DIALECTS);
+    let records = cells_in(&table(rng, dialect));
+    (lists_of(rng, &records), records)
+}
+
+fn cells_in(records: &[Vec<Value>]) -> Vec<Vec<Cell>> {
+    let cells = |record: &Vec<Value>| record.iter().map(content).collect();
+    records.iter().map(cells).collect()
+}
+
+/// The writer's arguments for these records, whose contents stand in file order or not.
+fn lists_of(rng: &mut Rng, records: &[Vec<Cell>]) -> TableLists {
+    let (columns, count, cells) = (records[0].len(), records.len(), records.concat());
+    match rng.percent(50) {
+        true => TableLists::of_cells(columns, count, &cells),
+        false => scattered(rng, columns, count, &cells),
+    }
 }
 
 /// The contents in any order, with bytes between them that no cell has, and shared where one holds another.
@@ -512,10 +528,9 @@ fn spell(rng: &mut Rng, dialect: Dialect, records: &[Vec<Value>]) -> Sample {
     if dialect == Dialect::Tdif && rng.percent(20) {
         spell_comment(rng, &mut file);
     }
-    let cells = |record: &Vec<Value>| record.iter().map(content).collect();
     Sample {
         file,
-        records: sound.then(|| records.iter().map(cells).collect()),
+        records: sound.then(|| cells_in(records)),
     }
 }
 

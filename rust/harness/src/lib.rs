@@ -10,6 +10,8 @@ pub mod generate;
 pub mod json;
 pub mod ledger;
 pub mod lists;
+pub mod programs;
+pub mod python;
 pub mod rng;
 pub mod rooms;
 pub mod runner;

@@ -122,7 +122,7 @@ impl TableLists {
     }
 
     /// Room that is enough for its text, if it has one: 6 for each byte of a cell's content, 6 for each cell, 1 for each record.
-    fn room(&self) -> usize {
+    pub fn room(&self) -> usize {
         let lengths = self.starts.iter().zip(&self.ends);
         let room = lengths
             .map(|(start, end)| end.saturating_sub(*start).saturating_add(1))

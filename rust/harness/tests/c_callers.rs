@@ -1,11 +1,11 @@
 //! The library as C and C++ have it: installed by `make install`, and found as pkg-config tells.
 
+use harness::programs::{run, succeeded};
 use harness::repository;
 use reference::limits::{COLUMNS, FILE_BYTES, RECORD_BYTES};
 use std::fs;
-use std::io::Write;
 use std::path::{Path, PathBuf};
-use std::process::{Command, Output, Stdio};
+use std::process::Command;
 use std::sync::OnceLock;
 
 const C: [&str; 2] = ["cc", "-std=c11"];
@@ -71,27 +71,6 @@ fn compile(compiler: [&str; 2], source: &str) -> PathBuf {
         .args(flags());
     succeeded(&command.output().expect("the compiler starts"));
     program
-}
-
-/// The standard output of a command that has to succeed.
-fn succeeded(output: &Output) -> String {
-    let [told, said] = [&output.stdout, &output.stderr].map(|bytes| String::from_utf8_lossy(bytes));
-    assert!(output.status.success(), "{}\n{told}{said}", output.status);
-    told.into_owned()
-}
-
-fn run(program: &Path, arguments: &[&str], input: &[u8]) -> Output {
-    let mut child = Command::new(program)
-        .args(arguments)
-        .stdin(Stdio::piped())
-        .stdout(Stdio::piped())
-        .stderr(Stdio::piped())
-        .spawn()
-        .expect("the program starts");
-    let mut stdin = child.stdin.take().expect("standard input is piped");
-    stdin.write_all(input).expect("it reads all");
-    drop(stdin);
-    child.wait_with_output().expect("the program ends")
 }
 
 #[test]
