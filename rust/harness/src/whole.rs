@@ -156,6 +156,7 @@ pub fn write_whole(target: u32, lists: &TableLists) -> Result<Vec<u8>, Report> {
 }
 
 fn accepted<T>(report: Report, value: T) -> Result<T, Report> {
+    assert_ne!(report.number, 10, "the room was enough");
     if report.is_accepted() {
         Ok(value)
     } else {
