@@ -20,6 +20,19 @@ fn python_reads_the_cells_that_were_written() {
     }
     let texts = written(convert, write, 1, 20_000);
     judge(&texts).unwrap_or_else(|difference| panic!("{difference}"));
+    for (what, dialect, part) in [
+        ("lone surrogates", 1, &b"\\ud83d"[..]),
+        ("escapes", 1, b"\\u001f"),
+        ("numbers", 1, b",10.250,"),
+        ("marks in front", 3, b"\"\xEF\xBB\xBF"),
+        ("empty records", 3, b"\n\"\"\r\n"),
+        ("quotes", 3, b"\"\"\""),
+    ] {
+        let has_part = |text: &[u8]| text.windows(part.len()).any(|found| found == part);
+        let are_in = |written: &&Written| written.dialect == dialect && has_part(&written.text);
+        let count = texts.iter().filter(are_in).count();
+        assert!(count >= 50, "{what}: {count}");
+    }
     let csvj = texts.iter().filter(|written| written.dialect == 1).count();
     eprintln!(
         "python's json read {csvj} CSVJ texts, and its csv {} CSV+ texts, to the cells that were written",

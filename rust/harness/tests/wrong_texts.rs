@@ -4,6 +4,7 @@ use harness::compare::{convert_random, write_random};
 use harness::ledger::completed_text;
 use harness::rooms::{WholeConverter, Writer};
 use harness::whole::{convert_whole, read_whole};
+use reference::limits::{FILE_BYTES, RECORD_BYTES};
 use reference::{convert, write, Converted, Dialect, Report, Table};
 use std::iter::zip;
 
@@ -76,7 +77,50 @@ fn respelt(
     }
 }
 
-const WRONG_CONVERTERS: [(&str, WholeConverter); 22] = [
+/// Whether a record of a text has as many bytes as a record may have. Line breaks in a cell are taken for endings, which long records of
+/// the random tables have none of.
+fn has_full_record(text: &[u8]) -> bool {
+    let mut lines = text.split(|byte| *byte == b'\n');
+    lines.any(|line| line.strip_suffix(b"\r").unwrap_or(line).len() == RECORD_BYTES)
+}
+
+/// The bytes without one of the x that a long text is made of.
+fn with_one_x_less(bytes: &[u8]) -> Vec<u8> {
+    let mut shorter = bytes.to_vec();
+    if let Some(place) = bytes.windows(9).position(|part| part == b"xxxxxxxxx") {
+        shorter.remove(place);
+    }
+    shorter
+}
+
+/// Takes a full record of this target for too long.
+fn refuses_full_records<const TARGET: u32>(
+    from: u32,
+    to: u32,
+    file: &[u8],
+    room: &mut [u8],
+) -> Converted {
+    match convert_whole(from, to, file) {
+        Ok(text) if to == TARGET && has_full_record(&text) => refusal(9),
+        _ => convert(from, to, file, room),
+    }
+}
+
+/// Takes a record of this target that is one byte too long for a full one.
+fn takes_one_byte_more<const TARGET: u32>(
+    from: u32,
+    to: u32,
+    file: &[u8],
+    room: &mut [u8],
+) -> Converted {
+    let answer = convert(from, to, file, room);
+    match convert_whole(from, to, &with_one_x_less(file)) {
+        Ok(text) if to == TARGET && answer.report.number == 9 && has_full_record(&text) => ACCEPTED,
+        _ => answer,
+    }
+}
+
+const WRONG_CONVERTERS: [(&str, WholeConverter); 29] = [
     ("room for the text is too little", |from, to, file, room| {
         convert(from, to, file, shorter(room))
     }),
@@ -194,14 +238,36 @@ const WRONG_CONVERTERS: [(&str, WholeConverter); 22] = [
         },
     ),
     (
-        "a record of 4,096 bytes is too long for CSVJ",
-        |from, to, file, room| match convert_whole(from, to, file) {
-            Ok(text) if to == 1 && text.split(|byte| *byte == b'\n').any(|l| l.len() == 4_096) => {
-                refusal(9)
-            }
-            _ => convert(from, to, file, room),
-        },
+        "4,096 bytes are too many in CSVJ",
+        refuses_full_records::<1>,
     ),
+    (
+        "4,096 bytes are too many in TDIF",
+        refuses_full_records::<2>,
+    ),
+    (
+        "4,096 bytes are too many in CSV+",
+        refuses_full_records::<3>,
+    ),
+    ("4,097 bytes are a record of CSVJ", takes_one_byte_more::<1>),
+    ("4,097 bytes are a record of TDIF", takes_one_byte_more::<2>),
+    ("a lone surrogate is carried", |from, to, file, room| {
+        let answer = convert(from, to, file, room);
+        let Ok(table) = read_whole(from, file) else {
+            return answer;
+        };
+        let Report { record, column, .. } = answer.report;
+        match answer.report.number == 9 && record > 1 && column > 0 {
+            true if table.kinds[(record - 1) * table.columns + column - 1] == 1 => ACCEPTED,
+            _ => answer,
+        }
+    }),
+    ("a CR needs no quotes", |from, to, file, room| {
+        respelt(3, b"\"\r\"", b"\r", (from, to), file, room)
+    }),
+    ("a space needs quotes", |from, to, file, room| {
+        respelt(3, b"\n \r", b"\n\" \"\r", (from, to), file, room)
+    }),
     (
         "the mark begins a CSV+ text",
         |from, to, file, room| match convert_whole(from, to, file) {
@@ -272,7 +338,39 @@ fn surrogate(bytes: &[u8]) -> Option<usize> {
     parts.position(|part| part[0] == 0xED && part[1] >= 0xA0)
 }
 
-const WRONG_WRITERS: [(&str, Writer); 22] = [
+/// Takes a full record of this target for too long.
+fn writes_no_full_records<const TARGET: u32>(
+    target: u32,
+    table: Table,
+    room: &mut [u8],
+) -> Converted {
+    match write(target, table, room) {
+        answer if target == TARGET && has_full_record(&room[..answer.written]) => refusal(9),
+        answer => answer,
+    }
+}
+
+/// Takes a record of this target that is one byte too long for a full one.
+fn writes_one_byte_more<const TARGET: u32>(
+    target: u32,
+    table: Table,
+    room: &mut [u8],
+) -> Converted {
+    let answer = write(target, table, room);
+    if (target, answer.report.number, answer.report.column) != (TARGET, 9, 0) {
+        return answer;
+    }
+    let mut text = vec![0; FILE_BYTES.min(8 * table.content.len() + 1_000)];
+    let less = changed(table, target, &mut text, |start, end, _| {
+        *start += usize::from(*end > *start + 500);
+    });
+    match has_full_record(&text[..less.written]) {
+        true => ACCEPTED,
+        false => answer,
+    }
+}
+
+const WRONG_WRITERS: [(&str, Writer); 29] = [
     ("room for the text is too little", |target, table, room| {
         write(target, table, shorter(room))
     }),
@@ -438,6 +536,38 @@ const WRONG_WRITERS: [(&str, Writer); 22] = [
             }
         },
     ),
+    (
+        "4,096 bytes are too many in CSVJ",
+        writes_no_full_records::<1>,
+    ),
+    (
+        "4,096 bytes are too many in TDIF",
+        writes_no_full_records::<2>,
+    ),
+    (
+        "4,096 bytes are too many in CSV+",
+        writes_no_full_records::<3>,
+    ),
+    (
+        "4,097 bytes are a record of CSVJ",
+        writes_one_byte_more::<1>,
+    ),
+    (
+        "4,097 bytes are a record of TDIF",
+        writes_one_byte_more::<2>,
+    ),
+    (
+        "4,097 bytes are a record of CSV+",
+        writes_one_byte_more::<3>,
+    ),
+    ("a lone surrogate is carried", |target, table, room| {
+        let answer = write(target, table, room);
+        let Report { record, column, .. } = answer.report;
+        match answer.report.number == 9 && record > 1 && column > 0 {
+            true if table.kinds[(record - 1) * table.columns + column - 1] == 1 => ACCEPTED,
+            _ => answer,
+        }
+    }),
     (
         "bytes that no cell holds are judged",
         |target, table, room| {
