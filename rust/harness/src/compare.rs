@@ -5,13 +5,32 @@ mod decode;
 mod read;
 mod write;
 
-pub use convert::{convert_agrees, convert_in_rooms, convert_random};
+pub use convert::{convert_agrees, convert_in_rooms, convert_random, proved_converter};
 pub use decode::{decode_agrees, decode_random};
 pub use read::{proved_reader, read_agrees, read_in_rooms, read_random};
-pub use write::{write_agrees, write_in_rooms, write_random};
+pub use write::{proved_writer, write_agrees, write_in_rooms, write_random};
 
 use crate::rooms::Room;
+use reference::{Converted, Report};
 use std::fmt::Debug;
+
+/// A proved call's report in the reference's terms.
+fn report(report: hemakuliwi::Report) -> Report {
+    Report {
+        number: report.number,
+        record: report.record_number,
+        column: report.column,
+        offset: report.offset,
+    }
+}
+
+/// The proved converter's or writer's answer in the reference's terms.
+fn converted(answer: hemakuliwi::TextAnswer) -> Converted {
+    Converted {
+        report: report(answer.report),
+        written: answer.length,
+    }
+}
 
 /// Makes a call and the reference's, each with a room of this length, and compares the answers, the whole rooms, and what stands on
 /// either side of them.

@@ -1,8 +1,8 @@
-//! What is converted and written, read by Python's own json and csv modules.
+//! What the proved calls convert and write, read by Python's own json and csv modules.
 
+use harness::compare::{proved_converter, proved_writer};
 use harness::python::{is_installed, judge, written, Written};
 use harness::whole::Cell;
-use reference::{convert, write};
 
 /// Whether the judge is there; if not, it is said.
 fn is_judged() -> bool {
@@ -18,7 +18,7 @@ fn python_reads_the_cells_that_were_written() {
     if !is_judged() {
         return;
     }
-    let texts = written(convert, write, 1, 20_000);
+    let texts = written(proved_converter, proved_writer, 1, 20_000);
     judge(&texts).unwrap_or_else(|difference| panic!("{difference}"));
     for (what, dialect, part) in [
         ("lone surrogates", 1, &b"\\ud83d"[..]),

@@ -1,6 +1,6 @@
 //! The converter. Each comparison takes the converter that is held to the reference, so that wrong ones can be tried too.
 
-use super::{agree, hex, room_lengths};
+use super::{agree, converted, hex, room_lengths};
 use crate::counts::Counts;
 use crate::generate::sample;
 use crate::rng::Rng;
@@ -8,6 +8,11 @@ use crate::rooms::WholeConverter;
 use crate::whole::convert_whole;
 use crate::{DIALECTS, UNKNOWN};
 use reference::{convert, Converted};
+
+/// The proved converter, answering in the reference's terms.
+pub fn proved_converter(from: u32, to: u32, file: &[u8], room: &mut [u8]) -> Converted {
+    converted(hemakuliwi::convert(from, to, file, room))
+}
 
 /// Converts a file with both and compares the answers and the whole room.
 pub fn convert_agrees(

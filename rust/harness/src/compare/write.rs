@@ -1,13 +1,26 @@
 //! The writer. Each comparison takes the writer that is held to the reference, so that wrong ones can be tried too.
 
-use super::{agree, hex, room_lengths};
+use super::{agree, converted, hex, room_lengths};
 use crate::counts::Counts;
 use crate::generate::table_lists;
 use crate::rng::Rng;
 use crate::rooms::Writer;
 use crate::whole::{write_whole, TableLists};
 use crate::{DIALECTS, UNKNOWN};
-use reference::{write, Converted};
+use reference::{write, Converted, Table};
+
+/// The proved writer, answering in the reference's terms.
+pub fn proved_writer(target: u32, table: Table, room: &mut [u8]) -> Converted {
+    let table = hemakuliwi::Table {
+        content: table.content,
+        starts: table.starts,
+        ends: table.ends,
+        kinds: table.kinds,
+        columns: table.columns,
+        records: table.records,
+    };
+    converted(hemakuliwi::write(target, table, room))
+}
 
 /// Writes a table with both and compares the answers and the whole room.
 pub fn write_agrees(
