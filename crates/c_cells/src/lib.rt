@@ -1,15 +1,20 @@
-// The C boundary for single cells: a thin function over the decoder, with no logic of its own. `include/hemakuliwi.h` declares it for C.
-// Its contract is its definition's, with a struct in place of the decoder's enum (specs/Answer.antt).
+// The C boundary for single cells and for contents: thin functions over the decoder and the writer, with no logic of their own.
+// `include/hemakuliwi.h` declares them for C. Their contracts are their definitions', for the decoder with a struct in place of its
+// enum (specs/Answer.antt).
 //
 // It is a crate of its own, apart from that for whole files, so that each has a lexer for itself: where both called the same one, the
-// reader's loop would have to call it too, instead of holding it, and would lose a third of its speed.
+// reader's loop would have to call it too, instead of holding it, and would lose a third of its speed. The writer stands here since it
+// asks the lexer whether a content spells a number.
 ghost use mathlib.Core.Path.{_≡_};
 ghost use lib.ListN.{length};
-ghost use Rattle.model.specs.Api.{decoder, decoderLeaves};
+ghost use Rattle.model.specs.Api.{decoder, decoderLeaves, writer, writerLeaves};
 ghost use Rattle.decoder.specs.Answer.{toAnswer, givenAnswer};
+ghost use Rattle.numbers.specs.Named.{textAnswer};
+ghost use Rattle.table.specs.Given.{given};
 ghost use Rattle.c_cells.specs.Answer.{structAnswer};
 use decoder::Decoded;
 use model::Report;
+use numbers::TextAnswer;
 
 // What the decoder answers: a report, and the content's length and kind, which are 0 on refusal.
 #[repr(C)]
@@ -43,4 +48,35 @@ pub extern "C" fn hk_decode(dialect: u32, raw: &[u8], room: &mut [u8]) -> Decode
     ensures leaves { λ r. ⌜ now (room .exit) ≡ decoderLeaves dialect (now (raw .entry)) (now (room .entry)) ⌝ }
 {
     answer_of(decoder::decode(dialect, raw, room))
+}
+
+// A table of contents to canonical text, in `room`. Its contract is the writer's.
+#[no_mangle]
+pub extern "C" fn hk_write(
+    dialect: u32,
+    content: &[u8],
+    starts: &[usize],
+    ends: &[usize],
+    kinds: &[u8],
+    columns: usize,
+    records: usize,
+    room: &mut [u8],
+) -> TextAnswer
+    ensures answer { λ r. ⌜ r ≡ textAnswer (writer dialect
+        (given (now (content .entry)) (now (starts .entry)) (now (ends .entry)) (now (kinds .entry)) columns records)
+        (length (now (room .entry)))) ⌝ }
+    ensures leaves { λ r. ⌜ now (room .exit) ≡ writerLeaves dialect
+        (given (now (content .entry)) (now (starts .entry)) (now (ends .entry)) (now (kinds .entry)) columns records)
+        (now (room .entry)) ⌝ }
+{
+    writer::write(
+        dialect,
+        content,
+        starts,
+        ends,
+        kinds,
+        columns,
+        records,
+        room,
+    )
 }

@@ -7,7 +7,7 @@ use Rattle.demands.specs.Demands.{Demand1, Demand2, Demands}
 use Rattle.demands.proofs.Leaving.{reader-leaves, decoder-leaves, converter-leaves, writer-leaves}
 use Rattle.demands.proofs.Telling.{reader-unknown, decoder-unknown, converter-unknown, writer-unknown, reader-tells, decoder-tells, converter-tells, writer-tells}
 use Rattle.demands.proofs.Accepting.{converted-exactly}
-use Rattle.demands.proofs.Limits.{converted-limit, written-limit}
+use Rattle.demands.proofs.Limits.{converted-limit, written-limit, converted-room}
 
 pub demand-1 : Demand1
 demand-1 =
@@ -37,6 +37,7 @@ demand-2 =
       converted-back = trips .converted-back;
       converted-limit = converted-limit;
       written-limit = written-limit;
+      converted-room = converted-room;
     }
 
 pub demands : Demands

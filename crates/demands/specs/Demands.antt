@@ -1,6 +1,6 @@
 -- Demands 1 and 2 over the definitions of the public calls: `readCall`, `decoder`, `converter` and `writer` of model's Api, whose texts
 -- and leavings the calls' contracts repeat. Nothing else is here.
-use Prim.Native.Nat.{ℕ, suc, _<_, _≤_}
+use Prim.Native.Nat.{ℕ, suc, _+_, _*_, _<_, _≤_}
 use mathlib.Core.Path.{_≡_}
 use mathlib.Core.Logic.{_≢_, _↔_}
 use mathlib.Core.Option.{Option, none, some}
@@ -119,6 +119,8 @@ pub record Demand2 : Type 0 where
   -- a text that was accepted is no longer than a file may be (§8.6)
   pub converted-limit : (m n : ℕ) (file : Bytes) (room : ℕ) → length (converter m n file room .text) ≤ MAXFILE
   pub written-limit : (n : ℕ) (table : Table) (room : ℕ) → length (writer n table room .text) ≤ MAXFILE
+  -- six bytes for each byte of a file, and six more, are room enough for any conversion of it (§15.10)
+  pub converted-room : (m n : ℕ) (file : Bytes) (room : ℕ) → 6 * (length file + 1) ≤ room → converter m n file room .report ≢ refusal 10
 
 pub record Demands : Type 0 where
   pub one : Demand1
