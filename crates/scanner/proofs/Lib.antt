@@ -3,6 +3,7 @@ pub mod Filling
 pub mod Coming
 pub mod Calm
 pub mod Scanning
+pub mod WholeFile
 pub mod Reading
 pub mod Events
 pub mod Complete

@@ -1,4 +1,6 @@
 pub mod PlainRuns
 pub mod Units
+pub mod Contents
 pub mod Quoted
 pub mod Bodies
+pub mod Cells

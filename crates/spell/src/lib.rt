@@ -1,9 +1,14 @@
-// Canonical text, from the bytes of a content up. A content is written in one loop (body.rt): a run of bytes that stand for themselves
-// everywhere (run.rt), then the text of what stops it (escape.rt). special.rt tells whether CSV+ quotes a content. Each writer only
-// measures where `write` is false.
+// Canonical text of a cell, straight from its raw bytes in a file of any dialect, or from its content.
+//
+// Source and target meet in one loop (body.rt): a run of bytes that stand for themselves everywhere (run.rt), then what stops it, a unit
+// of the content (unit.rt knows the source) and its text (escape.rt knows the target). No content is decoded before it is written.
+// special.rt tells whether CSV+ quotes a content, and cell.rt writes a cell by its kind. Each writer only measures where `write` is
+// false.
 //
 // The definitions are model's specs/Text.antt. A rule that changes there changes a law of proofs/, and no loop.
-mod body;
+pub mod body;
+pub mod cell;
 mod escape;
 mod run;
 mod special;
+mod unit;

@@ -2,7 +2,6 @@ use borrow.Author.Needs.{needs}
 use Prim.Native.Nat.{ℕ, _<_}
 use native.Mathlib.Omega.{arith}
 use lib.ListN.{length}
-use Rattle.model.specs.Report.{MAXFILE}
 use Rattle.model.specs.Api.{least}
 use Rattle.numbers.proofs.Least.{least-first, least-above}
 use Rattle.scanner.proofs.tokens.comment_end.Statement.{statement}
@@ -12,10 +11,11 @@ comment-run-requires : tie.Need-comment-run-requires
 comment-run-requires c κs =
     let a = c .before .before .before .before .before .before .before .pre .0 in
     let b = c .before .before .before .before .before .before .before .pre .1 in
-    let n : ℕ = length (c .before .before .before .before .before .before .before .args .file .now) in
+    let n : ℕ = length (c .before .before .before .before .before .before .before .args .part .now) in
+    let limit : ℕ = c .before .before .before .before .before .before .before .args .limit in
     let i : ℕ = c .before .before .before .before .before .before .before .args .i in
-    let l : i < least n MAXFILE = least-above i n MAXFILE a b in
-    rw (c .least-of .ensures) (omega arith, least-first n MAXFILE)
+    let l : i < least n limit = least-above i n limit a b in
+    rw (c .least-of .ensures) (omega arith, least-first n limit)
 
 returns-8 : tie.Need-returns-8
 returns-8 c =

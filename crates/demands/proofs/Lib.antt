@@ -1,0 +1,5 @@
+pub mod Leaving
+pub mod Telling
+pub mod Accepting
+pub mod Limits
+pub mod Theorems

@@ -1,0 +1,43 @@
+-- The demands hold.
+use mathlib.Core.Path.{_≡_}
+use Rattle.model.proofs.AllTrips.{trips}
+use Rattle.model.proofs.Laws.{laws}
+use Rattle.grammar.proofs.Theorems.{reader-exactly, reader-places}
+use Rattle.demands.specs.Demands.{Demand1, Demand2, Demands}
+use Rattle.demands.proofs.Leaving.{reader-leaves, decoder-leaves, converter-leaves, writer-leaves}
+use Rattle.demands.proofs.Telling.{reader-unknown, decoder-unknown, converter-unknown, writer-unknown, reader-tells, decoder-tells, converter-tells, writer-tells}
+use Rattle.demands.proofs.Accepting.{converted-exactly}
+use Rattle.demands.proofs.Limits.{converted-limit, written-limit}
+
+pub demand-1 : Demand1
+demand-1 =
+    record {
+      reader-leaves = reader-leaves;
+      decoder-leaves = decoder-leaves;
+      converter-leaves = converter-leaves;
+      writer-leaves = writer-leaves;
+      unknown = λ n e. (reader-unknown n e, decoder-unknown n e, converter-unknown n e, writer-unknown n e);
+      reader-tells = reader-tells;
+      decoder-tells = decoder-tells;
+      converter-tells = converter-tells;
+      writer-tells = writer-tells;
+    }
+
+pub demand-2 : Demand2
+demand-2 =
+    record {
+      accepted-exactly = reader-exactly;
+      places = reader-places;
+      decodes = trips .reader-decodes;
+      converted-exactly = converted-exactly;
+      first-fault = λ d target e r xs ys h. laws .reading d target .fault-stays e r xs ys h .1;
+      round-trip = trips .round-trip;
+      same-text = trips .same-text;
+      converted-once = trips .converted-once;
+      converted-back = trips .converted-back;
+      converted-limit = converted-limit;
+      written-limit = written-limit;
+    }
+
+pub demands : Demands
+demands = record { one = demand-1; two = demand-2 }

@@ -1,0 +1,125 @@
+-- Demands 1 and 2 over the definitions of the public calls: `readCall`, `decoder`, `converter` and `writer` of model's Api, whose texts
+-- and leavings the calls' contracts repeat. Nothing else is here.
+use Prim.Native.Nat.{ℕ, suc, _<_, _≤_}
+use mathlib.Core.Path.{_≡_}
+use mathlib.Core.Logic.{_≢_, _↔_}
+use mathlib.Core.Option.{Option, none, some}
+use mathlib.Core.List.{List, [], _++_, map}
+use lib.ListN.{length, drop}
+use Rattle.model.specs.declared.Report.{Report}
+use Rattle.model.specs.declared.Dialect.{Dialect}
+use Rattle.model.specs.declared.Fault.{Fault}
+use Rattle.model.specs.declared.Target.{Target}
+use Rattle.model.specs.declared.CellCheck.{CellCheck}
+use Rattle.model.specs.declared.CellCheck.the-variants.{WholeCell, Unsound}
+use Rattle.model.specs.Base.{Bytes, concat}
+use Rattle.model.specs.Dialect.{dialectOf, into}
+use Rattle.model.specs.Decode.{contentOf, validateCell}
+use Rattle.model.specs.Text.{Value, tableText}
+use Rattle.model.specs.Report.{report, accepted, refusal, numberOf, columnOf, MAXFILE}
+use Rattle.model.specs.Records.{Rec, rows, Read, Progress, going, stopped, readBytes, readFile, placeOf}
+use Rattle.model.specs.Api.{ReadCall, reader, readCall, decoder, decoderLeaves, converter, converterLeaves, Table, rowsIn, rowsFault, writer, writerLeaves}
+use Rattle.model.specs.Targets.{Passes}
+use Rattle.model.specs.Trips.{RoundTrip, SameText, ConvertedBack, ConvertedOnce, ReaderDecodes}
+use Rattle.grammar.specs.Derived.{Derived, Line}
+use Rattle.grammar.specs.Derives.{Derives}
+use Rattle.grammar.specs.Accepted.{Acceptable, cellCount}
+use Rattle.grammar.specs.Stretches.{stretches, stretchOf}
+
+-- ---- demand 1
+
+-- a lent list or buffer after a call: as long as it was, on refusal as it was, and past what was written as it was (§9.3 §9.4)
+pub record Leaves (told : Report) (written : ℕ) (old new : List ℕ) : Type 0 where
+  pub as-long : length new ≡ length old
+  pub on-refusal : told ≢ accepted → new ≡ old
+  pub past-written : drop written new ≡ drop written old
+
+-- what is told of a file: the fault at which reading stopped, by its row of the table; 10 if the answer has no room; acceptance (§6.14 §6.15)
+pub data TellsFile (needs : List Rec → ℕ) (room : ℕ) : Progress → Report → Type 0 where
+  fault : {e : Fault} {r : Read} → TellsFile needs room (stopped e r) (report (numberOf e) (suc (length (r .done))) (columnOf e) (placeOf e r))
+  no-room : {r : Read} → room < needs (r .done) → TellsFile needs room (going r) (refusal 10)
+  accepts : {r : Read} → needs (r .done) ≤ room → TellsFile needs room (going r) accepted
+
+-- the same of a raw cell, which stands in no record (§11.2 §11.6)
+pub data TellsCell (needs room : ℕ) : CellCheck → Report → Type 0 where
+  fault : {e : Fault} {o : ℕ} → TellsCell needs room (Unsound e o) (report (numberOf e) 0 0 o)
+  no-room : room < needs → TellsCell needs room WholeCell (refusal 10)
+  accepts : needs ≤ room → TellsCell needs room WholeCell accepted
+
+-- the same of a table: 12 if it is none (§13.2 §13.11 §13.13)
+pub data TellsTable (t : Target) (room : ℕ) : Option (List (List Value)) → Report → Type 0 where
+  no-table : TellsTable t room none (refusal 12)
+  fault : {rs : List (List Value)} {e : Report} → rowsFault t rs ≡ some e → TellsTable t room (some rs) e
+  no-room : {rs : List (List Value)} → rowsFault t rs ≡ none → room < length (tableText t rs) → TellsTable t room (some rs) (refusal 10)
+  accepts : {rs : List (List Value)} → rowsFault t rs ≡ none → length (tableText t rs) ≤ room → TellsTable t room (some rs) accepted
+
+pub record Demand1 : Type 0 where
+  -- what each call leaves of what it was lent
+  pub reader-leaves :
+      (n : ℕ) (file : Bytes) (starts ends kinds : List ℕ) (c : ReadCall) → c ≡ readCall n file starts ends kinds →
+      Leaves (c .report) (c .cells) starts (c .starts) × Leaves (c .report) (c .cells) ends (c .ends) × Leaves (c .report) (c .cells) kinds (c .kinds)
+  pub decoder-leaves :
+      (n : ℕ) (raw : Bytes) (room : List ℕ) →
+      Leaves (decoder n raw (length room) .report) (length (decoder n raw (length room) .content)) room (decoderLeaves n raw room)
+  pub converter-leaves :
+      (m n : ℕ) (file : Bytes) (room : List ℕ) →
+      Leaves (converter m n file (length room) .report) (length (converter m n file (length room) .text)) room (converterLeaves m n file room)
+  pub writer-leaves :
+      (n : ℕ) (table : Table) (room : List ℕ) →
+      Leaves (writer n table (length room) .report) (length (writer n table (length room) .text)) room (writerLeaves n table room)
+  -- 11 for a number that is no dialect's, before all else
+  pub unknown :
+      (n : ℕ) → dialectOf n ≡ none →
+      ((file : Bytes) (room : ℕ) → reader n file room .report ≡ refusal 11)
+      × ((raw : Bytes) (room : ℕ) → decoder n raw room .report ≡ refusal 11)
+      × ((m : ℕ) (file : Bytes) (room : ℕ) → (converter n m file room .report ≡ refusal 11) × (converter m n file room .report ≡ refusal 11))
+      × ((table : Table) (room : ℕ) → writer n table room .report ≡ refusal 11)
+  -- otherwise what the table of faults says
+  pub reader-tells :
+      (n : ℕ) (d : Dialect) (file : Bytes) (room : ℕ) → dialectOf n ≡ some d →
+      TellsFile (λ rs. length (concat (rows rs))) room (readFile d none file) (reader n file room .report)
+  pub decoder-tells :
+      (n : ℕ) (d : Dialect) (raw : Bytes) (room : ℕ) → dialectOf n ≡ some d →
+      TellsCell (length (contentOf d raw)) room (validateCell d raw) (decoder n raw room .report)
+  pub converter-tells :
+      (m n : ℕ) (d t : Dialect) (file : Bytes) (room : ℕ) → dialectOf m ≡ some d → dialectOf n ≡ some t →
+      TellsFile (λ rs. length (tableText (into t) (rows rs))) room (readFile d (some (into t)) file) (converter m n file room .report)
+  pub writer-tells :
+      (n : ℕ) (t : Dialect) (table : Table) (room : ℕ) → dialectOf n ≡ some t →
+      TellsTable (into t) room (rowsIn table) (writer n table room .report)
+
+-- ---- demand 2
+
+pub record Demand2 : Type 0 where
+  -- the reader accepts exactly what the grammar, the limits and the record checks accept, if the lists have room (§19.2)
+  pub accepted-exactly :
+      (n : ℕ) (d : Dialect) (file : Bytes) (room : ℕ) → dialectOf n ≡ some d →
+      (reader n file room .report ≡ accepted) ↔ ((ls : List (Line Derived)) × Acceptable d file ls × (cellCount ls ≤ room))
+  -- and answers its cells, each where the grammar has it
+  pub places :
+      (n : ℕ) (d : Dialect) (file : Bytes) (room : ℕ) (ls : List (Line Derived)) (k : Derives d file ls) → dialectOf n ≡ some d →
+      reader n file room .report ≡ accepted → map stretchOf (reader n file room .cells) ≡ concat (stretches d file ls k)
+  -- each decodes from there to its kind and content
+  pub decodes : ReaderDecodes
+  -- the converter accepts exactly what the reader accepts and the target carries, if its text has room
+  pub converted-exactly :
+      (m n : ℕ) (d t : Dialect) (file : Bytes) (room : ℕ) → dialectOf m ≡ some d → dialectOf n ≡ some t →
+      (converter m n file room .report ≡ accepted)
+      ↔ ((r : Read) × (readFile d none file ≡ going r) × Passes (into t) [] (r .done) × (length (tableText (into t) (rows (r .done))) ≤ room))
+  -- a fault met in the first bytes of a file is the file's: no later one is reported in its place
+  pub first-fault :
+      (d : Dialect) (target : Option Target) (e : Fault) (r : Read) (xs ys : Bytes) → readBytes d target xs ≡ stopped e r →
+      readFile d target (xs ++ ys) ≡ stopped e r
+  -- written and read back: the same columns, row count, kinds and contents (§19.3)
+  pub round-trip : RoundTrip
+  -- canonical text is canonical, and what was converted is read in the target as the file is in its source
+  pub same-text : SameText
+  pub converted-once : ConvertedOnce
+  pub converted-back : ConvertedBack
+  -- a text that was accepted is no longer than a file may be (§8.6)
+  pub converted-limit : (m n : ℕ) (file : Bytes) (room : ℕ) → length (converter m n file room .text) ≤ MAXFILE
+  pub written-limit : (n : ℕ) (table : Table) (room : ℕ) → length (writer n table room .text) ≤ MAXFILE
+
+pub record Demands : Type 0 where
+  pub one : Demand1
+  pub two : Demand2
