@@ -4,3 +4,4 @@ pub mod Doubled
 pub mod FirstByte
 pub mod Validating
 pub mod Answers
+pub mod CellsIn

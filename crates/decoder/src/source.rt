@@ -1,5 +1,6 @@
 // What the bytes of a cell are: its raw spelling in a file of some dialect, or its content itself, as the writer is given it.
 ghost use mathlib.Core.Path.{_≡_};
+ghost use Rattle.model.specs.Text.{isText};
 ghost use Rattle.decoder.specs.FirstByte.{contentIn};
 ghost use Rattle.decoder.specs.Sources.{kindFrom, contentBy, spellingIn};
 use crate::first;
@@ -21,6 +22,18 @@ pub fn kind_of_number(number: u8) -> Kind
     match numbers::kind_named(number) {
         NamedKind::Known(k) => k,
         NamedKind::Unknown => Kind::Null,
+    }
+}
+
+pub fn is_text(k: Kind) -> bool
+    ensures { λ r. ⌜ r ≡ isText k ⌝ }
+{
+    match k {
+        Kind::Text => true,
+        Kind::Number => false,
+        Kind::True => false,
+        Kind::False => false,
+        Kind::Null => false,
     }
 }
 
