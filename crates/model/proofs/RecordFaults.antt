@@ -1,38 +1,28 @@
--- No check of a complete record answers fault 2 or 3: those are of form alone.
+-- The place of every fault of a complete record is the record's start: faults at a byte are of form alone.
 use Prim.Native.Nat.{ℕ, suc}
+use native.Mathlib.Omega.{arith}
 use mathlib.Core.Path.{_≡_, refl}
 use mathlib.Core.Bool.{Bool, true, false, not}
 use mathlib.Core.Option.{Option, none, some}
 use mathlib.Core.List.{List, [], _∷_}
 use lib.ListN.{length}
-use Rattle.model.specs.Types.{Dialect, Target, Fault, NoRecord, Byte, CutShort, CellCount, RepeatedName, HeaderKind, FileTooLong, RecordTooLong, TooManyColumns, NoCells, LacksKind, LoneSurrogate, Clash, TextTooLong, OutputTooLong, Verdict, Sound, Faulty}
+use Rattle.model.specs.Types.{Dialect, Target, Fault, CellCount, RepeatedName, HeaderKind, TooManyColumns, NoCells, LacksKind, LoneSurrogate, Clash, TextTooLong, OutputTooLong, Verdict, Sound, Faulty}
 use Rattle.model.specs.Base.{Bytes}
 use Rattle.model.specs.Text.{Value, isText, carried}
+use Rattle.model.specs.Report.{isAtByte}
 use Rattle.model.specs.Records.{Rec, _orElse_, when, nameKey, repeatFrom, repeatFault, headerKindFrom, headerFault, dataFault, hasKind, losesSurrogate, uncarriedFrom, clashFault, targetFault, converting, recordFault}
 use Rattle.model.proofs.Tests.{split}
 
-abbrev pub byForm : Fault → Bool
-byForm NoRecord = false
-byForm (Byte e) = true
-byForm CutShort = false
-byForm CellCount = false
-byForm (RepeatedName c) = false
-byForm (HeaderKind c) = false
-byForm FileTooLong = false
-byForm RecordTooLong = false
-byForm TooManyColumns = false
-byForm NoCells = false
-byForm (LacksKind c) = false
-byForm (LoneSurrogate c) = false
-byForm (Clash c) = false
-byForm TextTooLong = false
-byForm OutputTooLong = false
-
+-- a verdict without a fault, or with one whose place is the record's start
 pub data OfRecord : Verdict → Type 0 where
   of-sound : OfRecord Sound
-  of-fault : {e : Fault} → byForm e ≡ false → OfRecord (Faulty e)
+  of-fault : {e : Fault} → isAtByte e ≡ false → OfRecord (Faulty e)
 
-when-record : (t : Bool) (e : Fault) → byForm e ≡ false → OfRecord (when t e)
+pub fault-start : {e : Fault} (v : Verdict) → v ≡ Faulty e → OfRecord v → isAtByte e ≡ false
+fault-start v h of-sound = let z : _≡_ {A = ℕ} 0 1 = cc in absurd (omega arith)
+fault-start {e} (Faulty f) h (of-fault k) = let z : f ≡ e = cc in rw z at k
+
+when-record : (t : Bool) (e : Fault) → isAtByte e ≡ false → OfRecord (when t e)
 unfolding when
 when-record true e h = of-fault h
 when-record false e h = of-sound
@@ -42,7 +32,7 @@ unfolding _orElse_
 else-record of-sound k = k
 else-record (of-fault h) k = of-fault h
 
-repeat-record : (d : Dialect) (fault : ℕ → Fault) (seen : List Bytes) (n : ℕ) (vs : List Value) → ((c : ℕ) → byForm (fault c) ≡ false) → OfRecord (repeatFrom d fault seen n vs)
+repeat-record : (d : Dialect) (fault : ℕ → Fault) (seen : List Bytes) (n : ℕ) (vs : List Value) → ((c : ℕ) → isAtByte (fault c) ≡ false) → OfRecord (repeatFrom d fault seen n vs)
 unfolding repeatFrom
 repeat-record d fault seen n [] h = of-sound
 repeat-record d fault seen n (v ∷ vs) h =
@@ -74,7 +64,7 @@ unfolding repeatFault
 clash-record t true vs = repeat-record t Clash [] 1 vs (λ c. refl)
 clash-record t false vs = of-sound
 
-target-record : (t : Target) (header : Bool) (written : ℕ) (vs : List Value) → OfRecord (targetFault t header written vs)
+pub target-record : (t : Target) (header : Bool) (written : ℕ) (vs : List Value) → OfRecord (targetFault t header written vs)
 unfolding targetFault
 target-record t header written vs =
     else-record (when-record _ NoCells refl)

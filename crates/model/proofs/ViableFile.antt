@@ -18,7 +18,8 @@ use Rattle.model.proofs.Tests.{split, impossible}
 use Rattle.model.proofs.Reading.{read-append, read-stopped}
 use Rattle.model.proofs.Viable.{Viable, refused-iff}
 use Rattle.model.proofs.Encoding.{encoding-iff, syntax-whole}
-use Rattle.model.proofs.RecordFaults.{byForm, OfRecord, of-sound, of-fault, fault-record}
+use Rattle.model.specs.Report.{isAtByte}
+use Rattle.model.proofs.RecordFaults.{OfRecord, of-sound, of-fault, fault-record}
 
 -- ---- where a file stands is where its bytes lead, by form alone
 
@@ -42,7 +43,7 @@ completes-after {d} zs h (leads-on {f} {f′} {p} {b} {bs} e l) k =
 
 validated-form : {A : Type 0} (r next : Read) (v : Verdict) (e : ByteFault) → OfRecord v → validated r next v ≡ stopped (Byte e) r → A
 validated-form r next Sound e of-sound h = let z : _≡_ {A = ℕ} 0 1 = cc in absurd (omega arith)
-validated-form r next (Faulty x) e (of-fault k) h = let q : x ≡ Byte e = cc in impossible (sym k ∙ ap byForm q)
+validated-form r next (Faulty x) e (of-fault k) h = let q : x ≡ Byte e = cc in impossible (sym k ∙ ap isAtByte q)
 
 module _ (d : Dialect) (target : Option Target) where
   -- a byte that was read moved the file by form

@@ -28,7 +28,7 @@ use Rattle.reader.specs.declared.records.Pass.the-variants.{Accepted, Re
 use Rattle.reader.specs.Answers.{callAnswer, toAnswer, answerIn}
 use Rattle.reader.specs.Passes as passes
 use Rattle.reader.specs.Passes.{firstOf, restOf, Heads, with-data, alone, faulty, Outcome, Passes}
-use Rattle.reader.proofs.Filling.{stored-from-append, stored-from-none, stored-from-over}
+use Rattle.scanner.proofs.Filling.{stored-from-append, stored-from-none, stored-from-over}
 
 -- the answer, and the lists after it
 pub record Answered (a : api.Answer) (r : Answer) (s₀ e₀ k₀ s e k : List ℕ) : Type 0 where

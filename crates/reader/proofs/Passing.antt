@@ -23,12 +23,12 @@ use Rattle.scanner.specs.Reading.{ReadsAs}
 use Rattle.scanner.specs.declared.Event.{Event}
 use Rattle.scanner.specs.declared.Event.the-variants.{Completed, LastRecord, Failed, Finished}
 use Rattle.scanner.proofs.Placing.{length-stored-from}
-use Rattle.scanner.proofs.Reading.{stays, reads-as}
+use Rattle.scanner.proofs.Reading.{stays, reads-on}
 use Rattle.reader.specs.declared.records.Pass.the-variants.{Accepted, Refused}
 use Rattle.reader.specs.Passes.{restOf, Holds, Outcome, accepted, refused, Passes}
-use Rattle.reader.proofs.Filling.{stored-from-append}
-use Rattle.reader.proofs.Validating.{data-starts, starts-of, report-start, report-byte, data-fault, recOf, complete-sound, complete-faulty}
-use Rattle.reader.proofs.Events.{on-record, on-last, on-fault, on-finish}
+use Rattle.scanner.proofs.Filling.{stored-from-append}
+use Rattle.scanner.proofs.Complete.{report-start, report-byte, data-fault, recOf, complete-sound, complete-faulty}
+use Rattle.scanner.proofs.Events.{on-record, on-last, on-fault, on-finish}
 
 -- ---- lists
 
@@ -124,7 +124,7 @@ module _ (call : Call) where
       now-held = more-held room base cells (y .vs) (Here .cells) s₀ e₀ k₀ s e k s′ e′ k′ (y .counted) (y .lists) ps pe pk
 
       next-follows : (h : Rec) (ds : List Rec) → ReadsAs d none file (h ∷ ds) Here (restOf d file (h ∷ ds) f i)
-      next-follows h ds = reads-as d none file (h ∷ ds) (drop i file) (between-records [] f i) refl
+      next-follows h ds = reads-on d none file (h ∷ ds) f i (y .inside)
 
       number : (r : Read) (h : Rec) (ds : List Rec) → r .done ≡ h ∷ ds → length ds ≡ records → length (r .done) ≡ suc records
       number r h ds q c = ap length q ∙ ap suc c
@@ -136,15 +136,15 @@ module _ (call : Call) where
       faulty-outcome : (h : Rec) (ds : List Rec) (r : Read) (start : ℕ) (g : FileState) (o : ℕ) (x : Fault) (t : Report) → length (h .cells) ≡ columns → r .done ≡ h ∷ ds → length ds ≡ records → r .start ≡ start → dataFault columns (Here .cells) ≡ Faulty x → t ≡ report (numberOf x) (records + 2) (columnOf x) start → (complete d none r (Here .cells) g o ≡ stopped x r) × (t ≡ faultReport x r)
       faulty-outcome h ds r start g o x t q a c b w z =
           let fault : recordFault d none (r .done) (Here .cells) ≡ Faulty x = ap (λ (l : List Rec). recordFault d none l (Here .cells)) a ∙ data-fault d h ds (Here .cells) ∙ ap (λ (n : ℕ). dataFault n (Here .cells)) q ∙ w in (
-            complete-faulty d r (Here .cells) g o x fault,
-            z ∙ rw (sym two-more, sym b) (report-start x r (suc records) (starts-of x (data-starts columns (Here .cells)) w) (number r h ds a c)),
+            complete-faulty d none r (Here .cells) g o x fault,
+            z ∙ rw (sym two-more, sym b) (report-start d none r (Here .cells) x (suc records) fault (number r h ds a c)),
           )
 
       -- a record that is validated sound
       sound-record : (h : Rec) (ds : List Rec) (r : Read) (g : FileState) (o : ℕ) → length (h .cells) ≡ columns → r .done ≡ h ∷ ds → dataFault columns (Here .cells) ≡ Sound → complete d none r (Here .cells) g o ≡ going (between-records (h ∷ (ds ++ (recOf r (Here .cells) ∷ []))) g o)
       sound-record h ds r g o q a w =
           let fault : recordFault d none (r .done) (Here .cells) ≡ Sound = ap (λ (l : List Rec). recordFault d none l (Here .cells)) a ∙ data-fault d h ds (Here .cells) ∙ ap (λ (n : ℕ). dataFault n (Here .cells)) q ∙ w in
-          complete-sound d r (Here .cells) g o fault ∙ ap (λ (l : List Rec). going (between-records (l ++ (recOf r (Here .cells) ∷ [])) g o)) a
+          complete-sound d none r (Here .cells) g o fault ∙ ap (λ (l : List Rec). going (between-records (l ++ (recOf r (Here .cells) ∷ [])) g o)) a
 
       -- ---- a complete record
 
@@ -156,7 +156,7 @@ module _ (call : Call) where
         fits-here = subst (EventInBounds (length file) i (base + cells)) w fits
 
         pub counts-here : length (Here .cells) ≡ n
-        counts-here = on-record d file [] Here _ (reads-as d none file [] (drop i file) (between-records [] f i) refl) start n g o here .counts
+        counts-here = on-record d none file [] Here _ (reads-on d none file [] f i (y .inside)) start n g o here .counts
 
         validated-here : u ≡ dataFault columns (Here .cells)
         validated-here = j (Here .cells) counts-here
@@ -181,7 +181,7 @@ module _ (call : Call) where
           where
             turned : (h : Rec) → length (h .cells) ≡ columns → Turned h (y .vs) f i records → Turned h (y .vs ++ Here .cells) g o (records + 1)
             turned h t x =
-                let at = on-record d file (h ∷ x .ds) Here _ (next-follows h (x .ds)) start n g o here in
+                let at = on-record d none file (h ∷ x .ds) Here _ (next-follows h (x .ds)) start n g o here in
                 let rec : Rec = recOf (at .r) (Here .cells) in
                 record {
                   ds = x .ds ++ (rec ∷ []);
@@ -199,7 +199,7 @@ module _ (call : Call) where
           where
             out : (h : Rec) → length (h .cells) ≡ columns → Turned h (y .vs) f i records → Outcome h (y .vs ++ Here .cells) (restOf d file (h ∷ []) first from) (Refused t)
             out h q a =
-                let at = on-record d file (h ∷ a .ds) Here _ (next-follows h (a .ds)) start n g o here in
+                let at = on-record d none file (h ∷ a .ds) Here _ (next-follows h (a .ds)) start n g o here in
                 let both = faulty-outcome h (a .ds) (at .r) start g o x t q (at .done) (a .count) (at .starts) (sym validated-here ∙ z) te in
                 let p : restOf d file (h ∷ []) first from ≡ stopped x (at .r) = a .rest ∙ at .rest ∙ ap (λ (r : Progress). readEnd d none (readFrom d none r (drop o file))) (both .0) ∙ sym (stays d none x (at .r) (drop o file)) in
                 rw (p, both .1) (refused x (at .r))
@@ -214,7 +214,7 @@ module _ (call : Call) where
         last-fits = subst (EventInBounds (length file) i (base + cells)) w fits
 
         last-counts : length (Here .cells) ≡ n
-        last-counts = on-last d file [] Here _ (reads-as d none file [] (drop i file) (between-records [] f i) refl) start n last-here .counts
+        last-counts = on-last d none file [] Here _ (reads-on d none file [] f i (y .inside)) start n last-here .counts
 
         last-validated : u ≡ dataFault columns (Here .cells)
         last-validated = j (Here .cells) last-counts
@@ -225,8 +225,8 @@ module _ (call : Call) where
           where
             out : (h : Rec) → length (h .cells) ≡ columns → Turned h (y .vs) f i records → Outcome h (y .vs ++ Here .cells) (restOf d file (h ∷ []) first from) (Refused t)
             out h q a =
-                let at = on-last d file (h ∷ a .ds) Here _ (next-follows h (a .ds)) start n last-here in
-                let both = faulty-outcome h (a .ds) (at .r) start Begin (at .r .offset) x t q (at .done) (a .count) (at .starts) (sym last-validated ∙ z) te in
+                let at = on-last d none file (h ∷ a .ds) Here _ (next-follows h (a .ds)) start n last-here in
+                let both = faulty-outcome h (a .ds) (at .r) start Begin (length file) x t q (at .done) (a .count) (at .starts) (sym last-validated ∙ z) te in
                 let p : restOf d file (h ∷ []) first from ≡ stopped x (at .r) = a .rest ∙ at .rest ∙ both .0 in
                 rw (p, both .1) (refused x (at .r))
 
@@ -241,13 +241,13 @@ module _ (call : Call) where
 
             out : (h : Rec) → length (h .cells) ≡ columns → Turned h (y .vs) f i records → Outcome h (y .vs ++ Here .cells) (restOf d file (h ∷ []) first from) (Accepted (records + 1) (cells + n))
             out h q a =
-                let at = on-last d file (h ∷ a .ds) Here _ (next-follows h (a .ds)) start n last-here in
+                let at = on-last d none file (h ∷ a .ds) Here _ (next-follows h (a .ds)) start n last-here in
                 let rec : Rec = recOf (at .r) (Here .cells) in
                 let ds : List Rec = a .ds ++ (rec ∷ []) in
-                let p : restOf d file (h ∷ []) first from ≡ going (between-records (h ∷ ds) Begin (at .r .offset)) = a .rest ∙ at .rest ∙ sound-record h (a .ds) (at .r) Begin (at .r .offset) q (at .done) (sym last-validated ∙ z) in
+                let p : restOf d file (h ∷ []) first from ≡ going (between-records (h ∷ ds) Begin (length file)) = a .rest ∙ at .rest ∙ sound-record h (a .ds) (at .r) Begin (length file) q (at .done) (sym last-validated ∙ z) in
                 let c : length ds ≡ records + 1 = length-snoc (a .ds) rec ∙ ap (λ (m : ℕ). m + 1) (a .count) in
                 let t : concat (rows ds) ≡ y .vs ++ Here .cells = rows-snoc (a .ds) rec ∙ ap (λ (l : List Value). l ++ Here .cells) (a .cells) in
-                rw (p, sym c, sym total) (accepted (between-records (h ∷ ds) Begin (at .r .offset)) ds refl t)
+                rw (p, sym c, sym total) (accepted (between-records (h ∷ ds) Begin (length file)) ds refl t)
 
       -- ---- a fault, and the end of the file
 
@@ -257,7 +257,7 @@ module _ (call : Call) where
         where
           out : (h : Rec) → length (h .cells) ≡ columns → Turned h (y .vs) f i records → Outcome h (y .vs ++ Here .cells) (restOf d file (h ∷ []) first from) (Refused t)
           out h q a =
-              let at = on-fault d file (h ∷ a .ds) Here _ (next-follows h (a .ds)) x o (sym ev ∙ w) in
+              let at = on-fault d none file (h ∷ a .ds) Here _ (next-follows h (a .ds)) x o (sym ev ∙ w) in
               let p : restOf d file (h ∷ []) first from ≡ stopped x (at .r) = a .rest ∙ at .rest in
               let z : t ≡ faultReport x (at .r) = te ∙ ap (λ (m : ℕ). report (numberOf x) m (columnOf x) o) (sym two-more) ∙ ap (λ (m : ℕ). report (numberOf x) (suc (suc records)) (columnOf x) m) (sym (at .place)) ∙ (report-byte x (at .r) (suc records) (at .byte) (number (at .r) h (a .ds) (at .done) (a .count))) in
               rw (p, z) (refused x (at .r))
@@ -271,7 +271,7 @@ module _ (call : Call) where
 
           out : (h : Rec) → length (h .cells) ≡ columns → Turned h (y .vs) f i records → Outcome h (y .vs ++ Here .cells) (restOf d file (h ∷ []) first from) (Accepted records cells)
           out h q a =
-              let at = on-finish d file (h ∷ a .ds) Here _ (next-follows h (a .ds)) o (sym ev ∙ w) in
+              let at = on-finish d none file (h ∷ a .ds) Here _ (next-follows h (a .ds)) o (sym ev ∙ w) in
               let p : restOf d file (h ∷ []) first from ≡ going (at .r) = a .rest ∙ at .rest in
               let n : Here .cells ≡ [] = at .none-left in
               let t : y .vs ++ Here .cells ≡ y .vs = ap (λ (l : List Value). y .vs ++ l) n ∙ append-nil (y .vs) in

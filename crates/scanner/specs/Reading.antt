@@ -38,7 +38,7 @@ pub data ReadsAs (d : Dialect) (target : Option Target) (file : Bytes) (rs : Lis
       ReadsAs d target file rs (record { event = Completed (r .start) (length vs) f o; cells = vs })
       (readEnd d target (readFrom d target (complete d target r vs f o) (drop o file)))
   after-last :
-      (r : Read) (vs : List Value) → r .done ≡ rs →
+      (r : Read) (vs : List Value) → r .done ≡ rs → r .offset ≡ length file →
       ReadsAs d target file rs (record { event = LastRecord (r .start) (length vs); cells = vs }) (complete d target r vs Begin (r .offset))
   after-fault :
       (e : Fault) (r : Read) (vs : List Value) → r .done ≡ rs → isAtByte e ≡ true →

@@ -1,0 +1,172 @@
+-- What holds at each turn of the two passes, and what each visit makes of it.
+use Prim.Native.Nat.{ℕ, _+_, _≤_}
+use native.Mathlib.Omega.{arith}
+use mathlib.Core.Path.{_≡_, refl, sym, ap, subst, _∙_}
+use mathlib.Core.Bool.{Bool, true}
+use mathlib.Core.Option.{none}
+use mathlib.Core.List.{List, [], _∷_, _++_, append-nil}
+use lib.ListN.{length, take, length-append}
+use lib.Dec.{eqb}
+use borrow.Author.Tests.{le-ltb}
+use Rattle.model.specs.declared.Dialect.{Dialect}
+use Rattle.model.specs.declared.FileState.{FileState}
+use Rattle.model.specs.declared.FileState.the-variants.{Top}
+use Rattle.model.specs.declared.Report.{Report}
+use Rattle.model.specs.Base.{Bytes, over, if_then_else_}
+use Rattle.model.specs.Dialect.{into}
+use Rattle.model.specs.Laws.{Grows}
+use Rattle.model.specs.Text.{Value, recordText, tableText, ending}
+use Rattle.model.specs.Records.{Rec, rows, Read, Progress, going, stopped, readFile, recordsOf}
+use Rattle.model.proofs.TableText.{table-grows, table-snoc}
+use Rattle.model.proofs.TargetLaws.{file-alone}
+use Rattle.buffers.specs.Wrote.{written, Room, Put}
+use Rattle.buffers.proofs.Writing.{Putting, putting, room-next, room-rest, put-next, put-whole, same-long, written-first}
+use Rattle.decoder.specs.declared.source.Source.the-variants.{File}
+use Rattle.decoder.specs.Sources.{cellsIn}
+use Rattle.visitor.specs.declared.Aim.the-variants.{Reading, Into}
+use Rattle.visitor.specs.declared.Visited.{Visited}
+use Rattle.visitor.specs.declared.Outcome.{Outcome}
+use Rattle.visitor.specs.declared.Outcome.the-variants as outcomes
+use Rattle.visitor.specs.Visits.{Next, Visits, refused}
+use Rattle.visitor.proofs.Asking.{empty-none}
+use Rattle.visitor.proofs.Walking.{Walking, sets-out, sets-rs, walks-on, walks-rs, grows, at-end, at-fault}
+use Rattle.convert.specs.declared.Sum.the-variants.{Accepted, Refused}
+use Rattle.convert.specs.Converts as converts
+use Rattle.convert.specs.Converts.{answerIn, textIn, Measures, Accepts}
+
+-- ---- local lists
+
+-- so many cells lie in a list of that many places
+pub lie-in : {n places m : ℕ} → n ≤ places → places ≡ m → n ≤ m
+lie-in {n} h e = subst (λ (x : ℕ). n ≤ x) e h
+
+-- ---- the first pass
+
+module _ {d t : Dialect} {file : Bytes} {f : FileState} {i done columns n : ℕ} (y : Walking d (Into t) file f i done columns n) {s e k : List ℕ} {o : Outcome} (v : Visits d (Into t) file (y .rs) f i s e k o) where
+  pub measured-all : o ≡ outcomes.End → Measures d t file (Accepted n)
+  measured-all q =
+      let a = at-end v q in
+      converts.accepted (a .r) (y .rest ∙ a .rest) (ap (λ (l : List Rec). length (tableText (into t) (rows l))) (a .done) ∙ y .after .text)
+
+  pub measured-refused : {x : Report} → o ≡ outcomes.Refused x → Measures d t file (Refused x)
+  measured-refused q =
+      let a = at-fault v q in
+      subst (λ (x : Report). Measures d t file (Refused x)) (sym (a .report)) (converts.refused (a .fault) (a .r) (y .rest ∙ a .rest))
+
+-- ---- a record and its ending
+
+module _ {old : Bytes} {at : ℕ} (u v : Bytes) (h : Room true at (u ++ v) old) where
+  both-to-put : Putting true old at (u ++ v) old at (u ++ v)
+  both-to-put = putting true h
+
+  pub room-first : Room true at u old
+  room-first = room-next u v both-to-put
+
+  module _ {mid : Bytes} {o : ℕ} (p : Put true old at u mid o) where
+    second-to-put : Putting true old at (u ++ v) mid o v
+    second-to-put = put-next u both-to-put p
+
+    pub room-second : Room true o v mid
+    room-second = room-rest second-to-put
+
+    module _ {new : Bytes} {r : ℕ} (q : Put true mid o v new r) where
+      all-put : Putting true old at (u ++ v) new r []
+      all-put = put-next v (subst (Putting true old at (u ++ v) mid o) (sym (append-nil v)) second-to-put) q
+
+      pub put-both : Put true old at (u ++ v) new r
+      put-both = put-whole all-put
+
+      pub long-both : length new ≡ length old
+      long-both = same-long all-put
+
+-- ---- the second pass
+
+-- the text of a file that is accepted and has room
+pub answer-text : {d t : Dialect} {file : Bytes} {room : ℕ} (a : Accepts d t file room) → answerIn d t file room .text ≡ textIn t (a .r)
+unfolding if_then_else_
+answer-text {t = t} {room = room} a = rw (a .reads, le-ltb room (length (textIn t (a .r))) (a .fits))
+
+put-text : {old : Bytes} {o : ℕ} {w new : Bytes} {r : ℕ} → Put true old o w new r → new ≡ written old o w
+unfolding if_then_else_
+put-text p = p .text
+
+-- the records so far are written
+pub record Filling (d t : Dialect) (file old out : Bytes) (f : FileState) (i done columns at : ℕ) : Type 0 where
+  pub walk : Walking d Reading file f i done columns 0
+  pub puts : Put true old 0 (tableText (into t) (rows (walk .rs))) out at
+  pub long : length out ≡ length old
+
+pub fills : (d t : Dialect) (file old : Bytes) → Filling d t file old old Top 0 0 0 0
+unfolding tableText rows
+fills d t file old =
+    let p : Put true old 0 [] old 0 = put-whole (putting true (record { measured = λ z. omega arith; inside = λ z. omega arith })) in
+    record { walk = sets-out d Reading file; puts = rw (sets-rs d Reading file) p; long = refl }
+
+module _ {d t : Dialect} {file old out : Bytes} {f : FileState} {i done columns at : ℕ} (y : Filling d t file old out f i done columns at) (a : Accepts d t file (length old)) where
+  -- without its target the file is read to the same records
+  alone : readFile d none file ≡ going (a .r)
+  alone = file-alone d (into t) file (a .r) (a .reads)
+
+  module _ {s e k : List ℕ} {v : Visited} (n : Next d Reading file (y .walk .rs) f i s e k v) where
+    abbrev Cells-of : List Value
+    Cells-of = cellsIn (File d) file (take (v .cells) s) (take (v .cells) e) (take (v .cells) k)
+
+    abbrev Text-of : Bytes
+    Text-of = recordText (into t) (eqb done 0) Cells-of ++ ending t
+
+    -- no text is measured
+    none-written : v .written ≡ 0
+    none-written = sym (n .after .text)
+
+    -- the text with one record more
+    snoc : tableText (into t) (rows (y .walk .rs ++ (n .rec ∷ []))) ≡ tableText (into t) (rows (y .walk .rs)) ++ Text-of
+    snoc =
+        table-snoc (into t) (y .walk .rs) (n .rec)
+        ∙ ap (λ (b : Bool). tableText (into t) (rows (y .walk .rs)) ++ (recordText (into t) b (n .rec .cells) ++ ending t)) (sym (empty-none (y .walk .rs) done (y .walk .after .count)))
+        ∙ ap (λ (vs : List Value). tableText (into t) (rows (y .walk .rs)) ++ (recordText (into t) (eqb done 0) vs ++ ending t)) (sym (n .values))
+
+    -- it is no longer than the text of all
+    within : length (tableText (into t) (rows (y .walk .rs ++ (n .rec ∷ [])))) ≤ length old
+    within =
+        let g : Grows (y .walk .rs ++ (n .rec ∷ [])) (a .r .done) = subst (λ (p : Progress). Grows (y .walk .rs ++ (n .rec ∷ [])) (recordsOf p)) alone (subst (λ (l : List Rec). Grows l (recordsOf (readFile d none file))) (walks-rs (y .walk) n none-written) (grows (walks-on (y .walk) n none-written))) in
+        let h = table-grows (into t) g in
+        let l : length (textIn t (a .r)) ≡ length (tableText (into t) (rows (y .walk .rs ++ (n .rec ∷ [])))) + length (h .added) = ap length (h .sum) ∙ length-append (tableText (into t) (rows (y .walk .rs ++ (n .rec ∷ [])))) (h .added) in
+        omega (arith, a .fits)
+
+    both : Putting true old 0 (tableText (into t) (rows (y .walk .rs)) ++ Text-of) out at Text-of
+    both =
+        record {
+          w = tableText (into t) (rows (y .walk .rs));
+          so-far = y .puts;
+          left = refl;
+          room = record { measured = λ z. omega arith; inside = λ z. let l : length (tableText (into t) (rows (y .walk .rs ++ (n .rec ∷ [])))) ≡ length (tableText (into t) (rows (y .walk .rs)) ++ Text-of) = ap length snoc in let m : length (tableText (into t) (rows (y .walk .rs ++ (n .rec ∷ [])))) ≤ length old = within in omega arith };
+        }
+
+    pub room-there : Room true at Text-of out
+    room-there = room-rest both
+
+    pub fills-on : {new : Bytes} {o : ℕ} → Put true out at Text-of new o → Filling d t file old new (v .state) (v .next) (done + 1) (v .cells) o
+    fills-on {new} {o} p =
+        let q : Putting true old 0 (tableText (into t) (rows (y .walk .rs)) ++ Text-of) new o [] = put-next Text-of (subst (Putting true old 0 (tableText (into t) (rows (y .walk .rs)) ++ Text-of) out at) (sym (append-nil Text-of)) both) p in
+        record {
+          walk = walks-on (y .walk) n none-written;
+          puts = rw (walks-rs (y .walk) n none-written, snoc) (put-whole q);
+          long = same-long q;
+        }
+
+  module _ {s e k : List ℕ} {o : Outcome} (v : Visits d Reading file (y .walk .rs) f i s e k o) where
+    pub filled-all : o ≡ outcomes.End → out ≡ over (answerIn d t file (length old) .text) old
+    filled-all q =
+        let b = at-end v q in
+        let same : going (b .r) ≡ going (a .r) = sym (y .walk .rest ∙ b .rest) ∙ alone in
+        let r : b .r ≡ a .r = cc in
+        let rs : y .walk .rs ≡ a .r .done = sym (b .done) ∙ ap (λ (r : Read). r .done) r in
+        put-text (y .puts) ∙ ap (λ (l : List Rec). written old 0 (tableText (into t) (rows l))) rs ∙ written-first old (textIn t (a .r))
+        ∙ ap (λ (w : Bytes). over w old) (sym (answer-text a))
+
+    pub never-refused : {A : Type 0} {x : Report} → o ≡ outcomes.Refused x → A
+    never-refused q =
+        let b = at-fault v q in
+        let same : stopped (b .fault) (b .r) ≡ going (a .r) = sym (y .walk .rest ∙ b .rest) ∙ alone in
+        let z : _≡_ {A = ℕ} 0 1 = cc in
+        absurd (omega arith)

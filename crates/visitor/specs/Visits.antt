@@ -1,0 +1,124 @@
+-- What a visit is to reading: from between two records to the next such place, with the record between them, or to the end.
+use Prim.Native.Nat.{ℕ, suc, _+_, _≤_, _<_}
+use mathlib.Core.Path.{_≡_}
+use mathlib.Core.Bool.{Bool, true}
+use mathlib.Core.Option.{Option, none, some}
+use mathlib.Core.List.{List, [], _∷_, _++_}
+use lib.ListN.{length, take, drop}
+use Rattle.model.specs.declared.Dialect.{Dialect}
+use Rattle.model.specs.declared.Target.{Target}
+use Rattle.model.specs.declared.FileState.{FileState}
+use Rattle.model.specs.declared.Fault.{Fault}
+use Rattle.model.specs.declared.Fault.the-variants.{NoRecord}
+use Rattle.model.specs.declared.Verdict.the-variants.{Sound, Faulty}
+use Rattle.model.specs.Base.{Bytes, isEmpty}
+use Rattle.model.specs.Dialect.{into}
+use Rattle.model.specs.Text.{Value, recordText, tableText, ending}
+use Rattle.model.specs.Report.{report, numberOf, columnOf, MAXFILE, MAXCOLUMNS}
+use Rattle.model.specs.Records.{Rec, rows, Read, between-records, Progress, going, stopped, readFrom, readEnd, recordFault, faultReport}
+use Rattle.decoder.specs.declared.source.Source.the-variants.{File}
+use Rattle.decoder.specs.Sources.{cellsIn, Cells}
+use Rattle.scanner.specs.Tokens.{outer}
+use Rattle.target.specs.declared.Ruling.{Ruling}
+use Rattle.visitor.specs.declared.Aim.{Aim}
+use Rattle.visitor.specs.declared.Aim.the-variants.{Reading, Into}
+use Rattle.visitor.specs.declared.Visited.{Visited}
+use Rattle.visitor.specs.declared.Outcome.{Outcome}
+use Rattle.visitor.specs.declared.Outcome.the-variants.{Record, End, Refused}
+
+-- ---- what is aimed at
+
+abbrev pub targetOf : Aim → Option Target
+targetOf Reading = none
+targetOf (Into t) = some (into t)
+
+-- the text of these records in the target, and none where there is no target
+abbrev pub textOf : Aim → List Rec → Bytes
+textOf Reading rs = []
+textOf (Into t) rs = tableText (into t) (rows rs)
+
+-- the text of one record more
+abbrev pub textNext : Aim → (header : Bool) → List Value → Bytes
+textNext Reading header vs = []
+textNext (Into t) header vs = recordText (into t) header vs ++ ending t
+
+-- ---- what has been read
+
+-- the first of these records, if there is one, has so many cells
+abbrev pub Columns : List Rec → ℕ → Type 0
+Columns [] n = Unit {0}
+Columns (h ∷ rs) n = length (h .cells) ≡ n
+
+-- so many records have been read, under a header of so many columns, and their text is so long
+pub record After (aim : Aim) (done columns written : ℕ) (rs : List Rec) : Type 0 where
+  pub count : length rs ≡ done
+  pub headed : Columns rs columns
+  pub text : length (textOf aim rs) ≡ written
+
+-- reading from i to the end of the file, after these records
+abbrev pub restOf : Dialect → Option Target → (file : Bytes) → List Rec → FileState → (i : ℕ) → Progress
+restOf d target file rs f i = readEnd d target (readFrom d target (going (between-records rs f i)) (drop i file))
+
+-- ---- a complete record
+
+-- what is asked of the record with these cells, and how long its text is if nothing is wrong with it
+pub record Ruled (d : Dialect) (aim : Aim) (done columns written : ℕ) (vs : List Value) (r : Ruling) : Type 0 where
+  pub verdict : (rs : List Rec) → After aim done columns written rs → r .verdict ≡ recordFault d (targetOf aim) rs vs
+  pub text : (rs : List Rec) → length rs ≡ done → r .verdict ≡ Sound → r .length ≡ length (textNext aim (isEmpty rs) vs)
+  pub fits : r .verdict ≡ Sound → written + r .length ≤ MAXFILE
+
+-- lists with room for the cells of any record
+pub record Long (starts ends kinds : List ℕ) : Type 0 where
+  pub at-starts : MAXCOLUMNS ≤ length starts
+  pub at-ends : MAXCOLUMNS ≤ length ends
+  pub at-kinds : MAXCOLUMNS ≤ length kinds
+
+-- lists as long as they were
+pub record Kept (starts₀ ends₀ kinds₀ starts ends kinds : List ℕ) : Type 0 where
+  pub at-starts : length starts ≡ length starts₀
+  pub at-ends : length ends ≡ length ends₀
+  pub at-kinds : length kinds ≡ length kinds₀
+
+-- so many cells, which these lists show if they are no more than a record may have
+pub record Shows (d : Dialect) (file : Bytes) (vs : List Value) (cells : ℕ) (starts ends kinds : List ℕ) : Type 0 where
+  pub count : length vs ≡ cells
+  pub values : cells ≤ MAXCOLUMNS → cellsIn (File d) file (take cells starts) (take cells ends) (take cells kinds) ≡ vs
+
+-- what the record with these cells comes to after the records rs, by the fault that is found in it
+pub data Completes (d : Dialect) (aim : Aim) (rs : List Rec) (vs : List Value) (start : ℕ) (f : FileState) (o : ℕ) : Outcome → Type 0 where
+  sound :
+      {n w : ℕ} → recordFault d (targetOf aim) rs vs ≡ Sound → length vs ≡ n → n ≤ MAXCOLUMNS →
+      length (textOf aim rs) + length (textNext aim (isEmpty rs) vs) ≡ w → w ≤ MAXFILE →
+      Completes d aim rs vs start f o (Record (record { cells = n; written = w; state = f; next = o }))
+  faulty :
+      (e : Fault) → recordFault d (targetOf aim) rs vs ≡ Faulty e →
+      Completes d aim rs vs start f o (Refused (report (numberOf e) (suc (length rs)) (columnOf e) start))
+
+-- what the end of the file at this offset comes to after the records rs
+pub data Ends : (rs : List Rec) → (offset : ℕ) → Outcome → Type 0 where
+  no-record : {o : ℕ} → Ends [] o (Refused (report (numberOf NoRecord) 1 (columnOf NoRecord) o))
+  at-end : {h : Rec} {rs : List Rec} {o : ℕ} → Ends (h ∷ rs) o End
+
+-- ---- a visit
+
+-- one record more was read: these lists show its cells, and reading goes on from after it
+pub record Next (d : Dialect) (aim : Aim) (file : Bytes) (rs : List Rec) (f : FileState) (i : ℕ) (starts ends kinds : List ℕ) (v : Visited) : Type 0 where
+  pub rec : Rec
+  pub rest : restOf d (targetOf aim) file rs f i ≡ restOf d (targetOf aim) file (rs ++ (rec ∷ [])) (v .state) (v .next)
+  pub after : After aim (length rs + 1) (v .cells) (v .written) (rs ++ (rec ∷ []))
+  pub few : v .cells ≤ MAXCOLUMNS
+  pub stand : Cells (File d) file (take (v .cells) starts) (take (v .cells) ends) (take (v .cells) kinds)
+  pub values : cellsIn (File d) file (take (v .cells) starts) (take (v .cells) ends) (take (v .cells) kinds) ≡ rec .cells
+  pub short : v .written ≤ MAXFILE
+  pub onward : i < v .next
+  pub inside : v .next ≤ length file
+  pub under : v .next ≤ MAXFILE
+  pub between : outer (v .state) ≡ true
+
+-- reading from i, after the records rs, comes to this next
+pub data Visits (d : Dialect) (aim : Aim) (file : Bytes) (rs : List Rec) (f : FileState) (i : ℕ) (starts ends kinds : List ℕ) : Outcome → Type 0 where
+  visited : {v : Visited} → Next d aim file rs f i starts ends kinds v → Visits d aim file rs f i starts ends kinds (Record v)
+  finished : (r : Read) → restOf d (targetOf aim) file rs f i ≡ going r → r .done ≡ rs → Visits d aim file rs f i starts ends kinds End
+  refused :
+      (e : Fault) (r : Read) → restOf d (targetOf aim) file rs f i ≡ stopped e r →
+      Visits d aim file rs f i starts ends kinds (Refused (faultReport e r))
