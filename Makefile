@@ -7,13 +7,14 @@ version := $(shell sed -n 's/^#define HK_VERSION "\(.*\)"/\1/p' include/hemakuli
 .PHONY: all install
 all: $(library)
 
-# Two object files, each with a lexer of its own: docs/DECISIONS.md, "Code".
+# Three object files, each with a lexer of its own: docs/DECISIONS.md, "Code".
 $(library): crates.txt $(shell find crates -name '*.rt' -o -name '*.antt')
 	rt staticlib c_files
+	rt staticlib c_convert
 	rt staticlib c_cells
-	cd target/staticlib && ar x libc_files.a && ar x libc_cells.a
+	cd target/staticlib && ar x libc_files.a && ar x libc_convert.a && ar x libc_cells.a
 	rm -f $@
-	ar rcsD $@ target/staticlib/c_files.o target/staticlib/c_cells.o
+	ar rcsD $@ target/staticlib/c_files.o target/staticlib/c_convert.o target/staticlib/c_cells.o
 
 install: $(library)
 	install -d $(DESTDIR)$(PREFIX)/lib/pkgconfig $(DESTDIR)$(PREFIX)/include
