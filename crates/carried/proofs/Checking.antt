@@ -1,21 +1,18 @@
 -- The checks before a call are the machine's: by what is carried they refuse what it refuses, and take what it takes.
-use Prim.Native.Nat.{ℕ, _<_}
-use native.Mathlib.Omega.{arith}
-use mathlib.Core.Path.{_≡_, refl, sym, ap, ap₂, _∙_}
+use Prim.Native.Nat.{ℕ}
+use mathlib.Core.Path.{_≡_, refl, ap, ap₂, _∙_}
 use mathlib.Core.Bool.{Bool, true, false}
 use mathlib.Core.Option.{Option, none, some}
 use lib.ListN.{length}
-use lib.Dec.{ltb}
-use borrow.Author.Tests.{lt-ltb, le-ltb}
+use borrow.Author.Tests.{lt-ltb}
 use Rattle.model.specs.declared.Report.{Report}
 use Rattle.model.specs.declared.Dialect.{Dialect}
 use Rattle.model.specs.Base.{if_then_else_}
-use Rattle.model.specs.Dialect.{dialectOf, into}
+use Rattle.model.specs.Dialect.{dialectOf}
 use Rattle.model.specs.Report.{refusal}
 use Rattle.model.specs.Records.{Read}
 use Rattle.model.specs.Ledger.{Call, bytesOf, roomOf, tooSmall}
 use Rattle.model.specs.Machine.{ConverterStage, taking, faulted, ended, answerAt, stageAfter}
-use Rattle.carried.specs.declared.checks.Check.{Check}
 use Rattle.carried.specs.declared.checks.Check.the-variants.{Refused, Taken}
 use Rattle.carried.specs.Checks.{checkBetween, checkNamed, checkNow, Tells, tells-taking, tells-faulted, tells-ended, Means, means-refused, means-taken, ChecksMean}
 

@@ -1,13 +1,15 @@
 -- What the numbers that are carried must satisfy for a walk over a piece to stay in bounds.
 use Prim.Native.Nat.{ℕ, _≤_}
 use mathlib.Core.Path.{_≡_}
-use mathlib.Core.Bool.{Bool, true, _&&_}
+use mathlib.Core.Bool.{Bool, false, _&&_, _||_}
 use mathlib.Core.List.{List, [], _∷_}
 use lib.ListN.{take}
 use lib.Dec.{leb}
 use Rattle.model.specs.declared.FileState.the-variants.{Top}
+use Rattle.model.specs.Base.{_is_}
 use Rattle.model.specs.Report.{MAXFILE, MAXRECORD, MAXCOLUMNS}
 use Rattle.model.specs.Api.{least}
+use Rattle.model.specs.Scans.{inRecord}
 use Rattle.carried.specs.declared.place.Place.{Place}
 
 -- before the first call
@@ -25,6 +27,10 @@ inRange p =
     && leb (p .cells) MAXCELLS
     && leb (p .columns) MAXCOLUMNS
 
+-- cells are kept only where a record is in hand (§15.2)
+unfoldable pub keptInRecord : Place → Bool
+keptInRecord p = inRecord (p .state) || (leb (p .fill) 0 && p .cells is 0)
+
 -- ends stand in order, from `at` up to `fill`
 unfoldable pub inOrder : (at : ℕ) → List ℕ → (fill : ℕ) → Bool
 inOrder at [] fill = leb at fill
@@ -32,7 +38,7 @@ inOrder at (e ∷ es) fill = leb at e && inOrder e es fill
 
 -- a walk stays in bounds
 unfoldable pub isSound : Place → (ends : List ℕ) → Bool
-isSound p ends = inRange p && inOrder 0 (take (least (p .cells) MAXCOLUMNS) ends) (p .fill)
+isSound p ends = inRange p && keptInRecord p && inOrder 0 (take (least (p .cells) MAXCOLUMNS) ends) (p .fill)
 
 -- ---- the same as facts
 
@@ -48,4 +54,5 @@ pub record SoundPlace (p : Place) (ends : List ℕ) : Type 0 where
   pub records-within : p .records ≤ MAXFILE
   pub cells-within : p .cells ≤ MAXCELLS
   pub columns-within : p .columns ≤ MAXCOLUMNS
+  pub kept-in-record : inRecord (p .state) ≡ false → (p .fill ≡ 0) × (p .cells ≡ 0)
   pub ends-in-order : InOrder 0 (take (least (p .cells) MAXCOLUMNS) ends) (p .fill)

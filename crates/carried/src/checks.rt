@@ -5,9 +5,11 @@ ghost use Prim.Native.Nat.{_≤_};
 ghost use lib.ListN.{length, take};
 ghost use Rattle.model.specs.Report.{MAXCOLUMNS};
 ghost use Rattle.carried.specs.Checks.{checkBetween, checkNow};
-ghost use Rattle.carried.specs.Sound.{inRange, inOrder, isSound};
+ghost use Rattle.model.specs.Scans.{inRecord};
+ghost use Rattle.carried.specs.Sound.{inRange, keptInRecord, inOrder, isSound};
 use crate::place::Place;
 use model::Dialect;
+use model::FileState;
 use model::Report;
 use numbers::NamedDialect;
 
@@ -110,12 +112,50 @@ fn is_in_order(ends: &[usize], n: usize, fill: usize) -> bool
     at <= fill
 }
 
+// Whether a cell of the record in hand was begun or is complete.
+pub fn in_record(f: FileState) -> bool
+    ensures { λ r. ⌜ r ≡ inRecord f ⌝ }
+{
+    match f {
+        FileState::Top => false,
+        FileState::Begin => false,
+        FileState::Ended => false,
+        FileState::Mark1 => false,
+        FileState::Mark2 => false,
+        FileState::PlainMark1 => true,
+        FileState::PlainMark2 => true,
+        FileState::Comment(_) => false,
+        FileState::Blanks => false,
+        FileState::Wanting => true,
+        FileState::Inside(_) => true,
+        FileState::After => true,
+        FileState::Cr => true,
+    }
+}
+
+// Whether cells are kept only where a record is in hand: elsewhere its size may start anew, and would say nothing of what is kept.
+fn is_kept_in_record(p: Place) -> bool
+    ensures { λ r. ⌜ r ≡ keptInRecord p ⌝ }
+{
+    let state = p.state;
+    if in_record(state) {
+        return true;
+    }
+    if 0 < p.fill {
+        return false;
+    }
+    p.cells == 0
+}
+
 // Whether a walk over a piece stays in bounds from here.
 pub fn is_sound(p: Place, ends: &[usize]) -> bool
     requires { ⌜ MAXCOLUMNS ≤ length (now ends) ⌝ }
     ensures { λ r. ⌜ r ≡ isSound p (now (ends .entry)) ⌝ }
 {
     if !is_in_range(p) {
+        return false;
+    }
+    if !is_kept_in_record(p) {
         return false;
     }
     is_in_order(

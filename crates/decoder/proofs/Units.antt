@@ -1,7 +1,6 @@
 -- The bytes of a code point are a unit of content.
 -- Assumes nothing.
-use mathlib.Core.Path.{_≡_, refl, sym, ap, _∙_}
-use mathlib.Core.Bool.{true, false}
+use mathlib.Core.Path.{_≡_, sym, ap, _∙_}
 use mathlib.Core.List.{[], _∷_}
 use Prim.Native.Nat.{ℕ, _+_, _/_, _%_, _≤_, _<_}
 use native.Mathlib.Omega.{arith}
@@ -10,7 +9,7 @@ use lib.ListN.{length, take, getD}
 use borrow.Author.Tests.{leb-true, leb-false}
 use Rattle.model.specs.Base.{Bytes, if_then_else_, _is_}
 use Rattle.model.specs.Decode.{shortOf}
-use Rattle.model.proofs.Tests.{split-on, is→eq}
+use Rattle.model.proofs.Tests.{split-on}
 use Rattle.utf8.specs.Codes.{packed, Packs}
 use Rattle.utf8.proofs.Codes.{packed-one, packed-two, packed-three, packed-four}
 use Rattle.decoder.specs.Units.{Lead, Later, Unit, one, two, three, four}

@@ -200,9 +200,6 @@ module _ (d : Dialect) (limit : ℕ) (part : Bytes) (cs : List RawCell) (stop : 
 
 -- ---- limits
 
-pub one-free : (length limit i size : ℕ) → i < length → i < limit → Free length limit i size (i + 1)
-one-free n limit i size h k = record { on = omega arith; inside = omega arith; under = omega arith; fits = λ l. absurd (omega arith) }
-
 pub many-free : (length limit i size : ℕ) → i < length → i < limit → size < MAXRECORD → Free length limit i size (least (least length limit) (i + (MAXRECORD - size)))
 many-free n limit i size h k l =
     let a : least (least n limit) (i + (MAXRECORD - size)) ≤ least n limit = least-first (least n limit) (i + (MAXRECORD - size)) in

@@ -46,22 +46,11 @@ fn comment_end(f: FileState, part: &[u8], i: usize, limit: usize) -> usize
     ensures { λ r. ⌜ r ≡ commentEnd f (now (part .entry)) limit i ⌝ }
 {
     match f {
-        FileState::Top => i,
-        FileState::Begin => i,
-        FileState::Ended => i,
-        FileState::Mark1 => i,
-        FileState::Mark2 => i,
-        FileState::PlainMark1 => i,
-        FileState::PlainMark2 => i,
         FileState::Comment(t) => match t {
             Char::Whole => runs::comment_run(part, i, least_of(part.len(), limit)),
             Char::Within(_) => i,
         },
-        FileState::Blanks => i,
-        FileState::Wanting => i,
-        FileState::Inside(_) => i,
-        FileState::After => i,
-        FileState::Cr => i,
+        _ => i,
     }
 }
 

@@ -6,8 +6,7 @@ use mathlib.Core.List.{[], _∷_, _++_}
 use Prim.Native.Nat.{ℕ, _+_, _-_, _≤_, _<_}
 use native.Mathlib.Omega.{arith}
 use lib.Dec.{leb}
-use lib.ListN.{length, take, drop, getD, length-drop, drop-of-length-le}
-use lib.Seq.{drop-drop}
+use lib.ListN.{length, take, drop, getD, length-drop}
 use borrow.Author.Tests.{leb-true}
 use Rattle.model.specs.declared.Dialect.{Dialect}
 use Rattle.model.specs.declared.Dialect.the-variants.{Csvj, Tdif, CsvPlus}
@@ -25,7 +24,7 @@ use Rattle.spell.specs.Contents.{contentFrom, sourceQuote, Decoded, Part
 use Rattle.spell.specs.Bodies.{Stops}
 use Rattle.spell.specs.PlainRuns.{plainRun}
 use Rattle.spell.proofs.PlainRuns.{text-run, lone-run}
-use Rattle.spell.proofs.Units.{body-append, doubled-append, text-append, surrogate-append, no-surrogate, surrogate-by, lone-skip, lone-append, lone-found, paired-begins, begins-paired}
+use Rattle.spell.proofs.Units.{body-append, doubled-append, text-append, surrogate-append, no-surrogate, surrogate-by, lone-append, paired-begins, begins-paired}
 use Rattle.spell.proofs.Contents.{content-part, content-end, part-apart}
 
 begins-short : (bs : Bytes) → length bs < 3 → beginsLone bs ≡ false
@@ -33,6 +32,12 @@ begins-short [] h = refl
 begins-short (a ∷ []) h = refl
 begins-short (a ∷ b ∷ []) h = refl
 begins-short (a ∷ b ∷ c ∷ bs) h = absurd (omega arith)
+
+begins-by : (bs : Bytes) → 3 ≤ length bs → beginsLone bs ≡ paired bs
+begins-by [] h = absurd (omega arith)
+begins-by (a ∷ []) h = absurd (omega arith)
+begins-by (a ∷ b ∷ []) h = absurd (omega arith)
+begins-by (a ∷ b ∷ c ∷ bs) h = refl
 
 begins-long : (bs : Bytes) → beginsLone bs ≡ true → 3 ≤ length bs
 begins-long [] e = impossible e
@@ -76,11 +81,8 @@ module _ (c : Bytes) (i : ℕ) (h : i < length c) where
       ∙ ap (λ (l : Bytes). getD c i 0 ∷ l) (drop-next c (i + 1) (i + 2) (omega arith) (omega arith))
       ∙ ap (λ (l : Bytes). getD c i 0 ∷ getD c (i + 1) 0 ∷ l) (drop-next c (i + 2) (i + 3) (omega arith) (omega arith))
 
-  pub lone-other : 3 ≤ length c - i → (getD c i 0 ≡ 0xED → ⊥) → beginsLone (drop i c) ≡ false
-  lone-other k e = let m : i + 3 ≤ length c = omega arith in rw (three-at m) (no-surrogate (getD c i 0) (getD c (i + 1) 0) e)
-
-  pub lone-at : 3 ≤ length c - i → getD c i 0 ≡ 0xED → beginsLone (drop i c) ≡ leb 0xA0 (getD c (i + 1) 0)
-  lone-at k e = let m : i + 3 ≤ length c = omega arith in rw (three-at m) (surrogate-by (getD c i 0) (getD c (i + 1) 0) e)
+  pub lone-by : 3 ≤ length c - i → beginsLone (drop i c) ≡ paired (drop i c)
+  lone-by k = begins-by (drop i c) (omega (arith, length-drop i c))
 
   -- a lone surrogate stands there
   module _ (e : beginsLone (drop i c) ≡ true) where

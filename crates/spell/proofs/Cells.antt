@@ -16,22 +16,21 @@ use Rattle.model.specs.declared.Cell.the-variants.{Fresh}
 use Rattle.model.specs.declared.CellStep.the-variants.{More}
 use Rattle.model.specs.declared.CellCheck.the-variants.{WholeCell}
 use Rattle.model.specs.Base.{Bytes, if_then_else_, _is_, holds, isEmpty, QUOTE}
-use Rattle.model.specs.Dialect.{quoteOf, delimiterOf, isCsvj}
+use Rattle.model.specs.Dialect.{quoteOf, isCsvj}
 use Rattle.model.specs.Report.{MAXRECORD}
-use Rattle.model.specs.Cell.{isDigit, firstByte, cellStep, isWhole}
+use Rattle.model.specs.Cell.{isDigit, firstByte, cellStep}
 use Rattle.model.specs.Decode.{kindOf, contentOf, validateCell}
-use Rattle.model.specs.Text.{Value, isText, special, beginsMark, doubled, jsonBody, jsonCell, quotedText, csvPlusCell, cellText}
+use Rattle.model.specs.Text.{Value, isText, special, beginsMark, doubled, jsonCell, quotedText, cellText, hasQuotes}
 use Rattle.model.proofs.Tests.{split, split-on, impossible, is→eq}
 use Rattle.model.proofs.Utf8.{quote-ascii}
 use Rattle.model.proofs.Lengths.{content-length}
-use Rattle.model.proofs.CellRuns.{Runs, here, there, WholeRun, sound-runs}
+use Rattle.model.proofs.CellRuns.{Runs, there, WholeRun, sound-runs}
 use Rattle.model.proofs.CellContent.{no-more}
 use Rattle.buffers.specs.Wrote.{Room, Put}
 use Rattle.buffers.proofs.Writing.{Putting, putting, put-next, put-whole, same-long}
 use Rattle.decoder.specs.FirstByte.{spellingBy, contentIn}
 use Rattle.decoder.specs.Sources.{spellingIn, contentBy, Spelt, in-file, as-content}
 use Rattle.decoder.specs.declared.source.Source.{Source}
-use Rattle.decoder.specs.declared.source.Source.the-variants.{File, Contents}
 use Rattle.decoder.specs.declared.first.Spelling.{Spelling}
 use Rattle.decoder.specs.declared.first.Spelling.the-variants.{Nothing, AsItStands, Doubled, Escaped}
 use Rattle.decoder.proofs.FirstByte.{content-first}
@@ -39,8 +38,7 @@ use Rattle.spell.specs.declared.cell.Written.{Written}
 use Rattle.spell.specs.declared.cell.Written.the-variants.{AsText, AsNumber, AsWord}
 use Rattle.spell.specs.Units.{bodyText}
 use Rattle.spell.specs.Contents.{EdFollowed, Legible, has-none, as-it-stands, decoded, by-doubled, by-string}
-use Rattle.spell.specs.Quoted.{hasQuotes}
-use Rattle.spell.specs.Cells.{valueOf, isQuoted, quoteBy, textCell, writtenAs, wordFor}
+use Rattle.spell.specs.Cells.{isQuoted, quoteBy, textCell, writtenAs, wordFor}
 use Rattle.spell.proofs.Followed.{sound-followed}
 use Rattle.spell.proofs.Quoted.{cell-by}
 

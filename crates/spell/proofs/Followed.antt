@@ -1,11 +1,10 @@
 -- In a sound cell no byte ED begins a lone surrogate: the byte after it is from 80 to 9F.
 -- Assumes nothing.
-use mathlib.Core.Path.{_≡_, refl, sym, ap, _∙_}
+use mathlib.Core.Path.{_≡_, refl, ap}
 use mathlib.Core.Bool.{true, false}
 use mathlib.Core.List.{[], _∷_}
 use Prim.Native.Nat.{ℕ, zero, suc, _+_, _≤_}
 use native.Mathlib.Omega.{arith}
-use lib.ListN.{length, getD}
 use borrow.Author.Tests.{ne-eqb}
 use Rattle.model.specs.declared.Dialect.{Dialect}
 use Rattle.model.specs.declared.Dialect.the-variants.{Csvj, Tdif, CsvPlus}
@@ -26,11 +25,11 @@ use Rattle.model.specs.declared.CellCheck.the-variants.{WholeCell}
 use Rattle.model.specs.Base.{Bytes, if_then_else_, _is_, within}
 use Rattle.model.specs.Dialect.{quoteOf, delimiterOf}
 use Rattle.model.specs.Utf8.{rowOf, leads, leadByte, innerStep, charStep}
-use Rattle.model.specs.Cell.{textByte, numeralStep, firstByte, quotedByte, plainByte, cellStep, isWhole}
+use Rattle.model.specs.Cell.{numeralStep, firstByte, quotedByte, plainByte, cellStep, isWhole}
 use Rattle.model.specs.Decode.{validateCell}
 use Rattle.model.proofs.Tests.{split-on, impossible, within-true}
 use Rattle.model.proofs.Utf8.{quote-ascii, delimiter-ascii, broken-on}
-use Rattle.model.proofs.CellRuns.{Runs, here, there, WholeRun, sound-runs}
+use Rattle.model.proofs.CellRuns.{Runs, here, there, sound-runs}
 use Rattle.model.proofs.CellContent.{char-on, no-more, no-stop, same-more}
 use Rattle.spell.specs.Contents.{EdFollows, EdFollowed}
 

@@ -1,6 +1,6 @@
 -- Runs by place, and what the definitions of content and of canonical text make of a run: the run itself.
 -- Assumes nothing.
-use mathlib.Core.Path.{_≡_, refl, sym, ap, _∙_}
+use mathlib.Core.Path.{_≡_, refl, ap, _∙_}
 use mathlib.Core.Bool.{Bool, true, false, not}
 use mathlib.Core.List.{[], _∷_, _++_}
 use Prim.Native.Nat.{ℕ, _+_, _≤_, _<_}
@@ -12,7 +12,7 @@ use Rattle.model.specs.declared.Dialect.{Dialect}
 use Rattle.model.specs.declared.Dialect.the-variants.{Csvj, Tdif, CsvPlus}
 use Rattle.model.specs.Dialect.{quoteOf}
 use Rattle.model.specs.Utf8.{holdsLone}
-use Rattle.model.specs.Decode.{undouble, between, units, textOf}
+use Rattle.model.specs.Decode.{undouble, units, textOf}
 use Rattle.model.specs.Text.{escaped, jsonBody, doubled}
 use Rattle.model.proofs.Tests.{split-on, and-true, impossible}
 use Rattle.buffers.proofs.Writing.{drop-next}

@@ -13,12 +13,11 @@ use Rattle.model.specs.declared.Settings.{Settings}
 use Rattle.model.specs.declared.Dialect.the-variants.{CsvPlus}
 use Rattle.model.specs.Base.{Bytes, if_then_else_, _is_, CR, LF, holds, isEmpty, over}
 use Rattle.model.specs.Dialect.{quoteOf, delimiterOf}
-use Rattle.model.specs.Text.{special, beginsMark, quotedText, csvPlusCell}
+use Rattle.model.specs.Text.{special, beginsMark, quotedText, csvPlusCell, hasQuotes}
 use Rattle.model.proofs.Tests.{split-on, impossible, is→eq}
 use Rattle.model.proofs.Utf8.{quote-ascii, delimiter-ascii}
 use Rattle.decoder.specs.Units.{Unit, one, two, three, four}
 use Rattle.decoder.specs.declared.first.Spelling.{Spelling}
-use Rattle.spell.specs.Quoted.{hasQuotes}
 use Rattle.spell.specs.PlainRuns.{isPlain, plainRun}
 use Rattle.spell.specs.Contents.{contentFrom, sourceQuote, Part}
 use Rattle.spell.proofs.PlainRuns.{Plain, plain-is}

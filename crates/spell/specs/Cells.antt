@@ -7,12 +7,11 @@ use Rattle.model.specs.declared.Kind.{Kind}
 use Rattle.model.specs.declared.Kind.the-variants.{Text, Number, True, False, Null}
 use Rattle.model.specs.Base.{Bytes, QUOTE, BACKSLASH}
 use Rattle.model.specs.Dialect.{quoteOf}
-use Rattle.model.specs.Text.{Value, jsonCell, quotedText, csvPlusCell}
+use Rattle.model.specs.Text.{Value, jsonCell, quotedText, csvPlusCell, hasQuotes}
 use Rattle.decoder.specs.declared.source.Source.{Source}
 use Rattle.decoder.specs.Sources.{contentBy}
 use Rattle.spell.specs.declared.cell.Written.{Written}
 use Rattle.spell.specs.declared.cell.Written.the-variants.{AsText, AsNumber, AsWord}
-use Rattle.spell.specs.Quoted.{hasQuotes}
 
 -- a cell of this kind, wherever it stands
 abbrev pub valueOf : Source → Kind → Bytes → Value

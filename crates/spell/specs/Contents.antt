@@ -44,7 +44,7 @@ pub data Decoded : Spelling → Bytes → Type 0 where
   by-doubled : {q : ℕ} {raw : Bytes} → q ≤ 0x7F → length (contentIn (Doubled q) raw) ≤ MAXRECORD → EdFollowed raw → Decoded (Doubled q) raw
   by-string : {raw : Bytes} → length (contentIn Escaped raw) ≤ MAXRECORD → EdFollowed raw → Decoded Escaped raw
 
--- a cell whose content may be asked for: any bytes as they stand
+-- a cell whose content may be asked for: one like that, or any bytes where nothing is decoded
 pub data Legible : Spelling → Bytes → Type 0 where
   has-none : {raw : Bytes} → Legible Nothing raw
   as-it-stands : {raw : Bytes} → Legible AsItStands raw

@@ -2,6 +2,5 @@ pub mod Columns
 pub mod PlainRuns
 pub mod Units
 pub mod Contents
-pub mod Quoted
 pub mod Bodies
 pub mod Cells

@@ -40,7 +40,7 @@ fn is_paired_at(content: &[u8], i: usize) -> bool
     0xA0 <= content[i + 1]
 }
 
-// Whether a lone surrogate stands at i.
+// Whether a lone surrogate stands at i, all of it.
 fn is_lone_at(content: &[u8], i: usize) -> bool
     requires { ⌜ i < length (now content) ⌝ }
     ensures { λ r. ⌜ r ≡ beginsLone (drop i (now (content .entry))) ⌝ }
@@ -48,10 +48,7 @@ fn is_lone_at(content: &[u8], i: usize) -> bool
     if content.len() - i < 3 {
         return false;
     }
-    if content[i] != 0xED {
-        return false;
-    }
-    0xA0 <= content[i + 1]
+    is_paired_at(content, i)
 }
 
 // In a content that stands as it is, and that may be any bytes.

@@ -2,7 +2,7 @@
 use Prim.Native.Nat.{_-_, _≤_}
 use native.Mathlib.Omega.{arith}
 use mathlib.Core.Path.{_≡_, sym, _∙_}
-use lib.ListN.{length, take}
+use lib.ListN.{take}
 use Rattle.carried.specs.Sound.{inOrder}
 use Rattle.carried.proofs.Soundness.{orderFrom, order-begins, order-breaks, order-goes-on, order-ends}
 use Rattle.carried.proofs.checks.is_in_order.Statement.{statement}

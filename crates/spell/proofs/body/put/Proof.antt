@@ -1,8 +1,8 @@
 -- `spell::body::put` meets its contract. The invariant: what is still to be put is the text of the rest of the content, and a lone
 -- surrogate was found or stands in that rest where the content holds one.
 -- Assumes nothing.
-use mathlib.Core.Path.{_≡_, sym, ap, _∙_}
-use mathlib.Core.Bool.{Bool, false, _||_, or-false}
+use mathlib.Core.Path.{_≡_, ap, _∙_}
+use mathlib.Core.Bool.{Bool, _||_}
 use mathlib.Core.List.{_++_}
 use Prim.Native.Nat.{_-_}
 use native.Mathlib.Omega.{arith}

@@ -7,7 +7,7 @@ use Rattle.model.specs.Utf8.{holdsLone}
 use Rattle.model.specs.Text.{cellText}
 use Rattle.buffers.proofs.Writing.{room-as, put-as}
 use Rattle.decoder.specs.FirstByte.{contentIn}
-use Rattle.spell.specs.declared.cell.Written.the-variants.{AsText, AsNumber, AsWord}
+use Rattle.spell.specs.declared.cell.Written.the-variants.{AsNumber}
 use Rattle.spell.specs.Cells.{valueOf, textCell, writtenAs, wordFor}
 use Rattle.spell.proofs.Cells.{spelt-legible, spelt-number, legible-as, number-way, text-way, cell-as-text, cell-as-number, cell-as-word, number-no-text, word-no-text, put-long}
 use Rattle.spell.proofs.cell.put.Statement.{statement}

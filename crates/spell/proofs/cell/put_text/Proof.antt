@@ -3,7 +3,6 @@
 use mathlib.Core.Path.{_≡_, sym, ap, _∙_}
 use mathlib.Core.Bool.{Bool}
 use mathlib.Core.List.{[], _++_, append-nil}
-use borrow.Author.Needs.{needs}
 use Rattle.model.specs.Base.{Bytes}
 use Rattle.buffers.proofs.Writing.{Putting, putting, same-long, room-as, put-as, room-next, room-rest, put-next, put-whole}
 use Rattle.decoder.specs.FirstByte.{contentIn}

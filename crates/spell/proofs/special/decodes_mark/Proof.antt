@@ -1,7 +1,7 @@
 -- `spell::special::decodes_mark` meets its contract: the room holds the content, whose first bytes are asked for.
 -- Assumes nothing.
 use mathlib.Core.Path.{ap, _∙_}
-use lib.ListN.{length, take, replicate}
+use lib.ListN.{replicate}
 use borrow.Author.Needs.{needs}
 use Rattle.model.specs.Base.{Bytes}
 use Rattle.model.specs.Report.{MAXRECORD}
