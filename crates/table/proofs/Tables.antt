@@ -17,7 +17,7 @@ use Rattle.model.specs.Api.{kindNamed, isValue, slice, tableCell, cons, tableCe
 use Rattle.model.proofs.Tests.{split-on, impossible, and-true}
 use Rattle.buffers.proofs.Writing.{drop-next}
 use Rattle.decoder.specs.declared.source.Source.the-variants.{Contents}
-use Rattle.decoder.specs.Sources.{orNull, kindFrom, cellIn, cellsIn, Stretch, as-content, Cells}
+use Rattle.decoder.specs.Sources.{orNull, cellIn, cellsIn, Stretch, as-content, Cells}
 use Rattle.decoder.proofs.CellsIn.{cells-length}
 use Rattle.table.specs.Given.{given, isThere}
 

@@ -10,7 +10,7 @@ use Rattle.model.specs.Base.{Bytes}
 use Rattle.model.specs.Text.{Value}
 use Rattle.model.specs.Api.{slice}
 use Rattle.decoder.specs.declared.source.Source.{Source}
-use Rattle.decoder.specs.Sources.{cellIn, cellsIn, Stretch, Cells}
+use Rattle.decoder.specs.Sources.{cellIn, cellsIn, Cells}
 
 -- ---- parts of lists
 

@@ -1,7 +1,6 @@
 -- `table::is_cell` meets its contract: it asks for the kind, for the stretch and then for the bytes.
 -- Assumes nothing.
-use mathlib.Core.Path.{_≡_, sym, ap, _∙_}
-use native.Mathlib.Omega.{arith}
+use mathlib.Core.Path.{sym, ap, _∙_}
 use borrow.Author.Needs.{needs}
 use Rattle.numbers.specs.Named.{kindIn}
 use Rattle.table.proofs.Tables.{cell-unknown, cell-known, cell-backward, cell-beyond}

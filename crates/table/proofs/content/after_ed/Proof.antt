@@ -1,6 +1,6 @@
 -- `table::content::after_ed` meets its contract: the byte's range says where content stands.
 -- Assumes nothing.
-use mathlib.Core.Path.{sym, ap, _∙_}
+use mathlib.Core.Path.{sym, _∙_}
 use native.Mathlib.Omega.{arith}
 use Rattle.model.specs.Base.{if_then_else_}
 use Rattle.table.proofs.Contents.{ed-below, ed-character, ed-high, ed-low, ed-above}

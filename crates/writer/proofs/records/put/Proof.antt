@@ -3,12 +3,10 @@
 -- Assumes nothing.
 use mathlib.Core.Path.{_≡_, sym, ap, _∙_}
 use mathlib.Core.List.{List, _++_}
-use Prim.Native.Nat.{ℕ, _+_, _-_, _≤_}
+use Prim.Native.Nat.{_+_, _-_, _≤_}
 use native.Mathlib.Omega.{arith}
 use lib.ListN.{length}
 use lib.Dec.{eqb}
-use borrow.Author.Needs.{needs}
-use Rattle.model.specs.Base.{Bytes}
 use Rattle.model.specs.Dialect.{into}
 use Rattle.model.specs.Text.{Value, recordText, ending}
 use Rattle.model.specs.Api.{slice}
