@@ -6,6 +6,7 @@
 ghost use mathlib.Core.Path.{_≡_};
 ghost use Prim.Native.Nat.{_+_, _≤_};
 ghost use lib.ListN.{length};
+ghost use Rattle.model.specs.Report.{MAXFILE};
 ghost use mathlib.Core.List.{[], _∷_};
 ghost use Rattle.buffers.specs.Wrote.{written, measure, Room, Put};
 use numbers::MAX_FILE;
@@ -28,11 +29,9 @@ pub fn copy(out: &mut [u8], at: usize, src: &[u8]) -> usize
 
 // The place after n bytes from o on, where they are only measured.
 fn measured(o: usize, n: usize) -> usize
+    requires { ⌜ o ≤ MAXFILE ⌝ }
     ensures { λ r. ⌜ r ≡ measure (o + n) ⌝ }
 {
-    if MAX_FILE <= o {
-        return MAX_FILE;
-    }
     if MAX_FILE - o < n {
         return MAX_FILE;
     }

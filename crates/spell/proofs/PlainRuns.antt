@@ -52,7 +52,6 @@ not-true false e = refl
 -- what the test of a plain byte says
 pub record Plain (p q r b : ℕ) : Type 0 where
   pub least : leb 0x20 b ≡ true
-  pub no-quote : (b is QUOTE) ≡ false
   pub no-backslash : (b is BACKSLASH) ≡ false
   pub no-lone : (b is 0xED) ≡ false
   pub no-first : (b is p) ≡ false
@@ -67,10 +66,8 @@ plain-is p q r b e =
     let g = and-true _ _ (f .0) in
     let h = and-true _ _ (g .0) in
     let k = and-true _ _ (h .0) in
-    let m = and-true _ _ (k .0) in
     record {
-      least = m .0;
-      no-quote = not-true _ (m .1);
+      least = k .0;
       no-backslash = not-true _ (k .1);
       no-lone = not-true _ (h .1);
       no-first = not-true _ (g .1);
@@ -79,15 +76,15 @@ plain-is p q r b e =
     }
 
 -- in a string
-escaped-plain : {p q r b : ℕ} → Plain p q r b → escaped b ≡ b ∷ []
+escaped-plain : {p q r b : ℕ} → (b is QUOTE) ≡ false → Plain p q r b → escaped b ≡ b ∷ []
 unfolding if_then_else_
-escaped-plain t = rw (t .no-quote, t .no-backslash, t .least)
+escaped-plain e t = rw (e, t .no-backslash, t .least)
 
-body-plain : {p q r b : ℕ} (bs : Bytes) → Plain p q r b → jsonBody (b ∷ bs) ≡ b ∷ jsonBody bs
+body-plain : {p q r b : ℕ} (bs : Bytes) → (b is QUOTE) ≡ false → Plain p q r b → jsonBody (b ∷ bs) ≡ b ∷ jsonBody bs
 unfolding jsonBody if_then_else_
-body-plain [] t = escaped-plain t
-body-plain (c ∷ []) t = rw (escaped-plain t)
-body-plain (c ∷ d ∷ bs) t = rw (t .no-lone, escaped-plain t)
+body-plain [] e t = escaped-plain e t
+body-plain (c ∷ []) e t = rw (escaped-plain e t)
+body-plain (c ∷ d ∷ bs) e t = rw (t .no-lone, escaped-plain e t)
 
 -- in text with quotes doubled
 doubled-plain : (u b : ℕ) (bs : Bytes) → (b is u) ≡ false → doubled u (b ∷ bs) ≡ b ∷ doubled u bs
@@ -95,7 +92,7 @@ unfolding doubled if_then_else_
 doubled-plain u b bs e = rw e
 
 text-byte : (t : Dialect) {p q r b : ℕ} (bs : Bytes) → p ≡ quoteOf t → Plain p q r b → bodyText t (b ∷ bs) ≡ b ∷ bodyText t bs
-text-byte Csvj bs e h = body-plain bs h
+text-byte Csvj bs e h = body-plain bs (rw e at (h .no-first)) h
 text-byte Tdif {b} bs e h = doubled-plain QUOTE b bs (rw e at (h .no-first))
 text-byte (CsvPlus s) {b} bs e h = doubled-plain (quoteOf (CsvPlus s)) b bs (rw e at (h .no-first))
 
@@ -109,7 +106,7 @@ unfolding undouble units textOf if_then_else_
 content-byte Nothing bs e h = refl
 content-byte AsItStands bs e h = refl
 content-byte (Doubled u) {b} bs e h = let f : (b is u) ≡ false = rw e at (h .no-second) in rw f
-content-byte Escaped bs e h = rw (h .no-quote, h .no-backslash)
+content-byte Escaped {b} bs e h = let f : (b is QUOTE) ≡ false = rw e at (h .no-second) in rw (f, h .no-backslash)
 
 module _ (p q r : ℕ) where
   -- the content of a run is the run, in a source whose quote stops it

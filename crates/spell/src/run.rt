@@ -1,18 +1,15 @@
-// Runs of bytes that stand for themselves in every source and every target.
+// Runs of bytes that stand for themselves in a source and in a target.
 ghost use mathlib.Core.Path.{_≡_};
 ghost use Prim.Native.Nat.{_+_, _≤_};
 ghost use lib.ListN.{length, drop};
 ghost use Rattle.spell.specs.PlainRuns.{isPlain, plainRun};
 
-// Whether a byte stands for itself: one from 20 hex on that is no quote, no backslash, not ED hex, which may begin a lone surrogate,
-// and none of p, q and r.
+// Whether a byte stands for itself: one from 20 hex on that is no backslash, not ED hex, which may begin a lone surrogate, and none of p,
+// q and r, among which are the quotes of the source and of the target.
 fn is_plain(p: u8, q: u8, r: u8, b: u8) -> bool
     ensures { λ x. ⌜ x ≡ isPlain p q r b ⌝ }
 {
     if b < 0x20 {
-        return false;
-    }
-    if b == 0x22 {
         return false;
     }
     if b == 0x5C {

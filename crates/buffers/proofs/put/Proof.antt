@@ -15,5 +15,8 @@ returns c = put-written (c .before .before .before .before .if1 .taken) (c .befo
 returns-2 : tie.Need-returns-2
 returns-2 c = put-measured (c .before .if1 .left) (c .measured .ensures) refl
 
+measured-requires : tie.Need-measured-requires
+measured-requires c κs = c .before .before .before .pre .measured (c .if1 .left)
+
 pub put-spec : {M : Type 1} → statement M
-put-spec = tie.close (tie.spec copy-requires (λ c. search needs) returns (λ c. search needs) returns-2)
+put-spec = tie.close (tie.spec copy-requires (λ c. search needs) returns measured-requires returns-2)

@@ -18,5 +18,8 @@ returns c =
 returns-2 : tie.Need-returns-2
 returns-2 c = put-measured (c .before .if1 .left) (c .measured .ensures) refl
 
+measured-requires : tie.Need-measured-requires
+measured-requires c κs = c .before .before .pre .measured (c .if1 .left)
+
 pub put-byte-spec : {M : Type 1} → statement M
-put-byte-spec = tie.close (tie.spec slice-write-out (λ c. search (needs, c .before .before .pre .inside (c .if1 .taken))) (λ c. search needs) returns (λ c. search needs) returns-2)
+put-byte-spec = tie.close (tie.spec slice-write-out (λ c. search (needs, c .before .before .pre .inside (c .if1 .taken))) (λ c. search needs) returns measured-requires returns-2)

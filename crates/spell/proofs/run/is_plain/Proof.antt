@@ -16,5 +16,4 @@ is-plain-spec =
     (λ c. search tests)
     (λ c. search tests)
     (λ c. search tests)
-    (λ c. search tests)
     (λ c. search tests))
