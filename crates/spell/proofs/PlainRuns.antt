@@ -1,9 +1,9 @@
 -- Runs by place, and what the definitions of content and of canonical text make of a run: the run itself.
 -- Assumes nothing.
-use mathlib.Core.Path.{_≡_, refl, ap, _∙_}
-use mathlib.Core.Bool.{Bool, true, false, not}
+use mathlib.Core.Path.{_≡_, refl, ap, ap₂, _∙_}
+use mathlib.Core.Bool.{Bool, true, false, not, _&&_}
 use mathlib.Core.List.{[], _∷_, _++_}
-use Prim.Native.Nat.{ℕ, _+_, _≤_, _<_}
+use Prim.Native.Nat.{ℕ, suc, _+_, _≤_, _<_}
 use native.Mathlib.Omega.{arith}
 use lib.Dec.{leb}
 use lib.ListN.{length, take, drop, getD, drop-of-length-le}
@@ -42,6 +42,19 @@ run-inside p q r [] = omega arith
 run-inside p q r (b ∷ bs) =
     let h : plainRun p q r bs ≤ length bs = run-inside p q r bs in
     split-on (isPlain p q r b) (λ e. rw e (omega arith)) (λ e. rw e (omega arith))
+
+-- two quotes that are the same are asked for once
+and-twice : (x y z : Bool) → (x && y && y && z) ≡ (x && y && z && z)
+and-twice true true true = refl
+and-twice true true false = refl
+and-twice true false z = refl
+and-twice false y z = refl
+
+pub same-run : (p r : ℕ) (bs : Bytes) → plainRun p p r bs ≡ plainRun p r r bs
+unfolding plainRun isPlain if_then_else_
+same-run p r [] = refl
+same-run p r (b ∷ bs) =
+    ap₂ (λ (t : Bool) (n : ℕ). if t then suc n else 0) (and-twice (leb 0x20 b && not (b is BACKSLASH) && not (b is 0xED)) (not (b is p)) (not (b is r))) (same-run p r bs)
 
 -- ---- a run is its own text
 

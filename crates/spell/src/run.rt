@@ -31,7 +31,7 @@ fn is_plain(p: u8, q: u8, r: u8, b: u8) -> bool
 }
 
 // How far such bytes go from `at`.
-pub fn plain(s: &[u8], at: usize, p: u8, q: u8, r: u8) -> usize
+fn run(s: &[u8], at: usize, p: u8, q: u8, r: u8) -> usize
     requires { ⌜ at ≤ length (now s) ⌝ }
     ensures { λ x. ⌜ x ≡ at + plainRun p q r (drop at (now (s .entry))) ⌝ }
 {
@@ -44,4 +44,15 @@ pub fn plain(s: &[u8], at: usize, p: u8, q: u8, r: u8) -> usize
         }
     }
     i
+}
+
+// The same. Where the quotes are the same it is asked once for both: a test for each byte of a run counts.
+pub fn plain(s: &[u8], at: usize, p: u8, q: u8, r: u8) -> usize
+    requires { ⌜ at ≤ length (now s) ⌝ }
+    ensures { λ x. ⌜ x ≡ at + plainRun p q r (drop at (now (s .entry))) ⌝ }
+{
+    if p == q {
+        return run(s, at, p, r, r);
+    }
+    run(s, at, p, q, r)
 }
