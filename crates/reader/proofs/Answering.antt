@@ -1,15 +1,19 @@
 -- What the reader answers, by its header and its passes.
-use Prim.Native.Nat.{ℕ, _+_, _≤_, _<_}
+use Prim.Native.Nat.{ℕ, _+_, _-_, _≤_, _<_}
 use native.Mathlib.Omega.{arith}
 use mathlib.Core.Path.{_≡_, refl, sym, ap, subst, _∙_}
 use mathlib.Core.Bool.{true, false}
 use mathlib.Core.Option.{none, some}
-use mathlib.Core.List.{List, [], _∷_, _++_, map, map-append, append-nil}
-use lib.ListN.{length, length-append, length-map}
+use mathlib.Core.List.{List, [], _∷_, _++_, map, map-append, append-nil, append-assoc}
+use lib.ListN.{length, take, drop, length-append, length-map, length-drop, drop-of-length-le}
+use lib.Seq.{take-append-seam, drop-append-seam, drop-drop}
 use lib.Dec.{ltb}
 use borrow.Author.Tests.{lt-ltb, le-ltb}
+use borrow.Rule.Slice.PartAt.{part-to-end}
+use borrow.Rule.Slice.PartMut.{same-len-mid}
 use Rattle.model.specs.declared.Dialect.{Dialect}
 use Rattle.model.specs.declared.FileState.{FileState}
+use Rattle.model.specs.declared.FileState.the-variants.{Top}
 use Rattle.model.specs.declared.Report.{Report}
 use Rattle.model.specs.Base.{if_then_else_, Bytes, concat, over}
 use Rattle.model.specs.Dialect.{dialectOf}
@@ -21,14 +25,18 @@ use Rattle.model.specs.Api.{startsOf, endsOf, kindsOf}
 use Rattle.scanner.specs.Stored.{storedFrom}
 use Rattle.numbers.proofs.Least.{least-first, least-second}
 use Rattle.reader.specs.declared.Answer.{Answer}
-use Rattle.reader.specs.declared.records.Head.{Head}
-use Rattle.reader.specs.declared.records.Head.the-variants.{Header, HeaderOnly, NoHeader}
 use Rattle.reader.specs.declared.records.Pass.{Pass}
 use Rattle.reader.specs.declared.records.Pass.the-variants.{Accepted, Refused}
 use Rattle.reader.specs.Answers.{callAnswer, toAnswer, answerIn}
 use Rattle.reader.specs.Passes as passes
-use Rattle.reader.specs.Passes.{firstOf, restOf, Heads, with-data, alone, faulty, Outcome, Passes}
-use Rattle.scanner.proofs.Filling.{stored-from-append, stored-from-none, stored-from-over}
+use Rattle.reader.specs.Passes.{firstOf, Begins, Outcome, Passes}
+use Rattle.scanner.proofs.Filling.{stored-from-none, stored-from-over}
+use Rattle.visitor.specs.declared.Aim.the-variants.{Reading}
+use Rattle.visitor.specs.declared.Visited.{Visited}
+use Rattle.visitor.specs.declared.Outcome.the-variants as outcomes
+use Rattle.visitor.specs.declared.Outcome as visitor
+use Rattle.visitor.specs.Visits.{restOf, Visits}
+use Rattle.visitor.proofs.Walking.{whole-rest, came, at-end, at-fault}
 
 -- the answer, and the lists after it
 pub record Answered (a : api.Answer) (r : Answer) (s₀ e₀ k₀ s e k : List ℕ) : Type 0 where
@@ -43,9 +51,6 @@ refusing a t r s₀ e₀ k₀ s e k q z x y w =
     subst (λ (b : api.Answer). Answered b r s₀ e₀ k₀ s e k) (sym q) (record { answer = z; at-starts = x; at-ends = y; at-kinds = w })
 
 -- ---- the definition's answer
-
-pub answer-refused : (d : Dialect) (file : Bytes) (room : ℕ) (t : Report) → Heads d file (NoHeader t) → answerIn d file room ≡ api.noAnswer t
-answer-refused d file room t (faulty x r p) = ap (λ (g : Progress). api.readAnswer g room) p
 
 records-answer : (h : Rec) (ds : List Rec) (r : Read) (room : ℕ) → r .done ≡ h ∷ ds → api.readAnswer (going r) room ≡ api.answered (h ∷ ds) (concat (rows (h ∷ ds))) room
 records-answer h ds r room e = ap (λ (l : List Rec). api.answered l (concat (rows l)) room) e
@@ -64,25 +69,54 @@ roomy d file room n h ds r p q c l =
     let t : ltb room (length (concat (rows (h ∷ ds)))) ≡ false = le-ltb room (length (concat (rows (h ∷ ds)))) (omega arith) in
     ap (λ (g : Progress). api.readAnswer g room) p ∙ records-answer h ds r room q ∙ rw t
 
-rows-one : (h : Rec) → concat (rows (h ∷ [])) ≡ h .cells
-unfolding rows concat
-rows-one h = append-nil (h .cells)
-
 rows-more : (h : Rec) (ds : List Rec) → concat (rows (h ∷ ds)) ≡ h .cells ++ concat (rows ds)
 unfolding rows concat
 rows-more h ds = refl
 
 -- ---- lists that were filled
 
-fills : (φ : Value → ℕ) (room : ℕ) (vs : List Value) (old out : List ℕ) → length vs ≤ room → room ≤ length old → out ≡ storedFrom room 0 (map φ vs) old → out ≡ over (map φ vs) old
-fills φ room vs old out h l e = let m : length (map φ vs) ≡ length vs = length-map vs φ in e ∙ stored-from-over room (map φ vs) old (omega arith) l
+put-over : (φ : Value → ℕ) (room : ℕ) (vs : List Value) (old out : List ℕ) → length vs ≤ room → room ≤ length old → out ≡ storedFrom room 0 (map φ vs) old → out ≡ over (map φ vs) old
+put-over φ room vs old out h l e = let m : length (map φ vs) ≡ length vs = length-map vs φ in e ∙ stored-from-over room (map φ vs) old (omega arith) l
 
-fills-on : (φ : Value → ℕ) (room : ℕ) (vs ws : List Value) (old mid out : List ℕ) → length (vs ++ ws) ≤ room → room ≤ length old → mid ≡ storedFrom room 0 (map φ vs) old → out ≡ storedFrom room (length vs) (map φ ws) mid → out ≡ over (map φ (vs ++ ws)) old
-fills-on φ room vs ws old mid out h l e f =
-    let m : length (map φ vs) ≡ length vs = length-map vs φ in
-    let n : 0 + length (map φ vs) ≡ length vs = omega arith in
-    let p : storedFrom room (length vs) (map φ ws) (storedFrom room 0 (map φ vs) old) ≡ storedFrom room 0 (map φ (vs ++ ws)) old = ap (λ (k : ℕ). storedFrom room k (map φ ws) (storedFrom room 0 (map φ vs) old)) (sym n) ∙ sym (stored-from-append room 0 (map φ vs) (map φ ws) old) ∙ ap (λ (xs : List ℕ). storedFrom room 0 xs old) (sym (map-append φ vs ws)) in
-    fills φ room (vs ++ ws) old out h l (f ∙ ap (storedFrom room (length vs) (map φ ws)) e ∙ p)
+over-more : (xs ys old : List ℕ) → xs ++ over ys (drop (length xs) old) ≡ over (xs ++ ys) old
+over-more xs ys old =
+    let e : drop (length ys) (drop (length xs) old) ≡ drop (length (xs ++ ys)) old = drop-drop (length ys) (length xs) old ∙ ap (λ (n : ℕ). drop n old) (sym (length-append xs ys)) in
+    ap (λ (l : List ℕ). xs ++ (ys ++ l)) e ∙ sym (append-assoc xs ys (drop (length (xs ++ ys)) old))
+
+-- the part of a list from its n-th place on, and the list with ys in that part's place
+abbrev pub PartFrom : (n : ℕ) → List ℕ → List ℕ
+PartFrom n xs = take (length xs - n) (drop n xs)
+
+abbrev pub WithPart : (n : ℕ) → (xs ys : List ℕ) → List ℕ
+WithPart n xs ys = take n xs ++ (ys ++ drop (length xs - n) (drop n xs))
+
+pub part-room : (room n : ℕ) (xs : List ℕ) → room ≤ length xs → room - n ≤ length (PartFrom n xs)
+part-room room n xs h =
+    let p : length (PartFrom n xs) ≡ length xs - n = ap length (part-to-end xs n) ∙ length-drop n xs in
+    omega arith
+
+pub part-long : (n : ℕ) (xs ys : List ℕ) → length ys ≡ length (PartFrom n xs) → length (WithPart n xs ys) ≡ length xs
+part-long n xs ys e = same-len-mid n (length xs - n) xs ys e
+
+-- these cells, and then more into the part that follows them
+put-both : (φ : Value → ℕ) (room n : ℕ) (vs ws : List Value) (old mid out : List ℕ) → length vs ≡ n → n + length ws ≤ room → room ≤ length old → mid ≡ storedFrom room 0 (map φ vs) old → out ≡ storedFrom (room - n) 0 (map φ ws) (PartFrom n mid) → WithPart n mid out ≡ over (map φ (vs ++ ws)) old
+put-both φ room n vs ws old mid out c h l e f =
+    let xs : List ℕ = map φ vs in
+    let ys : List ℕ = map φ ws in
+    let m : length xs ≡ n = length-map vs φ ∙ c in
+    let a : mid ≡ over xs old = put-over φ room vs old mid (omega arith) l e in
+    let t : take n mid ≡ xs = ap (take n) a ∙ ap (λ (i : ℕ). take i (over xs old)) (sym m) ∙ take-append-seam xs (drop (length xs) old) in
+    let d : drop n mid ≡ drop (length xs) old = ap (drop n) a ∙ ap (λ (i : ℕ). drop i (over xs old)) (sym m) ∙ drop-append-seam xs (drop (length xs) old) in
+    let b : length (drop (length xs) old) ≡ length old - length xs = length-drop (length xs) old in
+    let o : out ≡ over ys (drop (length xs) old) = put-over φ (room - n) ws (drop (length xs) old) out (omega arith) (omega arith) (f ∙ ap (storedFrom (room - n) 0 ys) (part-to-end mid n ∙ d)) in
+    let p : length (drop n mid) ≡ length mid - n = length-drop n mid in
+    let q : length (drop n mid) ≤ length mid - n = omega arith in
+    let z : drop (length mid - n) (drop n mid) ≡ [] = drop-of-length-le (drop n mid) q in
+    ap (λ (l : List ℕ). take n mid ++ (out ++ l)) z
+    ∙ ap (λ (l : List ℕ). take n mid ++ l) (append-nil out ∙ o)
+    ∙ ap (λ (l : List ℕ). l ++ over ys (drop (length xs) old)) t
+    ∙ over-more xs ys old
+    ∙ ap (λ (l : List ℕ). over l old) (sym (map-append φ vs ws))
 
 -- ---- what the passes say
 
@@ -113,77 +147,29 @@ same-cells h vs g p r ds (passes.accepted t es q e) same done =
     ap (λ (l : List Rec). concat (rows l)) (sym c) ∙ e
 same-cells h vs g p r ds (passes.refused x t) same done = let z : _≡_ {A = ℕ} 0 1 = cc in absurd (omega arith)
 
-module _ (d : Dialect) (file : Bytes) (room : ℕ) (s₀ e₀ k₀ : List ℕ) (fit : (room ≤ length s₀) × (room ≤ length e₀) × (room ≤ length k₀)) where
-  abbrev Said : Answer → (s e k : List ℕ) → Type 0
-  Said r s e k = Answered (answerIn d file room) r s₀ e₀ k₀ s e k
+-- ---- the header, and what follows it
 
-  -- ---- a header alone
-
-  module _ (n : ℕ) (a : Heads d file (HeaderOnly n)) where
-    pub only-crowded : room < n → (t : Report) → t ≡ refusal 10 → (r : Answer) → r ≡ toAnswer (api.noAnswer t) → Said r s₀ e₀ k₀
-    only-crowded l t te r re = go n a l
-      where
-        go : (m : ℕ) → Heads d file (HeaderOnly m) → room < m → Said r s₀ e₀ k₀
-        go m (alone h x hc p q) k =
-            refusing (answerIn d file room) (refusal 10) r s₀ e₀ k₀ s₀ e₀ k₀
-            (crowded d file room (length (h .cells)) h [] x p q (ap length (rows-one h)) k) (re ∙ ap (λ (z : Report). toAnswer (api.noAnswer z)) te) refl refl refl
-
-    pub only-roomy : n ≤ room → (t : Report) → t ≡ refusal 0 → (s e k : List ℕ) → s ≡ storedFrom room 0 (startsOf (firstOf d file .cells)) s₀ → e ≡ storedFrom room 0 (endsOf (firstOf d file .cells)) e₀ → k ≡ storedFrom room 0 (kindsOf (firstOf d file .cells)) k₀ → Said (record { report = t; columns = n; records = 0; cells = n }) s e k
-    only-roomy l t te s e k ps pe pk = go n a l
-      where
-        go : (m : ℕ) → Heads d file (HeaderOnly m) → m ≤ room → Said (record { report = t; columns = m; records = 0; cells = m }) s e k
-        go m (alone h x hc p q) b =
-            let c : length (concat (rows (h ∷ []))) ≡ length (h .cells) = ap length (rows-one h) in
-            let v : concat (rows (h ∷ [])) ≡ firstOf d file .cells = rows-one h ∙ hc in
-            let w : length (concat (rows (h ∷ []))) ≤ room = omega arith in
-            subst (λ (z : api.Answer). Answered z (record { report = t; columns = length (h .cells); records = 0; cells = length (h .cells) }) s₀ e₀ k₀ s e k)
-            (sym (roomy d file room (length (h .cells)) h [] x p q c b))
-            (record {
-              answer = rw (te, c);
-              at-starts = fills _ room (concat (rows (h ∷ []))) s₀ s w (fit .0) (ps ∙ ap (λ (vs : List Value). storedFrom room 0 (startsOf vs) s₀) (sym v));
-              at-ends = fills _ room (concat (rows (h ∷ []))) e₀ e w (fit .1) (pe ∙ ap (λ (vs : List Value). storedFrom room 0 (endsOf vs) e₀) (sym v));
-              at-kinds = fills _ room (concat (rows (h ∷ []))) k₀ k w (fit .2) (pk ∙ ap (λ (vs : List Value). storedFrom room 0 (kindsOf vs) k₀) (sym v));
-            })
-
--- ---- a header and data
-
--- the header, as it is when data may follow
-record Begun (d : Dialect) (file : Bytes) (n : ℕ) (f : FileState) (next : ℕ) : Type 0 where
-  h : Rec
-  first : h .cells ≡ firstOf d file .cells
-  count : length (h .cells) ≡ n
-  rest : readFile d none file ≡ restOf d file (h ∷ []) f next
-
-begun : {d : Dialect} {file : Bytes} {n : ℕ} {f : FileState} {next : ℕ} → Heads d file (Header n f next) → Begun d file n f next
-begun (with-data h g o hc p l m b) = record { h = h; first = hc; count = refl; rest = p }
-
-pub header-bounds : {d : Dialect} {file : Bytes} {n : ℕ} {f : FileState} {next : ℕ} → Heads d file (Header n f next) → (next ≤ length file) × (next ≤ MAXFILE) × (n ≤ next)
-header-bounds (with-data h g o hc p l m b) = (l, m, b)
-
-module _ {d : Dialect} {file : Bytes} {n : ℕ} {f : FileState} {next base : ℕ} {s₀ e₀ k₀ s₁ e₁ k₁ : List ℕ} {p : Pass} where
+module _ {d : Dialect} {file : Bytes} {n : ℕ} {f : FileState} {next : ℕ} {s₀ e₀ k₀ s₁ e₁ k₁ : List ℕ} {p : Pass} where
   -- a pass with no room stores nothing
-  pub unchanged : Passes d file next f n 0 base s₀ e₀ k₀ p s₁ e₁ k₁ → (s₁ ≡ s₀) × (e₁ ≡ e₀) × (k₁ ≡ k₀)
-  unchanged y = (y .lists .at-starts ∙ stored-from-none base (startsOf (y .vs)) s₀, y .lists .at-ends ∙ stored-from-none base (endsOf (y .vs)) e₀, y .lists .at-kinds ∙ stored-from-none base (kindsOf (y .vs)) k₀)
+  pub unchanged : Passes d file next f n 0 s₀ e₀ k₀ p s₁ e₁ k₁ → (s₁ ≡ s₀) × (e₁ ≡ e₀) × (k₁ ≡ k₀)
+  unchanged y = (y .lists .at-starts ∙ stored-from-none 0 (startsOf (y .vs)) s₀, y .lists .at-ends ∙ stored-from-none 0 (endsOf (y .vs)) e₀, y .lists .at-kinds ∙ stored-from-none 0 (kindsOf (y .vs)) k₀)
 
-  pub few-cells : {room records c : ℕ} → Passes d file next f n room base s₀ e₀ k₀ p s₁ e₁ k₁ → p ≡ Accepted records c → base + c ≤ MAXFILE + 1
-  few-cells y q = subst (λ (x : Pass). passes.Few base x) q (y .few)
+  pub few-cells : {room records c : ℕ} → Passes d file next f n room s₀ e₀ k₀ p s₁ e₁ k₁ → p ≡ Accepted records c → c ≤ MAXFILE + 1
+  few-cells y q = subst (λ (x : Pass). passes.Few x) q (y .few)
 
 -- after a first pass that left the lists as they were
-module _ (room : ℕ) {d : Dialect} {file : Bytes} {n : ℕ} {f : FileState} {next : ℕ} (a : Heads d file (Header n f next)) {m : ℕ} {s₀ e₀ k₀ s₁ e₁ k₁ : List ℕ} {p : Pass} (y : Passes d file next f n m n s₀ e₀ k₀ p s₁ e₁ k₁) (kept : (s₁ ≡ s₀) × (e₁ ≡ e₀) × (k₁ ≡ k₀)) where
-  head : Begun d file n f next
-  head = begun a
-
-  outcome : Outcome (head .h) (y .vs) (restOf d file (head .h ∷ []) f next) p
+module _ (room : ℕ) {d : Dialect} {file : Bytes} {n : ℕ} {f : FileState} {next : ℕ} (head : Begins d file n f next) {m : ℕ} {s₀ e₀ k₀ s₁ e₁ k₁ : List ℕ} {p : Pass} (y : Passes d file next f n m s₀ e₀ k₀ p s₁ e₁ k₁) (kept : (s₁ ≡ s₀) × (e₁ ≡ e₀) × (k₁ ≡ k₀)) where
+  outcome : Outcome (head .h) (y .vs) (restOf d none file (head .h ∷ []) f next) p
   outcome = y .outcome (head .h) (head .count)
 
   pub data-refused : (t : Report) → p ≡ Refused t → (r : Answer) → r ≡ toAnswer (api.noAnswer t) → Answered (answerIn d file room) r s₀ e₀ k₀ s₁ e₁ k₁
   data-refused t q r re =
-      let o : Outcome (head .h) (y .vs) (restOf d file (head .h ∷ []) f next) (Refused t) = subst (λ (x : Pass). Outcome (head .h) (y .vs) (restOf d file (head .h ∷ []) f next) x) q outcome in
+      let o : Outcome (head .h) (y .vs) (restOf d none file (head .h ∷ []) f next) (Refused t) = subst (λ (x : Pass). Outcome (head .h) (y .vs) (restOf d none file (head .h ∷ []) f next) x) q outcome in
       refusing (answerIn d file room) t r s₀ e₀ k₀ s₁ e₁ k₁ (ap (λ (g : Progress). api.readAnswer g room) (head .rest) ∙ refused-by o .answer room) re (kept .0) (kept .1) (kept .2)
 
   module _ {records c : ℕ} (q : p ≡ Accepted records c) where
-    by : AcceptedBy (head .h) (y .vs) (restOf d file (head .h ∷ []) f next) records c
-    by = accepted-by (subst (λ (x : Pass). Outcome (head .h) (y .vs) (restOf d file (head .h ∷ []) f next) x) q outcome)
+    by : AcceptedBy (head .h) (y .vs) (restOf d none file (head .h ∷ []) f next) records c
+    by = accepted-by (subst (λ (x : Pass). Outcome (head .h) (y .vs) (restOf d none file (head .h ∷ []) f next) x) q outcome)
 
     all : readFile d none file ≡ going (by .r)
     all = head .rest ∙ by .same
@@ -199,21 +185,22 @@ module _ (room : ℕ) {d : Dialect} {file : Bytes} {n : ℕ} {f : FileState} {ne
         refusing (answerIn d file room) (refusal 10) r s₀ e₀ k₀ s₁ e₁ k₁
         (crowded d file room (n + c) (head .h) (by .ds) (by .r) all (by .done) total l) (re ∙ ap (λ (z : Report). toAnswer (api.noAnswer z)) te) (kept .0) (kept .1) (kept .2)
 
-    module _ (fit : (room ≤ length s₀) × (room ≤ length e₀) × (room ≤ length k₀)) (l : n + c ≤ room) {s₂ e₂ k₂ : List ℕ} (ps : s₂ ≡ storedFrom room 0 (startsOf (firstOf d file .cells)) s₁) (pe : e₂ ≡ storedFrom room 0 (endsOf (firstOf d file .cells)) e₁) (pk : k₂ ≡ storedFrom room 0 (kindsOf (firstOf d file .cells)) k₁) {p₂ : Pass} {s₃ e₃ k₃ : List ℕ} (z : Passes d file next f n room n s₂ e₂ k₂ p₂ s₃ e₃ k₃) where
+    -- the header fills its places, and a second pass those that follow
+    module _ (fit : (room ≤ length s₀) × (room ≤ length e₀) × (room ≤ length k₀)) (l : n + c ≤ room) {s₂ e₂ k₂ : List ℕ} (ps : s₂ ≡ storedFrom room 0 (startsOf (firstOf d file .cells)) s₁) (pe : e₂ ≡ storedFrom room 0 (endsOf (firstOf d file .cells)) e₁) (pk : k₂ ≡ storedFrom room 0 (kindsOf (firstOf d file .cells)) k₁) {p₂ : Pass} {s₃ e₃ k₃ : List ℕ} (z : Passes d file next f n (room - n) (PartFrom n s₂) (PartFrom n e₂) (PartFrom n k₂) p₂ s₃ e₃ k₃) where
       again : concat (rows (by .ds)) ≡ z .vs
-      again = same-cells (head .h) (z .vs) (restOf d file (head .h ∷ []) f next) p₂ (by .r) (by .ds) (z .outcome (head .h) (head .count)) (by .same) (by .done)
+      again = same-cells (head .h) (z .vs) (restOf d none file (head .h ∷ []) f next) p₂ (by .r) (by .ds) (z .outcome (head .h) (head .count)) (by .same) (by .done)
 
-      filled : (φ : Value → ℕ) (old mid₁ mid₂ out : List ℕ) → mid₁ ≡ old → mid₂ ≡ storedFrom room 0 (map φ (firstOf d file .cells)) mid₁ → out ≡ storedFrom room n (map φ (z .vs)) mid₂ → room ≤ length old → out ≡ over (map φ (concat (rows (head .h ∷ by .ds)))) old
+      filled : (φ : Value → ℕ) (old mid₁ mid₂ out : List ℕ) → mid₁ ≡ old → mid₂ ≡ storedFrom room 0 (map φ (firstOf d file .cells)) mid₁ → out ≡ storedFrom (room - n) 0 (map φ (z .vs)) (PartFrom n mid₂) → room ≤ length old → WithPart n mid₂ out ≡ over (map φ (concat (rows (head .h ∷ by .ds)))) old
       filled φ old mid₁ mid₂ out x u v w =
           let e1 : mid₂ ≡ storedFrom room 0 (map φ (head .h .cells)) old = u ∙ ap (storedFrom room 0 (map φ (firstOf d file .cells))) x ∙ ap (λ (vs : List Value). storedFrom room 0 (map φ vs) old) (sym (head .first)) in
-          let e2 : out ≡ storedFrom room (length (head .h .cells)) (map φ (concat (rows (by .ds)))) mid₂ = v ∙ ap (λ (vs : List Value). storedFrom room n (map φ vs) mid₂) (sym again) ∙ ap (λ (m : ℕ). storedFrom room m (map φ (concat (rows (by .ds)))) mid₂) (sym (head .count)) in
-          let m : length (head .h .cells ++ concat (rows (by .ds))) ≡ n + c = ap length (sym (rows-more (head .h) (by .ds))) ∙ total in
-          fills-on φ room (head .h .cells) (concat (rows (by .ds))) old mid₂ out (omega arith) w e1 e2
+          let e2 : out ≡ storedFrom (room - n) 0 (map φ (concat (rows (by .ds)))) (PartFrom n mid₂) = v ∙ ap (λ (vs : List Value). storedFrom (room - n) 0 (map φ vs) (PartFrom n mid₂)) (sym again) in
+          let m : length (concat (rows (by .ds))) ≡ c = ap length (by .cells) ∙ by .sized in
+          put-both φ room n (head .h .cells) (concat (rows (by .ds))) old mid₂ out (head .count) (omega arith) w e1 e2
           ∙ ap (λ (vs : List Value). over (map φ vs) old) (sym (rows-more (head .h) (by .ds)))
 
-      pub data-roomy : (t : Report) → t ≡ refusal 0 → Answered (answerIn d file room) (record { report = t; columns = n; records = records; cells = n + c }) s₀ e₀ k₀ s₃ e₃ k₃
+      pub data-roomy : (t : Report) → t ≡ refusal 0 → Answered (answerIn d file room) (record { report = t; columns = n; records = records; cells = n + c }) s₀ e₀ k₀ (WithPart n s₂ s₃) (WithPart n e₂ e₃) (WithPart n k₂ k₃)
       data-roomy t te =
-          subst (λ (x : api.Answer). Answered x (record { report = t; columns = n; records = records; cells = n + c }) s₀ e₀ k₀ s₃ e₃ k₃)
+          subst (λ (x : api.Answer). Answered x (record { report = t; columns = n; records = records; cells = n + c }) s₀ e₀ k₀ (WithPart n s₂ s₃) (WithPart n e₂ e₃) (WithPart n k₂ k₃))
           (sym (roomy d file room (n + c) (head .h) (by .ds) (by .r) all (by .done) total l))
           (record {
             answer = rw (te, total, head .count, by .count);
@@ -224,11 +211,25 @@ module _ (room : ℕ) {d : Dialect} {file : Bytes} {n : ℕ} {f : FileState} {ne
 
 -- ---- a file of a dialect
 
-pub head-is : {d : Dialect} {file : Bytes} (x y : Head) → Heads d file x → x ≡ y → Heads d file y
-head-is {d} {file} x y a e = subst (λ (t : Head). Heads d file t) e a
+module _ {d : Dialect} {file : Bytes} {s e k : List ℕ} {o : visitor.Outcome} (v : Visits d Reading file [] Top 0 s e k o) where
+  pub begins : {x : Visited} → o ≡ outcomes.Record x → Begins d file (x .cells) (x .state) (x .next)
+  begins q =
+      let n = came v q in
+      record { h = n .rec; first = n .found; count = n .after .headed; rest = whole-rest d Reading file ∙ n .rest; few = n .few; inside = n .inside; under = n .under }
 
-pub no-header : (d : Dialect) (file : Bytes) (room : ℕ) (s₀ e₀ k₀ : List ℕ) (t : Report) → Heads d file (NoHeader t) → (r : Answer) → r ≡ toAnswer (api.noAnswer t) → Answered (answerIn d file room) r s₀ e₀ k₀ s₀ e₀ k₀
-no-header d file room s₀ e₀ k₀ t a r re = refusing (answerIn d file room) t r s₀ e₀ k₀ s₀ e₀ k₀ (answer-refused d file room t a) re refl refl refl
+  module _ (room : ℕ) (s₀ e₀ k₀ : List ℕ) (t : Report) (r : Answer) (re : r ≡ toAnswer (api.noAnswer t)) where
+    pub no-header : o ≡ outcomes.Refused t → Answered (answerIn d file room) r s₀ e₀ k₀ s₀ e₀ k₀
+    no-header q =
+        let a = at-fault v q in
+        let p : answerIn d file room ≡ api.noAnswer t = ap (λ (g : Progress). api.readAnswer g room) (whole-rest d Reading file ∙ a .rest) ∙ ap api.noAnswer (sym (a .report)) in
+        refusing (answerIn d file room) t r s₀ e₀ k₀ s₀ e₀ k₀ p re refl refl refl
+
+    -- an end without a record has no cells, by the definition
+    pub no-records : o ≡ outcomes.End → t ≡ refusal 0 → Answered (answerIn d file room) r s₀ e₀ k₀ s₀ e₀ k₀
+    no-records q te =
+        let a = at-end v q in
+        let p : answerIn d file room ≡ api.noAnswer t = ap (λ (g : Progress). api.readAnswer g room) (whole-rest d Reading file ∙ a .rest) ∙ ap (λ (l : List Rec). api.answered l (concat (rows l)) room) (a .done) ∙ ap api.noAnswer (sym te) in
+        refusing (answerIn d file room) t r s₀ e₀ k₀ s₀ e₀ k₀ p re refl refl refl
 
 -- the room is that of the shortest list
 pub shortest : (a b c room inner : ℕ) → inner ≡ api.least b c → room ≡ api.least a inner → (room ≡ api.least a (api.least b c)) × ((room ≤ a) × (room ≤ b) × (room ≤ c))

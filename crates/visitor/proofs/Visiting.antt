@@ -132,6 +132,7 @@ module _ {d : Dialect} {file : Bytes} {f : FileState} {i : ℕ} {s₀ e₀ k₀ 
         visited
         (record {
           rec = x;
+          found = refl;
           rest = rest;
           after = record { count = length-append rs (x ∷ []); headed = columns-snoc d (targetOf aim) rs x n fault c; text = text-snoc aim rs x ∙ text };
           few = few;

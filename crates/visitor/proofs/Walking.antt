@@ -36,15 +36,19 @@ pub record Walking (d : Dialect) (aim : Aim) (file : Bytes) (f : FileState) (i d
   pub many : done ≤ i
   pub short : written ≤ MAXFILE
 
-nothing-yet : (aim : Aim) → After aim 0 0 0 []
+-- before the first visit
+pub nothing-yet : (aim : Aim) → After aim 0 0 0 []
 unfolding rows tableText
 nothing-yet Reading = record { count = refl; headed = tt; text = refl }
 nothing-yet (Into t) = record { count = refl; headed = tt; text = refl }
 
-pub sets-out : (d : Dialect) (aim : Aim) (file : Bytes) → Walking d aim file Top 0 0 0 0
+pub whole-rest : (d : Dialect) (aim : Aim) (file : Bytes) → readFile d (targetOf aim) file ≡ restOf d (targetOf aim) file [] Top 0
 unfolding readFile readBytes nothingRead
+whole-rest d aim file = refl
+
+pub sets-out : (d : Dialect) (aim : Aim) (file : Bytes) → Walking d aim file Top 0 0 0 0
 sets-out d aim file =
-    record { rs = []; rest = refl; after = nothing-yet aim; inside = omega arith; under = omega arith; between = refl; many = omega arith; short = omega arith }
+    record { rs = []; rest = whole-rest d aim file; after = nothing-yet aim; inside = omega arith; under = omega arith; between = refl; many = omega arith; short = omega arith }
 
 pub sets-rs : (d : Dialect) (aim : Aim) (file : Bytes) → sets-out d aim file .rs ≡ []
 unfolding sets-out

@@ -18,6 +18,7 @@ use Rattle.model.specs.Report.{report, numberOf, columnOf, MAXFILE, MAXCOLUMNS}
 use Rattle.model.specs.Records.{Rec, rows, Read, between-records, Progress, going, stopped, readFrom, readEnd, recordFault, faultReport}
 use Rattle.decoder.specs.declared.source.Source.the-variants.{File}
 use Rattle.decoder.specs.Sources.{cellsIn, Cells}
+use Rattle.scanner.specs.Next.{nextRecord}
 use Rattle.scanner.specs.Tokens.{outer}
 use Rattle.target.specs.declared.Ruling.{Ruling}
 use Rattle.visitor.specs.declared.Aim.{Aim}
@@ -101,9 +102,10 @@ pub data Ends : (rs : List Rec) → (offset : ℕ) → Outcome → Type 0 where
 
 -- ---- a visit
 
--- one record more was read: these lists show its cells, and reading goes on from after it
+-- one record more was read: its cells are those that the scanner finds, these lists show them, and reading goes on from after it
 pub record Next (d : Dialect) (aim : Aim) (file : Bytes) (rs : List Rec) (f : FileState) (i : ℕ) (starts ends kinds : List ℕ) (v : Visited) : Type 0 where
   pub rec : Rec
+  pub found : rec .cells ≡ nextRecord d (between-records [] f i) (drop i file) .cells
   pub rest : restOf d (targetOf aim) file rs f i ≡ restOf d (targetOf aim) file (rs ++ (rec ∷ [])) (v .state) (v .next)
   pub after : After aim (length rs + 1) (v .cells) (v .written) (rs ++ (rec ∷ []))
   pub few : v .cells ≤ MAXCOLUMNS

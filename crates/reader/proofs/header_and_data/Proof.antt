@@ -1,30 +1,32 @@
 -- `reader::header_and_data` meets its contract. The first pass stores nothing, so that a refusal leaves the lists as they were; then the
--- header and a second pass fill them.
+-- header fills its places, and a second pass those that follow.
 use native.Mathlib.Omega.{arith}
+use Prim.Native.Nat.{_≤_}
 use mathlib.Core.Path.{_≡_, ap, _∙_}
 use lib.ListN.{length}
 use borrow.Author.Needs.{needs}
 use Rattle.scanner.proofs.Placing.{length-stored-from}
 use Rattle.reader.proofs.Passing.{held-lengths}
-use Rattle.reader.proofs.Answering.{header-bounds, unchanged, few-cells, data-refused, data-crowded, data-roomy}
+use Rattle.reader.proofs.Answering.{unchanged, few-cells, WithPart, part-room, part-long, data-refused, data-crowded, data-roomy}
 use Rattle.reader.proofs.header_and_data.Statement.{statement}
 use Rattle.reader.proofs.header_and_data.Tie as tie
 
 data-records-requires : tie.Need-data-records-requires
 data-records-requires c κs =
-    let b = header-bounds (c .before .before .before .before .before .before .before .pre .0) in
-    ((b .0, b .1, b .2), (omega arith, omega arith, omega arith))
+    let b = c .before .before .before .before .before .before .before .pre .0 in
+    ((b .inside, b .under), (omega arith, omega arith, omega arith))
 
 -- the first pass leaves the lists as they were
 kept : (u : tie.After-data-records)
     → let a = u .before .before .before .before .before .before .before .before .args in
     let after = u .data-records in
-    (after .last .1 .1 .1 .1 .1 .1 .1 .0 ≡ a .starts .now) × (after .last .1 .1 .1 .1 .1 .1 .1 .1 .0 ≡ a .ends .now) × (after .last .1 .1 .1 .1 .1 .1 .1 .1 .1 .0 ≡ a .kinds .now)
+    (after .last .1 .1 .1 .1 .1 .1 .0 ≡ a .starts .now) × (after .last .1 .1 .1 .1 .1 .1 .1 .0 ≡ a .ends .now) × (after .last .1 .1 .1 .1 .1 .1 .1 .1 .0 ≡ a .kinds .now)
 kept u = unchanged (u .data-records .ensures)
 
 add-if1 : tie.Need-add-if1
 add-if1 c =
     let few = few-cells (c .before .before .before .before .before .before .before .before .before .data-records .ensures) (c .before .records .given .1) in
+    let columns = c .before .before .before .before .before .before .before .before .before .before .before .before .before .before .before .before .before .pre .0 .few in
     record { fits = omega arith }
 
 returns : tie.Need-returns
@@ -44,16 +46,36 @@ long u =
     let k = kept (u .before .before .before .before .before .before .before .before .before .before .before .before .before .before) in
     (ap length (n .1 .0) ∙ length-stored-from _ 0 _ _ ∙ ap length (k .0), ap length (n .1 .1 .0) ∙ length-stored-from _ 0 _ _ ∙ ap length (k .1), ap length (n .1 .1 .1 .0) ∙ length-stored-from _ 0 _ _ ∙ ap length (k .2))
 
+-- the header's places lie in each list
+lies : (u : tie.After-next-record)
+    → let a = u .before .before .before .before .before .before .before .before .before .before .before .before .before .before .before .before .before .before .before .before .before .before .args in
+    let after = u .next-record in
+    (a .columns ≤ length (after .last .1 .1 .1 .1 .1 .1 .0)) × (a .columns ≤ length (after .last .1 .1 .1 .1 .1 .1 .1 .0)) × (a .columns ≤ length (after .last .1 .1 .1 .1 .1 .1 .1 .1 .0))
+lies u =
+    let q = u .before .before .before .before .before .before .before .before .before .before .before .before .before .before .before .before .before .before .before .before .before .before .pre in
+    let n = long u in
+    let fits = u .before .before .before .before .if1 .left in
+    (omega (arith, n .0, q .1 .0, fits), omega (arith, n .1, q .1 .1, fits), omega (arith, n .2, q .1 .2, fits))
+
+mul-data-records : tie.Need-mul-data-records
+mul-data-records c = record { fits = omega (arith, c .before .before .before .before .before .before .before .before .before .before .before .before .before .before .before .before .before .before .before .before .before .before .before .before .before .before .before .before .pre .0 .few) }
+
+mul-data-records-2 : tie.Need-mul-data-records-2
+mul-data-records-2 c = record { fits = omega (arith, c .before .before .before .before .before .before .before .before .before .before .before .before .before .before .before .before .before .before .before .before .before .before .before .before .before .before .before .before .before .pre .0 .few) }
+
 data-records-requires-2 : tie.Need-data-records-requires-2
 data-records-requires-2 c κs =
     let u = c .before .before .before .before .before .before .before .before .before in
+    let a = u .before .before .before .before .before .before .before .before .before .before .before .before .before .before .before .before .before .before .before .before .before .before .args in
     let q = u .before .before .before .before .before .before .before .before .before .before .before .before .before .before .before .before .before .before .before .before .before .before .pre in
-    let b = header-bounds (q .0) in
-    ((b .0, b .1, b .2), (rw (long u .0) (q .1 .0), rw (long u .1) (q .1 .1), rw (long u .2) (q .1 .2)))
+    let n = long u in
+    let l = u .next-record .last in
+    ((q .0 .inside, q .0 .under), (part-room (a .room) (a .columns) (l .1 .1 .1 .1 .1 .1 .0) (rw (n .0) (q .1 .0)), part-room (a .room) (a .columns) (l .1 .1 .1 .1 .1 .1 .1 .0) (rw (n .1) (q .1 .1)), part-room (a .room) (a .columns) (l .1 .1 .1 .1 .1 .1 .1 .1 .0) (rw (n .2) (q .1 .2))))
 
 add-t21 : tie.Need-add-t21
 add-t21 c =
     let few = few-cells (c .before .before .before .before .before .before .before .before .before .before .before .before .before .before .before .before .before .before .before .before .before .before .before .before .before .before .before .before .before .before .before .data-records .ensures) (c .before .before .before .before .before .before .before .before .before .before .before .before .before .before .before .before .before .before .before .before .before .before .before .records .given .1) in
+    let columns = c .before .before .before .before .before .before .before .before .before .before .before .before .before .before .before .before .before .before .before .before .before .before .before .before .before .before .before .before .before .before .before .before .before .before .before .before .before .before .before .pre .0 .few in
     record { fits = omega arith }
 
 returns-2 : tie.Need-returns-2
@@ -63,21 +85,28 @@ returns-2 c =
     let o = data-refused (s .args .room) (s .pre .0) (u .data-records .ensures) (kept u) _ (c .before .before .e .given .1) _ (c .refused .ensures) in
     (o .answer, (o .at-starts, (o .at-ends, o .at-kinds)))
 
-same-length-7 : tie.Need-same-length-7
-same-length-7 c = held-lengths (c .before .before .before .before .before .before .before .data-records2 .ensures .lists) .0 ∙ long (c .before .before .before .before .before .before .before .before .before .before .before .before .before .before .before .before .before) .0
-
-same-length-8 : tie.Need-same-length-8
-same-length-8 c = held-lengths (c .before .before .before .before .before .before .before .data-records2 .ensures .lists) .1 ∙ long (c .before .before .before .before .before .before .before .before .before .before .before .before .before .before .before .before .before) .1
-
-same-length-9 : tie.Need-same-length-9
-same-length-9 c = held-lengths (c .before .before .before .before .before .before .before .data-records2 .ensures .lists) .2 ∙ long (c .before .before .before .before .before .before .before .before .before .before .before .before .before .before .before .before .before) .2
+-- the second pass leaves the lists as long as they were
+still-long : (w : tie.After-data-records2)
+    → let u = w .before .before .before .before .before .before .before .before .before .before in
+    let a = u .before .before .before .before .before .before .before .before .before .before .before .before .before .before .before .before .before .before .before .before .before .before .args in
+    let mid = u .next-record .last in
+    let after = w .data-records2 .last in
+    (length (WithPart (a .columns) (mid .1 .1 .1 .1 .1 .1 .0) (after .1 .1 .1 .1 .1 .1 .0)) ≡ length (a .starts .now)) × (length (WithPart (a .columns) (mid .1 .1 .1 .1 .1 .1 .1 .0) (after .1 .1 .1 .1 .1 .1 .1 .0)) ≡ length (a .ends .now)) × (length (WithPart (a .columns) (mid .1 .1 .1 .1 .1 .1 .1 .1 .0) (after .1 .1 .1 .1 .1 .1 .1 .1 .0)) ≡ length (a .kinds .now))
+still-long w =
+    let u = w .before .before .before .before .before .before .before .before .before .before in
+    let n = u .before .before .before .before .before .before .before .before .before .before .before .before .before .before .before .before .before .before .before .before .before .before .args .columns in
+    let mid = u .next-record .last in
+    let after = w .data-records2 .last in
+    let h = held-lengths (w .data-records2 .ensures .lists) in
+    (part-long n (mid .1 .1 .1 .1 .1 .1 .0) (after .1 .1 .1 .1 .1 .1 .0) (h .0) ∙ long u .0, part-long n (mid .1 .1 .1 .1 .1 .1 .1 .0) (after .1 .1 .1 .1 .1 .1 .1 .0) (h .1) ∙ long u .1, part-long n (mid .1 .1 .1 .1 .1 .1 .1 .1 .0) (after .1 .1 .1 .1 .1 .1 .1 .1 .0) (h .2) ∙ long u .2)
 
 returns-3 : tie.Need-returns-3
 returns-3 c =
-    let u = c .before .before .before .before .before .before .before .before .before .before .before .before .before .before .before .before .before .before .before .before .before .before .before .before .before .before .before .before .before .before .before in
+    let v = c .before .before .before .before .before .before .before .before .before .before .before .before .before .before .before .before .before in
+    let u = v .before .before .before .before .before .before .before .before .before .before .before .before .before .before in
     let s = u .before .before .before .before .before .before .before .before in
-    let n = c .before .before .before .before .before .before .before .before .before .before .before .before .before .before .before .before .before .next-record .ensures in
-    let o = data-roomy (s .args .room) (s .pre .0) (u .data-records .ensures) (kept u) (c .before .before .before .before .before .before .before .before .before .before .before .before .before .before .before .before .before .before .before .before .before .before .before .records .given .1) (s .pre .1) (c .before .before .before .before .before .before .before .before .before .before .before .before .before .before .before .before .before .before .before .before .before .if1 .left) (n .1 .0) (n .1 .1 .0) (n .1 .1 .1 .0) (c .before .before .before .before .before .before .before .data-records2 .ensures) _ (c .on-call2 .ensures) in
+    let n = v .next-record .ensures in
+    let o = data-roomy (s .args .room) (s .pre .0) (u .data-records .ensures) (kept u) (v .before .before .before .before .before .before .records .given .1) (s .pre .1) (v .before .before .before .before .if1 .left) (n .1 .0) (n .1 .1 .0) (n .1 .1 .1 .0) (c .before .before .before .before .before .before .before .data-records2 .ensures) _ (c .on-call2 .ensures) in
     (o .answer, (o .at-starts, (o .at-ends, o .at-kinds)))
 
 pub header-and-data-spec : {M : Type 1} → statement M
@@ -96,6 +125,18 @@ header-and-data-spec =
     (λ c. search needs)
     returns
     (λ c κs. search needs)
+    (λ c. search needs)
+    mul-data-records
+    (λ c. lies (c .before .before .before .before .before .before) .0)
+    (λ c. lies (c .before .before .before .before .before .before) .0)
+    (λ c. search needs)
+    mul-data-records-2
+    (λ c. lies (c .before .before .before .before .before .before .before) .1)
+    (λ c. lies (c .before .before .before .before .before .before .before) .1)
+    (λ c. search needs)
+    (λ c. lies (c .before .before .before .before .before .before .before .before) .2)
+    (λ c. lies (c .before .before .before .before .before .before .before .before) .2)
+    (λ c. search needs)
     data-records-requires-2
     (λ c κs. search needs)
     add-t21
@@ -103,7 +144,7 @@ header-and-data-spec =
     (λ c. search needs)
     (λ c. search needs)
     returns-2
-    same-length-7
-    same-length-8
-    same-length-9
+    (λ c. still-long (c .before .before .before .before .before .before .before) .0)
+    (λ c. still-long (c .before .before .before .before .before .before .before) .1)
+    (λ c. still-long (c .before .before .before .before .before .before .before) .2)
     returns-3)

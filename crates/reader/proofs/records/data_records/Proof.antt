@@ -1,5 +1,5 @@
 -- The invariant: after the header and so many data records, with the cells that the lists hold, reading stands at i.
-use Prim.Native.Nat.{_+_, _-_, _^_, _≤_, _<_}
+use Prim.Native.Nat.{_-_, _≤_}
 use native.Mathlib.Omega.{arith}
 use mathlib.Core.Path.{_≡_}
 use lib.ListN.{length}
@@ -10,11 +10,11 @@ use Rattle.reader.proofs.records.data_records.Statement.{statement}
 use Rattle.reader.proofs.records.data_records.Tie as tie
 
 abbrev Inv-loop : tie.InvT-loop
-Inv-loop d file from columns room base starts₀ ends₀ kinds₀ state₀ i₀ cells₀ records₀ starts ends kinds state i cells records =
-    Going (record { d = d; file = file; from = from; first = state₀; columns = columns; room = room; base = base; s₀ = starts₀; e₀ = ends₀; k₀ = kinds₀ }) state i cells records starts ends kinds
+Inv-loop d file from columns room starts₀ ends₀ kinds₀ state₀ i₀ cells₀ records₀ starts ends kinds state i cells records =
+    Going (record { d = d; file = file; from = from; first = state₀; columns = columns; room = room; s₀ = starts₀; e₀ = ends₀; k₀ = kinds₀ }) state i cells records starts ends kinds
 
 abbrev μ-loop : tie.MeasureT-loop
-μ-loop d file from columns room base starts₀ ends₀ kinds₀ state₀ i₀ cells₀ records₀ starts ends kinds state i cells records =
+μ-loop d file from columns room starts₀ ends₀ kinds₀ state₀ i₀ cells₀ records₀ starts ends kinds state i cells records =
     length file - i
 
 -- the scanner leaves the lists as long as they were
@@ -30,24 +30,14 @@ loop-holds : tie.Need-loop-holds Inv-loop μ-loop
 loop-holds c =
     let start = c .before .before .before .before in
     let q = start .pre .0 in
-    goes _ (q .0) (q .1) (q .2)
-
-add-next-record : tie.Need-add-next-record Inv-loop μ-loop
-add-next-record c =
-    let a = c .before .before .before .before .before .args in
-    let l = c .loop in
-    let few : a .base + l .cells ≤ l .i = l .inv .few in
-    let under : l .i ≤ MAXFILE = l .inv .under in
-    let many : l .records ≤ l .i = l .inv .many in
-    let x : a .base + l .cells < 2 ^ 64 = omega arith in record { fits = x }
+    goes _ (q .0) (q .1)
 
 next-record-requires : tie.Need-next-record-requires Inv-loop μ-loop
 next-record-requires c κs =
     let at-loop = c .before .before .before in
     let start = at-loop .before .before .before .before .before in
-    let a = start .args in
     let l = at-loop .loop in
-    let few : a .base + l .cells ≤ l .i = l .inv .few in
+    let few : l .cells ≤ l .i = l .inv .few in
     let under : l .i ≤ MAXFILE = l .inv .under in
     let n = held-lengths (l .inv .lists) in
     let q = start .pre .1 in
@@ -55,10 +45,8 @@ next-record-requires c κs =
 
 add-cells : tie.Need-add-cells Inv-loop μ-loop
 add-cells c =
-    let a = c .before .before .before .before .before .before .before .before .before .before .before .before .before .before .before .before .before .before .before .before .before .args in
     let l = c .before .before .before .before .before .before .before .before .before .before .before .before .before .before .before .before .loop in
     let n = c .before .before .before .before .before .before .before .before .before .before .before .before .next-record .ensures in
-    let few : a .base + l .cells ≤ l .i = l .inv .few in
     let under : l .i ≤ MAXFILE = l .inv .under in
     let m = fits-here _ (l .inv) (n .0) (n .1 .0) (n .1 .1 .0) (n .1 .1 .1 .0) _ _ _ _ (c .before .before .before .before .start .given .1) (n .1 .1 .1 .1) _ (c .before .before .«data» .ensures) in
     let m0 = m .0 in let m1 = m .1 in let m2 = m .2 in let m3 = m .3 in
@@ -66,19 +54,15 @@ add-cells c =
 
 add-records : tie.Need-add-records Inv-loop μ-loop
 add-records c =
-    let a = c .before .before .before .before .before .before .before .before .before .before .before .before .before .before .before .before .before .before .before .before .before .args in
     let l = c .before .before .before .before .before .before .before .before .before .before .before .before .before .before .before .before .loop in
-    let few : a .base + l .cells ≤ l .i = l .inv .few in
     let under : l .i ≤ MAXFILE = l .inv .under in
     let many : l .records ≤ l .i = l .inv .many in
     omega arith
 
 loop-less : tie.Need-loop-less Inv-loop μ-loop
 loop-less c =
-    let a = c .before .before .before .before .before .before .before .before .before .before .before .before .before .before .before .before .before .before .before .before .before .args in
     let l = c .before .before .before .before .before .before .before .before .before .before .before .before .before .before .before .before .loop in
     let n = c .before .before .before .before .before .before .before .before .before .before .before .before .next-record .ensures in
-    let few : a .base + l .cells ≤ l .i = l .inv .few in
     let under : l .i ≤ MAXFILE = l .inv .under in
     let m = fits-here _ (l .inv) (n .0) (n .1 .0) (n .1 .1 .0) (n .1 .1 .1 .0) _ _ _ _ (c .before .before .before .before .start .given .1) (n .1 .1 .1 .1) _ (c .before .before .«data» .ensures) in
     let m0 = m .0 in let m1 = m .1 in let m2 = m .2 in let m3 = m .3 in
@@ -95,9 +79,7 @@ loop-again c =
 
 add-on-record : tie.Need-add-on-record Inv-loop μ-loop
 add-on-record c =
-    let a = c .before .before .before .before .before .before .before .before .before .before .before .before .before .before .before .before .before .before .before .before .before .before .args in
     let l = c .before .before .before .before .before .before .before .before .before .before .before .before .before .before .before .before .before .loop in
-    let few : a .base + l .cells ≤ l .i = l .inv .few in
     let under : l .i ≤ MAXFILE = l .inv .under in
     let many : l .records ≤ l .i = l .inv .many in
     omega arith
@@ -111,17 +93,15 @@ returns c =
     let n = at-next-record .next-record .ensures in
     record-refused _ (l .inv) (n .0) (n .1 .0) (n .1 .1 .0) (n .1 .1 .1 .0) _ _ _ _ (u .before .before .start .given .1) (n .1 .1 .1 .1) _ (u .«data» .ensures) _ (c .before .before .e .given .1) _ (c .on-record .ensures)
 
-add-t37 : tie.Need-add-t37 Inv-loop μ-loop
-add-t37 c =
-    let a = c .before .before .before .before .before .before .before .before .before .before .before .before .before .before .before .before .before .before .before .before .before .args in
+add-t35 : tie.Need-add-t35 Inv-loop μ-loop
+add-t35 c =
     let l = c .before .before .before .before .before .before .before .before .before .before .before .before .before .before .before .before .loop in
-    let few : a .base + l .cells ≤ l .i = l .inv .few in
     let under : l .i ≤ MAXFILE = l .inv .under in
     let many : l .records ≤ l .i = l .inv .many in
     omega arith
 
-add-t38 : tie.Need-add-t38 Inv-loop μ-loop
-add-t38 c =
+add-t36 : tie.Need-add-t36 Inv-loop μ-loop
+add-t36 c =
     let l = c .before .before .before .before .before .before .before .before .before .before .before .before .before .before .before .before .loop in
     let n = c .before .before .before .before .before .before .before .before .before .before .before .before .next-record .ensures in
     let m = last-fits _ (l .inv) (n .0) (n .1 .0) (n .1 .1 .0) (n .1 .1 .1 .0) _ _ (c .before .before .before .before .start2 .given .1) (n .1 .1 .1 .1) _ (c .before .before .data2 .ensures) in
@@ -139,9 +119,7 @@ returns-2 c =
 
 add-on-record-2 : tie.Need-add-on-record-2 Inv-loop μ-loop
 add-on-record-2 c =
-    let a = c .before .before .before .before .before .before .before .before .before .before .before .before .before .before .before .before .before .before .before .before .before .before .args in
     let l = c .before .before .before .before .before .before .before .before .before .before .before .before .before .before .before .before .before .loop in
-    let few : a .base + l .cells ≤ l .i = l .inv .few in
     let under : l .i ≤ MAXFILE = l .inv .under in
     let many : l .records ≤ l .i = l .inv .many in
     omega arith
@@ -157,9 +135,7 @@ returns-3 c =
 
 add-on-record-3 : tie.Need-add-on-record-3 Inv-loop μ-loop
 add-on-record-3 c =
-    let a = c .before .before .before .before .before .before .before .before .before .before .before .before .before .before .before .before .before .before .args in
     let l = c .before .before .before .before .before .before .before .before .before .before .before .before .before .loop in
-    let few : a .base + l .cells ≤ l .i = l .inv .few in
     let under : l .i ≤ MAXFILE = l .inv .under in
     let many : l .records ≤ l .i = l .inv .many in
     omega arith
@@ -187,7 +163,6 @@ data-records-spec =
     Inv-loop
     μ-loop
     loop-holds
-    add-next-record
     next-record-requires
     (λ c. search needs)
     (λ c κs. search needs)
@@ -206,8 +181,8 @@ data-records-spec =
     (λ c. search needs)
     (λ c κs. search needs)
     (λ c. search needs)
-    add-t37
-    add-t38
+    add-t35
+    add-t36
     (λ c. long (c .before .before .before .before .before .before .before .before .before .before .before .before) .0)
     (λ c. long (c .before .before .before .before .before .before .before .before .before .before .before .before) .1)
     (λ c. long (c .before .before .before .before .before .before .before .before .before .before .before .before) .2)
