@@ -1,0 +1,23 @@
+-- `carried::code::fixed_state` meets its contract, by its tests.
+use Rattle.model.specs.Base.{if_then_else_}
+use Rattle.model.proofs.Tests.{tests}
+use Rattle.carried.specs.Codes.{fixedState}
+use Rattle.carried.proofs.code.fixed_state.Statement.{statement}
+use Rattle.carried.proofs.code.fixed_state.Tie as tie
+
+pub fixed-state-spec : {M : Type 1} → statement M
+unfolding fixedState if_then_else_
+fixed-state-spec =
+    tie.close
+    (tie.spec
+    (λ c. search tests)
+    (λ c. search tests)
+    (λ c. search tests)
+    (λ c. search tests)
+    (λ c. search tests)
+    (λ c. search tests)
+    (λ c. search tests)
+    (λ c. search tests)
+    (λ c. search tests)
+    (λ c. search tests)
+    λ c. search tests)
