@@ -1,6 +1,6 @@
 #!/usr/bin/env bash
-# Measures the proved reader against memcpy, the second program and, where Debian's packages librust-csv-core-dev and
-# librust-serde-json-dev are installed, csv-core and serde_json. Without a folder it makes its own tables.
+# Measures the proved reader and converter against memcpy, the second program and, where Debian's packages librust-csv-dev and
+# librust-serde-json-dev are installed, csv-core, csv and serde_json. Without a folder it makes its own tables.
 #
 #   ./benchmark.sh [FOLDER [ROUNDS]]
 set -euo pipefail
@@ -13,15 +13,15 @@ cd "$(dirname "$0")"
 make >&2
 
 registry=/usr/share/cargo/registry
-if compgen -G "$registry/csv-core-*" >/dev/null && compgen -G "$registry/serde_json-*" >/dev/null; then
+if compgen -G "$registry/csv-[0-9]*" >/dev/null && compgen -G "$registry/serde_json-*" >/dev/null; then
   cargo build --release --offline --quiet --manifest-path rust/benchmark/peers/Cargo.toml --target-dir target/peers \
     --config 'source.crates-io.replace-with="system"' --config "source.system.directory=\"$registry\""
   program=target/peers/release/peers
-  (cd "$registry" && echo 'with' csv-core-* serde_json-*)
+  (cd "$registry" && echo 'with' csv-core-* csv-[0-9]* serde_json-*)
 else
   cargo build --release --offline --quiet --package benchmark
   program=target/release/benchmark
-  echo 'without csv-core and serde_json, which are not installed'
+  echo 'without csv-core, csv and serde_json, which are not installed: apt-get install librust-csv-dev librust-serde-json-dev'
 fi
 
 # On one processor, the last that this process may use.

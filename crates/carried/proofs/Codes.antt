@@ -2,7 +2,6 @@
 use Prim.Native.Nat.{ℕ, _+_, _-_, _≤_, _<_}
 use native.Mathlib.Omega.{arith}
 use mathlib.Core.Path.{_≡_, refl, ap, _∙_}
-use lib.Dec.{ltb}
 use borrow.Author.Tests.{lt-ltb, le-ltb}
 use Rattle.model.specs.declared.Lead.{Lead}
 use Rattle.model.specs.declared.Lead.the-variants.{C2ToDf, E0, E1ToEc, Ed, EeToEf, F0, F1ToF3, F4}
@@ -18,10 +17,9 @@ use Rattle.model.specs.declared.Word.{Word}
 use Rattle.model.specs.declared.Word.the-variants.{T, Tr, Tru, F, Fa, Fal, Fals, N, Nu, Nul, Backslash}
 use Rattle.model.specs.declared.Cell.{Cell}
 use Rattle.model.specs.declared.Cell.the-variants.{Fresh, Quoted, Closed, Escape, Hex, InNumber, InWord, Plain, Complete}
-use Rattle.model.specs.declared.FileState.{FileState}
 use Rattle.model.specs.declared.FileState.the-variants.{Top, Begin, Ended, Mark1, Mark2, PlainMark1, PlainMark2, Comment, Blanks, Wanting, Inside, After, Cr}
 use Rattle.model.specs.Base.{if_then_else_}
-use Rattle.carried.specs.Codes.{leadNumber, leadFrom, innerNumber, innerFrom, charNumber, charFrom, hexNumber, hexFrom, numeralNumber, numeralFrom, wordNumber, wordFrom, cellNumber, fixedCell, cellFrom, stateNumber, fixedState, stateFrom, StateBack}
+use Rattle.carried.specs.Codes.{leadNumber, leadFrom, innerNumber, innerFrom, charNumber, charFrom, hexNumber, hexFrom, numeralNumber, numeralFrom, wordNumber, wordFrom, cellNumber, fixedCell, cellFrom, fixedState, stateFrom, StateBack}
 
 -- ---- how large the numbers are
 

@@ -1,12 +1,10 @@
 -- The laws of the record in hand: what the kept bytes and ends mean, and what becomes of them as cells of a part join them.
 use Prim.Native.Nat.{ℕ, zero, suc, _+_, _-_, _<_, _≤_}
 use native.Mathlib.Omega.{arith}
-use native.Mathlib.Nat.{add-assoc}
 use mathlib.Core.Path.{_≡_, refl, sym, ap, ap₂, _∙_}
-use mathlib.Core.Bool.{true, false}
 use mathlib.Core.List.{List, [], _∷_, _++_, map, append-assoc, append-nil}
-use lib.ListN.{length, take, drop, getD, length-append, length-take, length-drop, take-append-drop, length-map}
-use lib.Seq.{getD-take, getD-drop, take-at, take-append-seam, take-append-add, take-append-le, take-take, take-all}
+use lib.ListN.{length, take, drop, getD, length-append, length-take, take-append-drop, length-map}
+use lib.Seq.{getD-take, getD-drop, take-at, take-take}
 use borrow.Author.Tests.{eq-eqb, ne-eqb}
 use Rattle.model.specs.declared.Dialect.{Dialect}
 use Rattle.model.specs.Base.{Bytes, over, if_then_else_, _is_}
@@ -72,7 +70,9 @@ kept-starts ends cs e = sym (take-before (length cs) 0 ends) ∙ ap (λ (l : Lis
 pub starts-shown : (ends starts : List ℕ) (cs : List RawCell) → length cs ≤ length ends → take (length cs) ends ≡ keptEnds 0 cs → take (length cs) (over (take (length cs) (0 ∷ ends)) starts) ≡ keptStarts 0 cs
 starts-shown ends starts cs h e =
     let n : length (take (length cs) (0 ∷ ends)) ≡ length cs = rw length-take (omega arith) in
-    take-at (take (length cs) (0 ∷ ends)) (drop (length (take (length cs) (0 ∷ ends))) starts) (length cs) n ∙ kept-starts ends cs e
+    let new : List ℕ = take (length cs) (0 ∷ ends) in
+    let shown : take (length cs) (over new starts) ≡ new = take-at new (drop (length new) starts) (length cs) n in
+    shown ∙ kept-starts ends cs e
 
 -- ---- what is kept means the cells
 
@@ -103,7 +103,7 @@ hand-kinds {bytes} d starts h e = ap₂ (λ (ss es : List ℕ). kindsOf (valuesI
 -- ---- more is kept
 
 -- what is written after what is kept stands after it
-take-written : (l : List ℕ) (at : ℕ) (w : List ℕ) → at ≤ length l → take (at + length w) (written l at w) ≡ take at l ++ w
+pub take-written : (l : List ℕ) (at : ℕ) (w : List ℕ) → at ≤ length l → take (at + length w) (written l at w) ≡ take at l ++ w
 take-written l at w h =
     let n : length (take at l ++ w) ≡ at + length w = simp (length-append, length-take) (omega arith) in
     let e : take at l ++ (w ++ drop (at + length w) l) ≡ take at l ++ w ++ drop (at + length w) l = sym (append-assoc (take at l) w (drop (at + length w) l)) in

@@ -1,21 +1,18 @@
 -- What the lists show, cell by cell, and what is kept of it.
 use Prim.Native.Nat.{ℕ, suc, _+_, _-_, _<_, _≤_}
 use native.Mathlib.Omega.{arith}
-use native.Mathlib.Nat.{add-zero}
-use native.Mathlib.Numerals.{add-one}
-use mathlib.Core.Path.{_≡_, refl, sym, ap, ap₂, _∙_}
-use mathlib.Core.List.{List, [], _∷_, _++_, map, append-assoc, append-nil}
-use lib.ListN.{length, take, drop, getD, set, length-append, length-take, length-drop, take-append-drop}
-use lib.Seq.{drop-cons, take-at, take-append-seam}
+use mathlib.Core.Path.{_≡_, refl, ap, ap₂}
+use mathlib.Core.List.{List, [], _∷_, _++_}
+use lib.ListN.{length, take, drop, getD, set, length-append, length-take}
 use Rattle.model.specs.declared.Dialect.{Dialect}
 use Rattle.model.specs.Base.{Bytes, over}
 use Rattle.model.specs.Decode.{kindOf, kindNumber}
 use Rattle.model.specs.Api.{slice, kindsOf}
 use Rattle.model.specs.Scans.{RawCell}
-use Rattle.model.specs.Places.{StretchIn, valuesIn, keptBytes, keptStarts, keptEnds}
+use Rattle.model.specs.Places.{valuesIn, keptBytes, keptEnds}
 use Rattle.buffers.specs.Wrote.{written}
 use Rattle.buffers.proofs.Writing.{drop-next, Writing, start, put, here, store, room-left, done, filled}
-use Rattle.carried.specs.Hand.{rawCellIn, rawCellsIn, rawCellsAt, Shows, Stand, kindsAt}
+use Rattle.carried.specs.Hand.{rawCellIn, rawCellsIn, rawCellsAt, Stand, kindsAt}
 
 -- ---- a place more
 

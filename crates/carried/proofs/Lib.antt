@@ -1,3 +1,5 @@
 pub mod Codes
 pub mod Keeping
 pub mod InHand
+pub mod Checking
+pub mod Soundness

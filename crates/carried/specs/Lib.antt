@@ -1,2 +1,4 @@
 pub mod Codes
 pub mod Hand
+pub mod Checks
+pub mod Sound

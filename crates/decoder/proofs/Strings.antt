@@ -17,6 +17,8 @@ use Rattle.utf8.specs.Codes.{Packs, Joins}
 use Rattle.utf8.proofs.Codes.{packed-is, packed-most}
 use Rattle.decoder.specs.Strings.{stringFrom, unitAt, Lone, UnitThere, LowThere, LowAt, Goes}
 use Rattle.decoder.specs.Wrote.{Turned}
+use Rattle.decoder.specs.Units.{one}
+use Rattle.decoder.proofs.Units.{packed-unit, packed-single, short-ed}
 
 -- ---- the bytes that stand at a place
 
@@ -187,6 +189,8 @@ goes-cut raw i bytes h e =
       inside = omega arith;
       few = omega arith;
       sized = refl;
+      unit = λ z. absurd (omega arith);
+      single = λ z f. absurd (omega arith);
     }
 
 pub goes-short : (raw : Bytes) (i b : ℕ) (bytes : Bytes) → i + 1 < length raw → getD raw i 0 ≡ BACKSLASH → (getD raw (i + 1) 0 ≡ 0x75 → ⊥)
@@ -199,6 +203,8 @@ goes-short raw i b bytes h e u s =
       inside = omega arith;
       few = omega arith;
       sized = refl;
+      unit = λ _. one b;
+      single = λ _ f. let at : i + 2 - 1 ≡ i + 1 = omega arith in rw at (short-ed (getD raw (i + 1) 0) (sym s ∙ f));
     }
 
 -- a code point
@@ -212,6 +218,8 @@ goes-packed raw i u bytes size next p k e on inside =
       inside = inside;
       few = four;
       sized = ap length (p .packs) ∙ sym (p .sized);
+      unit = λ _. rw (p .packs) (packed-unit u k);
+      single = λ z f. absurd (omega (arith, packed-single u bytes size k p z));
     }
 
 module _ (raw : Bytes) (i h : ℕ) (u : UnitThere raw i) (e : h ≡ unitAt raw (i + 2)) (most : h ≤ 733992) (bytes : Bytes) (size next : ℕ) where

@@ -13,6 +13,9 @@ use Rattle.model.specs.Decode.{kindOf, contentOf, validateCell}
 use Rattle.model.specs.Text.{Value}
 use Rattle.model.specs.Report.{MAXRECORD}
 use Rattle.model.specs.Api.{kindNamed, slice}
+use Rattle.decoder.specs.declared.first.Spelling.{Spelling}
+use Rattle.decoder.specs.declared.first.Spelling.the-variants.{AsItStands}
+use Rattle.decoder.specs.FirstByte.{spellingBy}
 use Rattle.decoder.specs.declared.source.Source.{Source}
 use Rattle.decoder.specs.declared.source.Source.the-variants.{File, Contents}
 
@@ -29,6 +32,11 @@ kindFrom n = orNull (kindNamed n)
 abbrev pub contentBy : Source → Bytes → Bytes
 contentBy (File d) raw = contentOf d raw
 contentBy Contents raw = raw
+
+-- how that content is spelt
+abbrev pub spellingIn : Source → Bytes → Spelling
+spellingIn (File d) raw = spellingBy d (getD raw 0 0)
+spellingIn Contents raw = AsItStands
 
 -- the cell of this stretch and of the kind that this number names
 abbrev pub cellIn : Source → Bytes → (from upto kind : ℕ) → Value

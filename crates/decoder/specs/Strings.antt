@@ -1,5 +1,5 @@
 -- What a CSVJ string holds from a place on, and what is answered of the escape that stands there.
-use Prim.Native.Nat.{ℕ, _+_, _*_, _<_, _≤_}
+use Prim.Native.Nat.{ℕ, _+_, _-_, _*_, _<_, _≤_}
 use mathlib.Core.Path.{_≡_}
 use mathlib.Core.Bool.{true}
 use mathlib.Core.List.{List, _∷_, _++_}
@@ -7,6 +7,7 @@ use lib.ListN.{length, take, drop, getD}
 use Rattle.model.specs.Base.{Bytes, BACKSLASH}
 use Rattle.model.specs.Utf8.{pack, isLow}
 use Rattle.model.specs.Decode.{Unit16, unit, hexOf, between, units, textOf}
+use Rattle.decoder.specs.Units.{Unit}
 
 -- the bytes of a string from place i on, up to the closing quote
 abbrev pub stringFrom : Bytes → ℕ → Bytes
@@ -38,10 +39,13 @@ pub record LowAt (raw : Bytes) (i r : ℕ) : Type 0 where
   pub some : 0 < r → LowThere raw i r
   pub none : r ≡ 0 → Lone (units between (drop i raw))
 
--- the first `size` of `bytes` are what the string says at i, and it goes on at `next`
+-- the first `size` of `bytes` are what the string says at i, a unit of content or nothing, and it goes on at `next`; a single byte ED stands
+-- in the string itself, before `next`
 pub record Goes (raw : Bytes) (i : ℕ) (bytes : Bytes) (size next : ℕ) : Type 0 where
   pub stands : stringFrom raw i ≡ take size bytes ++ stringFrom raw next
   pub on : i + size < next
   pub inside : next ≤ length raw
   pub few : size ≤ 4
   pub sized : length (take size bytes) ≡ size
+  pub unit : 0 < size → Unit (take size bytes)
+  pub single : size ≡ 1 → getD bytes 0 0 ≡ 0xED → getD raw (next - 1) 0 ≡ 0xED

@@ -1,7 +1,8 @@
 // What the bytes of a cell are: its raw spelling in a file of some dialect, or its content itself, as the writer is given it.
 ghost use mathlib.Core.Path.{_≡_};
+ghost use Rattle.model.specs.Text.{isText};
 ghost use Rattle.decoder.specs.FirstByte.{contentIn};
-ghost use Rattle.decoder.specs.Sources.{kindFrom, contentBy};
+ghost use Rattle.decoder.specs.Sources.{kindFrom, contentBy, spellingIn};
 use crate::first;
 use crate::first::Spelling;
 use model::Dialect;
@@ -24,9 +25,22 @@ pub fn kind_of_number(number: u8) -> Kind
     }
 }
 
+pub fn is_text(k: Kind) -> bool
+    ensures { λ r. ⌜ r ≡ isText k ⌝ }
+{
+    match k {
+        Kind::Text => true,
+        Kind::Number => false,
+        Kind::True => false,
+        Kind::False => false,
+        Kind::Null => false,
+    }
+}
+
 // How the content of a cell is spelt.
 pub fn spelling_in(src: Source, raw: &[u8]) -> Spelling
     ensures { λ r. ⌜ contentIn r (now (raw .entry)) ≡ contentBy src (now (raw .entry)) ⌝ }
+    ensures { λ r. ⌜ r ≡ spellingIn src (now (raw .entry)) ⌝ }
 {
     match src {
         Source::File(d) => first::spelling_by(d, cell::first_of(raw)),

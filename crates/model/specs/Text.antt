@@ -90,11 +90,14 @@ beginsMark (a ∷ b ∷ c ∷ bs) = a is 0xEF && b is 0xBB && c is 0xBF
 abbrev pub special : Settings → ℕ → Bool
 special s b = b is quoteOf (CsvPlus s) || b is delimiterOf (CsvPlus s) || b is CR || b is LF
 
--- a cell in CSV+, in quotes where it has to be. `only`: its record has no other cell; `first`: it is the first header cell
--- (§14.7)
+-- content stands in quotes: it holds a byte that has to, or is empty in a table of one column, or begins like the mark in the
+-- header's first cell. `only`: its record has no other cell; `first`: it is the first header cell (§14.7)
+abbrev pub hasQuotes : Settings → (only first : Bool) → Bytes → Bool
+hasQuotes s only first bs = holds (special s) bs || only && isEmpty bs || first && beginsMark bs
+
+-- a cell in CSV+, in quotes where it has to be (§14.7)
 unfoldable pub csvPlusCell : Settings → (only first : Bool) → Bytes → Bytes
-csvPlusCell s only first bs =
-    if holds (special s) bs || only && isEmpty bs || first && beginsMark bs then quotedText (quoteOf (CsvPlus s)) bs else bs
+csvPlusCell s only first bs = if hasQuotes s only first bs then quotedText (quoteOf (CsvPlus s)) bs else bs
 
 -- ---- records and tables
 

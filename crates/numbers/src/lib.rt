@@ -32,6 +32,12 @@ pub const MAX_RECORD: usize = 4096;
 // Cells of a record.
 pub const MAX_COLUMNS: usize = 64;
 
+// Bytes of a piece.
+pub const MAX_PIECE: usize = 4096;
+
+// How long the output of a piece or end call must at least be.
+pub const LEAST_OUTPUT: usize = 49152;
+
 pub fn least_of(a: usize, b: usize) -> usize
     ensures { λ r. ⌜ r ≡ least a b ⌝ }
 {

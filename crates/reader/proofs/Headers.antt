@@ -1,11 +1,11 @@
 -- The first record, and what validating it comes to.
-use Prim.Native.Nat.{ℕ, zero, suc, _+_, _≤_, _<_}
+use Prim.Native.Nat.{ℕ, zero, suc, _+_, _-_, _≤_, _<_}
 use native.Mathlib.Omega.{arith}
 use mathlib.Core.Path.{_≡_, refl, sym, ap, subst, _∙_}
 use mathlib.Core.Bool.{Bool, true, false}
 use mathlib.Core.Option.{none}
 use mathlib.Core.List.{List, [], _∷_, _++_, map}
-use lib.ListN.{length, take, drop, getD, length-map}
+use lib.ListN.{length, take, drop, getD, length-map, length-take}
 use lib.Dec.{ltb}
 use borrow.Author.Tests.{lt-ltb}
 use Rattle.model.specs.declared.Dialect.{Dialect}
@@ -13,15 +13,18 @@ use Rattle.model.specs.declared.FileState.{FileState}
 use Rattle.model.specs.declared.FileState.the-variants.{Top, Begin}
 use Rattle.model.specs.declared.Fault.{Fault}
 use Rattle.model.specs.declared.Fault.the-variants.{NoRecord, TooManyColumns}
+use Rattle.model.specs.declared.Kind.{Kind}
+use Rattle.model.specs.declared.Kind.the-variants.{Text, Number, True, False, Null}
 use Rattle.model.specs.declared.Report.{Report}
 use Rattle.model.specs.declared.Verdict.{Verdict}
 use Rattle.model.specs.declared.Verdict.the-variants.{Sound, Faulty}
-use Rattle.model.specs.Base.{Bytes}
+use Rattle.model.specs.Base.{Bytes, if_then_else_}
+use Rattle.model.specs.Decode.{kindNumber}
 use Rattle.model.specs.Text.{Value}
 use Rattle.model.specs.Laws.{All, all-none, all-cons}
 use Rattle.model.specs.Report.{report, numberOf, columnOf, MAXFILE, MAXCOLUMNS}
 use Rattle.model.specs.Records.{Rec, Read, between-records, Progress, going, stopped, complete, readFrom, readEnd, readBytes, readFile, nothingRead, recordFault, headerFault, faultReport, _orElse_, when}
-use Rattle.model.specs.Api.{startsOf, endsOf}
+use Rattle.model.specs.Api.{startsOf, endsOf, kindsOf, kindNamed, slice}
 use Rattle.scanner.specs.Next.{Next, nextRecord, EventInBounds}
 use Rattle.scanner.specs.Stored.{storedFrom}
 use Rattle.scanner.specs.Stretches.{StandsIn}
@@ -30,7 +33,8 @@ use Rattle.scanner.specs.declared.Event.{Event}
 use Rattle.scanner.specs.declared.Event.the-variants.{Completed, LastRecord, Failed, Finished}
 use Rattle.scanner.proofs.Placing.{length-stored-from}
 use Rattle.scanner.proofs.Reading.{stays, reads-as}
-use Rattle.validate.specs.Cells.{valueAt, valuesOf, Stretch, Inside}
+use Rattle.decoder.specs.declared.source.Source.the-variants.{File}
+use Rattle.decoder.specs.Sources.{kindFrom, cellIn, cellsIn, in-file, Stretch, Cells}
 use Rattle.reader.specs.declared.records.Head.{Head}
 use Rattle.reader.specs.declared.records.Head.the-variants.{Header, HeaderOnly, NoHeader}
 use Rattle.reader.specs.Passes.{firstOf, restOf, Shows, Heads, with-data, alone, faulty}
@@ -40,22 +44,41 @@ use Rattle.reader.proofs.Events.{on-record, on-last, on-fault, on-finis
 
 -- ---- the cells by their stretches
 
+-- a kind's number names it
+number-kind : (k : Kind) → kindFrom (kindNumber k) ≡ k
+unfolding kindNamed if_then_else_
+number-kind Text = refl
+number-kind Number = refl
+number-kind True = refl
+number-kind False = refl
+number-kind Null = refl
+
 module _ (d : Dialect) (file : Bytes) where
-  value-stands : (v : Value) → StandsIn d file v → valueAt d file (v .from) (v .upto) ≡ v
-  value-stands v s = rw (← s .kind, ← s .content)
+  value-stands : (v : Value) → StandsIn d file v → cellIn (File d) file (v .from) (v .upto) (kindNumber (v .kind)) ≡ v
+  value-stands v s = rw (number-kind (v .kind), ← s .content)
 
-  pub values-stand : {vs : List Value} → All (StandsIn d file) vs → valuesOf d file (startsOf vs) (endsOf vs) ≡ vs
-  unfolding valuesOf
+  pub values-stand : {vs : List Value} → All (StandsIn d file) vs → cellsIn (File d) file (startsOf vs) (endsOf vs) (kindsOf vs) ≡ vs
+  unfolding cellsIn
   values-stand all-none = refl
-  values-stand (all-cons {x} {xs} s a) = ap (λ (w : Value). w ∷ valuesOf d file (startsOf xs) (endsOf xs)) (value-stands x s) ∙ ap (λ (l : List Value). x ∷ l) (values-stand a)
+  values-stand (all-cons {x} {xs} s a) =
+      ap (λ (w : Value). w ∷ cellsIn (File d) file (startsOf xs) (endsOf xs) (kindsOf xs)) (value-stands x s) ∙ ap (λ (l : List Value). x ∷ l) (values-stand a)
 
-  each-stands : {vs : List Value} → All (StandsIn d file) vs → (k : ℕ) → k < length (startsOf vs) → Stretch (length file) (getD (startsOf vs) k 0) (getD (endsOf vs) k 0)
+  stretch-stands : (v : Value) → StandsIn d file v → Stretch (File d) file (v .from) (v .upto) (kindNumber (v .kind))
+  stretch-stands v s =
+      record {
+        forward = s .forward;
+        within = s .within;
+        spelt = in-file {raw = slice file (v .from) (v .upto)} (omega (arith, length-take (v .upto - v .from) (drop (v .from) file), s .short)) (s .sound) (number-kind (v .kind) ∙ s .kind);
+      }
+
+  each-stands : {vs : List Value} → All (StandsIn d file) vs → (k : ℕ) → k < length (startsOf vs)
+      → Stretch (File d) file (getD (startsOf vs) k 0) (getD (endsOf vs) k 0) (getD (kindsOf vs) k 0)
   each-stands all-none k h = absurd (omega arith)
-  each-stands (all-cons s a) zero h = record { forward = s .forward; within = s .within; short = s .short }
+  each-stands (all-cons {x} s a) zero h = stretch-stands x s
   each-stands (all-cons s a) (suc k) h = each-stands a k (omega arith)
 
-  pub inside-stand : {vs : List Value} → All (StandsIn d file) vs → Inside (length file) (startsOf vs) (endsOf vs)
-  inside-stand {vs} a = record { paired = length-map vs _ ∙ sym (length-map vs _); each = each-stands a }
+  pub cells-there : {vs : List Value} → All (StandsIn d file) vs → Cells (File d) file (startsOf vs) (endsOf vs) (kindsOf vs)
+  cells-there {vs} a = record { with-ends = length-map vs _ ∙ sym (length-map vs _); with-kinds = length-map vs _ ∙ sym (length-map vs _); each = each-stands a }
 
 -- ---- too many columns
 
@@ -65,18 +88,25 @@ too-many d vs n e h = let t : ltb MAXCOLUMNS (length vs) ≡ true = lt-ltb MAXCO
 
 -- ---- the scratch lists show the cells
 
-pub shows : (vs : List Value) (s₀ e₀ s e : List ℕ) → length s₀ ≡ MAXCOLUMNS → length e₀ ≡ MAXCOLUMNS → s ≡ storedFrom MAXCOLUMNS 0 (startsOf vs) s₀ → e ≡ storedFrom MAXCOLUMNS 0 (endsOf vs) e₀ → Shows vs s e
-shows vs s₀ e₀ s e ls le as′ ae =
-    let a : length s ≡ length s₀ = ap length as′ ∙ length-stored-from MAXCOLUMNS 0 (startsOf vs) s₀ in
-    let b : length e ≡ length e₀ = ap length ae ∙ length-stored-from MAXCOLUMNS 0 (endsOf vs) e₀ in
-    let m : length (startsOf vs) ≡ length vs = length-map vs _ in
-    let n : length (endsOf vs) ≡ length vs = length-map vs _ in
+pub shows : (vs : List Value) (s₀ e₀ k₀ s e k : List ℕ) → length s₀ ≡ MAXCOLUMNS → length e₀ ≡ MAXCOLUMNS → length k₀ ≡ MAXCOLUMNS
+    → s ≡ storedFrom MAXCOLUMNS 0 (startsOf vs) s₀ → e ≡ storedFrom MAXCOLUMNS 0 (endsOf vs) e₀ → k ≡ storedFrom MAXCOLUMNS 0 (kindsOf vs) k₀
+    → Shows vs s e k
+shows vs s₀ e₀ k₀ s e k ls le lk as′ ae ak =
     record {
-      long-starts = omega arith;
-      long-ends = omega arith;
-      starts-shown = λ h. ap (take (length vs)) as′ ∙ ap (λ (k : ℕ). take k (storedFrom MAXCOLUMNS 0 (startsOf vs) s₀)) (sym m) ∙ stored-from-shown MAXCOLUMNS (startsOf vs) s₀ (omega arith) (omega arith);
-      ends-shown = λ h. ap (take (length vs)) ae ∙ ap (λ (k : ℕ). take k (storedFrom MAXCOLUMNS 0 (endsOf vs) e₀)) (sym n) ∙ stored-from-shown MAXCOLUMNS (endsOf vs) e₀ (omega arith) (omega arith);
+      long-starts = long (startsOf vs) s₀ s ls as′;
+      long-ends = long (endsOf vs) e₀ e le ae;
+      long-kinds = long (kindsOf vs) k₀ k lk ak;
+      starts-shown = shown (startsOf vs) s₀ s (length-map vs _) ls as′;
+      ends-shown = shown (endsOf vs) e₀ e (length-map vs _) le ae;
+      kinds-shown = shown (kindsOf vs) k₀ k (length-map vs _) lk ak;
     }
+  where
+    long : (xs l₀ l : List ℕ) → length l₀ ≡ MAXCOLUMNS → l ≡ storedFrom MAXCOLUMNS 0 xs l₀ → MAXCOLUMNS ≤ length l
+    long xs l₀ l n e = omega (arith, n, ap length e ∙ length-stored-from MAXCOLUMNS 0 xs l₀)
+
+    shown : (xs l₀ l : List ℕ) → length xs ≡ length vs → length l₀ ≡ MAXCOLUMNS → l ≡ storedFrom MAXCOLUMNS 0 xs l₀ → length vs ≤ MAXCOLUMNS → take (length vs) l ≡ xs
+    shown xs l₀ l m n e h =
+        ap (take (length vs)) e ∙ ap (λ (k : ℕ). take k (storedFrom MAXCOLUMNS 0 xs l₀)) (sym m) ∙ stored-from-shown MAXCOLUMNS xs l₀ (omega arith) (omega arith)
 
 -- ---- what the first event comes to
 
@@ -160,15 +190,18 @@ module _ (d : Dialect) (file : Bytes) where
 
 -- ---- the stretches that the scratch lists show
 
-module _ (d : Dialect) (file : Bytes) (vs : List Value) (n : ℕ) (starts ends : List ℕ) (e : n ≡ length vs) (y : Shows vs starts ends) (a : All (StandsIn d file) vs) (h : n ≤ MAXCOLUMNS) where
+module _ (d : Dialect) (file : Bytes) (vs : List Value) (n : ℕ) (starts ends kinds : List ℕ) (e : n ≡ length vs) (y : Shows vs starts ends kinds) (a : All (StandsIn d file) vs) (h : n ≤ MAXCOLUMNS) where
   starts-there : take n starts ≡ startsOf vs
   starts-there = ap (λ (k : ℕ). take k starts) e ∙ y .starts-shown (omega arith)
 
   ends-there : take n ends ≡ endsOf vs
   ends-there = ap (λ (k : ℕ). take k ends) e ∙ y .ends-shown (omega arith)
 
-  pub validated-inside : Inside (length file) (take n starts) (take n ends)
-  validated-inside = rw (starts-there, ends-there) (inside-stand d file a)
+  kinds-there : take n kinds ≡ kindsOf vs
+  kinds-there = ap (λ (k : ℕ). take k kinds) e ∙ y .kinds-shown (omega arith)
 
-  pub validated-values : valuesOf d file (take n starts) (take n ends) ≡ vs
-  validated-values = rw (starts-there, ends-there) (values-stand d file a)
+  pub validated-cells : Cells (File d) file (take n starts) (take n ends) (take n kinds)
+  validated-cells = rw (starts-there, ends-there, kinds-there) (cells-there d file a)
+
+  pub validated-values : cellsIn (File d) file (take n starts) (take n ends) (take n kinds) ≡ vs
+  validated-values = rw (starts-there, ends-there, kinds-there) (values-stand d file a)

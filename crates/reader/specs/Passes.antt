@@ -29,11 +29,13 @@ abbrev pub restOf : Dialect → (file : Bytes) → List Rec → FileState → (i
 restOf d file rs f i = readEnd d none (readFrom d none (going (between-records rs f i)) (drop i file))
 
 -- lists that show these cells, if they are no more than a record may have
-pub record Shows (vs : List Value) (starts ends : List ℕ) : Type 0 where
+pub record Shows (vs : List Value) (starts ends kinds : List ℕ) : Type 0 where
   pub long-starts : MAXCOLUMNS ≤ length starts
   pub long-ends : MAXCOLUMNS ≤ length ends
+  pub long-kinds : MAXCOLUMNS ≤ length kinds
   pub starts-shown : length vs ≤ MAXCOLUMNS → take (length vs) starts ≡ startsOf vs
   pub ends-shown : length vs ≤ MAXCOLUMNS → take (length vs) ends ≡ endsOf vs
+  pub kinds-shown : length vs ≤ MAXCOLUMNS → take (length vs) kinds ≡ kindsOf vs
 
 -- what a file begins with
 pub data Heads (d : Dialect) (file : Bytes) : Head → Type 0 where

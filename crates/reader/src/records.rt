@@ -7,6 +7,7 @@ ghost use Rattle.model.specs.Records.{headerFault};
 ghost use Rattle.model.specs.Report.{MAXFILE};
 ghost use Rattle.scanner.specs.Stretches.{StandsIn};
 ghost use Rattle.reader.specs.Passes.{firstOf, Shows, Heads, Passes};
+use decoder::source::Source;
 use model::Dialect;
 use model::Fault;
 use model::FileState;
@@ -31,16 +32,30 @@ pub enum Head {
 }
 
 // The first record, whose cells stand in these lists as far as there is room.
-fn validated(d: Dialect, file: &[u8], cells: usize, starts: &[usize], ends: &[usize]) -> Verdict
+fn validated(
+    d: Dialect,
+    file: &[u8],
+    cells: usize,
+    starts: &[usize],
+    ends: &[usize],
+    kinds: &[u8],
+) -> Verdict
     requires { ⌜ cells ≡ length (firstOf d (now file) .cells) ⌝ }
-    requires { ⌜ Shows (firstOf d (now file) .cells) (now starts) (now ends) ⌝ }
+    requires { ⌜ Shows (firstOf d (now file) .cells) (now starts) (now ends) (now kinds) ⌝ }
     requires { ⌜ All (StandsIn d (now file)) (firstOf d (now file) .cells) ⌝ }
     ensures { λ r. ⌜ r ≡ headerFault d (firstOf d (now (file .entry)) .cells) ⌝ }
 {
     if MAX_COLUMNS < cells {
         return Verdict::Faulty(Fault::TooManyColumns);
     }
-    validate::header(d, file, &starts[..cells], &ends[..cells])
+    validate::header(
+        Source::File(d),
+        d,
+        file,
+        &starts[..cells],
+        &ends[..cells],
+        &kinds[..cells],
+    )
 }
 
 // The first record of a file, validated.
@@ -66,11 +81,18 @@ pub fn first_record(d: Dialect, file: &[u8]) -> Head
             cells,
             state,
             next,
-        } => match validated(d, file, cells, &starts, &ends) {
+        } => match validated(d, file, cells, &starts, &ends, &kinds) {
             Verdict::Sound => Head::Header { cells, state, next },
             Verdict::Faulty(e) => Head::NoHeader(numbers::on_record(e, 1, start)),
         },
-        Event::LastRecord { start, cells } => match validated(d, file, cells, &starts, &ends) {
+        Event::LastRecord { start, cells } => match validated(
+            d,
+            file,
+            cells,
+            &starts,
+            &ends,
+            &kinds,
+        ) {
             Verdict::Sound => Head::HeaderOnly { cells },
             Verdict::Faulty(e) => Head::NoHeader(numbers::on_record(e, 1, start)),
         },

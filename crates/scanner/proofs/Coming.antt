@@ -4,18 +4,18 @@ use Prim.Native.Nat.{ℕ, zero, suc, _+_, _-_, _≤_, _<_}
 use native.Mathlib.Numerals.{add-one}
 use native.Mathlib.Omega.{arith}
 use mathlib.Core.Path.{_≡_, refl, sym, ap, subst, _∙_}
-use mathlib.Core.Bool.{Bool, true, false}
+use mathlib.Core.Bool.{Bool, true, false, _&&_}
 use mathlib.Core.List.{List, [], _∷_, _++_}
 use lib.ListN.{length, drop, getD, length-drop}
 use lib.Seq.{drop-cons, take-suc, length-take-le, getD-drop}
 use lib.Dec.{leb}
 use borrow.Author.Tests.{lt-leb}
+use Rattle.model.proofs.Tests.{impossible}
 use Rattle.model.specs.Base.{if_then_else_, Bytes}
 use Rattle.model.specs.Cell.{cellStep}
-use Rattle.model.specs.File.{fileStep, inCell, afterCell}
-use Rattle.model.specs.Text.{Value}
-use Rattle.model.specs.Report.{MAXFILE, MAXRECORD}
-use Rattle.model.specs.Records.{Read, fileFull, recordFull}
+use Rattle.model.specs.File.{fileStep, inCell, afterCell, counts}
+use Rattle.model.specs.Report.{MAXRECORD}
+use Rattle.model.specs.Scans.{RawCell, Scan, ScanResult, scanStep, scan}
 use Rattle.runs.specs.Run.{ordinary, leading, cellRun}
 use Rattle.model.specs.Api.{slice}
 use Rattle.file_lexer.specs.Dispatched.{stepOf}
@@ -26,6 +26,7 @@ use Rattle.runs.specs.declared.CellEnd.the-variants as cell-end
 use Rattle.runs.proofs.Runs.{part-end, part-short, leading-on, leading-ends, leading-none, rest-more, rest-stops, rest-refused, rest-open, comment-step}
 use Rattle.model.specs.declared.Dialect.{Dialect}
 use Rattle.model.specs.declared.Char.the-variants.{Whole, Within}
+use Rattle.model.specs.declared.ByteFault.{ByteFault}
 use Rattle.model.specs.declared.Cell.{Cell}
 use Rattle.model.specs.declared.CellStep.{CellStep}
 use Rattle.model.specs.declared.CellStep.the-variants.{More, Stop, Refuse}
@@ -35,11 +36,14 @@ use Rattle.model.specs.declared.ByteRole.{ByteRole}
 use Rattle.model.specs.declared.ByteRole.the-variants.{Outside, Passed, OfCell, Between, Tail, Ends}
 use Rattle.model.specs.declared.Step.{Step}
 use Rattle.model.specs.declared.Step.the-variants.{To, Reject}
+use Rattle.model.specs.declared.Fault.the-variants.{Byte}
 use Rattle.scanner.specs.Types.{RecordState, Token, Is, Skipped, AfterCell, Refused, Open}
-use Rattle.scanner.specs.Next.{stateAfterByte, extendedBy, cellsAfter, readAfter, stepped, nextRecord, Next}
+use Rattle.scanner.specs.Next.{endsRecord, stateAfterByte, extendedBy}
+use Rattle.scanner.specs.Parts.{Found, foundOf, foundIn}
+use Rattle.scanner.specs.declared.Reached.the-variants as reached
 use Rattle.model.specs.Api.{least}
 use Rattle.numbers.proofs.Least.{least-first, least-second, least-above}
-use Rattle.scanner.specs.Tokens.{readAt, steppedAt, metNext, Free, TokenCorrect, TokenInBounds, commentEnd}
+use Rattle.scanner.specs.Tokens.{scanAt, cellsNext, steppedAt, metNext, Free, TokenCorrect, TokenInBounds, commentEnd}
 
 -- ---- one byte
 
@@ -51,24 +55,30 @@ part-one s i j h k =
     let m : i + (j - i) ≡ j = omega arith in
     rw n (take-suc (drop i s) (j - i) 0 g ∙ ap (λ (b : ℕ). slice s i j ++ (b ∷ [])) (getD-drop i s (j - i) 0 ∙ ap (λ (k′ : ℕ). getD s k′ 0) m))
 
-module _ (d : Dialect) (file : Bytes) where
-  -- reading after one byte is described by the numbers in hand after it
-  pub carried-at : (p : ByteRole) (f g : FileState) (i : ℕ) (h : RecordState) (vs : List Value) → h .opened ≤ i → i < length file → readAfter d (readAt file f i h vs) (getD file i 0) g p ≡ readAt file g (i + 1) (stateAfterByte p i h) (cellsAfter d p (readAt file f i h vs))
-  carried-at Outside f g i h vs o l = let e : slice file (i + 1) (i + 1) ≡ [] = part-end file (i + 1) in rw e
-  carried-at Passed f g i h vs o l = let e : slice file (i + 1) (i + 1) ≡ [] = part-end file (i + 1) in rw e
-  carried-at OfCell f g i h vs o l =
-      let e : slice file (h .opened) (i + 1) ≡ slice file (h .opened) i ++ (getD file i 0 ∷ []) = part-one file (h .opened) i o l in rw e
-  carried-at (Between k) f g i h vs o l = let e : slice file (i + 1) (i + 1) ≡ [] = part-end file (i + 1) in rw e
-  carried-at (Tail k) f g i h vs o l = let e : slice file (i + 1) (i + 1) ≡ [] = part-end file (i + 1) in rw e
-  carried-at (Ends k) f g i h vs o l = let e : slice file (i + 1) (i + 1) ≡ [] = part-end file (i + 1) in rw e
+module _ (d : Dialect) (limit : ℕ) (part : Bytes) where
+  -- after a byte that does not end its record, scanning is described by the numbers in hand after it
+  pub goes-to : (p : ByteRole) (f g : FileState) (i : ℕ) (h : RecordState) (cs : List RawCell) → h .opened ≤ i → i < length part → endsRecord p ≡ false → steppedAt d limit part f i h cs (To g p) ≡ foundIn d limit (scanAt part g (i + 1) (stateAfterByte p i h) (cellsNext p (scanAt part f i h cs))) (drop (i + 1) part)
+  unfolding scanStep
+  goes-to Outside f g i h cs o l e = let n : slice part (i + 1) (i + 1) ≡ [] = part-end part (i + 1) in rw (n, add-one i)
+  goes-to Passed f g i h cs o l e = let n : slice part (i + 1) (i + 1) ≡ [] = part-end part (i + 1) in rw (n, add-one i)
+  goes-to OfCell f g i h cs o l e =
+      let n : slice part (h .opened) (i + 1) ≡ slice part (h .opened) i ++ (getD part i 0 ∷ []) = part-one part (h .opened) i o l in rw (n, add-one i, add-one (h .size))
+  goes-to (Between k) f g i h cs o l e = let n : slice part (i + 1) (i + 1) ≡ [] = part-end part (i + 1) in rw (n, add-one i, add-one (h .size))
+  goes-to (Tail k) f g i h cs o l e = let n : slice part (i + 1) (i + 1) ≡ [] = part-end part (i + 1) in rw (n, add-one i)
+  goes-to (Ends k) f g i h cs o l e = impossible (sym e)
+
+  -- a byte that no record goes on with
+  pub refuses : (x : ByteFault) (f : FileState) (i : ℕ) (h : RecordState) (cs : List RawCell) → steppedAt d limit part f i h cs (Reject x) ≡ record { answer = reached.Failed (Byte x) i; cells = cs }
+  unfolding scanStep
+  refuses x f i h cs = refl
 
   -- a byte that is not one too many takes its step
-  pub next-step : (f : FileState) (i : ℕ) (h : RecordState) (vs : List Value) → i < length file → i < MAXFILE → recordFull (readAt file f i h vs) (getD file i 0) ≡ false → nextRecord d (readAt file f i h vs) (drop i file) ≡ steppedAt d file f i h vs (fileStep d f (getD file i 0))
-  unfolding nextRecord fileFull if_then_else_
-  next-step f i h vs l m e =
-      let n : drop i file ≡ getD file i 0 ∷ drop (i + 1) file = rw (add-one, drop-cons file i 0) in
-      let t : leb MAXFILE i ≡ false = lt-leb MAXFILE i m in
-      rw (n, nextRecord, t, e)
+  pub next-step : (f : FileState) (i : ℕ) (h : RecordState) (cs : List RawCell) → i < length part → i < limit → (leb MAXRECORD (h .size) && counts f (getD part i 0)) ≡ false → foundIn d limit (scanAt part f i h cs) (drop i part) ≡ steppedAt d limit part f i h cs (fileStep d f (getD part i 0))
+  unfolding scan if_then_else_
+  next-step f i h cs l m e =
+      let n : drop i part ≡ getD part i 0 ∷ drop (i + 1) part = rw (add-one, drop-cons part i 0) in
+      let t : leb limit i ≡ false = lt-leb limit i m in
+      rw (n, scan, t, e)
 
 -- ---- the rest of a cell
 
@@ -121,244 +131,242 @@ run-before d c i (b ∷ bs) = go (cellStep d c b) (λ t. run-before d t (suc i) 
     go (Refuse e) ih = omega arith
 
 -- a step does not ask where the file stood before it
-step-form : (d : Dialect) (file : Bytes) (f g : FileState) (j b : ℕ) (h : RecordState) (vs : List Value) (k : Read → Next) (s : Step) → stepped d (readAt file f j h vs) b k s ≡ stepped d (readAt file g j h vs) b k s
-unfolding stepped
-step-form d file f g j b h vs k (Reject e) = refl
-step-form d file f g j b h vs k (To t Outside) = refl
-step-form d file f g j b h vs k (To t Passed) = refl
-step-form d file f g j b h vs k (To t OfCell) = refl
-step-form d file f g j b h vs k (To t (Between true)) = refl
-step-form d file f g j b h vs k (To t (Between false)) = refl
-step-form d file f g j b h vs k (To t (Tail true)) = refl
-step-form d file f g j b h vs k (To t (Tail false)) = refl
-step-form d file f g j b h vs k (To t (Ends true)) = refl
-step-form d file f g j b h vs k (To t (Ends false)) = refl
+step-form : (part : Bytes) (f g : FileState) (j b : ℕ) (h : RecordState) (cs : List RawCell) (left : Bytes) (more : Scan → ScanResult) (s : Step) → foundOf (scanStep (scanAt part f j h cs) b left more s) ≡ foundOf (scanStep (scanAt part g j h cs) b left more s)
+unfolding scanStep
+step-form part f g j b h cs left more (Reject e) = refl
+step-form part f g j b h cs left more (To t Outside) = refl
+step-form part f g j b h cs left more (To t Passed) = refl
+step-form part f g j b h cs left more (To t OfCell) = refl
+step-form part f g j b h cs left more (To t (Between true)) = refl
+step-form part f g j b h cs left more (To t (Between false)) = refl
+step-form part f g j b h cs left more (To t (Tail true)) = refl
+step-form part f g j b h cs left more (To t (Tail false)) = refl
+step-form part f g j b h cs left more (To t (Ends true)) = refl
+step-form part f g j b h cs left more (To t (Ends false)) = refl
 
-module _ (d : Dialect) (file : Bytes) (vs : List Value) (stop : ℕ) (inside : stop ≤ length file) (under : stop ≤ MAXFILE) where
+module _ (d : Dialect) (limit : ℕ) (part : Bytes) (cs : List RawCell) (stop : ℕ) (inside : stop ≤ length part) (under : stop ≤ limit) where
   abbrev Runs : FileState → (i : ℕ) → RecordState → Cell → Type 0
   Runs f i h c =
-      nextRecord d (readAt file f i h vs) (drop i file) ≡ metNext d file f i h vs (metOf stop (cellRun d c i (slice file i stop)))
+      foundIn d limit (scanAt part f i h cs) (drop i part) ≡ metNext d limit part f i h cs (metOf stop (cellRun d c i (slice part i stop)))
 
   -- one byte further, with one more byte in hand, the same lies ahead
-  shift : (f g : FileState) (i : ℕ) (h : RecordState) (e : CellEnd) → Past (i + 1) e → i < stop → metNext d file g (i + 1) (extendedBy h 1) vs (metOf stop e) ≡ metNext d file f i h vs (metOf stop e)
+  shift : (f g : FileState) (i : ℕ) (h : RecordState) (e : CellEnd) → Past (i + 1) e → i < stop → metNext d limit part g (i + 1) (extendedBy h 1) cs (metOf stop e) ≡ metNext d limit part f i h cs (metOf stop e)
   unfolding metNext
   shift f g i h (cell-end.Stopped c j) p l =
       let n : h .size + 1 + (j - (i + 1)) ≡ h .size + (j - i) = omega arith in
-      let s : Step = afterCell d true (getD file j 0) in
-      step-form d file g f j (getD file j 0) (extendedBy (extendedBy h 1) (j - (i + 1))) vs (λ r. nextRecord d r (drop (j + 1) file)) s
-      ∙ ap (λ (m : ℕ). stepped d (readAt file f j (record { start = h .start; size = m; opened = h .opened; cells = h .cells }) vs) (getD file j 0) (λ r. nextRecord d r (drop (j + 1) file)) s) n
+      let s : Step = afterCell d true (getD part j 0) in
+      step-form part g f j (getD part j 0) (extendedBy (extendedBy h 1) (j - (i + 1))) cs (drop (j + 1) part) (λ t. scan d limit t (drop (j + 1) part)) s
+      ∙ ap (λ (m : ℕ). steppedAt d limit part f j (record { start = h .start; size = m; opened = h .opened; cells = h .cells }) cs s) n
   shift f g i h (cell-end.Refused e j) p l = refl
   shift f g i h (cell-end.Open c) p l =
       let n : h .size + 1 + (stop - (i + 1)) ≡ h .size + (stop - i) = omega arith in
-      ap (λ (m : ℕ). nextRecord d (readAt file (Inside c) stop (record { start = h .start; size = m; opened = h .opened; cells = h .cells }) vs) (drop stop file)) n
+      ap (λ (m : ℕ). foundIn d limit (scanAt part (Inside c) stop (record { start = h .start; size = m; opened = h .opened; cells = h .cells }) cs) (drop stop part)) n
 
-  one : (f : FileState) (i : ℕ) (h : RecordState) (c : Cell) → i < stop → h .opened ≤ i → recordFull (readAt file f i h vs) (getD file i 0) ≡ false → inCell d c (getD file i 0) ≡ fileStep d f (getD file i 0) → ((t : Cell) → cellStep d c (getD file i 0) ≡ More t → Runs (Inside t) (i + 1) (extendedBy h 1) t) → Runs f i h c
-  unfolding metNext stepped inCell if_then_else_ nextRecord
+  one : (f : FileState) (i : ℕ) (h : RecordState) (c : Cell) → i < stop → h .opened ≤ i → (leb MAXRECORD (h .size) && counts f (getD part i 0)) ≡ false → inCell d c (getD part i 0) ≡ fileStep d f (getD part i 0) → ((t : Cell) → cellStep d c (getD part i 0) ≡ More t → Runs (Inside t) (i + 1) (extendedBy h 1) t) → Runs f i h c
+  unfolding metNext inCell
   one f i h c l o e q rest =
-      let start : nextRecord d (readAt file f i h vs) (drop i file) ≡ steppedAt d file f i h vs (inCell d c (getD file i 0)) = next-step d file f i h vs (omega arith) (omega arith) e ∙ ap (λ (s : Step). steppedAt d file f i h vs s) (sym q) in
-      start ∙ go (cellStep d c (getD file i 0)) refl
+      let start : foundIn d limit (scanAt part f i h cs) (drop i part) ≡ steppedAt d limit part f i h cs (inCell d c (getD part i 0)) = next-step d limit part f i h cs (omega arith) (omega arith) e ∙ ap (λ (s : Step). steppedAt d limit part f i h cs s) (sym q) in
+      start ∙ go (cellStep d c (getD part i 0)) refl
     where
       z : h .size + (i - i) ≡ h .size
       z = omega arith
 
-      go : (a : CellStep) → cellStep d c (getD file i 0) ≡ a → steppedAt d file f i h vs (inCell d c (getD file i 0)) ≡ metNext d file f i h vs (metOf stop (cellRun d c i (slice file i stop)))
+      go : (a : CellStep) → cellStep d c (getD part i 0) ≡ a → steppedAt d limit part f i h cs (inCell d c (getD part i 0)) ≡ metNext d limit part f i h cs (metOf stop (cellRun d c i (slice part i stop)))
       go (More t) a =
-          let past : Past (i + 1) (cellRun d t (i + 1) (slice file (i + 1) stop)) = run-past d t (i + 1) (slice file (i + 1) stop) in
-          let same : cellRun d c i (slice file i stop) ≡ cellRun d t (i + 1) (slice file (i + 1) stop) = rest-more d c file i stop l inside t a in
-          rw (a, if_then_else_, same) (
-          ap (λ (r : Read). nextRecord d r (drop (i + 1) file)) (carried-at d file OfCell f (Inside t) i h vs o (omega arith))
+          let past : Past (i + 1) (cellRun d t (i + 1) (slice part (i + 1) stop)) = run-past d t (i + 1) (slice part (i + 1) stop) in
+          let same : cellRun d c i (slice part i stop) ≡ cellRun d t (i + 1) (slice part (i + 1) stop) = rest-more d c part i stop l inside t a in
+          rw (a, same) (
+          goes-to d limit part OfCell f (Inside t) i h cs o (omega arith) refl
           ∙ rest t a
-          ∙ shift f (Inside t) i h (cellRun d t (i + 1) (slice file (i + 1) stop)) past l)
+          ∙ shift f (Inside t) i h (cellRun d t (i + 1) (slice part (i + 1) stop)) past l)
       go Stop a =
-          rw (a, rest-stops d c file i stop l inside a) (sym (ap (λ (m : ℕ). steppedAt d file f i (record { start = h .start; size = m; opened = h .opened; cells = h .cells }) vs (afterCell d true (getD file i 0))) z))
-      go (Refuse x) a = rw (a, rest-refused d c file i stop l inside x a)
+          rw (a, rest-stops d c part i stop l inside a) (sym (ap (λ (m : ℕ). steppedAt d limit part f i (record { start = h .start; size = m; opened = h .opened; cells = h .cells }) cs (afterCell d true (getD part i 0))) z))
+      go (Refuse x) a = rw (a, rest-refused d c part i stop l inside x a) (refuses d limit part x f i h cs)
 
   -- inside a cell, up to where a limit is near
   runs : (n i : ℕ) (h : RecordState) (c : Cell) → stop - i ≡ n → i ≤ stop → h .opened ≤ i → (i < stop → h .size + (stop - i) ≤ MAXRECORD) → Runs (Inside c) i h c
-  unfolding metNext recordFull fileStep inCell
+  unfolding metNext fileStep inCell
   runs zero i h c n l o m =
       let e : stop ≡ i = omega arith in
       let z : h .size + (i - i) ≡ h .size = omega arith in
-      rw (e, rest-open d c file i) (sym (ap (λ (k : ℕ). nextRecord d (readAt file (Inside c) i (record { start = h .start; size = k; opened = h .opened; cells = h .cells }) vs) (drop i file)) z))
+      rw (e, rest-open d c part i) (sym (ap (λ (k : ℕ). foundIn d limit (scanAt part (Inside c) i (record { start = h .start; size = k; opened = h .opened; cells = h .cells }) cs) (drop i part)) z))
   runs (suc n) i h c e l o m =
       let g : h .size + (stop - i) ≤ MAXRECORD = m (omega arith) in
       one (Inside c) i h c (omega arith) o (not-full (Inside c) i h (omega arith)) refl
       λ t a. runs n (i + 1) (extendedBy h 1) t (omega arith) (omega arith) (omega arith) λ k. omega arith
     where
-      not-full : (f : FileState) (j : ℕ) (k : RecordState) → k .size < MAXRECORD → recordFull (readAt file f j k vs) (getD file j 0) ≡ false
+      not-full : (f : FileState) (j : ℕ) (k : RecordState) → k .size < MAXRECORD → (leb MAXRECORD (k .size) && counts f (getD part j 0)) ≡ false
       not-full f j k l = rw (lt-leb MAXRECORD (k .size) l)
 
 -- ---- limits
 
-pub one-free : (length i size : ℕ) → i < length → i < MAXFILE → Free length i size (i + 1)
-one-free n i size h k = record { on = omega arith; inside = omega arith; file = omega arith; fits = λ l. absurd (omega arith) }
-
-pub many-free : (length i size : ℕ) → i < length → i < MAXFILE → size < MAXRECORD → Free length i size (least (least length MAXFILE) (i + (MAXRECORD - size)))
-many-free n i size h k l =
-    let a : least (least n MAXFILE) (i + (MAXRECORD - size)) ≤ least n MAXFILE = least-first (least n MAXFILE) (i + (MAXRECORD - size)) in
-    let b : least (least n MAXFILE) (i + (MAXRECORD - size)) ≤ i + (MAXRECORD - size) = least-second (least n MAXFILE) (i + (MAXRECORD - size)) in
-    let c : least n MAXFILE ≤ n = least-first n MAXFILE in
-    let d : least n MAXFILE ≤ MAXFILE = least-second n MAXFILE in
-    let e : i < least n MAXFILE = least-above i n MAXFILE h k in
+pub many-free : (length limit i size : ℕ) → i < length → i < limit → size < MAXRECORD → Free length limit i size (least (least length limit) (i + (MAXRECORD - size)))
+many-free n limit i size h k l =
+    let a : least (least n limit) (i + (MAXRECORD - size)) ≤ least n limit = least-first (least n limit) (i + (MAXRECORD - size)) in
+    let b : least (least n limit) (i + (MAXRECORD - size)) ≤ i + (MAXRECORD - size) = least-second (least n limit) (i + (MAXRECORD - size)) in
+    let c : least n limit ≤ n = least-first n limit in
+    let d : least n limit ≤ limit = least-second n limit in
+    let e : i < least n limit = least-above i n limit h k in
     let f : i < i + (MAXRECORD - size) = omega arith in
-    record { on = least-above i (least n MAXFILE) (i + (MAXRECORD - size)) e f; inside = omega arith; file = omega arith; fits = λ _. omega arith }
+    record { on = least-above i (least n limit) (i + (MAXRECORD - size)) e f; inside = omega arith; under = omega arith; fits = λ _. omega arith }
 
 -- ---- what lies ahead, by what the lexer answers
 
 -- a cell
-pub cell-comes : (d : Dialect) (file : Bytes) (f : FileState) (c : Cell) (i size stop : ℕ) → Free (length file) i size stop → inCell d c (getD file i 0) ≡ fileStep d f (getD file i 0) → TokenCorrect d file f i size (metOf stop (cellRun d c i (slice file i stop)))
-cell-comes d file f c i size stop free q =
+pub cell-comes : (d : Dialect) (limit : ℕ) (part : Bytes) (f : FileState) (c : Cell) (i size stop : ℕ) → Free (length part) limit i size stop → inCell d c (getD part i 0) ≡ fileStep d f (getD part i 0) → TokenCorrect d limit part f i size (metOf stop (cellRun d c i (slice part i stop)))
+cell-comes d limit part f c i size stop free q =
     record {
       comes =
-          λ h vs e o n.
+          λ h cs e o n.
           let a : i < stop = free .on in
-          one d file vs stop (free .inside) (free .file) f i h c a o n q
-          λ t _. runs d file vs stop (free .inside) (free .file) (stop - (i + 1)) (i + 1) (extendedBy h 1) t refl (omega arith) (omega arith)
+          one d limit part cs stop (free .inside) (free .under) f i h c a o n q
+          λ t _. runs d limit part cs stop (free .inside) (free .under) (stop - (i + 1)) (i + 1) (extendedBy h 1) t refl (omega arith) (omega arith)
           λ k. let m : size + (stop - i) ≤ MAXRECORD = free .fits k in omega arith;
     }
 
 -- a byte outside cells
-pub byte-comes : (d : Dialect) (file : Bytes) (f : FileState) (i size : ℕ) → i < length file → i < MAXFILE → (s : Step) → s ≡ fileStep d f (getD file i 0) → TokenCorrect d file f i size (Is s)
+pub byte-comes : (d : Dialect) (limit : ℕ) (part : Bytes) (f : FileState) (i size : ℕ) → i < length part → i < limit → (s : Step) → s ≡ fileStep d f (getD part i 0) → TokenCorrect d limit part f i size (Is s)
 unfolding metNext
-byte-comes d file f i size l m s q =
-    record { comes = λ h vs e o n. next-step d file f i h vs l m n ∙ ap (λ (t : Step). steppedAt d file f i h vs t) (sym q) }
+byte-comes d limit part f i size l m s q =
+    record { comes = λ h cs e o n. next-step d limit part f i h cs l m n ∙ ap (λ (t : Step). steppedAt d limit part f i h cs t) (sym q) }
 
 -- a byte after a cell and blanks
-pub after-comes : (d : Dialect) (file : Bytes) (f : FileState) (i size : ℕ) → i < length file → i < MAXFILE → afterCell d false (getD file i 0) ≡ fileStep d f (getD file i 0) → TokenCorrect d file f i size (AfterCell false i)
+pub after-comes : (d : Dialect) (limit : ℕ) (part : Bytes) (f : FileState) (i size : ℕ) → i < length part → i < limit → afterCell d false (getD part i 0) ≡ fileStep d f (getD part i 0) → TokenCorrect d limit part f i size (AfterCell false i)
 unfolding metNext
-after-comes d file f i size l m q =
+after-comes d limit part f i size l m q =
     record {
       comes =
-          λ h vs e o n.
+          λ h cs e o n.
           let z : h .size ≡ h .size + (i - i) = omega arith in
-          next-step d file f i h vs l m n
-          ∙ ap (λ (t : Step). steppedAt d file f i h vs t) (sym q)
-          ∙ ap (λ (k : ℕ). steppedAt d file f i (record { start = h .start; size = k; opened = h .opened; cells = h .cells }) vs (afterCell d false (getD file i 0))) z;
+          next-step d limit part f i h cs l m n
+          ∙ ap (λ (t : Step). steppedAt d limit part f i h cs t) (sym q)
+          ∙ ap (λ (k : ℕ). steppedAt d limit part f i (record { start = h .start; size = k; opened = h .opened; cells = h .cells }) cs (afterCell d false (getD part i 0))) z;
     }
 
--- where a cell's run ends lies in the file
-pub cell-lies : (d : Dialect) (c : Cell) (file : Bytes) (f : FileState) (i size stop : ℕ) → Free (length file) i size stop → TokenInBounds d file f i (metOf stop (cellRun d c i (slice file i stop)))
-cell-lies d c file f i size stop free = go (cellRun d c i (slice file i stop)) (run-past d c i (slice file i stop)) (run-before d c i (slice file i stop))
+-- where a cell's run ends lies in the part
+pub cell-lies : (d : Dialect) (limit : ℕ) (c : Cell) (part : Bytes) (f : FileState) (i size stop : ℕ) → Free (length part) limit i size stop → TokenInBounds d limit part f i (metOf stop (cellRun d c i (slice part i stop)))
+cell-lies d limit c part f i size stop free = go (cellRun d c i (slice part i stop)) (run-past d c i (slice part i stop)) (run-before d c i (slice part i stop))
   where
-    sized : length (slice file i stop) ≡ stop - i
+    sized : length (slice part i stop) ≡ stop - i
     sized =
-        let a : stop ≤ length file = free .inside in
-        let g : length (drop i file) ≡ length file - i = length-drop i file in
-        length-take-le (stop - i) (drop i file) (omega arith)
+        let a : stop ≤ length part = free .inside in
+        let g : length (drop i part) ≡ length part - i = length-drop i part in
+        length-take-le (stop - i) (drop i part) (omega arith)
 
-    go : (e : CellEnd) → Past i e → Before (i + length (slice file i stop)) e → TokenInBounds d file f i (metOf stop e)
+    go : (e : CellEnd) → Past i e → Before (i + length (slice part i stop)) e → TokenInBounds d limit part f i (metOf stop e)
     go (cell-end.Stopped t j) p b =
-        let z : length (slice file i stop) ≡ stop - i = sized in
+        let z : length (slice part i stop) ≡ stop - i = sized in
         let a : i < stop = free .on in
-        let k : stop ≤ length file = free .inside in
-        let l : stop ≤ MAXFILE = free .file in (p, omega arith, omega arith)
-    go (cell-end.Refused e j) p b = tt
-    go (cell-end.Open t) p b = (free .on, free .inside, free .file)
+        let k : stop ≤ length part = free .inside in
+        let l : stop ≤ limit = free .under in (p, omega arith, omega arith)
+    go (cell-end.Refused e j) p b =
+        let z : length (slice part i stop) ≡ stop - i = sized in
+        let a : i < stop = free .on in
+        let k : stop ≤ length part = free .inside in omega arith
+    go (cell-end.Open t) p b = (free .on, free .inside, free .under)
 
 -- ---- the ordinary bytes of a comment
 
 abbrev outside : (start i : ℕ) → RecordState
 outside s i = record { start = s; size = 0; opened = i; cells = 0 }
 
-module _ (d : Dialect) (file : Bytes) (start stop : ℕ) (inside : stop ≤ length file) (under : stop ≤ MAXFILE) where
-  abbrev From : ℕ → Next
-  From i = nextRecord d (readAt file (Comment Whole) i (outside start i) []) (drop i file)
+module _ (d : Dialect) (limit : ℕ) (part : Bytes) (start stop : ℕ) (inside : stop ≤ length part) (under : stop ≤ limit) where
+  abbrev From : ℕ → Found
+  From i = foundIn d limit (scanAt part (Comment Whole) i (outside start i) []) (drop i part)
 
   -- an ordinary byte, whatever is in hand before it
-  past-one : (i : ℕ) (h : RecordState) (vs : List Value) → h .start ≡ start → h .opened ≤ i → i < stop → recordFull (readAt file (Comment Whole) i h vs) (getD file i 0) ≡ false → ordinary 0 0 (getD file i 0) ≡ true → nextRecord d (readAt file (Comment Whole) i h vs) (drop i file) ≡ From (i + 1)
-  unfolding stepped if_then_else_
-  past-one i h vs s o l e q =
-      next-step d file (Comment Whole) i h vs (omega arith) (omega arith) e
-      ∙ rw (comment-step d (getD file i 0) q) (
-      ap (λ (r : Read). nextRecord d r (drop (i + 1) file)) (carried-at d file Outside (Comment Whole) (Comment Whole) i h vs o (omega arith))
-      ∙ ap (λ (k : ℕ). nextRecord d (readAt file (Comment Whole) (i + 1) (outside k (i + 1)) []) (drop (i + 1) file)) s)
+  past-one : (i : ℕ) (h : RecordState) (cs : List RawCell) → h .start ≡ start → h .opened ≤ i → i < stop → (leb MAXRECORD (h .size) && counts (Comment Whole) (getD part i 0)) ≡ false → ordinary 0 0 (getD part i 0) ≡ true → foundIn d limit (scanAt part (Comment Whole) i h cs) (drop i part) ≡ From (i + 1)
+  past-one i h cs s o l e q =
+      next-step d limit part (Comment Whole) i h cs (omega arith) (omega arith) e
+      ∙ rw (comment-step d (getD part i 0) q) (
+      goes-to d limit part Outside (Comment Whole) (Comment Whole) i h cs o (omega arith) refl
+      ∙ ap (λ (k : ℕ). foundIn d limit (scanAt part (Comment Whole) (i + 1) (outside k (i + 1)) []) (drop (i + 1) part)) s)
 
-  comment-on : (n i : ℕ) → stop - i ≡ n → i ≤ stop → From i ≡ From (i + leading 0 0 (slice file i stop))
-  unfolding recordFull
+  comment-on : (n i : ℕ) → stop - i ≡ n → i ≤ stop → From i ≡ From (i + leading 0 0 (slice part i stop))
   comment-on zero i e l =
       let z : stop ≡ i = omega arith in
-      rw z (ap From (sym (leading-none file i 0 0)))
+      rw z (ap From (sym (leading-none part i 0 0)))
   comment-on (suc n) i e l =
-      go (ordinary 0 0 (getD file i 0)) refl (comment-on n (i + 1) (omega arith) (omega arith))
+      go (ordinary 0 0 (getD part i 0)) refl (comment-on n (i + 1) (omega arith) (omega arith))
     where
-      go : (t : Bool) → ordinary 0 0 (getD file i 0) ≡ t → From (i + 1) ≡ From (i + 1 + leading 0 0 (slice file (i + 1) stop)) → From i ≡ From (i + leading 0 0 (slice file i stop))
-      go true q ih = past-one i (outside start i) [] refl (omega arith) (omega arith) refl q ∙ ih ∙ ap From (sym (leading-on file i stop 0 0 (omega arith) inside q))
-      go false q ih = ap From (sym (leading-ends file i stop 0 0 (omega arith) inside q))
+      go : (t : Bool) → ordinary 0 0 (getD part i 0) ≡ t → From (i + 1) ≡ From (i + 1 + leading 0 0 (slice part (i + 1) stop)) → From i ≡ From (i + leading 0 0 (slice part i stop))
+      go true q ih = past-one i (outside start i) [] refl (omega arith) (omega arith) refl q ∙ ih ∙ ap From (sym (leading-on part i stop 0 0 (omega arith) inside q))
+      go false q ih = ap From (sym (leading-ends part i stop 0 0 (omega arith) inside q))
 
-comment-skips : (d : Dialect) (file : Bytes) (i size stop : ℕ) → i < stop → stop ≤ length file → stop ≤ MAXFILE → i < i + leading 0 0 (slice file i stop) → TokenCorrect d file (Comment Whole) i size (Skipped (i + leading 0 0 (slice file i stop)))
+comment-skips : (d : Dialect) (limit : ℕ) (part : Bytes) (i size stop : ℕ) → i < stop → stop ≤ length part → stop ≤ limit → i < i + leading 0 0 (slice part i stop) → TokenCorrect d limit part (Comment Whole) i size (Skipped (i + leading 0 0 (slice part i stop)))
 unfolding metNext
-comment-skips d file i size stop l inside under more = go (ordinary 0 0 (getD file i 0)) refl
+comment-skips d limit part i size stop l inside under more = go (ordinary 0 0 (getD part i 0)) refl
   where
-    go : (t : Bool) → ordinary 0 0 (getD file i 0) ≡ t → TokenCorrect d file (Comment Whole) i size (Skipped (i + leading 0 0 (slice file i stop)))
+    go : (t : Bool) → ordinary 0 0 (getD part i 0) ≡ t → TokenCorrect d limit part (Comment Whole) i size (Skipped (i + leading 0 0 (slice part i stop)))
     go true q =
         record {
           comes =
-              λ h vs e o n.
-              let j : ℕ = i + leading 0 0 (slice file i stop) in
-              let m : j ≡ i + 1 + leading 0 0 (slice file (i + 1) stop) = leading-on file i stop 0 0 l inside q in
+              λ h cs e o n.
+              let j : ℕ = i + leading 0 0 (slice part i stop) in
+              let m : j ≡ i + 1 + leading 0 0 (slice part (i + 1) stop) = leading-on part i stop 0 0 l inside q in
               let z : j ≡ j - 1 + 1 = omega arith in
-              past-one d file (h .start) stop inside under i h vs refl o l n q
-              ∙ comment-on d file (h .start) stop inside under (stop - (i + 1)) (i + 1) refl (omega arith)
-              ∙ ap (From d file (h .start) stop inside under) (sym m)
-              ∙ ap (λ (k : ℕ). nextRecord d (readAt file (Comment Whole) j (outside (h .start) k) []) (drop j file)) z;
+              past-one d limit part (h .start) stop inside under i h cs refl o l n q
+              ∙ comment-on d limit part (h .start) stop inside under (stop - (i + 1)) (i + 1) refl (omega arith)
+              ∙ ap (From d limit part (h .start) stop inside under) (sym m)
+              ∙ ap (λ (k : ℕ). foundIn d limit (scanAt part (Comment Whole) j (outside (h .start) k) []) (drop j part)) z;
         }
-    go false q = let m : i + leading 0 0 (slice file i stop) ≡ i = leading-ends file i stop 0 0 l inside q in absurd (omega arith)
+    go false q = let m : i + leading 0 0 (slice part i stop) ≡ i = leading-ends part i stop 0 0 l inside q in absurd (omega arith)
 
-pub comment-comes : (d : Dialect) (file : Bytes) (f : FileState) (i size : ℕ) → i < length file → i < MAXFILE → i < commentEnd f file i → TokenCorrect d file f i size (Skipped (commentEnd f file i))
-comment-comes d file (Comment Whole) i size l m more =
-    comment-skips d file i size (least (length file) MAXFILE) (least-above i (length file) MAXFILE l m) (least-first (length file) MAXFILE) (least-second (length file) MAXFILE) more
-comment-comes d file Top i size l m more = absurd (omega arith)
-comment-comes d file Begin i size l m more = absurd (omega arith)
-comment-comes d file Ended i size l m more = absurd (omega arith)
-comment-comes d file Mark1 i size l m more = absurd (omega arith)
-comment-comes d file Mark2 i size l m more = absurd (omega arith)
-comment-comes d file PlainMark1 i size l m more = absurd (omega arith)
-comment-comes d file PlainMark2 i size l m more = absurd (omega arith)
-comment-comes d file (Comment (Within n)) i size l m more = absurd (omega arith)
-comment-comes d file Blanks i size l m more = absurd (omega arith)
-comment-comes d file Wanting i size l m more = absurd (omega arith)
-comment-comes d file (Inside c) i size l m more = absurd (omega arith)
-comment-comes d file After i size l m more = absurd (omega arith)
-comment-comes d file Cr i size l m more = absurd (omega arith)
+pub comment-comes : (d : Dialect) (limit : ℕ) (part : Bytes) (f : FileState) (i size : ℕ) → i < length part → i < limit → i < commentEnd f part limit i → TokenCorrect d limit part f i size (Skipped (commentEnd f part limit i))
+comment-comes d limit part (Comment Whole) i size l m more =
+    comment-skips d limit part i size (least (length part) limit) (least-above i (length part) limit l m) (least-first (length part) limit) (least-second (length part) limit) more
+comment-comes d limit part Top i size l m more = absurd (omega arith)
+comment-comes d limit part Begin i size l m more = absurd (omega arith)
+comment-comes d limit part Ended i size l m more = absurd (omega arith)
+comment-comes d limit part Mark1 i size l m more = absurd (omega arith)
+comment-comes d limit part Mark2 i size l m more = absurd (omega arith)
+comment-comes d limit part PlainMark1 i size l m more = absurd (omega arith)
+comment-comes d limit part PlainMark2 i size l m more = absurd (omega arith)
+comment-comes d limit part (Comment (Within n)) i size l m more = absurd (omega arith)
+comment-comes d limit part Blanks i size l m more = absurd (omega arith)
+comment-comes d limit part Wanting i size l m more = absurd (omega arith)
+comment-comes d limit part (Inside c) i size l m more = absurd (omega arith)
+comment-comes d limit part After i size l m more = absurd (omega arith)
+comment-comes d limit part Cr i size l m more = absurd (omega arith)
 
-pub comment-lies : (d : Dialect) (file : Bytes) (f : FileState) (i : ℕ) → i < length file → i < MAXFILE → i < commentEnd f file i → TokenInBounds d file f i (Skipped (commentEnd f file i))
-comment-lies d file (Comment Whole) i l m more =
-    let a : i < least (length file) MAXFILE = least-above i (length file) MAXFILE l m in
-    let b : least (length file) MAXFILE ≤ length file = least-first (length file) MAXFILE in
-    let c : least (length file) MAXFILE ≤ MAXFILE = least-second (length file) MAXFILE in
-    let e : i + leading 0 0 (slice file i (least (length file) MAXFILE)) ≤ least (length file) MAXFILE = part-short 0 0 file i (least (length file) MAXFILE) (omega arith) b in
+pub comment-lies : (d : Dialect) (limit : ℕ) (part : Bytes) (f : FileState) (i : ℕ) → i < length part → i < limit → i < commentEnd f part limit i → TokenInBounds d limit part f i (Skipped (commentEnd f part limit i))
+comment-lies d limit part (Comment Whole) i l m more =
+    let a : i < least (length part) limit = least-above i (length part) limit l m in
+    let b : least (length part) limit ≤ length part = least-first (length part) limit in
+    let c : least (length part) limit ≤ limit = least-second (length part) limit in
+    let e : i + leading 0 0 (slice part i (least (length part) limit)) ≤ least (length part) limit = part-short 0 0 part i (least (length part) limit) (omega arith) b in
     (refl, more, omega arith, omega arith)
-comment-lies d file Top i l m more = absurd (omega arith)
-comment-lies d file Begin i l m more = absurd (omega arith)
-comment-lies d file Ended i l m more = absurd (omega arith)
-comment-lies d file Mark1 i l m more = absurd (omega arith)
-comment-lies d file Mark2 i l m more = absurd (omega arith)
-comment-lies d file PlainMark1 i l m more = absurd (omega arith)
-comment-lies d file PlainMark2 i l m more = absurd (omega arith)
-comment-lies d file (Comment (Within n)) i l m more = absurd (omega arith)
-comment-lies d file Blanks i l m more = absurd (omega arith)
-comment-lies d file Wanting i l m more = absurd (omega arith)
-comment-lies d file (Inside c) i l m more = absurd (omega arith)
-comment-lies d file After i l m more = absurd (omega arith)
-comment-lies d file Cr i l m more = absurd (omega arith)
+comment-lies d limit part Top i l m more = absurd (omega arith)
+comment-lies d limit part Begin i l m more = absurd (omega arith)
+comment-lies d limit part Ended i l m more = absurd (omega arith)
+comment-lies d limit part Mark1 i l m more = absurd (omega arith)
+comment-lies d limit part Mark2 i l m more = absurd (omega arith)
+comment-lies d limit part PlainMark1 i l m more = absurd (omega arith)
+comment-lies d limit part PlainMark2 i l m more = absurd (omega arith)
+comment-lies d limit part (Comment (Within n)) i l m more = absurd (omega arith)
+comment-lies d limit part Blanks i l m more = absurd (omega arith)
+comment-lies d limit part Wanting i l m more = absurd (omega arith)
+comment-lies d limit part (Inside c) i l m more = absurd (omega arith)
+comment-lies d limit part After i l m more = absurd (omega arith)
+comment-lies d limit part Cr i l m more = absurd (omega arith)
 
 -- ---- by the lexer's answers
 
-abbrev Stands : Dialect → Bytes → FileState → (i size : ℕ) → Token → Type 0
-Stands d file f i size m = TokenInBounds d file f i m × TokenCorrect d file f i size m
+abbrev Stands : Dialect → (limit : ℕ) → Bytes → FileState → (i size : ℕ) → Token → Type 0
+Stands d limit part f i size m = TokenInBounds d limit part f i m × TokenCorrect d limit part f i size m
 
-module _ (d : Dialect) (file : Bytes) (f : FileState) (i size : ℕ) (l : i < length file) (m : i < MAXFILE) where
-  pub met-skipped : (j : ℕ) → j ≡ commentEnd f file i → i < j → Stands d file f i size (Skipped j)
-  met-skipped j e h = subst (λ (k : ℕ). i < k → Stands d file f i size (Skipped k)) (sym e) (λ g. (comment-lies d file f i l m g, comment-comes d file f i size l m g)) h
+module _ (d : Dialect) (limit : ℕ) (part : Bytes) (f : FileState) (i size : ℕ) (l : i < length part) (m : i < limit) where
+  pub met-skipped : (j : ℕ) → j ≡ commentEnd f part limit i → i < j → Stands d limit part f i size (Skipped j)
+  met-skipped j e h = subst (λ (k : ℕ). i < k → Stands d limit part f i size (Skipped k)) (sym e) (λ g. (comment-lies d limit part f i l m g, comment-comes d limit part f i size l m g)) h
 
-  module _ (r : Dispatched) (q : stepOf d r (getD file i 0) ≡ fileStep d f (getD file i 0)) where
-    pub met-byte : (s : Step) → r ≡ held.Is s → Stands d file f i size (Is s)
-    met-byte s e = let g : s ≡ fileStep d f (getD file i 0) = ap (λ (x : Dispatched). stepOf d x (getD file i 0)) (sym e) ∙ q in (g, byte-comes d file f i size l m s g)
+  module _ (r : Dispatched) (q : stepOf d r (getD part i 0) ≡ fileStep d f (getD part i 0)) where
+    pub met-byte : (s : Step) → r ≡ held.Is s → Stands d limit part f i size (Is s)
+    met-byte s e = let g : s ≡ fileStep d f (getD part i 0) = ap (λ (x : Dispatched). stepOf d x (getD part i 0)) (sym e) ∙ q in (g, byte-comes d limit part f i size l m s g)
 
-    pub met-after : r ≡ held.AfterCell → Stands d file f i size (AfterCell false i)
-    met-after e = ((omega arith, l, m), after-comes d file f i size l m (ap (λ (x : Dispatched). stepOf d x (getD file i 0)) (sym e) ∙ q))
+    pub met-after : r ≡ held.AfterCell → Stands d limit part f i size (AfterCell false i)
+    met-after e = ((omega arith, l, m), after-comes d limit part f i size l m (ap (λ (x : Dispatched). stepOf d x (getD part i 0)) (sym e) ∙ q))
 
-    pub met-cell : (c : Cell) → r ≡ held.InCell c → (stop : ℕ) → Free (length file) i size stop → (e : CellEnd) → cellRun d c i (slice file i stop) ≡ e → Stands d file f i size (metOf stop e)
+    pub met-cell : (c : Cell) → r ≡ held.InCell c → (stop : ℕ) → Free (length part) limit i size stop → (e : CellEnd) → cellRun d c i (slice part i stop) ≡ e → Stands d limit part f i size (metOf stop e)
     met-cell c g stop free e h =
-        subst (λ (x : CellEnd). Stands d file f i size (metOf stop x)) h
-        (cell-lies d c file f i size stop free, cell-comes d file f c i size stop free (ap (λ (x : Dispatched). stepOf d x (getD file i 0)) (sym g) ∙ q))
+        subst (λ (x : CellEnd). Stands d limit part f i size (metOf stop x)) h
+        (cell-lies d limit c part f i size stop free, cell-comes d limit part f c i size stop free (ap (λ (x : Dispatched). stepOf d x (getD part i 0)) (sym g) ∙ q))

@@ -14,6 +14,10 @@ pub not-put : (closes : Bool) (room k x : ℕ) (old : List ℕ) → closes ≡ f
 unfolding putIf if_then_else_
 not-put closes room k x old e = rw e
 
+-- the same test
+pub same-put : (closes closes′ : Bool) (room k x : ℕ) (old new : List ℕ) → closes ≡ closes′ → new ≡ putIf closes room k x old → new ≡ putIf closes′ room k x old
+same-put closes closes′ room k x old new e q = q ∙ ap (λ (b : Bool). putIf b room k x old) e
+
 pub no-room : (closes : Bool) (room k x : ℕ) (old : List ℕ) → closes ≡ true → room ≤ k → old ≡ putIf closes room k x old
 unfolding putIf putAt if_then_else_
 no-room closes room k x old e h = rw (e, le-ltb k room h)
@@ -36,6 +40,10 @@ pub length-stored-from : (room k : ℕ) (xs old : List ℕ) → length (storedFr
 unfolding storedFrom
 length-stored-from room k [] old = refl
 length-stored-from room k (x ∷ xs) old = length-stored-from room (suc k) xs (putAt room k x old) ∙ length-put room k x old
+
+-- there is the same room as before
+pub still-room : (room k n : ℕ) (xs old new : List ℕ) → new ≡ storedFrom room k xs old → n ≤ length old → n ≤ length new
+still-room room k n xs old new e l = rw (e, length-stored-from room k xs old) l
 
 -- ---- one more at the end
 

@@ -2,72 +2,85 @@
 -- comment.
 use Prim.Native.Nat.{ℕ, _+_, _-_, _≤_, _<_}
 use mathlib.Core.Path.{_≡_}
-use mathlib.Core.Bool.{Bool, true, false}
+use mathlib.Core.Bool.{Bool, true, false, _&&_}
 use mathlib.Core.List.{List, []}
 use lib.ListN.{length, drop, getD}
+use lib.Dec.{leb}
 use Rattle.model.specs.Base.{Bytes}
-use Rattle.model.specs.File.{afterCell, fileStep}
-use Rattle.model.specs.Text.{Value}
-use Rattle.model.specs.Report.{MAXFILE, MAXRECORD}
-use Rattle.model.specs.Records.{Read, recordFull}
+use Rattle.model.specs.File.{afterCell, fileStep, counts}
+use Rattle.model.specs.Report.{MAXRECORD}
+use Rattle.model.specs.Scans.{RawCell, Scan, closingRaw, scanStep, scan}
 use Rattle.model.specs.Api.{least, slice}
 use Rattle.runs.specs.Run.{leading}
 use Rattle.model.specs.declared.Dialect.{Dialect}
 use Rattle.model.specs.declared.Char.the-variants.{Whole, Within}
 use Rattle.model.specs.declared.FileState.{FileState}
 use Rattle.model.specs.declared.FileState.the-variants.{Top, Begin, Ended, Mark1, Mark2, PlainMark1, PlainMark2, Comment, Blanks, Wanting, Inside, After, Cr}
-use Rattle.model.specs.declared.ByteRole.the-variants.{Outside}
+use Rattle.model.specs.declared.ByteRole.{ByteRole}
+use Rattle.model.specs.declared.ByteRole.the-variants.{Outside, Passed, OfCell, Between, Tail, Ends}
 use Rattle.model.specs.declared.Step.{Step}
 use Rattle.model.specs.declared.Fault.the-variants.{Byte}
-use Rattle.scanner.specs.Types.{RecordState, Failed, Token, Is, Skipped, AfterCell, Refused, Open}
-use Rattle.scanner.specs.Next.{Next, stepped, nextRecord, stateAfterByte, extendedBy}
+use Rattle.scanner.specs.Types.{RecordState, Token, Is, Skipped, AfterCell, Refused, Open}
+use Rattle.scanner.specs.declared.Reached.the-variants as reached
+use Rattle.scanner.specs.Next.{stateAfterByte, extendedBy}
+use Rattle.scanner.specs.Parts.{Found, foundOf, foundIn}
 
--- reading of this file at i, by the numbers in hand: the bytes of the cell in hand are those from where it was opened
-abbrev pub readAt : (file : Bytes) → FileState → (i : ℕ) → RecordState → List Value → Read
-readAt file f i h vs =
+-- scanning of this part at i, by the numbers in hand: the bytes of the cell in hand are those from where it was opened
+abbrev pub scanAt : (part : Bytes) → FileState → (i : ℕ) → RecordState → List RawCell → Scan
+scanAt part f i h cs =
     record {
-      done = [];
       state = f;
       offset = i;
       start = h .start;
       size = h .size;
       opened = h .opened;
-      raw = slice file (h .opened) i;
-      cells = vs;
+      raw = slice part (h .opened) i;
+      cells = cs;
     }
 
+-- the record's complete cells after the next byte
+abbrev pub cellsNext : ByteRole → Scan → List RawCell
+cellsNext Outside s = []
+cellsNext Passed s = []
+cellsNext OfCell s = s .cells
+cellsNext (Between closes) s = closingRaw closes s
+cellsNext (Tail closes) s = closingRaw closes s
+cellsNext (Ends closes) s = closingRaw closes s
+
 -- the byte at j takes this step
-abbrev pub steppedAt : Dialect → (file : Bytes) → FileState → (j : ℕ) → RecordState → List Value → Step → Next
-steppedAt d file f j h vs s = stepped d (readAt file f j h vs) (getD file j 0) (λ r. nextRecord d r (drop (j + 1) file)) s
+abbrev pub steppedAt : Dialect → (limit : ℕ) → (part : Bytes) → FileState → (j : ℕ) → RecordState → List RawCell → Step → Found
+steppedAt d limit part f j h cs s =
+    foundOf (scanStep (scanAt part f j h cs) (getD part j 0) (drop (j + 1) part) (λ t. scan d limit t (drop (j + 1) part)) s)
 
 -- what reading from i comes to, with this ahead
-unfoldable pub metNext : Dialect → (file : Bytes) → FileState → (i : ℕ) → RecordState → List Value → Token → Next
-metNext d file f i h vs (Is s) = steppedAt d file f i h vs s
-metNext d file f i h vs (Skipped j) = nextRecord d (readAt file f j (stateAfterByte Outside (j - 1) h) []) (drop j file)
-metNext d file f i h vs (AfterCell closes j) = steppedAt d file f j (extendedBy h (j - i)) vs (afterCell d closes (getD file j 0))
-metNext d file f i h vs (Refused e j) = record { event = Failed (Byte e) j; cells = vs }
-metNext d file f i h vs (Open c j) = nextRecord d (readAt file (Inside c) j (extendedBy h (j - i)) vs) (drop j file)
+unfoldable pub metNext : Dialect → (limit : ℕ) → (part : Bytes) → FileState → (i : ℕ) → RecordState → List RawCell → Token → Found
+metNext d limit part f i h cs (Is s) = steppedAt d limit part f i h cs s
+metNext d limit part f i h cs (Skipped j) = foundIn d limit (scanAt part f j (stateAfterByte Outside (j - 1) h) []) (drop j part)
+metNext d limit part f i h cs (AfterCell closes j) =
+    steppedAt d limit part f j (extendedBy h (j - i)) cs (afterCell d closes (getD part j 0))
+metNext d limit part f i h cs (Refused e j) = record { answer = reached.Failed (Byte e) j; cells = cs }
+metNext d limit part f i h cs (Open c j) = foundIn d limit (scanAt part (Inside c) j (extendedBy h (j - i)) cs) (drop j part)
 
 -- where the ordinary bytes of a comment end
-abbrev pub commentEnd : FileState → (file : Bytes) → ℕ → ℕ
-commentEnd Top file i = i
-commentEnd Begin file i = i
-commentEnd Ended file i = i
-commentEnd Mark1 file i = i
-commentEnd Mark2 file i = i
-commentEnd PlainMark1 file i = i
-commentEnd PlainMark2 file i = i
-commentEnd (Comment Whole) file i = i + leading 0 0 (slice file i (least (length file) MAXFILE))
-commentEnd (Comment (Within n)) file i = i
-commentEnd Blanks file i = i
-commentEnd Wanting file i = i
-commentEnd (Inside c) file i = i
-commentEnd After file i = i
-commentEnd Cr file i = i
+abbrev pub commentEnd : FileState → (part : Bytes) → (limit i : ℕ) → ℕ
+commentEnd Top part limit i = i
+commentEnd Begin part limit i = i
+commentEnd Ended part limit i = i
+commentEnd Mark1 part limit i = i
+commentEnd Mark2 part limit i = i
+commentEnd PlainMark1 part limit i = i
+commentEnd PlainMark2 part limit i = i
+commentEnd (Comment Whole) part limit i = i + leading 0 0 (slice part i (least (length part) limit))
+commentEnd (Comment (Within n)) part limit i = i
+commentEnd Blanks part limit i = i
+commentEnd Wanting part limit i = i
+commentEnd (Inside c) part limit i = i
+commentEnd After part limit i = i
+commentEnd Cr part limit i = i
 
 -- reading from i, whose byte is not one too many, comes to that
-pub record TokenCorrect (d : Dialect) (file : Bytes) (f : FileState) (i size : ℕ) (m : Token) : Type 0 where
-  pub comes : (h : RecordState) (vs : List Value) → h .size ≡ size → h .opened ≤ i → recordFull (readAt file f i h vs) (getD file i 0) ≡ false → nextRecord d (readAt file f i h vs) (drop i file) ≡ metNext d file f i h vs m
+pub record TokenCorrect (d : Dialect) (limit : ℕ) (part : Bytes) (f : FileState) (i size : ℕ) (m : Token) : Type 0 where
+  pub comes : (h : RecordState) (cs : List RawCell) → h .size ≡ size → h .opened ≤ i → (leb MAXRECORD (h .size) && counts f (getD part i 0)) ≡ false → foundIn d limit (scanAt part f i h cs) (drop i part) ≡ metNext d limit part f i h cs m
 
 -- reading stands between records, in the mark, in a comment or in the blanks before a record: no cell is in hand
 abbrev pub outer : FileState → Bool
@@ -85,17 +98,17 @@ outer (Inside c) = false
 outer After = false
 outer Cr = false
 
--- it lies in the file and under its limit; a byte takes its own step
-abbrev pub TokenInBounds : Dialect → (file : Bytes) → FileState → (i : ℕ) → Token → Type 0
-TokenInBounds d file f i (Is s) = s ≡ fileStep d f (getD file i 0)
-TokenInBounds d file f i (Skipped j) = (outer f ≡ true) × (i < j) × (j ≤ length file) × (j ≤ MAXFILE)
-TokenInBounds d file f i (AfterCell closes j) = (i ≤ j) × (j < length file) × (j < MAXFILE)
-TokenInBounds d file f i (Refused e j) = Unit {0}
-TokenInBounds d file f i (Open c j) = (i < j) × (j ≤ length file) × (j ≤ MAXFILE)
+-- it lies in the part and under the limit; a byte takes its own step
+abbrev pub TokenInBounds : Dialect → (limit : ℕ) → (part : Bytes) → FileState → (i : ℕ) → Token → Type 0
+TokenInBounds d limit part f i (Is s) = s ≡ fileStep d f (getD part i 0)
+TokenInBounds d limit part f i (Skipped j) = (outer f ≡ true) × (i < j) × (j ≤ length part) × (j ≤ limit)
+TokenInBounds d limit part f i (AfterCell closes j) = (i ≤ j) × (j < length part) × (j < limit)
+TokenInBounds d limit part f i (Refused e j) = j < length part
+TokenInBounds d limit part f i (Open c j) = (i < j) × (j ≤ length part) × (j ≤ limit)
 
 -- from i up to here no byte but the first can be one too many
-pub record Free (file-length i size stop : ℕ) : Type 0 where
+pub record Free (part-length limit i size stop : ℕ) : Type 0 where
   pub on : i < stop
-  pub inside : stop ≤ file-length
-  pub file : stop ≤ MAXFILE
+  pub inside : stop ≤ part-length
+  pub under : stop ≤ limit
   pub fits : i + 1 < stop → size + (stop - i) ≤ MAXRECORD

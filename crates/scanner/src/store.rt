@@ -11,7 +11,7 @@ use model::Dialect;
 pub fn put(
     closes: bool,
     d: Dialect,
-    file: &[u8],
+    part: &[u8],
     opened: usize,
     i: usize,
     room: usize,
@@ -20,17 +20,17 @@ pub fn put(
     ends: &mut [usize],
     kinds: &mut [u8],
 )
-    requires { ⌜ (opened ≤ i) × (i ≤ length (now file)) ⌝ }
+    requires { ⌜ (opened ≤ i) × (i ≤ length (now part)) ⌝ }
     requires { ⌜ (room ≤ length (now starts)) × (room ≤ length (now ends)) × (room ≤ length (now kinds)) ⌝ }
     ensures { λ r. ⌜ now (starts .exit) ≡ putIf closes room k opened (now (starts .entry)) ⌝ }
     ensures { λ r. ⌜ now (ends .exit) ≡ putIf closes room k i (now (ends .entry)) ⌝ }
-    ensures { λ r. ⌜ now (kinds .exit) ≡ putIf closes room k (kindNumber (kindOf d (slice (now (file .entry)) opened i))) (now (kinds .entry)) ⌝ }
+    ensures { λ r. ⌜ now (kinds .exit) ≡ putIf closes room k (kindNumber (kindOf d (slice (now (part .entry)) opened i))) (now (kinds .entry)) ⌝ }
 {
     if closes {
         if k < room {
             starts[k] = opened;
             ends[k] = i;
-            kinds[k] = numbers::kind_number(numbers::cell::kind_of(d, &file[opened..i]));
+            kinds[k] = numbers::kind_number(numbers::cell::kind_of(d, &part[opened..i]));
             return;
         }
         return;

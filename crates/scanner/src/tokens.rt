@@ -11,7 +11,6 @@ use model::Char;
 use model::Dialect;
 use model::FileState;
 use model::Step;
-use numbers::MAX_FILE;
 use numbers::MAX_RECORD;
 use numbers::least_of;
 use runs::CellEnd;
@@ -31,50 +30,46 @@ pub enum Token {
 }
 
 // How far bytes go from i before one can be too many for the file or the record.
-fn free_to(total: usize, i: usize, size: usize) -> usize
-    requires { ⌜ (i < total) × (i < MAXFILE) ⌝ }
-    ensures { λ r. ⌜ Free total i size r ⌝ }
+fn free_to(total: usize, i: usize, size: usize, limit: usize) -> usize
+    requires { ⌜ (i < total) × (i < limit) × (limit ≤ MAXFILE) ⌝ }
+    ensures { λ r. ⌜ Free total limit i size r ⌝ }
 {
     if MAX_RECORD <= size {
         return i + 1;
     }
-    least_of(least_of(total, MAX_FILE), i + (MAX_RECORD - size))
+    least_of(least_of(total, limit), i + (MAX_RECORD - size))
 }
 
 // Where the ordinary bytes of a comment end, if reading stands in one.
-fn comment_end(f: FileState, file: &[u8], i: usize) -> usize
-    requires { ⌜ (i < length (now file)) × (i < MAXFILE) ⌝ }
-    ensures { λ r. ⌜ r ≡ commentEnd f (now (file .entry)) i ⌝ }
+fn comment_end(f: FileState, part: &[u8], i: usize, limit: usize) -> usize
+    requires { ⌜ (i < length (now part)) × (i < limit) ⌝ }
+    ensures { λ r. ⌜ r ≡ commentEnd f (now (part .entry)) limit i ⌝ }
 {
     match f {
-        FileState::Top => i,
-        FileState::Begin => i,
-        FileState::Ended => i,
-        FileState::Mark1 => i,
-        FileState::Mark2 => i,
-        FileState::PlainMark1 => i,
-        FileState::PlainMark2 => i,
         FileState::Comment(t) => match t {
-            Char::Whole => runs::comment_run(file, i, least_of(file.len(), MAX_FILE)),
+            Char::Whole => runs::comment_run(part, i, least_of(part.len(), limit)),
             Char::Within(_) => i,
         },
-        FileState::Blanks => i,
-        FileState::Wanting => i,
-        FileState::Inside(_) => i,
-        FileState::After => i,
-        FileState::Cr => i,
+        _ => i,
     }
 }
 
 // What stands ahead of the byte at i, which is not too many. A cell goes on until it ends or a limit is near.
-pub fn next_token(d: Dialect, file: &[u8], f: FileState, i: usize, size: usize) -> Token
-    requires { ⌜ (i < length (now file)) × (i < MAXFILE) ⌝ }
-    ensures lies { λ r. ⌜ TokenInBounds d (now (file .entry)) f i r ⌝ }
-    ensures { λ r. ⌜ TokenCorrect d (now (file .entry)) f i size r ⌝ }
+pub fn next_token(
+    d: Dialect,
+    part: &[u8],
+    f: FileState,
+    i: usize,
+    size: usize,
+    limit: usize,
+) -> Token
+    requires { ⌜ (i < length (now part)) × (i < limit) × (limit ≤ MAXFILE) ⌝ }
+    ensures lies { λ r. ⌜ TokenInBounds d limit (now (part .entry)) f i r ⌝ }
+    ensures { λ r. ⌜ TokenCorrect d limit (now (part .entry)) f i size r ⌝ }
 {
-    match file_lexer::dispatch(d, f, file[i]) {
+    match file_lexer::dispatch(d, f, part[i]) {
         Dispatched::Is(s) => {
-            let j = comment_end(f, file, i);
+            let j = comment_end(f, part, i, limit);
             if i < j {
                 return Token::Skipped(j);
             }
@@ -85,8 +80,8 @@ pub fn next_token(d: Dialect, file: &[u8], f: FileState, i: usize, size: usize) 
             at: i,
         },
         Dispatched::InCell(c) => {
-            let stop = free_to(file.len(), i, size);
-            match runs::cell_end(d, c, file, i, stop) {
+            let stop = free_to(part.len(), i, size, limit);
+            match runs::cell_end(d, c, part, i, stop) {
                 CellEnd::Stopped(_, j) => Token::AfterCell {
                     closes: true,
                     at: j,

@@ -1,23 +1,33 @@
 -- What CSV+ asks of a content before it writes it: a run holds nothing that asks for quotes.
 -- Assumes nothing.
-use mathlib.Core.Path.{_≡_, refl, sym, ap, _∙_}
-use mathlib.Core.Bool.{Bool, true, false, _&&_, and-false}
-use mathlib.Core.List.{[], _∷_}
+use mathlib.Core.Path.{_≡_, refl, sym, ap, ap₂, _∙_}
+use mathlib.Core.Bool.{Bool, true, false, _&&_, _||_, and-false, or-false, or-assoc}
+use mathlib.Core.List.{[], _∷_, _++_}
 use Prim.Native.Nat.{ℕ, _+_, _≤_, _<_}
 use native.Mathlib.Omega.{arith}
-use lib.ListN.{length, drop, getD, drop-of-length-le}
-use lib.Seq.{drop-drop}
-use borrow.Author.Tests.{eq-eqb, ne-eqb, leb-true}
+use lib.Dec.{leb}
+use lib.ListN.{length, take, drop, getD, length-take, length-append}
+use lib.Seq.{take-at}
+use borrow.Author.Tests.{eq-eqb, ne-eqb, leb-true, leb-false}
 use Rattle.model.specs.declared.Settings.{Settings}
 use Rattle.model.specs.declared.Dialect.the-variants.{CsvPlus}
-use Rattle.model.specs.Base.{Bytes, if_then_else_, _is_, CR, LF, holds, isEmpty}
+use Rattle.model.specs.Base.{Bytes, if_then_else_, _is_, CR, LF, holds, isEmpty, over}
 use Rattle.model.specs.Dialect.{quoteOf, delimiterOf}
-use Rattle.model.specs.Text.{special, beginsMark, quotedText, csvPlusCell}
-use Rattle.model.proofs.Tests.{split-on}
-use Rattle.buffers.proofs.Writing.{drop-next}
-use Rattle.spell.specs.Quoted.{hasQuotes}
+use Rattle.model.specs.Text.{special, beginsMark, quotedText, csvPlusCell, hasQuotes}
+use Rattle.model.proofs.Tests.{split-on, impossible, is→eq}
+use Rattle.model.proofs.Utf8.{quote-ascii, delimiter-ascii}
+use Rattle.decoder.specs.Units.{Unit, one, two, three, four}
+use Rattle.decoder.specs.declared.first.Spelling.{Spelling}
 use Rattle.spell.specs.PlainRuns.{isPlain, plainRun}
+use Rattle.spell.specs.Contents.{contentFrom, sourceQuote, Part}
 use Rattle.spell.proofs.PlainRuns.{Plain, plain-is}
+use Rattle.spell.proofs.Units.{first-one}
+use Rattle.spell.proofs.Contents.{content-part, content-end}
+
+holds-append : (p : ℕ → Bool) (u v : Bytes) → holds p (u ++ v) ≡ (holds p u || holds p v)
+unfolding holds
+holds-append p [] v = refl
+holds-append p (b ∷ u) v = ap (λ (x : Bool). p b || x) (holds-append p u v) ∙ sym (or-assoc (p b) (holds p u) (holds p v))
 
 module _ (s : Settings) where
   abbrev Q : ℕ
@@ -26,35 +36,70 @@ module _ (s : Settings) where
   abbrev P : ℕ
   P = delimiterOf (CsvPlus s)
 
-  not-special : (b : ℕ) → Plain P Q b → special s b ≡ false
-  not-special b t =
+  -- ---- runs
+
+  not-special : {q b : ℕ} → Plain Q q P b → special s b ≡ false
+  not-special {b} t =
       let h : 0x20 ≤ b = leb-true 0x20 b (t .least) in
-      rw (t .no-second, t .no-first, ne-eqb b 0x0D (λ e. omega arith), ne-eqb b 0x0A (λ e. omega arith))
+      rw (t .no-first, t .no-third, ne-eqb b 0x0D (λ e. omega arith), ne-eqb b 0x0A (λ e. omega arith))
 
   -- a run may be passed over
-  holds-run : (bs : Bytes) → holds (special s) bs ≡ holds (special s) (drop (plainRun P Q bs) bs)
+  special-run : (q : ℕ) (bs ys : Bytes) → holds (special s) (take (plainRun Q q P bs) bs ++ ys) ≡ holds (special s) ys
   unfolding holds plainRun if_then_else_
-  holds-run [] = refl
-  holds-run (b ∷ bs) =
-      split-on (isPlain P Q b)
-      (λ e. rw (e, not-special b (plain-is P Q b e)) (holds-run bs))
+  special-run q [] ys = refl
+  special-run q (b ∷ bs) ys =
+      split-on (isPlain Q q P b)
+      (λ e. rw (e, not-special (plain-is Q q P b e)) (special-run q bs ys))
       (λ e. rw e)
 
-  module _ (c : Bytes) (i j : ℕ) (k : j ≡ i + plainRun P Q (drop i c)) where
-    pub special-on : holds (special s) (drop i c) ≡ holds (special s) (drop j c)
-    special-on = holds-run (drop i c) ∙ ap (holds (special s)) (drop-drop (plainRun P Q (drop i c)) i c ∙ ap (λ (n : ℕ). drop n c) (sym k))
+  module _ (c : Spelling) (raw : Bytes) (i j p q r : ℕ) (e : p ≡ Q) (f : q ≡ sourceQuote c) (g : r ≡ P) (k : j ≡ i + plainRun p q r (drop i raw)) where
+    pub special-on : holds (special s) (contentFrom c raw i) ≡ holds (special s) (contentFrom c raw j)
+    special-on =
+        let k′ : j ≡ i + plainRun Q q P (drop i raw) = k ∙ ap₂ (λ (x y : ℕ). i + plainRun x q y (drop i raw)) e g in
+        ap (holds (special s)) (content-part raw i j Q q P k′ c f) ∙ special-run q (drop i raw) (contentFrom c raw j)
 
-    pub special-end : length c ≤ j → holds (special s) (drop i c) ≡ false
-    unfolding holds
-    special-end h = special-on ∙ rw (drop-of-length-le c h)
+  pub special-end : (c : Spelling) (raw : Bytes) (j : ℕ) → length raw ≤ j → holds (special s) (contentFrom c raw j) ≡ false
+  unfolding holds
+  special-end c raw j h = rw (content-end c raw j h)
 
-    pub special-there : j < length c → special s (getD c j 0) ≡ true → holds (special s) (drop i c) ≡ true
-    unfolding holds
-    special-there h e = special-on ∙ rw (drop-next c j (j + 1) h refl, e)
+  -- ---- units
 
-    pub special-next : j < length c → special s (getD c j 0) ≡ false → holds (special s) (drop i c) ≡ holds (special s) (drop (j + 1) c)
+  high-special : (b : ℕ) → 0x80 ≤ b → special s b ≡ false
+  high-special b h =
+      let q : Q ≤ 0x7F = quote-ascii (CsvPlus s) in
+      let p : P ≤ 0x7F = delimiter-ascii (CsvPlus s) in
+      rw (ne-eqb b Q (λ e. omega arith), ne-eqb b P (λ e. omega arith), ne-eqb b CR (λ e. omega arith), ne-eqb b LF (λ e. omega arith))
+
+  more-special : {u : Bytes} → Unit u → (length u ≡ 1 → ⊥) → holds (special s) u ≡ false
+  unfolding holds
+  more-special (one b) h = absurd (h refl)
+  more-special (two a b k l) h = rw (high-special a (k .least), high-special b (l .least))
+  more-special (three a b c k l m) h = rw (high-special a k, high-special b (l .least), high-special c (m .least))
+  more-special (four a b c d k l m n) h = rw (high-special a (k .least), high-special b (l .least), high-special c (m .least), high-special d (n .least))
+
+  module _ (bytes : Bytes) (size : ℕ) (long : length bytes ≡ 4) (few : size ≤ 4) where
+    pub unit-byte : size ≡ 1 → holds (special s) (take size bytes) ≡ special s (getD bytes 0 0)
     unfolding holds
-    special-next h e = special-on ∙ rw (drop-next c j (j + 1) h refl, e)
+    unit-byte e = rw (first-one bytes size e (omega arith)) (or-false (special s (getD bytes 0 0)))
+
+    pub unit-more : (0 < size → Unit (take size bytes)) → (size ≡ 1 → ⊥) → holds (special s) (take size bytes) ≡ false
+    unfolding holds
+    unit-more u h =
+        split-on (size is 0) (λ e. rw (is→eq size 0 e)) λ e.
+        more-special (u (zero-less e)) λ l. h (omega (arith, l, length-take size bytes))
+      where
+        zero-less : (size is 0) ≡ false → 0 < size
+        zero-less e = split-on (leb 1 size) (λ f. leb-true 1 size f) λ f. impossible (sym e ∙ eq-eqb size 0 (omega (arith, leb-false 1 size f)))
+
+  module _ {c : Spelling} {raw : Bytes} {i : ℕ} {bytes : Bytes} {size next : ℕ} (p : Part c raw i bytes size next) where
+    part-special : holds (special s) (contentFrom c raw i) ≡ (holds (special s) (take size bytes) || holds (special s) (contentFrom c raw next))
+    part-special = ap (holds (special s)) (p .stands) ∙ holds-append (special s) (take size bytes) (contentFrom c raw next)
+
+    pub special-there : holds (special s) (take size bytes) ≡ true → holds (special s) (contentFrom c raw i) ≡ true
+    special-there e = part-special ∙ rw e
+
+    pub special-next : holds (special s) (take size bytes) ≡ false → holds (special s) (contentFrom c raw i) ≡ holds (special s) (contentFrom c raw next)
+    special-next e = part-special ∙ rw e
 
   -- the tests of one byte
   module _ (b : ℕ) where
@@ -93,6 +138,17 @@ module _ (c : Bytes) (h : 3 ≤ length c) where
 
   pub mark-third : getD c 0 0 ≡ 0xEF → getD c 1 0 ≡ 0xBB → beginsMark c ≡ (getD c 2 0 is 0xBF)
   mark-third e f = mark-by c h ∙ rw (eq-eqb (getD c 0 0) 0xEF e, eq-eqb (getD c 1 0) 0xBB f)
+
+-- the first n bytes of a room are w, and all of it
+pub record Held (w room : Bytes) (n : ℕ) : Type 0 where
+  pub front : take n room ≡ w
+  pub inside : n ≤ length room
+  pub whole : n ≡ length (take n room)
+
+pub held : (w old room : Bytes) (n : ℕ) → room ≡ over w old → n ≡ length w → Held w room n
+held w old room n e l =
+    let f : take n room ≡ w = ap (take n) e ∙ take-at w (drop (length w) old) n (sym l) in
+    record { front = f; inside = rw e (omega (arith, l, length-append w (drop (length w) old))); whole = l ∙ ap length (sym f) }
 
 -- ---- the whole test
 

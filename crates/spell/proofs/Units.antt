@@ -1,7 +1,7 @@
 -- The text of a unit: what the definitions of canonical text make of its bytes.
 -- Assumes nothing.
 use mathlib.Core.Path.{_≡_, refl, sym, ap, _∙_}
-use mathlib.Core.Bool.{true, false}
+use mathlib.Core.Bool.{true, false, _||_}
 use mathlib.Core.List.{[], _∷_, _++_, append-nil, append-assoc}
 use Prim.Native.Nat.{ℕ, _/_, _%_, _≤_, _<_}
 use native.Mathlib.Omega.{arith}
@@ -13,11 +13,12 @@ use Rattle.model.specs.declared.Dialect.{Dialect}
 use Rattle.model.specs.declared.Dialect.the-variants.{Csvj, Tdif, CsvPlus}
 use Rattle.model.specs.Dialect.{quoteOf, isCsvj}
 use Rattle.model.specs.Base.{Bytes, if_then_else_, _is_, QUOTE, BACKSLASH}
-use Rattle.model.specs.Utf8.{isSurrogate}
+use Rattle.model.specs.Utf8.{isSurrogate, holdsLone}
 use Rattle.model.specs.Text.{hexDigit, escaped, surrogate, jsonBody, doubled}
 use Rattle.model.proofs.Tests.{split-on, impossible}
 use Rattle.model.proofs.Utf8.{quote-ascii}
-use Rattle.spell.specs.Units.{Spells, bodyText, Unit, one, two, three, four, Lead, Later, isLone, beginsLone}
+use Rattle.decoder.specs.Units.{Unit, one, two, three, four, Lead, Later}
+use Rattle.spell.specs.Units.{Spells, bodyText, isLone, beginsLone, paired}
 
 -- the same text by another name
 pub spells-as : {w v bytes : Bytes} {size : ℕ} → w ≡ v → Spells v bytes size → Spells w bytes size
@@ -241,3 +242,47 @@ pub text-append : (t : Dialect) (u bs : Bytes) → Unit u → (length u ≡ 1 �
 text-append Csvj u bs x h = body-append u bs x h
 text-append Tdif u bs x h = doubled-append QUOTE u bs
 text-append (CsvPlus s) u bs x h = doubled-append (quoteOf (CsvPlus s)) u bs
+
+-- ---- whether a unit, and then the rest, hold a lone surrogate
+
+-- a byte that begins none
+pub lone-skip : (b : ℕ) (bs : Bytes) → paired (b ∷ bs) ≡ false → holdsLone (b ∷ bs) ≡ holdsLone bs
+unfolding holdsLone if_then_else_
+lone-skip b [] e = refl
+lone-skip b (c ∷ bs) e = rw e
+
+paired-not : (b : ℕ) (bs : Bytes) → (b ≡ 0xED → ⊥) → paired (b ∷ bs) ≡ false
+paired-not b [] h = refl
+paired-not b (c ∷ bs) h = no-surrogate b c h
+
+skip-later : (b : ℕ) (bs : Bytes) → Later b → holdsLone (b ∷ bs) ≡ holdsLone bs
+skip-later b bs h = lone-skip b bs (paired-not b bs λ e. omega (arith, h .most))
+
+skip-lead : (a : ℕ) (bs : Bytes) → Lead a → holdsLone (a ∷ bs) ≡ holdsLone bs
+skip-lead a bs h = lone-skip a bs (paired-not a bs (h .other))
+
+pub lone-found : (a b : ℕ) (bs : Bytes) → isSurrogate a b ≡ true → holdsLone (a ∷ b ∷ bs) ≡ true
+unfolding holdsLone if_then_else_
+lone-found a b bs e = rw e
+
+pub lone-append : (u bs : Bytes) → Unit u → (length u ≡ 1 → paired (u ++ bs) ≡ false) → holdsLone (u ++ bs) ≡ (isLone u || holdsLone bs)
+lone-append u bs (one b) h = lone-skip b bs (h refl)
+lone-append u bs (two a b g k) h = skip-lead a (b ∷ bs) g ∙ skip-later b bs k
+lone-append u bs (three a b c g k m) h =
+    split-on (isSurrogate a b)
+    (λ e. rw e (lone-found a b (c ∷ bs) e))
+    (λ e. rw e (lone-skip a (b ∷ c ∷ bs) e ∙ skip-later b (c ∷ bs) k ∙ skip-later c bs m))
+lone-append u bs (four a b c d g k m n) h = skip-lead a (b ∷ c ∷ d ∷ bs) g ∙ skip-later b (c ∷ d ∷ bs) k ∙ skip-later c (d ∷ bs) m ∙ skip-later d bs n
+
+-- what begins no lone surrogate with two bytes begins none with three
+pub paired-begins : (bs : Bytes) → paired bs ≡ false → beginsLone bs ≡ false
+paired-begins [] e = refl
+paired-begins (a ∷ []) e = refl
+paired-begins (a ∷ b ∷ []) e = refl
+paired-begins (a ∷ b ∷ c ∷ bs) e = e
+
+pub begins-paired : (bs : Bytes) → beginsLone bs ≡ true → holdsLone bs ≡ true
+begins-paired [] e = impossible e
+begins-paired (a ∷ []) e = impossible e
+begins-paired (a ∷ b ∷ []) e = impossible e
+begins-paired (a ∷ b ∷ c ∷ bs) e = lone-found a b (c ∷ bs) e

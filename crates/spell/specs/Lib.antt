@@ -1,4 +1,6 @@
+pub mod Columns
 pub mod PlainRuns
 pub mod Units
-pub mod Quoted
+pub mod Contents
 pub mod Bodies
+pub mod Cells

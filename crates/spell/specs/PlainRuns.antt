@@ -6,11 +6,11 @@ use lib.Dec.{leb}
 use Rattle.model.specs.Base.{Bytes, if_then_else_, _is_, QUOTE, BACKSLASH}
 
 -- a byte that stands for itself in every source and every target: one from 20 hex on that is no quote, no backslash, not ED hex,
--- which may begin a lone surrogate, and neither of these two
-unfoldable pub isPlain : (p q b : ℕ) → Bool
-isPlain p q b = leb 0x20 b && not (b is QUOTE) && not (b is BACKSLASH) && not (b is 0xED) && not (b is p) && not (b is q)
+-- which may begin a lone surrogate, and none of these three
+unfoldable pub isPlain : (p q r b : ℕ) → Bool
+isPlain p q r b = leb 0x20 b && not (b is QUOTE) && not (b is BACKSLASH) && not (b is 0xED) && not (b is p) && not (b is q) && not (b is r)
 
 -- how many such bytes stand at the beginning: all of these are, and the next is not or there is none
-unfoldable pub plainRun : (p q : ℕ) → Bytes → ℕ
-plainRun p q [] = 0
-plainRun p q (b ∷ bs) = if isPlain p q b then suc (plainRun p q bs) else 0
+unfoldable pub plainRun : (p q r : ℕ) → Bytes → ℕ
+plainRun p q r [] = 0
+plainRun p q r (b ∷ bs) = if isPlain p q r b then suc (plainRun p q r bs) else 0

@@ -1,5 +1,5 @@
--- Content a unit at a time: a byte, a character of more than one byte, or a lone surrogate.
-use Prim.Native.Nat.{ℕ, _≤_}
+-- The text of a unit of content, and what it begins with.
+use Prim.Native.Nat.{ℕ}
 use mathlib.Core.Path.{_≡_}
 use mathlib.Core.Bool.{Bool, false}
 use mathlib.Core.List.{[], _∷_}
@@ -22,23 +22,6 @@ bodyText Csvj bs = jsonBody bs
 bodyText Tdif bs = doubled QUOTE bs
 bodyText (CsvPlus s) bs = doubled (quoteOf (CsvPlus s)) bs
 
--- the first byte of a character of two or four bytes
-pub record Lead (a : ℕ) : Type 0 where
-  pub least : 0x80 ≤ a
-  pub other : a ≡ 0xED → ⊥
-
--- a byte after the first of a character
-pub record Later (b : ℕ) : Type 0 where
-  pub least : 0x80 ≤ b
-  pub most : b ≤ 0xBF
-
--- a unit of content; a character of three bytes may be a lone surrogate
-pub data Unit : Bytes → Type 0 where
-  one : (b : ℕ) → Unit (b ∷ [])
-  two : (a b : ℕ) → Lead a → Later b → Unit (a ∷ b ∷ [])
-  three : (a b c : ℕ) → 0x80 ≤ a → Later b → Later c → Unit (a ∷ b ∷ c ∷ [])
-  four : (a b c d : ℕ) → Lead a → Later b → Later c → Later d → Unit (a ∷ b ∷ c ∷ d ∷ [])
-
 -- a unit is a lone surrogate
 abbrev pub isLone : Bytes → Bool
 isLone [] = false
@@ -53,3 +36,9 @@ beginsLone [] = false
 beginsLone (a ∷ []) = false
 beginsLone (a ∷ b ∷ []) = false
 beginsLone (a ∷ b ∷ c ∷ bs) = isSurrogate a b
+
+-- the first two bytes of content are those of a lone surrogate
+abbrev pub paired : Bytes → Bool
+paired [] = false
+paired (a ∷ []) = false
+paired (a ∷ b ∷ bs) = isSurrogate a b

@@ -6,8 +6,8 @@ ghost use lib.ListN.{take};
 ghost use Rattle.model.specs.Base.{BACKSLASH};
 ghost use Rattle.model.specs.Dialect.{isCsvj};
 ghost use Rattle.model.specs.Text.{hexDigit, escaped, surrogate, doubled};
-ghost use Rattle.buffers.specs.Wrote.{Room, Put};
-ghost use Rattle.spell.specs.Units.{Spells, Unit, isLone, bodyText};
+ghost use Rattle.decoder.specs.Units.{Unit};
+ghost use Rattle.spell.specs.Units.{Spells, isLone, bodyText};
 use model::Dialect;
 
 // The first `size` of `bytes`.
@@ -167,7 +167,8 @@ pub fn is_csvj(t: Dialect) -> bool
     }
 }
 
-fn unit_text(t: Dialect, bytes: [u8; 4], size: usize) -> UnitText
+// The text of a unit, the first `size` of `bytes`.
+pub fn unit_text(t: Dialect, bytes: [u8; 4], size: usize) -> UnitText
     requires { ⌜ (size ≤ 4) × Unit (take size bytes) ⌝ }
     ensures { λ r. ⌜ Spells (bodyText t (take size bytes)) (r .bytes) (r .size) ⌝ }
 {
@@ -183,23 +184,4 @@ fn unit_text(t: Dialect, bytes: [u8; 4], size: usize) -> UnitText
         bytes: [bytes[0], bytes[1], bytes[2], bytes[3], 0, 0],
         size,
     }
-}
-
-// The text of a unit, the first `size` of `bytes`, at o, or only measured from there.
-pub fn put_unit(
-    t: Dialect,
-    bytes: [u8; 4],
-    size: usize,
-    out: &mut [u8],
-    o: usize,
-    write: bool,
-) -> usize
-    requires { ⌜ (size ≤ 4) × Unit (take size bytes) ⌝ }
-    requires { ⌜ Room write o (bodyText t (take size bytes)) (now out) ⌝ }
-    ensures { λ r. ⌜ Put write (now (out .entry)) o (bodyText t (take size bytes)) (now (out .exit)) r ⌝ }
-{
-    let text = unit_text(t, bytes, size);
-    let spelt = text.bytes;
-    let length = text.size;
-    buffers::put(out, o, &spelt[..length], write)
 }

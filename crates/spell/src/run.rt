@@ -5,9 +5,9 @@ ghost use lib.ListN.{length, drop};
 ghost use Rattle.spell.specs.PlainRuns.{isPlain, plainRun};
 
 // Whether a byte stands for itself: one from 20 hex on that is no quote, no backslash, not ED hex, which may begin a lone surrogate,
-// and neither p nor q.
-fn is_plain(p: u8, q: u8, b: u8) -> bool
-    ensures { λ r. ⌜ r ≡ isPlain p q b ⌝ }
+// and none of p, q and r.
+fn is_plain(p: u8, q: u8, r: u8, b: u8) -> bool
+    ensures { λ x. ⌜ x ≡ isPlain p q r b ⌝ }
 {
     if b < 0x20 {
         return false;
@@ -27,17 +27,20 @@ fn is_plain(p: u8, q: u8, b: u8) -> bool
     if b == q {
         return false;
     }
+    if b == r {
+        return false;
+    }
     true
 }
 
 // How far such bytes go from `at`.
-pub fn plain(s: &[u8], at: usize, p: u8, q: u8) -> usize
+pub fn plain(s: &[u8], at: usize, p: u8, q: u8, r: u8) -> usize
     requires { ⌜ at ≤ length (now s) ⌝ }
-    ensures { λ r. ⌜ r ≡ at + plainRun p q (drop at (now (s .entry))) ⌝ }
+    ensures { λ x. ⌜ x ≡ at + plainRun p q r (drop at (now (s .entry))) ⌝ }
 {
     let mut i = at;
     while i < s.len() {
-        if is_plain(p, q, s[i]) {
+        if is_plain(p, q, r, s[i]) {
             i += 1;
         } else {
             return i;

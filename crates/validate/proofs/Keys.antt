@@ -1,6 +1,6 @@
 -- Keys of names by their bytes, and two keys by what stands at a place.
 -- Assumes nothing.
-use mathlib.Core.Path.{_≡_, refl, ap, _∙_}
+use mathlib.Core.Path.{_≡_, refl, sym, ap, _∙_}
 use mathlib.Core.Bool.{Bool, true, false, _&&_, and-false}
 use mathlib.Core.List.{List, [], _∷_, map}
 use Prim.Native.Nat.{ℕ, zero, suc, _+_, _-_, _<_, _≤_}
@@ -12,8 +12,14 @@ use Rattle.model.specs.declared.Dialect.{Dialect}
 use Rattle.model.specs.declared.Dialect.the-variants.{Csvj, Tdif, CsvPlus}
 use Rattle.model.specs.Base.{if_then_else_, Bytes, same}
 use Rattle.model.specs.Records.{lower, nameKey, among}
+use Rattle.model.specs.Report.{MAXRECORD}
+use Rattle.model.specs.declared.Kind.{Kind}
 use Rattle.buffers.proofs.Writing.{drop-next}
-use Rattle.validate.specs.Keys.{folded, keyAt, keysBefore}
+use Rattle.decoder.specs.declared.source.Source.{Source}
+use Rattle.decoder.specs.declared.source.Source.the-variants.{File}
+use Rattle.decoder.specs.Sources.{Spelt, in-file, as-content, Cells}
+use Rattle.validate.specs.Keys.{folded, Short, NamesIn, keyAt, keysBefore}
+use Rattle.validate.specs.Keys as names
 
 -- the key is the name with each byte folded
 pub key-folds : (d : Dialect) (bs : Bytes) → nameKey d bs ≡ map (folded d) bs
@@ -47,48 +53,75 @@ same-lengths [] (y ∷ b) h = refl
 same-lengths (x ∷ a) [] h = refl
 same-lengths (x ∷ a) (y ∷ b) h = rw (same-lengths a b (λ e. h (omega arith))) (and-false (eqb x y))
 
-module _ (a b : Bytes) where
+module _ (rule : Dialect) (a b : Bytes) where
+  -- names of different lengths are different
+  pub different-lengths : (length a ≡ length b → ⊥) → same (nameKey rule a) (nameKey rule b) ≡ false
+  different-lengths h = same-lengths (nameKey rule a) (nameKey rule b) (λ e. h (sym (key-length rule a) ∙ e ∙ key-length rule b))
+
   -- whether they are the same from place i on
   abbrev pub sameFrom : ℕ → Bool
-  sameFrom i = same (drop i a) (drop i b)
+  sameFrom i = same (nameKey rule (drop i a)) (nameKey rule (drop i b))
 
   pub same-end : (i : ℕ) → length a ≤ i → length b ≤ i → sameFrom i ≡ true
   unfolding same
-  same-end i h k = rw (drop-of-length-le a h, drop-of-length-le b k)
+  same-end i h k = rw (key-end rule a i h, key-end rule b i k)
 
   module _ (i : ℕ) (h : i < length a) (k : i < length b) where
-    same-at : sameFrom i ≡ (eqb (getD a i 0) (getD b i 0) && sameFrom (i + 1))
+    same-at : sameFrom i ≡ (eqb (folded rule (getD a i 0)) (folded rule (getD b i 0)) && sameFrom (i + 1))
     unfolding same
-    same-at = rw (drop-next a i (i + 1) h refl, drop-next b i (i + 1) k refl)
+    same-at = rw (key-next rule a i h, key-next rule b i k)
 
-    pub same-differs : (getD a i 0 ≡ getD b i 0 → ⊥) → sameFrom i ≡ false
-    same-differs e = same-at ∙ rw (ne-eqb (getD a i 0) (getD b i 0) e)
+    pub same-differs : (folded rule (getD a i 0) ≡ folded rule (getD b i 0) → ⊥) → sameFrom i ≡ false
+    same-differs e = same-at ∙ rw (ne-eqb (folded rule (getD a i 0)) (folded rule (getD b i 0)) e)
 
-    pub same-next : getD a i 0 ≡ getD b i 0 → sameFrom i ≡ sameFrom (i + 1)
-    same-next e = same-at ∙ rw (eq-eqb (getD a i 0) (getD b i 0) e)
+    pub same-next : folded rule (getD a i 0) ≡ folded rule (getD b i 0) → sameFrom i ≡ sameFrom (i + 1)
+    same-next e = same-at ∙ rw (eq-eqb (folded rule (getD a i 0)) (folded rule (getD b i 0)) e)
+
+-- ---- stretches
+
+pub short-in-file : {src : Source} {n : ℕ} (d : Dialect) → src ≡ File d → Short src n → n ≤ MAXRECORD
+short-in-file {src} {n} d e h = in-a-file d n (rw e at h)
+  where
+    in-a-file : (d : Dialect) (n : ℕ) → Short (File d) n → n ≤ MAXRECORD
+    in-a-file d n (names.in-file k) = k
+
+pub names-as : {src to : Source} {s : Bytes} {starts ends : List ℕ} → src ≡ to → NamesIn src s starts ends → NamesIn to s starts ends
+names-as e p = rw e at p
+
+spelt-short : {src : Source} {k : Kind} {raw : Bytes} → Spelt src k raw → Short src (length raw)
+spelt-short (in-file short sound kind) = names.in-file short
+spelt-short as-content = names.as-content
+
+-- the cells of a record are names, whatever their kinds
+pub cells-named : {src : Source} {s : Bytes} {starts ends kinds : List ℕ} → Cells src s starts ends kinds → NamesIn src s starts ends
+cells-named c =
+    record {
+      paired = c .with-ends;
+      each = λ k h. record { forward = c .each k h .forward; within = c .each k h .within; short = spelt-short (c .each k h .spelt) };
+    }
 
 -- ---- the names before a place
 
-module _ (d rule : Dialect) (file : Bytes) (starts ends : List ℕ) where
+module _ (src : Source) (rule : Dialect) (s : Bytes) (starts ends : List ℕ) where
   -- the key of the cell at a place
   abbrev pub keyOf : ℕ → Bytes
-  keyOf n = keyAt d rule file (getD starts n 0) (getD ends n 0)
+  keyOf n = keyAt src rule s (getD starts n 0) (getD ends n 0)
 
-  keys-last : (n : ℕ) → 0 < n → keysBefore d rule file starts ends n ≡ keyOf (n - 1) ∷ keysBefore d rule file starts ends (n - 1)
+  keys-last : (n : ℕ) → 0 < n → keysBefore src rule s starts ends n ≡ keyOf (n - 1) ∷ keysBefore src rule s starts ends (n - 1)
   unfolding keysBefore
   keys-last zero h = absurd (omega arith)
   keys-last (suc n) h = let e : suc n - 1 ≡ n = omega arith in rw e
 
   module _ (key : Bytes) where
-    pub among-none : among key (keysBefore d rule file starts ends 0) ≡ false
+    pub among-none : among key (keysBefore src rule s starts ends 0) ≡ false
     unfolding among keysBefore
     among-none = refl
 
-    pub among-last : (n : ℕ) → 0 < n → same key (keyOf (n - 1)) ≡ true → among key (keysBefore d rule file starts ends n) ≡ true
+    pub among-last : (n : ℕ) → 0 < n → same key (keyOf (n - 1)) ≡ true → among key (keysBefore src rule s starts ends n) ≡ true
     unfolding among if_then_else_
     among-last n h e = rw (keys-last n h, e)
 
     pub among-before : (n : ℕ) → 0 < n → same key (keyOf (n - 1)) ≡ false
-        → among key (keysBefore d rule file starts ends n) ≡ among key (keysBefore d rule file starts ends (n - 1))
+        → among key (keysBefore src rule s starts ends n) ≡ among key (keysBefore src rule s starts ends (n - 1))
     unfolding among if_then_else_
     among-before n h e = rw (keys-last n h, e)

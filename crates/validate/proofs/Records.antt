@@ -1,11 +1,12 @@
 -- Checks of a record, by what their tests say; those that go from cell to cell, by what is said of the cell at a place.
 -- Assumes nothing.
 use mathlib.Core.Path.{_≡_, refl, sym, ap}
-use mathlib.Core.Bool.{true, false}
-use mathlib.Core.List.{List, _∷_}
-use Prim.Native.Nat.{ℕ, _+_, _<_, _≤_}
+use mathlib.Core.Bool.{true, false, not}
+use mathlib.Core.List.{List, [], _∷_}
+use Prim.Native.Nat.{ℕ, suc, _+_, _<_, _≤_}
 use native.Mathlib.Numerals.{add-one}
-use lib.ListN.{length, getD}
+use native.Mathlib.Omega.{arith}
+use lib.ListN.{length, drop, getD, drop-of-length-le}
 use borrow.Author.Tests.{eq-eqb, ne-eqb, lt-ltb, le-ltb}
 use Rattle.model.specs.declared.Dialect.{Dialect}
 use Rattle.model.specs.declared.Fault.{Fault}
@@ -13,13 +14,14 @@ use Rattle.model.specs.declared.Fault.the-variants.{CellCount, RepeatedName, He
 use Rattle.model.specs.declared.Verdict.{Verdict}
 use Rattle.model.specs.declared.Verdict.the-variants.{Sound, Faulty}
 use Rattle.model.specs.Base.{if_then_else_, Bytes}
-use Rattle.model.specs.Decode.{kindOf}
 use Rattle.model.specs.Text.{Value, isText}
 use Rattle.model.specs.Records.{_orElse_, when, among, repeatFrom, repeatFault, headerKindFrom, headerFault, dataFault}
-use Rattle.model.specs.Api.{slice}
-use Rattle.validate.specs.Cells.{valuesOf}
+use Rattle.buffers.proofs.Writing.{drop-next}
+use Rattle.decoder.specs.declared.source.Source.{Source}
+use Rattle.decoder.specs.Sources.{kindFrom, cellsIn}
+use Rattle.decoder.proofs.CellsIn.{cellsFrom, cells-next, cells-end}
 use Rattle.validate.specs.Keys.{keysBefore}
-use Rattle.validate.proofs.Cells.{valuesFrom, values-next, values-end}
+use Rattle.validate.specs.Kinds.{notTextFrom}
 use Rattle.validate.proofs.Keys.{keyOf}
 
 -- ---- data records
@@ -37,53 +39,66 @@ module _ (columns cells : ℕ) (vs : List Value) (e : length vs ≡ cells) where
   unfolding dataFault when _orElse_
   data-sound h n = rw (e, le-ltb 64 cells h, eq-eqb cells columns n)
 
--- ---- the cells of a header, from place n on
+-- ---- the kinds of a header, from place n on
 
-module _ (d : Dialect) (file : Bytes) (starts ends : List ℕ) where
+module _ (kinds : List ℕ) where
   abbrev pub notTextAt : ℕ → Verdict
-  notTextAt n = headerKindFrom (n + 1) (valuesFrom d file starts ends n)
+  notTextAt n = notTextFrom (n + 1) (drop n kinds)
 
-  module _ (p : length starts ≡ length ends) (n : ℕ) where
-    pub not-text-end : length starts ≤ n → notTextAt n ≡ Sound
-    unfolding headerKindFrom
-    not-text-end h = rw (values-end d file starts ends p n h)
+  module _ (n : ℕ) where
+    pub not-text-end : length kinds ≤ n → notTextAt n ≡ Sound
+    unfolding notTextFrom
+    not-text-end h = rw (drop-of-length-le kinds h)
 
-    module _ (h : n < length starts) where
-      pub not-text-here : isText (kindOf d (slice file (getD starts n 0) (getD ends n 0))) ≡ false → notTextAt n ≡ Faulty (HeaderKind (n + 1))
-      unfolding headerKindFrom when _orElse_
-      not-text-here e = rw (values-next d file starts ends p n h, e)
+    module _ (h : n < length kinds) where
+      pub not-text-here : isText (kindFrom (getD kinds n 0)) ≡ false → notTextAt n ≡ Faulty (HeaderKind (n + 1))
+      unfolding notTextFrom when _orElse_
+      not-text-here e = rw (drop-next kinds n (n + 1) h refl, e)
 
-      pub not-text-next : isText (kindOf d (slice file (getD starts n 0) (getD ends n 0))) ≡ true → notTextAt n ≡ notTextAt (n + 1)
-      unfolding headerKindFrom when _orElse_
-      not-text-next e = rw (values-next d file starts ends p n h, e) (ap (λ (k : ℕ). headerKindFrom k (valuesFrom d file starts ends (n + 1))) (sym (add-one (n + 1))))
+      pub not-text-next : isText (kindFrom (getD kinds n 0)) ≡ true → notTextAt n ≡ notTextAt (n + 1)
+      unfolding notTextFrom when _orElse_
+      not-text-next e = rw (drop-next kinds n (n + 1) h refl, e) (ap (λ (k : ℕ). notTextFrom k (drop (n + 1) kinds)) (sym (add-one (n + 1))))
+
+-- they are those of the cells
+pub not-text-cells : (n : ℕ) (src : Source) (s : Bytes) (starts ends kinds : List ℕ) → length starts ≡ length ends → length starts ≡ length kinds
+    → notTextFrom n kinds ≡ headerKindFrom n (cellsIn src s starts ends kinds)
+unfolding notTextFrom headerKindFrom cellsIn
+not-text-cells n src s [] ends [] e k = refl
+not-text-cells n src s [] ends (x ∷ kinds) e k = absurd (omega arith)
+not-text-cells n src s (i ∷ starts) [] kinds e k = absurd (omega arith)
+not-text-cells n src s (i ∷ starts) (j ∷ ends) [] e k = absurd (omega arith)
+not-text-cells n src s (i ∷ starts) (j ∷ ends) (x ∷ kinds) e k =
+    ap (λ (v : Verdict). when (not (isText (kindFrom x))) (HeaderKind n) orElse v) (not-text-cells (suc n) src s starts ends kinds (omega arith) (omega arith))
 
 -- ---- the names of a header, from place n on, with those before them seen
 
-module _ (d rule : Dialect) (fault : ℕ → Fault) (file : Bytes) (starts ends : List ℕ) where
+module _ (src : Source) (rule : Dialect) (fault : ℕ → Fault) (s : Bytes) (starts ends kinds : List ℕ) where
   abbrev pub repeatAt : ℕ → Verdict
-  repeatAt n = repeatFrom rule fault (keysBefore d rule file starts ends n) (n + 1) (valuesFrom d file starts ends n)
+  repeatAt n = repeatFrom rule fault (keysBefore src rule s starts ends n) (n + 1) (cellsFrom src s starts ends kinds n)
 
-  pub repeat-start : repeatFault rule fault (valuesOf d file starts ends) ≡ repeatAt 0
+  pub repeat-start : repeatFault rule fault (cellsIn src s starts ends kinds) ≡ repeatAt 0
   unfolding repeatFault keysBefore
   repeat-start = refl
 
-  keys-next : (n : ℕ) → keysBefore d rule file starts ends (n + 1) ≡ keyOf d rule file starts ends n ∷ keysBefore d rule file starts ends n
+  keys-next : (n : ℕ) → keysBefore src rule s starts ends (n + 1) ≡ keyOf src rule s starts ends n ∷ keysBefore src rule s starts ends n
   unfolding keysBefore
   keys-next n = rw add-one
 
-  module _ (p : length starts ≡ length ends) (n : ℕ) where
+  module _ (p : length starts ≡ length ends) (q : length kinds ≡ length starts) (n : ℕ) where
     pub repeat-end : length starts ≤ n → repeatAt n ≡ Sound
     unfolding repeatFrom
-    repeat-end h = rw (values-end d file starts ends p n h)
+    repeat-end h = rw (cells-end src s starts ends kinds p (sym q) n h)
 
     module _ (h : n < length starts) where
-      pub repeat-here : among (keyOf d rule file starts ends n) (keysBefore d rule file starts ends n) ≡ true → repeatAt n ≡ Faulty (fault (n + 1))
+      pub repeat-here : among (keyOf src rule s starts ends n) (keysBefore src rule s starts ends n) ≡ true → repeatAt n ≡ Faulty (fault (n + 1))
       unfolding repeatFrom if_then_else_
-      repeat-here e = rw (values-next d file starts ends p n h, e)
+      repeat-here e = rw (cells-next src s starts ends kinds p (sym q) n h, e)
 
-      pub repeat-next : among (keyOf d rule file starts ends n) (keysBefore d rule file starts ends n) ≡ false → repeatAt n ≡ repeatAt (n + 1)
+      pub repeat-next : among (keyOf src rule s starts ends n) (keysBefore src rule s starts ends n) ≡ false → repeatAt n ≡ repeatAt (n + 1)
       unfolding repeatFrom if_then_else_
-      repeat-next e = rw (values-next d file starts ends p n h, e, keys-next n) (ap (λ (k : ℕ). repeatFrom rule fault (keyOf d rule file starts ends n ∷ keysBefore d rule file starts ends n) k (valuesFrom d file starts ends (n + 1))) (sym (add-one (n + 1))))
+      repeat-next e =
+          rw (cells-next src s starts ends kinds p (sym q) n h, e, keys-next n)
+          (ap (λ (k : ℕ). repeatFrom rule fault (keyOf src rule s starts ends n ∷ keysBefore src rule s starts ends n) k (cellsFrom src s starts ends kinds (n + 1))) (sym (add-one (n + 1))))
 
 -- ---- headers
 

@@ -1,3 +1,2 @@
-pub mod Cells
 pub mod Keys
-pub mod Carried
+pub mod Kinds

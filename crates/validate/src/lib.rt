@@ -1,51 +1,37 @@
 // What is asked of a complete record, in the rules' order (§7.8): columns, then for a header kinds and repeated names, for a data record
-// the count of its cells. A header comes as the stretches of its cells in the file, a data record as its count; the first fault
-// comes out, or none. conversion.rt is what a target asks of the cells.
+// the count of its cells. A header comes as the stretches and the kinds of its cells, which may be raw in a file or contents, a data
+// record as its count; the first fault comes out, or none.
 //
-// The definitions are `headerFault` and `dataFault` of model's specs/Records.antt, over the cells that stand in the stretches
-// (specs/Cells.antt). names.rt goes by specs/Keys.antt: another rule for upper and lower case changes `fold`, with what is said of
+// The definitions are `headerFault` and `dataFault` of model's specs/Records.antt, over the cells that stand in the lists (decoder's
+// specs/Sources.antt). names.rt goes by specs/Keys.antt: another rule for upper and lower case changes `fold_byte`, with what is said of
 // a key in proofs/Keys.antt, and no other function.
 ghost use mathlib.Core.Path.{_≡_};
 ghost use mathlib.Core.List.{List};
 ghost use lib.ListN.{length};
-ghost use Rattle.model.specs.Text.{Value, isText};
-ghost use Rattle.model.specs.Records.{headerKindFrom, headerFault, dataFault};
-ghost use Rattle.validate.specs.Cells.{valuesOf, Inside};
+ghost use Rattle.model.specs.Text.{Value};
+ghost use Rattle.model.specs.Records.{headerFault, dataFault};
+ghost use Rattle.decoder.specs.Sources.{cellsIn, Cells};
+ghost use Rattle.validate.specs.Kinds.{notTextFrom};
+use decoder::source;
+use decoder::source::Source;
 use model::Dialect;
 use model::Fault;
-use model::Kind;
 use model::Verdict;
 use names::Repeat;
 use numbers::MAX_COLUMNS;
 
 mod content;
-pub mod conversion;
 pub mod names;
 
 // ---- headers
 
-fn is_text(k: Kind) -> bool
-    ensures { λ r. ⌜ r ≡ isText k ⌝ }
-{
-    match k {
-        Kind::Text => true,
-        Kind::Number => false,
-        Kind::True => false,
-        Kind::False => false,
-        Kind::Null => false,
-    }
-}
-
-// The first cell that is not text.
-fn first_not_text(d: Dialect, file: &[u8], starts: &[usize], ends: &[usize]) -> Verdict
-    requires { ⌜ Inside (length (now file)) (now starts) (now ends) ⌝ }
-    ensures { λ r. ⌜ r ≡ headerKindFrom 1 (valuesOf d (now (file .entry)) (now (starts .entry)) (now (ends .entry))) ⌝ }
+// The first cell that is not text, by the numbers of their kinds.
+fn first_not_text(kinds: &[u8]) -> Verdict
+    ensures { λ r. ⌜ r ≡ notTextFrom 1 (now (kinds .entry)) ⌝ }
 {
     let mut n = 0;
-    while n < starts.len() {
-        let from = starts[n];
-        let upto = ends[n];
-        if !is_text(numbers::cell::kind_of(d, &file[from..upto])) {
+    while n < kinds.len() {
+        if !source::is_text(source::kind_of_number(kinds[n])) {
             let column = n + 1;
             return Verdict::Faulty(Fault::HeaderKind { column });
         }
@@ -54,18 +40,25 @@ fn first_not_text(d: Dialect, file: &[u8], starts: &[usize], ends: &[usize]) -> 
     Verdict::Sound
 }
 
-// A header whose cells stand in these stretches of the file.
-pub fn header(d: Dialect, file: &[u8], starts: &[usize], ends: &[usize]) -> Verdict
-    requires { ⌜ Inside (length (now file)) (now starts) (now ends) ⌝ }
-    ensures { λ r. ⌜ r ≡ headerFault d (valuesOf d (now (file .entry)) (now (starts .entry)) (now (ends .entry))) ⌝ }
+// A header whose cells stand in these lists, by a dialect's rule for names.
+pub fn header(
+    src: Source,
+    rule: Dialect,
+    s: &[u8],
+    starts: &[usize],
+    ends: &[usize],
+    kinds: &[u8],
+) -> Verdict
+    requires { ⌜ Cells src (now s) (now starts) (now ends) (now kinds) ⌝ }
+    ensures { λ r. ⌜ r ≡ headerFault rule (cellsIn src (now (s .entry)) (now (starts .entry)) (now (ends .entry)) (now (kinds .entry))) ⌝ }
 {
     if MAX_COLUMNS < starts.len() {
         return Verdict::Faulty(Fault::TooManyColumns);
     }
-    if let Verdict::Faulty(e) = first_not_text(d, file, starts, ends) {
+    if let Verdict::Faulty(e) = first_not_text(kinds) {
         return Verdict::Faulty(e);
     }
-    match names::first_repeat(d, d, file, starts, ends) {
+    match names::first_repeat(src, rule, s, starts, ends) {
         Repeat::NoRepeat => Verdict::Sound,
         Repeat::AtColumn(column) => Verdict::Faulty(Fault::RepeatedName { column }),
     }

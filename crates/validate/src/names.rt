@@ -1,22 +1,26 @@
 // Names of a header: the first that repeats an earlier one, by the rule of any dialect.
 //
-// Names are compared by their keys (§6.6): content, folded as the rule asks. The key of an earlier name is written anew each time: at
-// most 64 passes over a header of at most 4,096 bytes, and no room for all keys at once.
+// Names are compared by their keys (§6.6): content, folded on the way as the rule asks. A name of a file is decoded into a room, each time
+// anew: at most 64 passes over a header of at most 4,096 bytes, and no room for all names at once. A name that is given as content is
+// compared where it lies, however long.
 ghost use mathlib.Core.Path.{_≡_};
+ghost use mathlib.Core.List.{List};
 ghost use Prim.Native.Nat.{ℕ, _<_, _≤_};
-ghost use lib.ListN.{length, getD, take};
+ghost use lib.ListN.{length, getD};
 ghost use Rattle.model.specs.declared.Fault.{Fault};
-ghost use Rattle.model.specs.Base.{same, over};
+ghost use Rattle.model.specs.Base.{same};
 ghost use Rattle.model.specs.Decode.{contentOf};
 ghost use Rattle.model.specs.Records.{lower, nameKey, among, repeatFault};
 ghost use Rattle.model.specs.Report.{MAXRECORD};
-ghost use Rattle.validate.specs.Cells.{valuesOf, Inside};
-ghost use Rattle.validate.specs.Keys.{folded, keyAt, keysBefore, repeatedAs};
+ghost use Rattle.decoder.specs.declared.source.Source.the-variants.{File};
+ghost use Rattle.decoder.specs.Sources.{contentBy, cellsIn};
+ghost use Rattle.validate.specs.Keys.{folded, Short, NamesIn, keyAt, keysBefore, repeatedAs};
 use crate::content;
+use decoder::source::Source;
 use model::Dialect;
 use numbers::MAX_RECORD;
 
-// ---- the key of a name
+// ---- two names
 
 // A to Z taken as a to z (§4.10).
 fn lower_case(b: u8) -> u8
@@ -42,41 +46,16 @@ fn fold_byte(rule: Dialect, b: u8) -> u8
     }
 }
 
-// The name that stands in the first n bytes of a room becomes its key, which is as long. The one place that folds.
-fn fold(rule: Dialect, room: &mut [u8], n: usize)
-    requires { ⌜ n ≤ length (now room) ⌝ }
-    ensures { λ r. ⌜ now (room .exit) ≡ over (nameKey rule (take n (now (room .entry)))) (now (room .entry)) ⌝ }
-{
-    let mut i = 0;
-    while i < n {
-        room[i] = fold_byte(rule, room[i]);
-        i += 1;
-    }
-}
-
-// The key of the name in a raw cell, at the beginning of a room that is as long as a record may be; how long it is.
-fn put_key(d: Dialect, rule: Dialect, raw: &[u8], room: &mut [u8]) -> usize
-    requires { ⌜ (length (now raw) ≤ MAXRECORD) × (length (now room) ≡ MAXRECORD) ⌝ }
-    ensures { λ r. ⌜ (r ≡ length (nameKey rule (contentOf d (now (raw .entry)))))
-        × (now (room .exit) ≡ over (nameKey rule (contentOf d (now (raw .entry)))) (now (room .entry))) ⌝ }
-{
-    let size = content::put_content(d, raw, room);
-    fold(rule, room, size);
-    size
-}
-
-// ---- two names
-
-// Whether two keys are the same.
-fn same_key(a: &[u8], b: &[u8]) -> bool
-    ensures { λ r. ⌜ r ≡ same (now (a .entry)) (now (b .entry)) ⌝ }
+// Whether two names are the same by a rule. The one place that folds.
+fn same_name(rule: Dialect, a: &[u8], b: &[u8]) -> bool
+    ensures { λ r. ⌜ r ≡ same (nameKey rule (now (a .entry))) (nameKey rule (now (b .entry))) ⌝ }
 {
     if a.len() != b.len() {
         return false;
     }
     let mut i = 0;
     while i < a.len() {
-        if a[i] != b[i] {
+        if fold_byte(rule, a[i]) != fold_byte(rule, b[i]) {
             return false;
         }
         i += 1;
@@ -84,30 +63,41 @@ fn same_key(a: &[u8], b: &[u8]) -> bool
     true
 }
 
-// Whether the name in a raw cell has this key. The room is for its own.
-fn has_key(d: Dialect, rule: Dialect, key: &[u8], raw: &[u8], room: &mut [u8]) -> bool
+// Whether the name in a cell of a file is this one. The room is for its content.
+fn is_in_file(d: Dialect, rule: Dialect, name: &[u8], raw: &[u8], room: &mut [u8]) -> bool
     requires { ⌜ (length (now raw) ≤ MAXRECORD) × (length (now room) ≡ MAXRECORD) ⌝ }
-    ensures { λ r. ⌜ r ≡ same (now (key .entry)) (nameKey rule (contentOf d (now (raw .entry)))) ⌝ }
+    ensures { λ r. ⌜ r ≡ same (nameKey rule (now (name .entry))) (nameKey rule (contentOf d (now (raw .entry)))) ⌝ }
 {
-    let size = put_key(d, rule, raw, room);
-    same_key(key, &room[..size])
+    let size = content::put_content(d, raw, room);
+    same_name(rule, name, &room[..size])
+}
+
+// Whether the name in a cell is this one.
+fn is_name(src: Source, rule: Dialect, name: &[u8], raw: &[u8], room: &mut [u8]) -> bool
+    requires { ⌜ Short src (length (now raw)) × (length (now room) ≡ MAXRECORD) ⌝ }
+    ensures { λ r. ⌜ r ≡ same (nameKey rule (now (name .entry))) (nameKey rule (contentBy src (now (raw .entry)))) ⌝ }
+{
+    match src {
+        Source::File(d) => is_in_file(d, rule, name, raw, room),
+        Source::Contents => same_name(rule, name, raw),
+    }
 }
 
 // ---- names of a header
 
-// Whether one of the first n cells has this key, from the latest to the first.
+// Whether one of the first n cells has this name, from the latest to the first.
 fn is_among(
-    d: Dialect,
+    src: Source,
     rule: Dialect,
-    key: &[u8],
-    file: &[u8],
+    name: &[u8],
+    s: &[u8],
     starts: &[usize],
     ends: &[usize],
     n: usize,
 ) -> bool
-    requires { ⌜ Inside (length (now file)) (now starts) (now ends) ⌝ }
+    requires { ⌜ NamesIn src (now s) (now starts) (now ends) ⌝ }
     requires { ⌜ n ≤ length (now starts) ⌝ }
-    ensures { λ r. ⌜ r ≡ among (now (key .entry)) (keysBefore d rule (now (file .entry)) (now (starts .entry)) (now (ends .entry)) n) ⌝ }
+    ensures { λ r. ⌜ r ≡ among (nameKey rule (now (name .entry))) (keysBefore src rule (now (s .entry)) (now (starts .entry)) (now (ends .entry)) n) ⌝ }
 {
     let mut room = [0u8; MAX_RECORD];
     let mut j = n;
@@ -115,32 +105,47 @@ fn is_among(
         j -= 1;
         let from = starts[j];
         let upto = ends[j];
-        if has_key(d, rule, key, &file[from..upto], &mut room) {
+        if is_name(src, rule, name, &s[from..upto], &mut room) {
             return true;
         }
     }
     false
 }
 
-// Whether the name of cell n repeats an earlier one.
-fn repeats(
+// Whether the name of cell n of a file, which is raw, repeats an earlier one.
+fn repeats_in_file(
     d: Dialect,
     rule: Dialect,
-    file: &[u8],
+    raw: &[u8],
+    s: &[u8],
     starts: &[usize],
     ends: &[usize],
     n: usize,
 ) -> bool
-    requires { ⌜ Inside (length (now file)) (now starts) (now ends) ⌝ }
+    requires { ⌜ length (now raw) ≤ MAXRECORD ⌝ }
+    requires { ⌜ NamesIn (File d) (now s) (now starts) (now ends) ⌝ }
+    requires { ⌜ n ≤ length (now starts) ⌝ }
+    ensures { λ r. ⌜ r ≡ among (nameKey rule (contentOf d (now (raw .entry))))
+        (keysBefore (File d) rule (now (s .entry)) (now (starts .entry)) (now (ends .entry)) n) ⌝ }
+{
+    let mut room = [0u8; MAX_RECORD];
+    let size = content::put_content(d, raw, &mut room);
+    is_among(Source::File(d), rule, &room[..size], s, starts, ends, n)
+}
+
+// Whether the name of cell n repeats an earlier one.
+fn repeats(src: Source, rule: Dialect, s: &[u8], starts: &[usize], ends: &[usize], n: usize) -> bool
+    requires { ⌜ NamesIn src (now s) (now starts) (now ends) ⌝ }
     requires { ⌜ n < length (now starts) ⌝ }
-    ensures { λ r. ⌜ r ≡ among (keyAt d rule (now (file .entry)) (getD (now (starts .entry)) n 0) (getD (now (ends .entry)) n 0))
-        (keysBefore d rule (now (file .entry)) (now (starts .entry)) (now (ends .entry)) n) ⌝ }
+    ensures { λ r. ⌜ r ≡ among (keyAt src rule (now (s .entry)) (getD (now (starts .entry)) n 0) (getD (now (ends .entry)) n 0))
+        (keysBefore src rule (now (s .entry)) (now (starts .entry)) (now (ends .entry)) n) ⌝ }
 {
     let from = starts[n];
     let upto = ends[n];
-    let mut room = [0u8; MAX_RECORD];
-    let size = put_key(d, rule, &file[from..upto], &mut room);
-    is_among(d, rule, &room[..size], file, starts, ends, n)
+    match src {
+        Source::File(d) => repeats_in_file(d, rule, &s[from..upto], s, starts, ends, n),
+        Source::Contents => is_among(src, rule, &s[from..upto], s, starts, ends, n),
+    }
 }
 
 // Whether a name repeats an earlier one, and the column of the first that does.
@@ -152,18 +157,19 @@ pub enum Repeat {
 // The first name that repeats an earlier one by this rule, which need not be that of the dialect in which the names are spelt. The
 // fault is the caller's: 6 by the rule of the source, 9 by that of the target (§6.6 §8.4).
 pub fn first_repeat(
-    d: Dialect,
+    src: Source,
     rule: Dialect,
-    file: &[u8],
+    s: &[u8],
     starts: &[usize],
     ends: &[usize],
 ) -> Repeat
-    requires { ⌜ Inside (length (now file)) (now starts) (now ends) ⌝ }
-    ensures { λ r. ⌜ ((fault : ℕ → Fault) → repeatedAs fault r ≡ repeatFault rule fault (valuesOf d (now (file .entry)) (now (starts .entry)) (now (ends .entry)))) ⌝ }
+    requires { ⌜ NamesIn src (now s) (now starts) (now ends) ⌝ }
+    ensures { λ r. ⌜ ((fault : ℕ → Fault) (kinds : List ℕ) → length kinds ≡ length (now (starts .entry))
+        → repeatedAs fault r ≡ repeatFault rule fault (cellsIn src (now (s .entry)) (now (starts .entry)) (now (ends .entry)) kinds)) ⌝ }
 {
     let mut n = 0;
     while n < starts.len() {
-        if repeats(d, rule, file, starts, ends, n) {
+        if repeats(src, rule, s, starts, ends, n) {
             return Repeat::AtColumn(n + 1);
         }
         n += 1;

@@ -1,22 +1,27 @@
-//! Measures the proved reader against memcpy, the reference and other readers, and prints all in one run.
+//! Measures the proved reader against memcpy, the reference and other readers, and the proved converter against the
+//! reference and other libraries, and prints all in one run.
 //!
-//! Everything reads the same tables turn by turn, has to find as many cells as the reference, and is told in MB (10^6
-//! bytes) a second: by the best round and by the median one. Other readers are handed in as peers, so that this package
-//! builds where they are not installed.
+//! Everything goes over the same tables turn by turn, has to find as many cells as the reference, or to write the same
+//! text, and is told in MB (10^6 bytes) a second: by the best round and by the median one. Others are handed in as peers,
+//! so that this package builds where they are not installed.
 
+mod converting;
 mod measure;
 mod workload;
+
+pub use converting::ConvertingPeer;
 
 use harness::compare::proved_reader;
 use harness::lists::Reader;
 use harness::whole::read_whole;
+use harness::DIALECTS;
 use measure::{turn_by_turn, Contestant, Speeds};
 use reference::Dialect;
 use std::env;
 use std::hint::black_box;
 use std::path::PathBuf;
 use std::process::ExitCode;
-use workload::Table;
+use workload::{name_of, Table};
 
 /// How often each contestant reads each table, unless the command says otherwise.
 const ROUNDS: usize = 9;
@@ -44,7 +49,7 @@ struct Outcome {
 }
 
 /// Measures on the tables of the folder that the command line names, or else on tables of its own making.
-pub fn main(peers: &[Peer]) -> ExitCode {
+pub fn main(peers: &[Peer], converting_peers: &[ConvertingPeer]) -> ExitCode {
     let mut arguments = env::args_os().skip(1);
     let folder = arguments.next().map(PathBuf::from);
     let rounds = arguments.next().map_or(Some(ROUNDS), |word| {
@@ -55,7 +60,7 @@ pub fn main(peers: &[Peer]) -> ExitCode {
         eprintln!("usage: benchmark [FOLDER [ROUNDS]]");
         return ExitCode::from(2);
     };
-    match run(folder, rounds, peers) {
+    match run(folder, rounds, peers, converting_peers) {
         Ok(()) => ExitCode::SUCCESS,
         Err(error) => {
             eprintln!("benchmark: {error}");
@@ -64,7 +69,12 @@ pub fn main(peers: &[Peer]) -> ExitCode {
     }
 }
 
-fn run(folder: Option<PathBuf>, rounds: usize, peers: &[Peer]) -> Result<(), String> {
+fn run(
+    folder: Option<PathBuf>,
+    rounds: usize,
+    peers: &[Peer],
+    converting_peers: &[ConvertingPeer],
+) -> Result<(), String> {
     println!("{rounds} rounds; MB is 10^6 bytes; 'reader' is the proved reader's speed as a part of this one's");
     let mut outcomes = Vec::new();
     match folder {
@@ -72,10 +82,21 @@ fn run(folder: Option<PathBuf>, rounds: usize, peers: &[Peer]) -> Result<(), Str
             for table in workload::tables() {
                 outcomes.extend(compare(&table, rounds, peers)?);
             }
+            converting::print_head();
+            for (table, target) in workload::conversions() {
+                converting::compare(&table, target, rounds, converting_peers)?;
+            }
         }
         Some(folder) => {
-            for path in workload::files(&folder)? {
-                outcomes.extend(compare(&workload::load(&path)?, rounds, peers)?);
+            let paths = workload::files(&folder)?;
+            for path in &paths {
+                outcomes.extend(compare(&workload::load(path)?, rounds, peers)?);
+            }
+            converting::print_head();
+            for path in &paths {
+                for target in DIALECTS {
+                    converting::compare(&workload::load(path)?, target, rounds, converting_peers)?;
+                }
             }
         }
     }
@@ -148,7 +169,7 @@ fn compare(table: &Table, rounds: usize, peers: &[Peer]) -> Result<Vec<Outcome>,
             .iter()
             .map(|(peer, prepared)| Contestant::new(peer.name, prepared, peer.read)),
     );
-    let speeds = turn_by_turn(&mut contestants, rounds, cells)
+    let speeds = turn_by_turn(&mut contestants, rounds, cells, "cells")
         .map_err(|error| format!("{}: {error}", table.title()))?;
     print_speeds(table, cells, &speeds);
     // Memcpy, the proved reader and the second program come before the peers.
@@ -157,7 +178,7 @@ fn compare(table: &Table, rounds: usize, peers: &[Peer]) -> Result<Vec<Outcome>,
         Some(Outcome {
             what: format!(
                 "{} reading, both passes, at least {} of {}: {}",
-                table.dialect_name(),
+                name_of(table.dialect),
                 peer.bar?,
                 peer.name,
                 table.name
@@ -198,7 +219,9 @@ fn print_speeds(table: &Table, cells: usize, speeds: &[Speeds]) {
 fn print_outcomes(peers: &[Peer], outcomes: &[Outcome]) {
     println!();
     if peers.is_empty() {
-        println!("csv-core and serde_json were not measured, so that nothing is said of the bar");
+        println!(
+            "csv, csv-core and serde_json were not measured, so that nothing is said of the bar"
+        );
     }
     for outcome in outcomes {
         let is_met = outcome.best >= outcome.bar && outcome.median >= outcome.bar;

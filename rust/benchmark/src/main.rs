@@ -1,7 +1,7 @@
-//! The benchmark without other readers: `benchmark [FOLDER [ROUNDS]]`.
+//! The benchmark without other readers and converters: `benchmark [FOLDER [ROUNDS]]`.
 
 use std::process::ExitCode;
 
 fn main() -> ExitCode {
-    benchmark::main(&[])
+    benchmark::main(&[], &[])
 }

@@ -5,43 +5,51 @@ use std::fs;
 use std::hint::black_box;
 use std::time::{Duration, Instant};
 
-/// Goes over bytes and tells how many cells they have.
-type Read<'a> = Box<dyn FnMut(&[u8]) -> usize + 'a>;
+/// Goes over bytes and tells how many cells they have, or how many bytes it wrote.
+type Work<'a> = Box<dyn FnMut(&[u8]) -> usize + 'a>;
 
-/// A reader, or what it is measured by, with what it reads.
+/// A reader or a converter, or what it is measured by, with what it reads.
 pub struct Contestant<'a> {
     name: &'static str,
     input: &'a [u8],
-    read: Read<'a>,
+    /// The length that its speed is told for.
+    length: usize,
+    work: Work<'a>,
     seconds: Vec<f64>,
 }
 
 impl<'a> Contestant<'a> {
-    /// A contestant that has not had a turn.
-    pub fn new(name: &'static str, input: &'a [u8], read: impl FnMut(&[u8]) -> usize + 'a) -> Self {
+    /// A contestant that has not had a turn. Its speed is told for what it reads.
+    pub fn new(name: &'static str, input: &'a [u8], work: impl FnMut(&[u8]) -> usize + 'a) -> Self {
         Self {
             name,
             input,
-            read: Box::new(read),
+            length: input.len(),
+            work: Box::new(work),
             seconds: Vec::new(),
         }
+    }
+
+    /// The same one, whose speed is told for so many bytes.
+    pub fn told_for(self, length: usize) -> Self {
+        Self { length, ..self }
     }
 
     /// Has a turn, which is measured. Both looks at the waiting are inside the time that it is taken from.
     fn turn(&mut self) -> usize {
         let began = Instant::now();
         let waited_before = waited();
-        let cells = (self.read)(black_box(self.input));
+        let done = (self.work)(black_box(self.input));
         let waiting = waited() - waited_before;
         let seconds = began.elapsed().saturating_sub(waiting).as_secs_f64();
         self.seconds.push(seconds);
-        cells
+        done
     }
 
     fn speeds(&self) -> Speeds {
         let mut seconds = self.seconds.clone();
         seconds.sort_by(f64::total_cmp);
-        let megabytes = self.input.len() as f64 / 1e6;
+        let megabytes = self.length as f64 / 1e6;
         Speeds {
             name: self.name,
             best: megabytes / seconds[0],
@@ -68,18 +76,19 @@ pub struct Speeds {
     pub median: f64,
 }
 
-/// So many rounds of turns, after one that does not count. All have to find so many cells in every turn.
+/// So many rounds of turns, after one that does not count. All have to come to the same number in every turn, which is one of these.
 pub fn turn_by_turn(
     contestants: &mut [Contestant],
     rounds: usize,
-    cells: usize,
+    expected: usize,
+    what: &str,
 ) -> Result<Vec<Speeds>, String> {
     for round in 0..=rounds {
         for contestant in contestants.iter_mut() {
-            let found = contestant.turn();
-            if found != cells {
+            let done = contestant.turn();
+            if done != expected {
                 let name = contestant.name;
-                return Err(format!("{name} found {found} cells and not {cells}"));
+                return Err(format!("{name} came to {done} {what} and not {expected}"));
             }
             if round == 0 {
                 contestant.seconds.clear();

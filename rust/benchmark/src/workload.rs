@@ -1,7 +1,8 @@
-//! The tables that are read: three of the benchmark's own making in each dialect, or those of a folder.
+//! The tables that are read and converted: three of the benchmark's own making in each dialect, or those of a folder.
 //!
 //! *fares* has short plain cells and numbers, *settlements* quoted cells with doubled quotes, line breaks and text beyond
-//! ASCII, *notes* long quoted ASCII text. Each is the same at every run and as long as a file may be.
+//! ASCII, *notes* long quoted ASCII text. Each is the same at every run. One that is read is as long as a file may be, one
+//! that is converted half as long, so that its text is not longer than that.
 
 use harness::rng::Rng;
 use harness::DIALECTS;
@@ -22,19 +23,19 @@ pub struct Table {
     pub file: Vec<u8>,
 }
 
-impl Table {
-    /// The dialect's name.
-    pub fn dialect_name(&self) -> &'static str {
-        match self.dialect {
-            Dialect::Csvj => "CSVJ",
-            Dialect::Tdif => "TDIF",
-            Dialect::CsvPlus => "CSV+",
-        }
+/// A dialect's name.
+pub fn name_of(dialect: Dialect) -> &'static str {
+    match dialect {
+        Dialect::Csvj => "CSVJ",
+        Dialect::Tdif => "TDIF",
+        Dialect::CsvPlus => "CSV+",
     }
+}
 
+impl Table {
     /// The table's name and its dialect's.
     pub fn title(&self) -> String {
-        format!("{} in {}", self.name, self.dialect_name())
+        format!("{} in {}", self.name, name_of(self.dialect))
     }
 }
 
@@ -81,15 +82,27 @@ pub fn load(path: &Path) -> Result<Table, String> {
     })
 }
 
+const SHAPES: [&Shape; 3] = [&FARES, &SETTLEMENTS, &NOTES];
+
 /// The three tables in the three dialects, each made when it is asked for.
 pub fn tables() -> impl Iterator<Item = Table> {
-    let shapes = [&FARES, &SETTLEMENTS, &NOTES];
-    shapes.into_iter().flat_map(|shape| {
-        DIALECTS.into_iter().map(|(number, dialect)| Table {
-            name: shape.name.to_string(),
-            number,
-            dialect,
-            file: shape.file(dialect),
+    SHAPES.into_iter().flat_map(|shape| {
+        let tables = DIALECTS.into_iter();
+        tables.map(|(number, dialect)| shape.table(number, dialect, FILE_BYTES, false))
+    })
+}
+
+/// The three tables for each pair of dialects, with the target. All cells are texts unless the pair is CSVJ and CSVJ: what
+/// every target can carry, and csv can spell.
+pub fn conversions() -> impl Iterator<Item = (Table, (u32, Dialect))> {
+    SHAPES.into_iter().flat_map(|shape| {
+        let pairs = DIALECTS
+            .into_iter()
+            .flat_map(|from| DIALECTS.map(|to| (from, to)));
+        pairs.map(|((number, dialect), target)| {
+            let texts_only = (dialect, target.1) != (Dialect::Csvj, Dialect::Csvj);
+            let table = shape.table(number, dialect, FILE_BYTES / 2, texts_only);
+            (table, target)
         })
     })
 }
@@ -240,21 +253,41 @@ fn note(rng: &mut Rng, number: usize) -> Vec<Value> {
     ]
 }
 
+impl Value {
+    /// The text with this content.
+    fn into_text(self) -> Self {
+        Self::Text(match self {
+            Self::Text(content) | Self::Number(content) => content,
+            Self::Truth(truth) => truth.to_string(),
+            Self::Null => String::new(),
+        })
+    }
+}
+
 impl Shape {
-    /// As many records as a file may hold.
-    fn file(&self, dialect: Dialect) -> Vec<u8> {
+    /// As many records as this many bytes can hold, with all cells as texts if need be.
+    fn table(&self, number: u32, dialect: Dialect, most: usize, texts_only: bool) -> Table {
         let mut rng = Rng::new(1);
         let names = self.columns.iter();
         let header = names.map(|name| Value::Text(name.to_string())).collect();
-        let mut file = Vec::with_capacity(FILE_BYTES);
+        let mut file = Vec::with_capacity(most);
         let mut line = self.line(dialect, header);
-        let mut number = 0;
-        while file.len() + line.len() <= FILE_BYTES {
+        let mut record = 0;
+        while file.len() + line.len() <= most {
             file.extend(line.bytes());
-            number += 1;
-            line = self.line(dialect, (self.record)(&mut rng, number));
+            record += 1;
+            let mut cells = (self.record)(&mut rng, record);
+            if texts_only {
+                cells = cells.into_iter().map(Value::into_text).collect();
+            }
+            line = self.line(dialect, cells);
         }
-        file
+        Table {
+            name: self.name.to_string(),
+            number,
+            dialect,
+            file,
+        }
     }
 
     fn line(&self, dialect: Dialect, record: Vec<Value>) -> String {

@@ -1,10 +1,65 @@
 //! The proved calls against the reference's, answer by answer and place by place of what was lent.
 
+mod convert;
 mod decode;
 mod read;
+mod write;
 
+pub use convert::{convert_agrees, convert_in_rooms, convert_random, proved_converter};
 pub use decode::{decode_agrees, decode_random};
 pub use read::{proved_reader, read_agrees, read_in_rooms, read_random};
+pub use write::{proved_writer, write_agrees, write_in_rooms, write_random};
+
+use crate::rooms::Room;
+use reference::{Converted, Report};
+use std::fmt::Debug;
+
+/// A proved call's report in the reference's terms.
+fn report(report: hemakuliwi::Report) -> Report {
+    Report {
+        number: report.number,
+        record: report.record_number,
+        column: report.column,
+        offset: report.offset,
+    }
+}
+
+/// The proved converter's or writer's answer in the reference's terms.
+fn converted(answer: hemakuliwi::TextAnswer) -> Converted {
+    Converted {
+        report: report(answer.report),
+        written: answer.length,
+    }
+}
+
+/// Makes a call and the reference's, each with a room of this length, and compares the answers, the whole rooms, and what stands on
+/// either side of them.
+fn agree<A: PartialEq + Debug>(
+    what: impl Fn() -> String,
+    room: usize,
+    call: impl FnOnce(&mut [u8]) -> A,
+    reference: impl FnOnce(&mut [u8]) -> A,
+) -> Result<A, String> {
+    let (ours, answer) = Room::lend(room, call);
+    let (theirs, wanted) = Room::lend(room, reference);
+    if answer != wanted || ours != theirs {
+        return Err(format!(
+            "{}\nwith {room} bytes of room\nanswered      {answer:?}\nthe reference {wanted:?}\nleft {:?}",
+            what(),
+            ours.difference(&theirs)
+        ));
+    }
+    Ok(answer)
+}
+
+/// Lengths for the room of a text: more than enough, as long as the text, one byte less, and none.
+fn room_lengths(text: usize) -> Vec<usize> {
+    let mut lengths = vec![text + 9, text];
+    lengths.extend(text.checked_sub(1));
+    lengths.push(0);
+    lengths.dedup();
+    lengths
+}
 
 /// Bytes in hexadecimal, of very many only the first.
 fn hex(bytes: &[u8]) -> String {

@@ -12,6 +12,11 @@ impl Counts {
         self.0[dialect as usize - 1][number] += 1;
     }
 
+    /// How often a report number came up in a dialect.
+    pub fn of(&self, dialect: u32, number: usize) -> usize {
+        self.0[dialect as usize - 1][number]
+    }
+
     /// Tells the counts on standard error.
     pub fn print(&self, what: &str) {
         for ((dialect, _), counts) in DIALECTS.iter().zip(&self.0) {

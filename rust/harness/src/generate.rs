@@ -1,9 +1,10 @@
 //! Random files: tables spelt in every way that a dialect allows, tables with a fault planted in
-//! them, and both of these with bytes changed.
+//! them, and both of these with bytes changed. And random tables for the writer, of the same cells.
 
 use crate::json::surrogate_bytes;
 use crate::rng::Rng;
-use crate::whole::Cell;
+use crate::whole::{Cell, TableLists};
+use crate::DIALECTS;
 use reference::limits::{COLUMNS, RECORD_BYTES};
 use reference::Dialect;
 use std::iter::repeat_n;
@@ -144,6 +145,10 @@ fn table(rng: &mut Rng, dialect: Dialect) -> Vec<Vec<Value>> {
         4..=39 => 1,
         _ => rng.between(2, 5),
     };
+    table_of(rng, dialect, columns)
+}
+
+fn table_of(rng: &mut Rng, dialect: Dialect, columns: usize) -> Vec<Vec<Value>> {
     let mut records = vec![header(rng, dialect, columns)];
     for _ in 0..rng.below(5) {
         records.push((0..columns).map(|_| value(rng, dialect)).collect());
@@ -157,6 +162,15 @@ fn table(rng: &mut Rng, dialect: Dialect) -> Vec<Vec<Value>> {
 
 fn faulty_table(rng: &mut Rng, dialect: Dialect) -> Sample {
     let mut records = table(rng, dialect);
+    plant_fault(rng, dialect, &mut records);
+    Sample {
+        records: None,
+        ..spell(rng, dialect, &records)
+    }
+}
+
+/// Repeats a name, puts another kind into the header, or adds a record that is too wide or has another count of cells.
+fn plant_fault(rng: &mut Rng, dialect: Dialect, records: &mut Vec<Vec<Value>>) {
     let columns = records[0].len();
     match rng.below(4) {
         0 => repeat_name(rng, &mut records[0]),
@@ -179,10 +193,6 @@ fn faulty_table(rng: &mut Rng, dialect: Dialect) -> Sample {
             }
             records.push(ragged);
         }
-    }
-    Sample {
-        records: None,
-        ..spell(rng, dialect, &records)
     }
 }
 
@@ -279,6 +289,20 @@ fn long_text(rng: &mut Rng) -> Vec<u32> {
     points
 }
 
+/// Fills a text up until its record, written, has about as many bytes as a record may have.
+fn fill_record(rng: &mut Rng, records: &mut [Vec<Value>]) {
+    let record = rng.below(records.len());
+    let record = &mut records[record];
+    let quotes = rng.pick(&[0, 2]);
+    let length = |value: &Value| content(value).content.len() + quotes + 1;
+    let written: usize = record.iter().map(length).sum();
+    let wanted = rng.between(RECORD_BYTES - 2, RECORD_BYTES + 4);
+    let is_text = |value: &&mut Value| matches!(value, Value::Text(_));
+    if let Some(Value::Text(points)) = record.iter_mut().find(is_text) {
+        points.extend(repeat_n(0x78, wanted.saturating_sub(written)));
+    }
+}
+
 fn content(value: &Value) -> Cell {
     let (kind, content) = match value {
         Value::Text(points) => (1, points.iter().flat_map(|&point| packed(point)).collect()),
@@ -294,6 +318,190 @@ fn packed(point: u32) -> Vec<u8> {
     match char::from_u32(point) {
         Some(character) => character.to_string().into_bytes(),
         None => surrogate_bytes(point as u16).to_vec(),
+    }
+}
+
+/// Spellings that are no numbers, though close to one.
+const NO_NUMBERS: [&[u8]; 16] = [
+    b"", b"-", b"00", b"01", b"-01", b"1.", b".5", b"1e", b"1e+", b"+1", b" 1", b"1 ", b"1,5",
+    b"0x1", b"NaN", b"1\x00",
+];
+/// Contents at the edge of UTF-8 and of what widens it, most of them on the wrong side.
+const CONTENTS: [&[u8]; 16] = [
+    b"\x80",
+    b"\xC0\x80",
+    b"\xC1\xBF",
+    b"\xC2",
+    b"\xC2\x41",
+    b"\xE0\x9F\xBF",
+    b"\xE2\x82",
+    b"\xED\xA0",
+    b"\xED\xA0\xBD",
+    b"\xED\xB8\x80",
+    b"\xED\xA0\xBD\xED\xB8\x80",
+    b"\xED\xB8\x80\xED\xA0\xBD",
+    b"\xED\xA0\xBDa\xED\xB8\x80",
+    b"\xF0\x8F\xBF\xBF",
+    b"\xF4\x90\x80\x80",
+    b"\xEF\xBB\xBF",
+];
+
+/// A random table for the writer, of cells that some dialect has. Its stretches may share bytes, leave gaps and come in any order. Some
+/// tables have a fault, some are none.
+pub fn table_lists(rng: &mut Rng) -> TableLists {
+    let (_, dialect) = rng.pick(&DIALECTS);
+    let mut records = match rng.percent(2) {
+        true => {
+            let columns = rng.between(COLUMNS + 1, COLUMNS + 2);
+            table_of(rng, dialect, columns)
+        }
+        false => table(rng, dialect),
+    };
+    match rng.below(100) {
+        0..=14 => plant_fault(rng, dialect, &mut records),
+        15..=18 => fill_record(rng, &mut records),
+        _ => {}
+    }
+    let mut lists = lists_of(rng, &cells_in(&records));
+    if rng.percent(40) {
+        spoil(rng, &mut lists);
+    }
+    lists
+}
+
+/// A random table for the writer, of cells that some dialect has, and its records.
+pub fn sound_lists(rng: &mut Rng) -> (TableLists, Vec<Vec<Cell>>) {
+    let (_, dialect) = rng.pick(&DIALECTS);
+    let records = cells_in(&table(rng, dialect));
+    (lists_of(rng, &records), records)
+}
+
+fn cells_in(records: &[Vec<Value>]) -> Vec<Vec<Cell>> {
+    let cells = |record: &Vec<Value>| record.iter().map(content).collect();
+    records.iter().map(cells).collect()
+}
+
+/// The writer's arguments for these records, whose contents stand in file order or not.
+fn lists_of(rng: &mut Rng, records: &[Vec<Cell>]) -> TableLists {
+    let (columns, count, cells) = (records[0].len(), records.len(), records.concat());
+    match rng.percent(50) {
+        true => TableLists::of_cells(columns, count, &cells),
+        false => scattered(rng, columns, count, &cells),
+    }
+}
+
+/// The contents in any order, with bytes between them that no cell has, and shared where one holds another.
+fn scattered(rng: &mut Rng, columns: usize, records: usize, cells: &[Cell]) -> TableLists {
+    let mut lists = TableLists {
+        content: Vec::new(),
+        starts: vec![0; cells.len()],
+        ends: vec![0; cells.len()],
+        kinds: cells.iter().map(|cell| cell.kind).collect(),
+        columns,
+        records,
+    };
+    let mut order: Vec<usize> = (0..cells.len()).collect();
+    for last in (1..order.len()).rev() {
+        order.swap(last, rng.below(last + 1));
+    }
+    for index in order {
+        let wanted = &cells[index].content;
+        let found = match wanted.len() {
+            0 => Some(rng.below(lists.content.len() + 1)),
+            length => lists
+                .content
+                .windows(length)
+                .position(|part| part == wanted),
+        };
+        let start = found.filter(|_| rng.percent(60)).unwrap_or_else(|| {
+            let gap = rng.below(3);
+            lists.content.extend((0..gap).map(|_| rng.pick(BYTES)));
+            lists.content.extend(wanted);
+            lists.content.len() - wanted.len()
+        });
+        lists.starts[index] = start;
+        lists.ends[index] = start + wanted.len();
+    }
+    lists
+}
+
+/// Changes a table so that it is most often none.
+fn spoil(rng: &mut Rng, lists: &mut TableLists) {
+    let cells = lists.kinds.len();
+    match rng.below(10) {
+        0 => change_length(rng, lists),
+        1 => change_shape(rng, lists),
+        _ if cells == 0 => {}
+        2 => {
+            let cell = rng.below(cells);
+            (lists.starts[cell], lists.ends[cell]) = (lists.ends[cell], lists.starts[cell]);
+        }
+        3 => {
+            let outside = rng.pick(&[lists.content.len() + 1, 1 << 32, usize::MAX]);
+            let cell = rng.below(cells);
+            lists.ends[cell] = outside;
+            if rng.percent(50) {
+                lists.starts[cell] = outside;
+            }
+        }
+        4 => {
+            let list = match rng.percent(50) {
+                true => &mut lists.starts,
+                false => &mut lists.ends,
+            };
+            let cell = rng.below(cells);
+            list[cell] = match rng.percent(50) {
+                true => list[cell] + 1,
+                false => list[cell].saturating_sub(1),
+            };
+        }
+        5 => lists.kinds[rng.below(cells)] = rng.pick(&[0, 6, 7, 0x81, 0xFF]),
+        6 => lists.kinds[rng.below(cells)] = rng.pick(&[1, 2, 3, 4, 5]),
+        7 => put_content(rng, lists, 2, &NO_NUMBERS),
+        8 => put_content(rng, lists, 1, &CONTENTS),
+        _ => mutate(rng, &mut lists.content),
+    }
+}
+
+/// Gives a cell this kind and one of these contents.
+fn put_content(rng: &mut Rng, lists: &mut TableLists, kind: u8, contents: &[&[u8]]) {
+    let cell = rng.below(lists.kinds.len());
+    lists.kinds[cell] = kind;
+    lists.starts[cell] = lists.content.len();
+    lists.content.extend(rng.pick(contents));
+    lists.ends[cell] = lists.content.len();
+}
+
+/// Makes one of the lists longer or shorter than the others.
+fn change_length(rng: &mut Rng, lists: &mut TableLists) {
+    let shorter = lists.kinds.len().saturating_sub(1);
+    match (rng.below(3), rng.percent(50)) {
+        (0, true) => lists.starts.push(0),
+        (0, false) => lists.starts.truncate(shorter),
+        (1, true) => lists.ends.push(0),
+        (1, false) => lists.ends.truncate(shorter),
+        (_, true) => lists.kinds.push(1),
+        (_, false) => lists.kinds.truncate(shorter),
+    }
+}
+
+/// Changes the numbers of columns and records, some of them so that their product is the number of cells modulo 2^64.
+fn change_shape(rng: &mut Rng, lists: &mut TableLists) {
+    match rng.below(8) {
+        0 => lists.records = 0,
+        1 => lists.columns = 0,
+        2 => lists.records += 1,
+        3 => lists.columns += 1,
+        4 => (lists.columns, lists.records) = (lists.records, lists.columns),
+        5 => (lists.columns, lists.records) = (usize::MAX, usize::MAX),
+        6 => lists.columns ^= 1 << 63,
+        _ => {
+            lists.starts.clear();
+            lists.ends.clear();
+            lists.kinds.clear();
+            (lists.columns, lists.records) =
+                rng.pick(&[(1 << 32, 1 << 32), (1 << 63, 2), (0, 3), (0, 0), (3, 0)]);
+        }
     }
 }
 
@@ -320,10 +528,9 @@ fn spell(rng: &mut Rng, dialect: Dialect, records: &[Vec<Value>]) -> Sample {
     if dialect == Dialect::Tdif && rng.percent(20) {
         spell_comment(rng, &mut file);
     }
-    let cells = |record: &Vec<Value>| record.iter().map(content).collect();
     Sample {
         file,
-        records: sound.then(|| records.iter().map(cells).collect()),
+        records: sound.then(|| cells_in(records)),
     }
 }
 

@@ -4,10 +4,11 @@
 
 use crate::ledger::{check_calls, completed_text, Answer, Call as LedgerCall, Session};
 use crate::lists::{lengths, Lists, Reader, SHORT_FILE};
+use crate::rooms::{Room, WholeConverter, Writer};
 use crate::vectors::{Bytes, Call, Case, Fault, PieceCall, TableArguments, TableShape};
 use crate::whole::convert_whole;
 use reference::limits::{FILE_BYTES, PIECE_BYTES, PIECE_ROOM};
-use reference::{convert, decode, read, write, Converted, Decoded, ReadAnswer, Report, Table};
+use reference::{convert, decode, read, write, Converted, Decoded, ReadAnswer, Report};
 use std::fmt;
 
 /// The fewest cases that have to name each dialect.
@@ -131,13 +132,17 @@ fn check(call: &Call) -> Result<(), String> {
             file,
             room,
             expected,
-        } => check_convert(*source, *target, &file.to_vec(), *room, expected),
+        } => {
+            let file = file.to_vec();
+            check_convert(convert, *source, *target, &file, *room, expected)?;
+            check_converted_pieces(*source, *target, &file, expected)
+        }
         Call::Write {
             target,
             table,
             room,
             expected,
-        } => check_write(*target, table, *room, expected),
+        } => check_write(write, *target, table, *room, expected),
         Call::Pieces {
             source,
             target,
@@ -282,7 +287,9 @@ fn check_decode(
     check_text(call, room, expected.as_ref().err(), &text)
 }
 
-fn check_convert(
+/// Converts a case's file with a converter; the answer and the room have to be the expected ones.
+pub fn check_convert(
+    converter: WholeConverter,
     source: u32,
     target: u32,
     file: &[u8],
@@ -290,10 +297,19 @@ fn check_convert(
     expected: &Result<Bytes, Fault>,
 ) -> Result<(), String> {
     let text = expected.as_ref().map_or_else(|_| Vec::new(), Bytes::to_vec);
-    let call = |out: &mut [u8]| convert(source, target, file, out);
-    check_text(call, room, expected.as_ref().err(), &text)?;
+    let call = |out: &mut [u8]| converter(source, target, file, out);
+    check_text(call, room, expected.as_ref().err(), &text)
+}
+
+/// Hands a case's file to the piece converter, which has to come to what the case expects of the whole file.
+fn check_converted_pieces(
+    source: u32,
+    target: u32,
+    file: &[u8],
+    expected: &Result<Bytes, Fault>,
+) -> Result<(), String> {
     let (report, text) = match expected {
-        Ok(_) => (Report::ACCEPTED, text),
+        Ok(text) => (Report::ACCEPTED, text.to_vec()),
         Err(Fault { number: 10, .. }) => {
             let text = convert_whole(source, target, file);
             (Report::ACCEPTED, text.map_err(|report| report.sentence())?)
@@ -306,23 +322,17 @@ fn check_convert(
     check_pieces_of(source, target, file, report, &text)
 }
 
-fn check_write(
+/// Writes a case's table with a writer; the answer and the room have to be the expected ones.
+pub fn check_write(
+    writer: Writer,
     target: u32,
     table: &TableArguments,
     room: Option<usize>,
     expected: &Result<Bytes, Fault>,
 ) -> Result<(), String> {
     let text = expected.as_ref().map_or_else(|_| Vec::new(), Bytes::to_vec);
-    let content = table.content.to_vec();
-    let table = Table {
-        content: &content,
-        starts: &table.starts,
-        ends: &table.ends,
-        kinds: &table.kinds,
-        columns: table.columns,
-        records: table.records,
-    };
-    let call = |out: &mut [u8]| write(target, table, out);
+    let lists = table.to_lists();
+    let call = |out: &mut [u8]| writer(target, lists.table(), out);
     check_text(call, room, expected.as_ref().err(), &text)
 }
 
@@ -369,21 +379,20 @@ fn check_output(
     expected: Report,
     text: &[u8],
 ) -> Result<(), String> {
-    const UNTOUCHED: u8 = 0xA5;
-    let mut out = vec![UNTOUCHED; room];
-    let answer = call(&mut out);
-    ensure(answer.report == expected, || {
-        format!(
-            "with room {room}: {:?}, expected {expected:?}",
-            answer.report
-        )
+    let (lent, answer) = Room::lend(room, call);
+    let expected = Converted {
+        report: expected,
+        written: text.len(),
+    };
+    ensure(answer == expected, || {
+        format!("with room {room}: {answer:?}, expected {expected:?}")
     })?;
-    let (written, rest) = out.split_at(answer.written);
+    let written = lent.text(text.len());
     ensure(written == text, || {
         format!("wrote {}, expected {}", show(written), show(text))
     })?;
-    ensure(rest.iter().all(|&byte| byte == UNTOUCHED), || {
-        "wrote past the length".to_string()
+    ensure(lent.untouched_from(text.len()), || {
+        "wrote beside its text".to_string()
     })
 }
 

@@ -1,5 +1,8 @@
 //! The vector format that the vectors' README describes.
 
+use crate::conformance;
+use crate::lists::SHORT_FILE;
+use crate::whole::TableLists;
 use std::collections::HashMap;
 use std::fs;
 use std::path::{Path, PathBuf};
@@ -133,6 +136,20 @@ pub enum Call {
     },
 }
 
+impl Call {
+    /// The file that is read or converted, whole or in pieces.
+    fn file(&self) -> Option<Vec<u8>> {
+        match self {
+            Self::Read { file, .. } | Self::Convert { file, .. } => Some(file.to_vec()),
+            Self::Pieces { calls, .. } => {
+                let pieces = calls.iter().filter_map(|call| call.piece.as_ref());
+                Some(pieces.flat_map(Bytes::to_vec).collect())
+            }
+            Self::Decode { .. } | Self::Write { .. } => None,
+        }
+    }
+}
+
 /// What the reader answers for an accepted file.
 #[derive(Clone, Debug, PartialEq, Eq)]
 pub struct TableShape {
@@ -159,6 +176,20 @@ pub struct TableArguments {
     pub ends: Vec<usize>,
     /// The kind numbers.
     pub kinds: Vec<u8>,
+}
+
+impl TableArguments {
+    /// The arguments with their content written out.
+    pub fn to_lists(&self) -> TableLists {
+        TableLists {
+            content: self.content.to_vec(),
+            starts: self.starts.clone(),
+            ends: self.ends.clone(),
+            kinds: self.kinds.clone(),
+            columns: self.columns,
+            records: self.records,
+        }
+    }
 }
 
 /// A piece or end call and its expected answer.
@@ -189,6 +220,20 @@ pub fn load_folder(folder: &Path) -> Result<Vec<Case>, String> {
     }
     refuse_duplicates(&cases)?;
     Ok(cases)
+}
+
+/// The files of a folder's cases and of the conformance set in it, but those that are long: these have cases of their own.
+pub fn short_files(folder: &Path) -> Result<Vec<Vec<u8>>, String> {
+    let cases = load_folder(folder)?;
+    let mut files: Vec<Vec<u8>> = cases.iter().filter_map(|case| case.call.file()).collect();
+    for set in ["accept", "reject"] {
+        let set = folder.join("csvj-conformance").join(set);
+        for path in conformance::files(&set, "csvj")?.values() {
+            files.push(fs::read(path).map_err(|error| in_file(path, error))?);
+        }
+    }
+    files.retain(|file| file.len() <= SHORT_FILE);
+    Ok(files)
 }
 
 fn text_files(folder: &Path) -> Result<Vec<PathBuf>, String> {

@@ -73,53 +73,90 @@ pub fn cells_of(dialect: u32, file: &[u8]) -> Result<(ReadTable, Vec<Cell>), Rep
     Ok((table, cells))
 }
 
+/// The writer's arguments: a table, or what is to be refused as none.
+#[derive(Clone, Debug)]
+pub struct TableLists {
+    /// The bytes that the stretches name.
+    pub content: Vec<u8>,
+    /// Where each cell's content starts.
+    pub starts: Vec<usize>,
+    /// Where each cell's content ends.
+    pub ends: Vec<usize>,
+    /// Each cell's kind number.
+    pub kinds: Vec<u8>,
+    /// The number of columns.
+    pub columns: usize,
+    /// The number of records, the header too.
+    pub records: usize,
+}
+
+impl TableLists {
+    /// Cells, given record by record, with one content directly after the other.
+    pub fn of_cells(columns: usize, records: usize, cells: &[Cell]) -> Self {
+        let mut lists = Self {
+            content: Vec::new(),
+            starts: Vec::new(),
+            ends: Vec::new(),
+            kinds: cells.iter().map(|cell| cell.kind).collect(),
+            columns,
+            records,
+        };
+        for cell in cells {
+            lists.starts.push(lists.content.len());
+            lists.content.extend(&cell.content);
+            lists.ends.push(lists.content.len());
+        }
+        lists
+    }
+
+    /// As the writer takes it.
+    pub fn table(&self) -> Table<'_> {
+        Table {
+            content: &self.content,
+            starts: &self.starts,
+            ends: &self.ends,
+            kinds: &self.kinds,
+            columns: self.columns,
+            records: self.records,
+        }
+    }
+
+    /// Room that is enough for its text, if it has one: 6 for each byte of a cell's content, 6 for each cell, 1 for each record.
+    pub fn room(&self) -> usize {
+        let lengths = self.starts.iter().zip(&self.ends);
+        let room = lengths
+            .map(|(start, end)| end.saturating_sub(*start).saturating_add(1))
+            .fold(0, usize::saturating_add)
+            .saturating_mul(6)
+            .saturating_add(self.records);
+        FILE_BYTES.min(room)
+    }
+}
+
+/// Room that is enough for what a file of this length is converted to: a written record has at most 6 times (its counted bytes + 1), and
+/// all records but the last have an ending, which is not counted (§15.10).
+pub fn convert_room(file_length: usize) -> usize {
+    FILE_BYTES.min(6 * (file_length + 1))
+}
+
 /// Converts a file.
 pub fn convert_whole(source: u32, target: u32, file: &[u8]) -> Result<Vec<u8>, Report> {
-    // A written record is at most 6 times (its bytes read + 1), and each record has an ending.
-    let room = FILE_BYTES.min(12 * (file.len() + 1));
-    let mut out = vec![0; room];
+    let mut out = vec![0; convert_room(file.len())];
     let answer = convert(source, target, file, &mut out);
     out.truncate(answer.written);
     accepted(answer.report, out)
 }
 
-/// Writes a table of cells, given record by record.
-pub fn write_whole(
-    target: u32,
-    columns: usize,
-    records: usize,
-    cells: &[Cell],
-) -> Result<Vec<u8>, Report> {
-    let content: Vec<u8> = cells.iter().flat_map(|cell| cell.content.clone()).collect();
-    let ends: Vec<usize> = cells
-        .iter()
-        .scan(0, |end, cell| {
-            *end += cell.content.len();
-            Some(*end)
-        })
-        .collect();
-    let lengths = cells.iter().map(|cell| cell.content.len());
-    let starts: Vec<usize> = ends
-        .iter()
-        .zip(lengths)
-        .map(|(end, len)| end - len)
-        .collect();
-    let kinds: Vec<u8> = cells.iter().map(|cell| cell.kind).collect();
-    let table = Table {
-        content: &content,
-        starts: &starts,
-        ends: &ends,
-        kinds: &kinds,
-        columns,
-        records,
-    };
-    let mut out = vec![0; 6 * content.len() + 8 * cells.len() + 2 * records];
-    let answer = write(target, table, &mut out);
+/// Writes a table.
+pub fn write_whole(target: u32, lists: &TableLists) -> Result<Vec<u8>, Report> {
+    let mut out = vec![0; lists.room()];
+    let answer = write(target, lists.table(), &mut out);
     out.truncate(answer.written);
     accepted(answer.report, out)
 }
 
 fn accepted<T>(report: Report, value: T) -> Result<T, Report> {
+    assert_ne!(report.number, 10, "the room was enough");
     if report.is_accepted() {
         Ok(value)
     } else {

@@ -1,15 +1,19 @@
 //! The library as C and C++ have it: installed by `make install`, and found as pkg-config tells.
 
+use harness::programs::{run, succeeded};
 use harness::repository;
+use harness::whole::{convert_room, convert_whole};
 use reference::limits::{COLUMNS, FILE_BYTES, RECORD_BYTES};
 use std::fs;
-use std::io::Write;
 use std::path::{Path, PathBuf};
-use std::process::{Command, Output, Stdio};
+use std::process::Command;
 use std::sync::OnceLock;
 
-const C: [&str; 2] = ["cc", "-std=c11"];
-const CPP: [&str; 2] = ["c++", "-std=c++17"];
+/// A compiler, the language that it takes a source for, and its standard.
+type Compiler = [&'static str; 3];
+
+const C: Compiler = ["cc", "c", "-std=c11"];
+const CPP: Compiler = ["c++", "c++", "-std=c++17"];
 const STRICT: [&str; 4] = ["-Wall", "-Wextra", "-Wpedantic", "-Werror"];
 
 /// The folder that the library is installed below, once for all tests.
@@ -57,41 +61,21 @@ fn fields(file: &str) -> String {
 }
 
 /// Compiles a program of the repository as strictly as can be, and gives where it is.
-fn compile(compiler: [&str; 2], source: &str) -> PathBuf {
+fn compile([compiler, language, standard]: Compiler, source: &str) -> PathBuf {
     let source = repository().join(source);
-    let program = prefix().join(source.file_stem().expect("a file"));
-    let mut command = Command::new(compiler[0]);
+    let name = source.file_stem().expect("a file").to_string_lossy();
+    let program = prefix().join(format!("{name}-by-{compiler}"));
+    let mut command = Command::new(compiler);
     command
-        .arg(compiler[1])
+        .arg(standard)
         .args(STRICT)
-        .args(["-O2", "-pthread"])
+        .args(["-O2", "-pthread", "-x", language])
         .arg(&source)
-        .arg("-o")
+        .args(["-x", "none", "-o"])
         .arg(&program)
         .args(flags());
     succeeded(&command.output().expect("the compiler starts"));
     program
-}
-
-/// The standard output of a command that has to succeed.
-fn succeeded(output: &Output) -> String {
-    let [told, said] = [&output.stdout, &output.stderr].map(|bytes| String::from_utf8_lossy(bytes));
-    assert!(output.status.success(), "{}\n{told}{said}", output.status);
-    told.into_owned()
-}
-
-fn run(program: &Path, arguments: &[&str], input: &[u8]) -> Output {
-    let mut child = Command::new(program)
-        .args(arguments)
-        .stdin(Stdio::piped())
-        .stdout(Stdio::piped())
-        .stderr(Stdio::piped())
-        .spawn()
-        .expect("the program starts");
-    let mut stdin = child.stdin.take().expect("standard input is piped");
-    stdin.write_all(input).expect("it reads all");
-    drop(stdin);
-    child.wait_with_output().expect("the program ends")
 }
 
 #[test]
@@ -118,10 +102,77 @@ fn the_c_example_reads_a_table() {
     );
 }
 
+/// Whether there is a C++ compiler; if not, it is said.
+fn has_cpp() -> bool {
+    let has_cpp = Command::new(CPP[0]).arg("--version").output().is_ok();
+    if !has_cpp {
+        eprintln!("no C++ compiler is installed, so that the header was not tried with one");
+    }
+    has_cpp
+}
+
+/// Converts as the example does, and as the reference does.
+fn convert_agrees(program: &Path, from: u32, to: u32, file: &[u8]) {
+    const NAMES: [&str; 4] = ["", "csvj", "tdif", "csv+"];
+    let names = [NAMES[from as usize], NAMES[to as usize]];
+    let told = run(program, &names, file);
+    let shown = file.escape_ascii();
+    match convert_whole(from, to, file) {
+        Ok(text) => {
+            assert_eq!(told.stdout, text, "{shown}");
+            assert_eq!((told.status.code(), &told.stderr[..]), (Some(0), &b""[..]));
+        }
+        Err(report) => {
+            let sentence = String::from_utf8_lossy(&told.stderr);
+            assert_eq!(sentence, format!("{}\n", report.sentence()), "{shown}");
+            assert_eq!((told.status.code(), &told.stdout[..]), (Some(1), &b""[..]));
+        }
+    }
+}
+
+fn the_example_converts(compiler: Compiler) {
+    let program = compile(compiler, "examples/convert.c");
+    let table = b"\"stop\",\"note\"\n\"Harbour\",\"say \\\"Mint\\\"\"\n";
+    let told = succeeded(&run(&program, &["csvj", "csv+"], table));
+    assert_eq!(told, "stop,note\r\nHarbour,\"say \"\"Mint\"\"\"\r\n");
+    let fares = b"\"stop\",\"fare\"\n\"Harbour\",2.40\n";
+    for (from, to, file) in [
+        (1, 1, &fares[..]),
+        (1, 3, fares),
+        (2, 1, b"\"a\"\r\n\\N\r"),
+        (3, 2, b"a,b\n,\n"),
+        (1, 1, b""),
+        (3, 1, b"a\xFF\n"),
+        (2, 2, b"\"a\" \n"),
+        (3, 3, b"\"a"),
+        (3, 1, b"a,b\n1\n"),
+        (1, 2, b"\"a\",\"a\"\n"),
+        (2, 3, b"\"a\",\\N\n"),
+        (3, 3, &b","[..].repeat(64)),
+        (1, 2, b"\"a\",\"A\"\n"),
+        (3, 1, &vec![b'\n'; FILE_BYTES + 1]),
+    ] {
+        convert_agrees(&program, from, to, file);
+    }
+    let wrong = run(&program, &["csvj"], b"");
+    assert_eq!(wrong.status.code(), Some(2));
+}
+
+#[test]
+fn the_c_example_converts_a_table() {
+    the_example_converts(C);
+}
+
+#[test]
+fn the_c_example_is_cpp_too() {
+    if has_cpp() {
+        the_example_converts(CPP);
+    }
+}
+
 #[test]
 fn the_cpp_example_counts_a_table() {
-    if Command::new(CPP[0]).arg("--version").output().is_err() {
-        eprintln!("no C++ compiler is installed, so that the header was not tried with one");
+    if !has_cpp() {
         return;
     }
     let program = compile(CPP, "examples/count.cpp");
@@ -144,7 +195,12 @@ fn the_stack_is_as_small_as_the_header_says() {
         .split(' ')
         .filter_map(|word| word.trim().parse().ok())
         .collect();
-    assert!(matches!(numbers[..], [..=10_500, ..=500]), "{told}");
+    let most = [10_500, 500, 16_000, 16_000];
+    assert_eq!(numbers.len(), most.len(), "{told}");
+    assert!(
+        numbers.iter().zip(most).all(|(taken, most)| *taken <= most),
+        "{told}"
+    );
 }
 
 #[test]
@@ -174,6 +230,9 @@ fn the_header_has_the_version_and_the_limits() {
     ] {
         let line = format!("#define {line}");
         assert!(header.lines().any(|found| found == line), "{line}");
+    }
+    for length in [0, 1, 1_000, FILE_BYTES / 6 - 1, FILE_BYTES / 6, FILE_BYTES] {
+        assert_eq!(hemakuliwi::convert_room(length), convert_room(length));
     }
     let limits = (
         hemakuliwi::FILE_BYTES,

@@ -1,16 +1,14 @@
 //! The proved reader against every vector and against the reference, and wrong readers against the same comparison.
 
 use harness::compare::{proved_reader, read_agrees, read_in_rooms, read_random};
-use harness::conformance;
 use harness::generate::file_of;
-use harness::lists::{Reader, SHORT_FILE};
+use harness::lists::Reader;
 use harness::runner::{check_read, LEAST_READ};
-use harness::vectors::{load_folder, Bytes, Call};
+use harness::vectors::{load_folder, short_files, Call};
 use harness::whole::read_whole;
 use harness::{vectors_folder, UNKNOWN};
 use reference::limits::FILE_BYTES;
 use reference::{read, ReadAnswer, Report};
-use std::fs;
 use std::iter::zip;
 
 fn agreed<T>(outcome: Result<T, String>) -> T {
@@ -39,33 +37,9 @@ fn every_vector_is_read_as_it_says() {
     assert!(ran >= LEAST_READ);
 }
 
-/// The file that a case reads or converts.
-fn file_of_case(call: Call) -> Option<Vec<u8>> {
-    match call {
-        Call::Read { file, .. } | Call::Convert { file, .. } => Some(file.to_vec()),
-        Call::Pieces { calls, .. } => {
-            let pieces = calls.iter().filter_map(|call| call.piece.as_ref());
-            let pieces: Vec<Vec<u8>> = pieces.map(Bytes::to_vec).collect();
-            Some(pieces.concat())
-        }
-        Call::Decode { .. } | Call::Write { .. } => None,
-    }
-}
-
 #[test]
 fn files_of_all_vectors_are_read_as_the_reference_does() {
-    let cases = load_folder(&vectors_folder()).expect("the vectors are of their format");
-    let mut files: Vec<Vec<u8>> = cases
-        .into_iter()
-        .filter_map(|case| file_of_case(case.call))
-        .collect();
-    for set in ["accept", "reject"] {
-        let folder = vectors_folder().join("csvj-conformance").join(set);
-        let paths = conformance::files(&folder, "csvj").expect("the set is of its form");
-        files.extend(paths.values().map(|path| fs::read(path).expect("a file")));
-    }
-    // Longer ones are read as their own vectors say, and there are others about the limit.
-    files.retain(|file| file.len() <= SHORT_FILE);
+    let files = short_files(&vectors_folder()).expect("the vectors are of their format");
     for file in &files {
         for dialect in [1, 2, 3].into_iter().chain(UNKNOWN) {
             agreed(read_in_rooms(proved_reader, dialect, file));

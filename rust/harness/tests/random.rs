@@ -4,7 +4,9 @@ use harness::counts::Counts;
 use harness::generate::{mutate, sample};
 use harness::ledger::{check_calls, Call};
 use harness::rng::Rng;
-use harness::whole::{cells_of, convert_whole, decode_whole, read_whole, write_whole, Cell};
+use harness::whole::{
+    cells_of, convert_whole, decode_whole, read_whole, write_whole, Cell, TableLists,
+};
 use harness::{DIALECTS, UNKNOWN};
 use reference::limits::{PIECE_BYTES, PIECE_ROOM, RECORD_BYTES};
 use reference::Report;
@@ -145,7 +147,8 @@ fn files_are_converted_as_they_are_read_and_written() {
                 Err(report) => assert_eq!(converted, Err(*report), "{}", file.escape_ascii()),
                 Ok((table, cells)) => {
                     let columns = table.columns;
-                    let written = write_whole(target, columns, table.records + 1, cells);
+                    let lists = TableLists::of_cells(columns, table.records + 1, cells);
+                    let written = write_whole(target, &lists);
                     check_written(target, &cells[..columns], converted, written);
                 }
             }

@@ -22,6 +22,32 @@
 //! let cell = hemakuliwi::decode(hemakuliwi::CSVJ, &file[starts[2]..ends[2]], &mut room);
 //! assert_eq!(&room[..cell.length], b"Harbour");
 //! ```
+//!
+//! A file is converted to the canonical text of a dialect. How much room is enough is known before:
+//!
+//! ```
+//! let file = b"\"stop\",\"note\"\n\"Harbour\",\"say \\\"Mint\\\"\"\n";
+//! let mut room = vec![0; hemakuliwi::convert_room(file.len())];
+//! let text = hemakuliwi::convert(hemakuliwi::CSVJ, hemakuliwi::CSV_PLUS, file, &mut room);
+//! assert_eq!(&room[..text.length], b"stop,note\r\nHarbour,\"say \"\"Mint\"\"\"\r\n");
+//! ```
+//!
+//! A table is written from stretches of content, record by record:
+//!
+//! ```
+//! use hemakuliwi::{Table, NULL, NUMBER, TEXT};
+//! let table = Table {
+//!     content: b"stopfareHarbour2.40",
+//!     starts: &[0, 4, 8, 15, 8, 0],
+//!     ends: &[4, 8, 15, 19, 15, 0],
+//!     kinds: &[TEXT, TEXT, TEXT, NUMBER, TEXT, NULL],
+//!     columns: 2,
+//!     records: 3,
+//! };
+//! let mut room = [0; 100];
+//! let text = hemakuliwi::write(hemakuliwi::CSVJ, table, &mut room);
+//! assert_eq!(&room[..text.length], b"\"stop\",\"fare\"\n\"Harbour\",2.40\n\"Harbour\",null\n");
+//! ```
 
 /// Dialect 1.
 pub const CSVJ: u32 = 1;
@@ -30,12 +56,23 @@ pub const TDIF: u32 = 2;
 /// Dialect 3.
 pub const CSV_PLUS: u32 = 3;
 
+/// Kind 1.
+pub const TEXT: u8 = 1;
+/// Kind 2.
+pub const NUMBER: u8 = 2;
+/// Kind 3.
+pub const TRUE: u8 = 3;
+/// Kind 4.
+pub const FALSE: u8 = 4;
+/// Kind 5.
+pub const NULL: u8 = 5;
+
 /// The report number of acceptance.
 pub const ACCEPTED: usize = 0;
 /// The report number that says that something lent was too short. Nothing else was wrong.
 pub const ROOM: usize = 10;
 
-/// The most bytes in a file.
+/// The most bytes in a file, so that a room of as many holds any text that is converted or written.
 pub const FILE_BYTES: usize = 16_777_215;
 /// The most bytes in a record, so that a room of as many holds any cell's content.
 pub const RECORD_BYTES: usize = 4_096;
@@ -82,6 +119,33 @@ pub struct DecodeAnswer {
     pub kind: usize,
 }
 
+/// What the converter and the writer answer.
+#[repr(C)]
+#[derive(Clone, Copy, Debug, PartialEq, Eq)]
+pub struct TextAnswer {
+    /// Acceptance, or the first fault.
+    pub report: Report,
+    /// The text's length; 0 on refusal.
+    pub length: usize,
+}
+
+/// A table for the writer: its cells record by record, as stretches of the content.
+#[derive(Clone, Copy, Debug)]
+pub struct Table<'a> {
+    /// The bytes that the stretches name.
+    pub content: &'a [u8],
+    /// Where each cell's content starts.
+    pub starts: &'a [usize],
+    /// Where each cell's content ends.
+    pub ends: &'a [usize],
+    /// The number of each cell's kind.
+    pub kinds: &'a [u8],
+    /// The number of columns.
+    pub columns: usize,
+    /// The number of records, the header too.
+    pub records: usize,
+}
+
 // Nothing checks these declarations against the Rattle source: the harness holds each call to the reference's answers.
 extern "C" {
     fn hk_read(
@@ -103,6 +167,31 @@ extern "C" {
         room: *mut u8,
         room_length: usize,
     ) -> DecodeAnswer;
+
+    fn hk_convert(
+        from: u32,
+        to: u32,
+        file: *const u8,
+        file_length: usize,
+        room: *mut u8,
+        room_length: usize,
+    ) -> TextAnswer;
+
+    fn hk_write(
+        dialect: u32,
+        content: *const u8,
+        content_length: usize,
+        starts: *const usize,
+        starts_length: usize,
+        ends: *const usize,
+        ends_length: usize,
+        kinds: *const u8,
+        kinds_length: usize,
+        columns: usize,
+        records: usize,
+        room: *mut u8,
+        room_length: usize,
+    ) -> TextAnswer;
 }
 
 /// The cells of a whole file: cell `i` stands from `starts[i]` up to `ends[i]`, and the number of its kind is `kinds[i]`. Past the
@@ -138,6 +227,52 @@ pub fn decode(dialect: u32, raw: &[u8], room: &mut [u8]) -> DecodeAnswer {
             dialect,
             raw.as_ptr(),
             raw.len(),
+            room.as_mut_ptr(),
+            room.len(),
+        )
+    }
+}
+
+/// Room that is enough for what a file of this length is converted to.
+pub const fn convert_room(file_length: usize) -> usize {
+    if file_length < FILE_BYTES / 6 {
+        6 * (file_length + 1)
+    } else {
+        FILE_BYTES
+    }
+}
+
+/// A whole file in one dialect to its canonical text in another, in `room`. Past the text, and on refusal, the room is left as it was.
+pub fn convert(from: u32, to: u32, file: &[u8], room: &mut [u8]) -> TextAnswer {
+    // SAFETY: both slices are alive for the call and do not overlap, and the call is proved to stay inside them.
+    unsafe {
+        hk_convert(
+            from,
+            to,
+            file.as_ptr(),
+            file.len(),
+            room.as_mut_ptr(),
+            room.len(),
+        )
+    }
+}
+
+/// A table to its canonical text, in `room`. Past the text, and on refusal, the room is left as it was.
+pub fn write(dialect: u32, table: Table, room: &mut [u8]) -> TextAnswer {
+    // SAFETY: the slices are alive for the call and none overlaps the room, and the call is proved to stay inside them.
+    unsafe {
+        hk_write(
+            dialect,
+            table.content.as_ptr(),
+            table.content.len(),
+            table.starts.as_ptr(),
+            table.starts.len(),
+            table.ends.as_ptr(),
+            table.ends.len(),
+            table.kinds.as_ptr(),
+            table.kinds.len(),
+            table.columns,
+            table.records,
             room.as_mut_ptr(),
             room.len(),
         )

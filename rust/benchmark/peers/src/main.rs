@@ -1,13 +1,15 @@
-//! The benchmark with csv-core, which reads CSV+, and serde_json, which reads CSVJ: `peers [FOLDER [ROUNDS]]`.
+//! The benchmark with csv-core, which reads CSV+, serde_json, which reads and writes CSVJ, and csv, which reads and writes
+//! CSV+ and writes TDIF: `peers [FOLDER [ROUNDS]]`.
 //!
-//! Neither does all that the proved reader does: csv-core does not look at UTF-8, and no header, count or limit is
-//! judged by either.
+//! None does all that the proved calls do: csv-core does not look at UTF-8, and no header, kind or limit is judged by any.
 
-use benchmark::Peer;
+use benchmark::{ConvertingPeer, Peer};
+use csv::{QuoteStyle, ReaderBuilder, StringRecord, Terminator, Writer, WriterBuilder};
 use csv_core::ReadRecordResult;
 use reference::limits::{COLUMNS, RECORD_BYTES};
 use reference::Dialect;
 use serde::de::{DeserializeOwned, IgnoredAny};
+use serde::Serialize;
 use serde_json::{Deserializer, Value};
 use std::process::ExitCode;
 
@@ -35,8 +37,53 @@ const PEERS: [Peer; 3] = [
     },
 ];
 
+const CONVERTING_PEERS: [ConvertingPeer; 6] = [
+    ConvertingPeer {
+        name: "csv, serde_json",
+        from: Dialect::CsvPlus,
+        to: Dialect::Csvj,
+        prepare: <[u8]>::to_vec,
+        convert: csv_to_json,
+    },
+    ConvertingPeer {
+        name: "csv, csv quoting all",
+        from: Dialect::CsvPlus,
+        to: Dialect::Tdif,
+        prepare: <[u8]>::to_vec,
+        convert: |file, out| csv_to_csv(file, tdif_writer(out)),
+    },
+    ConvertingPeer {
+        name: "csv, csv",
+        from: Dialect::CsvPlus,
+        to: Dialect::CsvPlus,
+        prepare: <[u8]>::to_vec,
+        convert: |file, out| csv_to_csv(file, csv_writer(out)),
+    },
+    ConvertingPeer {
+        name: "serde_json, serde_json",
+        from: Dialect::Csvj,
+        to: Dialect::Csvj,
+        prepare: arrays,
+        convert: json_to_json,
+    },
+    ConvertingPeer {
+        name: "serde_json, csv quoting all",
+        from: Dialect::Csvj,
+        to: Dialect::Tdif,
+        prepare: arrays,
+        convert: |file, out| json_to_csv(file, tdif_writer(out)),
+    },
+    ConvertingPeer {
+        name: "serde_json, csv",
+        from: Dialect::Csvj,
+        to: Dialect::CsvPlus,
+        prepare: arrays,
+        convert: |file, out| json_to_csv(file, csv_writer(out)),
+    },
+];
+
 fn main() -> ExitCode {
-    benchmark::main(&PEERS)
+    benchmark::main(&PEERS, &CONVERTING_PEERS)
 }
 
 /// One pass, record by record, into a buffer that each record has for itself.
@@ -81,4 +128,72 @@ fn json_cells<T: DeserializeOwned>(arrays: &[u8]) -> usize {
         .into_iter::<Vec<T>>()
         .map(|record| record.expect("each line is an array").len())
         .sum()
+}
+
+type CsvWriter<'a> = Writer<&'a mut Vec<u8>>;
+
+fn csv_writer(out: &mut Vec<u8>) -> CsvWriter<'_> {
+    let mut builder = WriterBuilder::new();
+    builder.terminator(Terminator::CRLF).from_writer(out)
+}
+
+fn tdif_writer(out: &mut Vec<u8>) -> CsvWriter<'_> {
+    let mut builder = WriterBuilder::new();
+    builder
+        .quote_style(QuoteStyle::Always)
+        .terminator(Terminator::Any(b'\n'))
+        .from_writer(out)
+}
+
+/// Reads a CSV+ file with csv, which looks at UTF-8 here, into one record again and again.
+fn each_record(file: &[u8], mut take: impl FnMut(&StringRecord)) {
+    let mut reader = ReaderBuilder::new().has_headers(false).from_reader(file);
+    let mut record = StringRecord::new();
+    while reader.read_record(&mut record).expect("a sound record") {
+        take(&record);
+    }
+}
+
+fn csv_to_csv(file: &[u8], mut writer: CsvWriter) {
+    each_record(file, |record| {
+        let written = writer.write_byte_record(record.as_byte_record());
+        written.expect("memory takes all");
+    });
+    writer.flush().expect("memory takes all");
+}
+
+fn csv_to_json(file: &[u8], out: &mut Vec<u8>) {
+    each_record(file, |record| write_values(record.iter(), out));
+}
+
+fn json_to_csv(arrays: &[u8], mut writer: CsvWriter) {
+    for record in json_records(arrays) {
+        let texts = record
+            .iter()
+            .map(|value| value.as_str().unwrap_or_default());
+        writer.write_record(texts).expect("memory takes all");
+    }
+    writer.flush().expect("memory takes all");
+}
+
+fn json_to_json(arrays: &[u8], out: &mut Vec<u8>) {
+    for record in json_records(arrays) {
+        write_values(record.iter(), out);
+    }
+}
+
+fn json_records(arrays: &[u8]) -> impl Iterator<Item = Vec<Value>> + '_ {
+    let records = Deserializer::from_slice(arrays).into_iter();
+    records.map(|record| record.expect("each line is an array"))
+}
+
+/// Values as JSON with commas between them, and a line's end.
+fn write_values<T: Serialize>(values: impl Iterator<Item = T>, out: &mut Vec<u8>) {
+    for (index, value) in values.enumerate() {
+        if index > 0 {
+            out.push(b',');
+        }
+        serde_json::to_writer(&mut *out, &value).expect("memory takes all");
+    }
+    out.push(b'\n');
 }

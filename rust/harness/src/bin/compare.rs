@@ -1,9 +1,13 @@
 //! Compares the proved calls with the reference on random inputs until they differ or it is stopped: `compare SEED`.
 
-use harness::compare::{decode_random, proved_reader, read_random};
+use harness::compare::{
+    convert_random, decode_random, proved_converter, proved_reader, proved_writer, read_random,
+    write_random,
+};
+use harness::DIALECTS;
 use std::process::ExitCode;
 
-/// How many cells and how many files are compared with each seed.
+/// How many cells, files and tables are compared with each seed.
 const COUNT: usize = 200_000;
 
 fn main() -> ExitCode {
@@ -25,5 +29,13 @@ fn compare(seed: u64) -> Result<(), String> {
     cells.print(&format!("seed {seed}: {COUNT} raw cells agree"));
     let files = read_random(proved_reader, seed, COUNT)?;
     files.print(&format!("seed {seed}: {COUNT} files agree"));
+    let by_target = convert_random(proved_converter, seed, COUNT)?;
+    for ((target, _), counts) in DIALECTS.iter().zip(by_target) {
+        counts.print(&format!(
+            "seed {seed}: {COUNT} files to dialect {target} agree"
+        ));
+    }
+    let tables = write_random(proved_writer, seed, COUNT)?;
+    tables.print(&format!("seed {seed}: {COUNT} tables agree"));
     Ok(())
 }

@@ -1,6 +1,6 @@
 //! The decoder.
 
-use super::hex;
+use super::{agree, hex};
 use crate::counts::Counts;
 use crate::generate::{mutate, sample};
 use crate::rng::Rng;
@@ -36,19 +36,12 @@ fn expected(dialect: u32, raw: &[u8], room: &mut [u8]) -> DecodeAnswer {
 
 /// Decodes a raw cell with both and compares the answers and the whole room.
 pub fn decode_agrees(dialect: u32, raw: &[u8], room: usize) -> Result<DecodeAnswer, String> {
-    let (mut ours, mut theirs) = (vec![0xA5; room], vec![0xA5; room]);
-    let answer = decode(dialect, raw, &mut ours);
-    let wanted = expected(dialect, raw, &mut theirs);
-    if answer != wanted || ours != theirs {
-        return Err(format!(
-            "decode {dialect} {} with {room} bytes of room\nanswered      {answer:?}, left {}\n\
-             the reference {wanted:?}, left {}",
-            hex(raw),
-            hex(&ours),
-            hex(&theirs)
-        ));
-    }
-    Ok(answer)
+    agree(
+        || format!("decode {dialect} {}", hex(raw)),
+        room,
+        |room| decode(dialect, raw, room),
+        |room| expected(dialect, raw, room),
+    )
 }
 
 /// Compares the decoders on raw cells of random files, some of them changed, and on parts of files.

@@ -1,6 +1,6 @@
 //! The reader. Each comparison takes the reader that is held to the reference, so that wrong ones can be tried too.
 
-use super::hex;
+use super::{hex, report};
 use crate::counts::Counts;
 use crate::generate::sample;
 use crate::lists::{lengths, Lists, Reader};
@@ -8,7 +8,7 @@ use crate::rng::Rng;
 use crate::whole::read_whole;
 use crate::{DIALECTS, UNKNOWN};
 use reference::limits::COLUMNS;
-use reference::{ReadAnswer, Report};
+use reference::ReadAnswer;
 
 /// The proved reader, answering in the reference's terms.
 pub fn proved_reader(
@@ -19,14 +19,8 @@ pub fn proved_reader(
     kinds: &mut [u8],
 ) -> ReadAnswer {
     let answer = hemakuliwi::read(dialect, file, starts, ends, kinds);
-    let report = answer.report;
     ReadAnswer {
-        report: Report {
-            number: report.number,
-            record: report.record_number,
-            column: report.column,
-            offset: report.offset,
-        },
+        report: report(answer.report),
         columns: answer.columns,
         records: answer.records,
         cells: answer.cells,

@@ -1,4 +1,4 @@
-/* Prints how many bytes of stack each call takes at most, on files that lead through all of the reader: wide headers of escaped
+/* Prints how many bytes of stack each call takes at most, on files and tables that lead through all of it: wide headers of escaped
    names, long records, and a name that repeats. A call runs on a stack that was filled before, and what it changed is what it took. */
 #define _XOPEN_SOURCE 700
 #include <hemakuliwi.h>
@@ -11,7 +11,7 @@ enum { STACK = 1 << 18, FILL = 0xA5, PLACES = 1024 };
 
 static uint8_t file[1 << 16];
 static size_t file_length, starts[PLACES], ends[PLACES];
-static uint8_t kinds[PLACES], room[HK_RECORD_BYTES];
+static uint8_t kinds[PLACES], room[HK_RECORD_BYTES], content[1 << 16], text[1 << 20];
 static uint32_t dialect;
 static uint8_t *stack;
 static size_t cells, taken;
@@ -23,6 +23,24 @@ static void read_file(void) {
 static void decode_cells(void) {
     for (size_t i = 0; i < cells; i++) {
         hk_decode(dialect, file + starts[i], ends[i] - starts[i], room, sizeof room);
+    }
+}
+
+static void convert_file(void) {
+    for (uint32_t to = HK_CSVJ; to <= HK_CSV_PLUS; to++) {
+        hk_convert(dialect, to, file, file_length, text, sizeof text);
+    }
+}
+
+/* The table that is written: texts of two records. */
+enum { CELLS = 2 * HK_COLUMNS };
+static size_t content_length, content_starts[CELLS], content_ends[CELLS];
+static uint8_t content_kinds[CELLS];
+
+static void write_table(void) {
+    for (uint32_t to = HK_CSVJ; to <= HK_CSV_PLUS; to++) {
+        hk_write(to, content, content_length, content_starts, CELLS, content_ends, CELLS, content_kinds, CELLS, HK_COLUMNS, 2, text,
+                 sizeof text);
     }
 }
 
@@ -76,13 +94,31 @@ static void make_file(uint32_t number, int repeats) {
     }
 }
 
+/* The table of such a file, as the writer takes it. The name that repeats the first is the same stretch. */
+static void make_table(uint32_t number, int repeats) {
+    make_file(number, 0);
+    read_file();
+    content_length = 0;
+    for (size_t i = 0; i < CELLS; i++) {
+        content_starts[i] = content_length;
+        content_length += hk_decode(dialect, file + starts[i], ends[i] - starts[i], content + content_length, HK_RECORD_BYTES).length;
+        content_ends[i] = content_length;
+        content_kinds[i] = HK_TEXT;
+    }
+    if (repeats) {
+        content_starts[HK_COLUMNS - 1] = content_starts[0];
+        content_ends[HK_COLUMNS - 1] = content_ends[0];
+    }
+}
+
 static size_t most(void (*one)(void)) {
     taken = 0;
     for (uint32_t number = HK_CSVJ; number <= HK_CSV_PLUS; number++) {
         for (int repeats = 1; repeats >= 0; repeats--) {
+            make_table(number, repeats);
             make_file(number, repeats);
             read_file();
-            if (cells != (repeats ? 0 : 2 * HK_COLUMNS)) {
+            if (cells != (repeats ? 0 : CELLS)) {
                 fprintf(stderr, "stack: a file of dialect %u was not read as it should\n", (unsigned)number);
                 exit(1);
             }
@@ -97,8 +133,8 @@ int main(void) {
     if (stack == NULL) {
         return 1;
     }
-    size_t reading = most(read_file), decoding = most(decode_cells);
-    printf("hk_read %zu hk_decode %zu\n", reading, decoding);
+    size_t reading = most(read_file), decoding = most(decode_cells), converting = most(convert_file), writing = most(write_table);
+    printf("hk_read %zu hk_decode %zu hk_convert %zu hk_write %zu\n", reading, decoding, converting, writing);
     free(stack);
     return 0;
 }

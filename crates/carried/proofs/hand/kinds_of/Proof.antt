@@ -1,5 +1,5 @@
 -- `carried::hand::kinds_of` meets its contract. The invariant: what is still to be put down are the kinds from place k on.
-use Prim.Native.Nat.{ℕ, _-_, _≤_}
+use Prim.Native.Nat.{_-_, _≤_}
 use mathlib.Core.Path.{ap, _∙_}
 use native.Mathlib.Omega.{arith}
 use lib.ListN.{length, getD}

@@ -3,7 +3,7 @@
 use mathlib.Core.Path.{sym, ap, _∙_}
 use borrow.Author.Needs.{needs}
 use Rattle.decoder.specs.FirstByte.{spellingBy, contentIn}
-use Rattle.decoder.specs.Sources.{contentBy}
+use Rattle.decoder.specs.Sources.{contentBy, spellingIn}
 use Rattle.decoder.specs.declared.first.Spelling.{Spelling}
 use Rattle.decoder.specs.declared.source.Source.{Source}
 use Rattle.decoder.proofs.FirstByte.{content-first}
@@ -15,9 +15,15 @@ returns c =
     let asked = c .before .before .before in
     let a = asked .before .before .before .args in
     let raw = a .raw .now in
-    ap (λ (s : Spelling). contentIn s raw) (c .spelling-by .ensures ∙ ap (spellingBy (asked .src .given .0 .0)) (c .before .first-of .ensures))
-    ∙ content-first (asked .src .given .0 .0) raw
-    ∙ ap (λ (src : Source). contentBy src raw) (sym (asked .src .given .1))
+    let r = c .spelling-by .ensures ∙ ap (spellingBy (asked .src .given .0 .0)) (c .before .first-of .ensures) in (
+      ap (λ (s : Spelling). contentIn s raw) r
+          ∙ content-first (asked .src .given .0 .0) raw
+          ∙ ap (λ (src : Source). contentBy src raw) (sym (asked .src .given .1)),
+      r ∙ ap (λ (src : Source). spellingIn src raw) (sym (asked .src .given .1)),
+    )
+
+returns-2 : tie.Need-returns-2
+returns-2 c = (search needs, search needs)
 
 pub spelling-in-spec : {M : Type 1} → statement M
-spelling-in-spec = tie.close (tie.spec (λ c. search needs) (λ c κs. search needs) (λ c κs. search needs) (λ c. search needs) returns (λ c. search needs))
+spelling-in-spec = tie.close (tie.spec (λ c. search needs) (λ c κs. search needs) (λ c κs. search needs) (λ c. search needs) returns returns-2)

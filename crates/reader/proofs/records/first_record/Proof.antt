@@ -9,19 +9,19 @@ use Rattle.reader.proofs.records.first_record.Tie as tie
 
 validated-requires : tie.Need-validated-requires
 validated-requires c κs =
-    let a = c .before .before .before .before .before .before .before .before .before .before .before .before .before .args in
-    let n = c .before .before .before .before .before .before .before .before .next-record .ensures in
-    (first-counts (a .d) (a .file .now) _ (n .0) _ _ _ _ (c .before .before .before .start .given .1), (shows _ _ _ _ _ refl refl (n .1 .0) (n .1 .1 .0), cells-stand (a .d) (a .file .now) Top 0 refl (omega arith)))
+    let a = c .before .before .before .before .before .before .before .before .before .before .before .before .before .before .args in
+    let n = c .before .before .before .before .before .before .before .before .before .next-record .ensures in
+    (first-counts (a .d) (a .file .now) _ (n .0) _ _ _ _ (c .before .before .before .before .start .given .1), (shows _ _ _ _ _ _ _ refl refl refl (n .1 .0) (n .1 .1 .0) (n .1 .1 .1 .0), cells-stand (a .d) (a .file .now) Top 0 refl (omega arith)))
 
 validated-requires-2 : tie.Need-validated-requires-2
 validated-requires-2 c κs =
-    let a = c .before .before .before .before .before .before .before .before .before .before .before .before .before .args in
-    let n = c .before .before .before .before .before .before .before .before .next-record .ensures in
-    (only-counts (a .d) (a .file .now) _ (n .0) _ _ (c .before .before .before .start2 .given .1), (shows _ _ _ _ _ refl refl (n .1 .0) (n .1 .1 .0), cells-stand (a .d) (a .file .now) Top 0 refl (omega arith)))
+    let a = c .before .before .before .before .before .before .before .before .before .before .before .before .before .before .args in
+    let n = c .before .before .before .before .before .before .before .before .before .next-record .ensures in
+    (only-counts (a .d) (a .file .now) _ (n .0) _ _ (c .before .before .before .before .start2 .given .1), (shows _ _ _ _ _ _ _ refl refl refl (n .1 .0) (n .1 .1 .0) (n .1 .1 .1 .0), cells-stand (a .d) (a .file .now) Top 0 refl (omega arith)))
 
 returns : tie.Need-returns
 returns c =
-    let at-start = c .before .before .before .before .before .before in
+    let at-start = c .before .before .before .before .before .before .before in
     let at-next-record = at-start .before .before .before .before .before in
     let a = at-next-record .before .before .before .before .before .args in
     let n = at-next-record .next-record .ensures in
@@ -30,7 +30,7 @@ returns c =
 returns-2 : tie.Need-returns-2
 returns-2 c =
     let at-validated = c .before .before .before .before in
-    let at-start = at-validated .before .before .before .before in
+    let at-start = at-validated .before .before .before .before .before in
     let at-next-record = at-start .before .before .before .before .before in
     let a = at-next-record .before .before .before .before .before .args in
     let n = at-next-record .next-record .ensures in
@@ -38,7 +38,7 @@ returns-2 c =
 
 returns-3 : tie.Need-returns-3
 returns-3 c =
-    let at-start2 = c .before .before .before .before .before .before in
+    let at-start2 = c .before .before .before .before .before .before .before in
     let at-next-record = at-start2 .before .before .before .before .before in
     let a = at-next-record .before .before .before .before .before .args in
     let n = at-next-record .next-record .ensures in
@@ -47,7 +47,7 @@ returns-3 c =
 returns-4 : tie.Need-returns-4
 returns-4 c =
     let at-validated2 = c .before .before .before .before in
-    let at-start2 = at-validated2 .before .before .before .before in
+    let at-start2 = at-validated2 .before .before .before .before .before in
     let at-next-record = at-start2 .before .before .before .before .before in
     let a = at-next-record .before .before .before .before .before .args in
     let n = at-next-record .next-record .ensures in
@@ -78,10 +78,12 @@ first-record-spec =
     (λ c. search needs)
     (λ c. search needs)
     (λ c. search needs)
+    (λ c. search needs)
     validated-requires
     (λ c. search needs)
     (λ c. search needs)
     (λ c κs. search needs)
+    (λ c. search needs)
     (λ c. search needs)
     (λ c. search needs)
     (λ c. search needs)

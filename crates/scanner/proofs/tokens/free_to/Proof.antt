@@ -6,7 +6,7 @@ use Rattle.scanner.proofs.tokens.free_to.Tie as tie
 returns-2 : tie.Need-returns-2
 returns-2 c =
     let start = c .before .before .before in
-    let n : _ = many-free (start .args .total) (start .args .i) (start .args .size) (start .pre .0) (start .pre .1) (c .before .before .if1 .left) in
+    let n : _ = many-free (start .args .total) (start .args .limit) (start .args .i) (start .args .size) (start .pre .0) (start .pre .1) (c .before .before .if1 .left) in
     rw (c .least-of2 .ensures, c .before .least-of .ensures) n
 
 pub free-to-spec : {M : Type 1} → statement M

@@ -1,28 +1,18 @@
--- `spell::body::is_lone_at` meets its contract, by its tests.
+-- `spell::body::is_lone_at` meets its contract: three bytes, of which the first two tell.
 -- Assumes nothing.
-use mathlib.Core.Path.{sym}
+use mathlib.Core.Path.{sym, _∙_}
 use borrow.Author.Needs.{needs}
-use Rattle.spell.proofs.Bodies.{lone-cut, lone-other, lone-at}
+use Rattle.spell.proofs.Bodies.{lone-cut, lone-by}
 use Rattle.spell.proofs.body.is_lone_at.Statement.{statement}
 use Rattle.spell.proofs.body.is_lone_at.Tie as tie
 
 returns : tie.Need-returns
-returns c = let u = c .before in sym (lone-cut (u .args .content .now) (u .args .i) (u .pre) (c .if1 .taken))
+returns c = let u = c .before .before in sym (lone-cut (u .args .content .now) (u .args .i) (u .pre) (c .if1 .taken))
 
 returns-2 : tie.Need-returns-2
-returns-2 c = let u = c .before .before .before in sym (lone-other (u .args .content .now) (u .args .i) (u .pre) (c .before .before .if1 .left) (c .if2 .taken))
-
-returns-3 : tie.Need-returns-3
-returns-3 c = let u = c .before .before .before .before in sym (lone-at (u .args .content .now) (u .args .i) (u .pre) (c .before .before .before .if1 .left) (c .before .if2 .left))
+returns-2 c =
+    let u = c .before .before .before in
+    c .is-paired-at .ensures ∙ sym (lone-by (u .args .content .now) (u .args .i) (u .pre) (c .before .if1 .left))
 
 pub is-lone-at-spec : {M : Type 1} → statement M
-is-lone-at-spec =
-    tie.close
-    (tie.spec
-    (λ c. search needs)
-    returns
-    (λ c. search needs)
-    returns-2
-    (λ c. search needs)
-    (λ c. search needs)
-    returns-3)
+is-lone-at-spec = tie.close (tie.spec (λ c. search needs) returns (λ c κs. search needs) returns-2)

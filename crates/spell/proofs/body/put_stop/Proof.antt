@@ -1,10 +1,11 @@
 -- `spell::body::put_stop` meets its contract: the text that stands there is put.
 -- Assumes nothing.
 use mathlib.Core.Path.{sym}
-use lib.ListN.{take, drop}
+use lib.ListN.{take}
 use borrow.Author.Needs.{needs}
 use Rattle.buffers.proofs.Writing.{taken-whole, room-as, putting, room-next}
 use Rattle.spell.specs.Units.{bodyText}
+use Rattle.spell.specs.Contents.{contentFrom}
 use Rattle.spell.proofs.body.put_stop.Statement.{statement}
 use Rattle.spell.proofs.body.put_stop.Tie as tie
 
@@ -17,7 +18,7 @@ put-requires : tie.Need-put-requires
 put-requires c κs =
     let x = c .before .before .before .stop-text in
     let u = c .before .before .before .before .before .before in
-    room-next (take (x .result .size) (x .result .bytes)) (bodyText (u .args .t) (drop (x .result .next) (u .args .content .now))) (putting (u .args .write) (room-as (sym (x .ensures .stands)) (u .pre .1)))
+    room-next (take (x .result .size) (x .result .bytes)) (bodyText (u .args .t) (contentFrom (u .args .c) (u .args .raw .now) (x .result .next))) (putting (u .args .write) (room-as (sym (x .ensures .stands)) (u .pre .1 .1)))
 
 pub put-stop-spec : {M : Type 1} → statement M
 put-stop-spec =

@@ -16,4 +16,5 @@ is-plain-spec =
     (λ c. search tests)
     (λ c. search tests)
     (λ c. search tests)
+    (λ c. search tests)
     (λ c. search tests))

@@ -11,28 +11,28 @@ use Rattle.spell.proofs.run.plain.Statement.{statement}
 use Rattle.spell.proofs.run.plain.Tie as tie
 
 abbrev Inv-loop : tie.InvT-loop
-Inv-loop s at p q i₀ i = (i ≤ length s) × (at + plainRun p q (drop at s) ≡ i + plainRun p q (drop i s))
+Inv-loop s at p q r i₀ i = (i ≤ length s) × (at + plainRun p q r (drop at s) ≡ i + plainRun p q r (drop i s))
 
 abbrev μ-loop : tie.MeasureT-loop
-μ-loop s at p q i₀ i = length s - i
+μ-loop s at p q r i₀ i = length s - i
 
 loop-again : tie.Need-loop-again Inv-loop μ-loop
 loop-again c =
     let u = c .before .before .before .before in
     let a = u .before .before .args in
-    (omega arith, u .loop .inv .1 ∙ run-on (a .p) (a .q) (a .s .now) (u .loop .i) (c .before .before .before .loop-test .taken) (sym (c .before .is-plain .ensures) ∙ c .if1 .taken))
+    (omega arith, u .loop .inv .1 ∙ run-on (a .p) (a .q) (a .r) (a .s .now) (u .loop .i) (c .before .before .before .loop-test .taken) (sym (c .before .is-plain .ensures) ∙ c .if1 .taken))
 
 returns : tie.Need-returns Inv-loop μ-loop
 returns c =
     let u = c .before .before .before .before in
     let a = u .before .before .args in
-    sym (u .loop .inv .1 ∙ run-stops (a .p) (a .q) (a .s .now) (u .loop .i) (c .before .before .before .loop-test .taken) (sym (c .before .is-plain .ensures) ∙ c .if1 .left))
+    sym (u .loop .inv .1 ∙ run-stops (a .p) (a .q) (a .r) (a .s .now) (u .loop .i) (c .before .before .before .loop-test .taken) (sym (c .before .is-plain .ensures) ∙ c .if1 .left))
 
 returns-2 : tie.Need-returns-2 Inv-loop μ-loop
 returns-2 c =
     let u = c .before in
     let a = u .before .before .args in
-    sym (u .loop .inv .1 ∙ run-ends (a .p) (a .q) (a .s .now) (u .loop .i) (c .loop-test .left))
+    sym (u .loop .inv .1 ∙ run-ends (a .p) (a .q) (a .r) (a .s .now) (u .loop .i) (c .loop-test .left))
 
 pub plain-spec : {M : Type 1} → statement M
 plain-spec =

@@ -1,62 +1,71 @@
 -- `spell::special::holds_special` meets its contract. The invariant: what the content holds is what the rest of it holds.
 -- Assumes nothing.
-use mathlib.Core.Path.{_≡_, refl, sym, ap₂, _∙_}
-use Prim.Native.Nat.{ℕ, _+_, _-_}
+use mathlib.Core.Path.{_≡_, sym, ap, _∙_}
+use Prim.Native.Nat.{_-_}
 use native.Mathlib.Omega.{arith}
-use lib.ListN.{length, drop, drop-of-length-le}
+use lib.ListN.{length}
 use borrow.Author.Needs.{needs}
-use Rattle.model.specs.declared.Dialect.the-variants.{CsvPlus}
 use Rattle.model.specs.Base.{holds}
-use Rattle.model.specs.Dialect.{quoteOf, delimiterOf}
 use Rattle.model.specs.Text.{special}
-use Rattle.spell.specs.PlainRuns.{plainRun}
-use Rattle.spell.proofs.Quoted.{special-end, special-there, special-next}
+use Rattle.decoder.specs.FirstByte.{contentIn}
+use Rattle.spell.specs.Contents.{contentFrom}
+use Rattle.spell.proofs.Quoted.{special-on, special-end, special-there, special-next}
 use Rattle.spell.proofs.special.holds_special.Statement.{statement}
 use Rattle.spell.proofs.special.holds_special.Tie as tie
 
 abbrev Inv-loop : tie.InvT-loop
-Inv-loop s content q p i₀ i = holds (special s) content ≡ holds (special s) (drop i content)
+Inv-loop s c raw p q r i₀ i = holds (special s) (contentIn c raw) ≡ holds (special s) (contentFrom c raw i)
 
 abbrev μ-loop : tie.MeasureT-loop
-μ-loop s content q p i₀ i = length content - i
+μ-loop s c raw p q r i₀ i = length raw - i
 
--- the run that was passed over stops at the delimiter and at the quote
+loop-holds : tie.Need-loop-holds Inv-loop μ-loop
+loop-holds c = let a = c .before .before .before .before .before .args in ap (holds (special (a .s))) (sym (c .first-place .ensures))
+
+-- the content from where a run stopped
 passed : (c : tie.After-plain Inv-loop μ-loop)
-    → let u = c .before .before in
-    let a = u .before .before .before .before .args in
-    c .plain .result ≡ u .loop .i + plainRun (delimiterOf (CsvPlus (a .s))) (quoteOf (CsvPlus (a .s))) (drop (u .loop .i) (a .content .now))
+    → let a = c .before .before .before .before .before .before .before .before .args in
+    holds (special (a .s)) (contentIn (a .c) (a .raw .now)) ≡ holds (special (a .s)) (contentFrom (a .c) (a .raw .now) (c .plain .result))
 passed c =
     let u = c .before .before in
-    let a = u .before .before .before .before .args in
-    c .plain .ensures
-    ∙ ap₂ (λ (p q : ℕ). u .loop .i + plainRun p q (drop (u .loop .i) (a .content .now))) (u .before .delimiter-of .ensures) (u .before .before .quote-of .ensures)
+    let a = u .before .before .before .before .before .before .args in
+    let r = u .before .before in
+    u .loop .inv
+    ∙ special-on (a .s) (a .c) (a .raw .now) (u .loop .i) (c .plain .result) (r .before .before .quote-of .result) (r .before .quote-in .result) (r .delimiter-of .result)
+    (r .before .before .quote-of .ensures) (r .before .quote-in .ensures) (r .delimiter-of .ensures) (c .plain .ensures)
 
 returns : tie.Need-returns Inv-loop μ-loop
 returns c =
-    let u = c .before .before .before in
-    let a = u .before .before .before .before .args in
-    sym (u .loop .inv ∙ special-end (a .s) (a .content .now) (u .loop .i) (c .before .plain .result) (passed (c .before)) (c .if1 .taken))
+    let p = c .before in
+    let a = p .before .before .before .before .before .before .before .before .args in
+    sym (passed p ∙ special-end (a .s) (a .c) (a .raw .now) (p .plain .result) (c .if1 .taken))
+
+is-special-unit-requires : tie.Need-is-special-unit-requires Inv-loop μ-loop
+is-special-unit-requires c κs = let u = c .before .at .ensures in (u .few, u .unit)
 
 returns-2 : tie.Need-returns-2 Inv-loop μ-loop
 returns-2 c =
-    let at-plain = c .before .before .before .before in
-    let u = at-plain .before .before in
-    let a = u .before .before .before .before .args in
-    sym
-    (u .loop .inv
-    ∙ special-there (a .s) (a .content .now) (u .loop .i) (at-plain .plain .result) (passed at-plain) (c .before .before .before .if1 .left) (sym (c .before .is-special .ensures) ∙ c .if2 .taken))
+    let u = c .before .before .before in
+    let p = u .before .before in
+    let a = p .before .before .before .before .before .before .before .before .args in
+    sym (passed p ∙ special-there (a .s) (u .at .ensures) (sym (c .before .is-special-unit .ensures) ∙ c .if2 .taken))
+
+loop-less : tie.Need-loop-less Inv-loop μ-loop
+loop-less c =
+    let u = c .before .before .before in
+    omega (arith, u .at .ensures .on, u .at .ensures .inside, u .before .before .plain .ensures)
 
 loop-again : tie.Need-loop-again Inv-loop μ-loop
 loop-again c =
-    let at-plain = c .before .before .before .before in
-    let u = at-plain .before .before in
-    let a = u .before .before .before .before .args in
-    u .loop .inv
-    ∙ special-next (a .s) (a .content .now) (u .loop .i) (at-plain .plain .result) (passed at-plain) (c .before .before .before .if1 .left) (sym (c .before .is-special .ensures) ∙ c .if2 .left)
+    let u = c .before .before .before in
+    let p = u .before .before in
+    let a = p .before .before .before .before .before .before .before .before .args in
+    passed p ∙ special-next (a .s) (u .at .ensures) (sym (c .before .is-special-unit .ensures) ∙ c .if2 .left)
 
 returns-3 : tie.Need-returns-3 Inv-loop μ-loop
-unfolding holds
-returns-3 c = sym (c .before .loop .inv ∙ rw (drop-of-length-le _ (c .loop-test .left)))
+returns-3 c =
+    let a = c .before .before .before .before .before .before .before .args in
+    sym (c .before .loop .inv ∙ special-end (a .s) (a .c) (a .raw .now) (c .before .loop .i) (c .loop-test .left))
 
 pub holds-special-spec : {M : Type 1} → statement M
 holds-special-spec =
@@ -66,13 +75,14 @@ holds-special-spec =
     μ-loop
     (λ c κs. search needs)
     (λ c κs. search needs)
-    (λ c. refl)
+    (λ c κs. search needs)
+    (λ c κs. search needs)
+    loop-holds
     (λ c κs. omega arith)
     returns
-    (λ c. omega arith)
-    (λ c κs. search needs)
+    (λ c κs. c .if1 .left)
+    is-special-unit-requires
     returns-2
-    (λ c. omega arith)
-    (λ c. omega (arith, c .before .before .before .before .plain .ensures))
+    loop-less
     loop-again
     returns-3)

@@ -2,6 +2,7 @@
 -- here on, with the ones before them seen.
 -- Assumes nothing.
 use mathlib.Core.Path.{_≡_, refl, sym, _∙_}
+use mathlib.Core.List.{List}
 use Prim.Native.Nat.{ℕ, _-_, _≤_}
 use native.Mathlib.Omega.{arith}
 use lib.ListN.{length}
@@ -11,37 +12,37 @@ use Rattle.validate.proofs.names.first_repeat.Statement.{statement}
 use Rattle.validate.proofs.names.first_repeat.Tie as tie
 
 abbrev Inv-loop : tie.InvT-loop
-Inv-loop d rule file starts ends n₀ n =
-    (n ≤ length starts) × ((fault : ℕ → Fault) → repeatAt d rule fault file starts ends 0 ≡ repeatAt d rule fault file starts ends n)
+Inv-loop src rule s starts ends n₀ n =
+    (n ≤ length starts)
+    × ((fault : ℕ → Fault) (kinds : List ℕ) → length kinds ≡ length starts → repeatAt src rule fault s starts ends kinds 0 ≡ repeatAt src rule fault s starts ends kinds n)
 
 abbrev μ-loop : tie.MeasureT-loop
-μ-loop d rule file starts ends n₀ n = length starts - n
-
-loop-holds : tie.Need-loop-holds Inv-loop μ-loop
-loop-holds c = (omega arith, λ fault. refl)
-
-repeats-requires : tie.Need-repeats-requires Inv-loop μ-loop
-repeats-requires c κs = (c .before .before .before .before .before .pre, c .loop-test .taken)
+μ-loop src rule s starts ends n₀ n = length starts - n
 
 returns : tie.Need-returns Inv-loop μ-loop
-returns c fault =
-    let at-loop = c .before .before .before in
-    let s = at-loop .before .before .before .before in
-    let l = at-loop .loop in
-    sym (repeat-start (s .args .d) (s .args .rule) fault (s .args .file .now) (s .args .starts .now) (s .args .ends .now) ∙ l .inv .1 fault ∙ repeat-here (s .args .d) (s .args .rule) fault (s .args .file .now) (s .args .starts .now) (s .args .ends .now) (s .pre .paired) (l .n) (c .before .before .loop-test .taken) (sym (c .before .repeats .ensures) ∙ c .if1 .taken))
+returns c fault kinds k =
+    let u = c .before .before .before in
+    let p = u .before .before .before .before in
+    let a = p .args in
+    sym (repeat-start (a .src) (a .rule) fault (a .s .now) (a .starts .now) (a .ends .now) kinds ∙ u .loop .inv .1 fault kinds k
+    ∙ repeat-here (a .src) (a .rule) fault (a .s .now) (a .starts .now) (a .ends .now) kinds (p .pre .paired) k (u .loop .n) (c .before .before .loop-test .taken) (sym (c .before .repeats .ensures) ∙ c .if1 .taken))
 
 loop-again : tie.Need-loop-again Inv-loop μ-loop
 loop-again c =
-    let s = c .before .before .before .before .before .before .before in
-    let l = c .before .before .before .loop in (
+    let u = c .before .before .before in
+    let p = u .before .before .before .before in
+    let a = p .args in (
       omega arith,
-      λ fault. l .inv .1 fault ∙ repeat-next (s .args .d) (s .args .rule) fault (s .args .file .now) (s .args .starts .now) (s .args .ends .now) (s .pre .paired) (l .n) (c .before .before .loop-test .taken) (sym (c .before .repeats .ensures) ∙ c .if1 .left),
+      λ fault kinds k. u .loop .inv .1 fault kinds k
+          ∙ repeat-next (a .src) (a .rule) fault (a .s .now) (a .starts .now) (a .ends .now) kinds (p .pre .paired) k (u .loop .n) (c .before .before .loop-test .taken) (sym (c .before .repeats .ensures) ∙ c .if1 .left),
     )
 
 returns-2 : tie.Need-returns-2 Inv-loop μ-loop
-returns-2 c fault =
-    let s = c .before .before .before .before .before in
-    sym (repeat-start (s .args .d) (s .args .rule) fault (s .args .file .now) (s .args .starts .now) (s .args .ends .now) ∙ c .before .loop .inv .1 fault ∙ repeat-end (s .args .d) (s .args .rule) fault (s .args .file .now) (s .args .starts .now) (s .args .ends .now) (s .pre .paired) (c .before .loop .n) (c .loop-test .left))
+returns-2 c fault kinds k =
+    let p = c .before .before .before .before .before in
+    let a = p .args in
+    sym (repeat-start (a .src) (a .rule) fault (a .s .now) (a .starts .now) (a .ends .now) kinds ∙ c .before .loop .inv .1 fault kinds k
+    ∙ repeat-end (a .src) (a .rule) fault (a .s .now) (a .starts .now) (a .ends .now) kinds (p .pre .paired) k (c .before .loop .n) (c .loop-test .left))
 
 pub first-repeat-spec : {M : Type 1} → statement M
 first-repeat-spec =
@@ -49,8 +50,8 @@ first-repeat-spec =
     (tie.spec
     Inv-loop
     μ-loop
-    loop-holds
-    repeats-requires
+    (λ c. (omega arith, λ fault kinds k. refl))
+    (λ c κs. (c .before .before .before .before .before .pre, c .loop-test .taken))
     (λ c. omega arith)
     returns
     (λ c. omega arith)

@@ -1,54 +1,47 @@
--- `validate::names::repeats` meets its contract: the room holds the key, which is looked for among the earlier ones.
+-- `validate::names::repeats` meets its contract, by what the bytes of a cell are.
 -- Assumes nothing.
-use mathlib.Core.Path.{refl, ap, _∙_}
-use lib.ListN.{length, getD, replicate}
+use mathlib.Core.Path.{_≡_, sym, ap, _∙_}
+use mathlib.Core.Bool.{Bool}
+use native.Mathlib.Omega.{arith}
+use lib.ListN.{getD}
 use borrow.Author.Needs.{needs}
-use Rattle.model.specs.Base.{Bytes}
 use Rattle.model.specs.Records.{among}
-use Rattle.model.specs.Report.{MAXRECORD}
-use Rattle.validate.specs.Cells.{Stretch}
-use Rattle.validate.specs.Keys.{keyAt, keysBefore}
-use Rattle.validate.proofs.Cells.{part-short}
-use Rattle.validate.proofs.Decoding.{Holds, holds}
+use Rattle.decoder.specs.declared.source.Source.{Source}
+use Rattle.validate.specs.Keys.{NameIn, keyAt, keysBefore}
+use Rattle.validate.proofs.Keys.{short-in-file, names-as}
 use Rattle.validate.proofs.names.repeats.Statement.{statement}
 use Rattle.validate.proofs.names.repeats.Tie as tie
 
--- the cell stands in the file
-at-n : (c : tie.Start) → Stretch (length (c .args .file .now)) (getD (c .args .starts .now) (c .args .n) 0) (getD (c .args .ends .now) (c .args .n) 0)
+-- the cell stands in s
+at-n : (c : tie.Start) → NameIn (c .args .src) (c .args .s .now) (getD (c .args .starts .now) (c .args .n) 0) (getD (c .args .ends .now) (c .args .n) 0)
 at-n c = c .pre .0 .each (c .args .n) (c .pre .1)
 
--- the key, and the room before it is written
-abbrev key : tie.Start → Bytes
-key c = keyAt (c .args .d) (c .args .rule) (c .args .file .now) (getD (c .args .starts .now) (c .args .n) 0) (getD (c .args .ends .now) (c .args .n) 0)
+-- what is answered where the bytes are these
+abbrev answer : tie.Start → Source → Bool
+answer c src =
+    let a = c .args in
+    among (keyAt src (a .rule) (a .s .now) (getD (a .starts .now) (a .n) 0) (getD (a .ends .now) (a .n) 0)) (keysBefore src (a .rule) (a .s .now) (a .starts .now) (a .ends .now) (a .n))
 
-abbrev zeros : Bytes
-zeros = replicate MAXRECORD 0
-
-sub-put-key : tie.Need-sub-put-key
-sub-put-key c = at-n (c .before .before .before .before .before) .forward
-
-part-put-key-start : tie.Need-part-put-key-start
-part-put-key-start c = at-n (c .before .before .before .before .before) .forward
-
-part-put-key-end : tie.Need-part-put-key-end
-part-put-key-end c = at-n (c .before .before .before .before .before) .within
-
-put-key-requires : tie.Need-put-key-requires
-put-key-requires c κs = (part-short _ _ _ (at-n (c .before .before .before .before .before .before .before)), refl)
-
-held : (c : tie.After-room2) → Holds (key (c .before .before .before .before .before .before .before .before .before)) (c .before .put-key .last .1 .1 .1 .0) (c .before .put-key .result)
-held c = holds (key (c .before .before .before .before .before .before .before .before .before)) zeros _ _ (c .before .put-key .ensures)
-
-array-share-prefix-room : tie.Need-array-share-prefix-room
-array-share-prefix-room c = held c .inside
-
-slice-aggregate-is-among : tie.Need-slice-aggregate-is-among
-slice-aggregate-is-among c = held (c .before) .whole
+repeats-in-file-requires : tie.Need-repeats-in-file-requires
+repeats-in-file-requires c κs =
+    let u = c .before .before .before .before .before .before .before .before .before in
+    let e = c .before .before .src .given .1 in
+    (short-in-file _ e (at-n u .short), (names-as e (u .pre .0), omega (arith, u .pre .1)))
 
 returns : tie.Need-returns
 returns c =
-    let s = c .before .before .before .before .before .before .before .before .before .before .before .args in
-    c .is-among .ensures ∙ ap (λ (b : Bytes). among b (keysBefore (s .d) (s .rule) (s .file .now) (s .starts .now) (s .ends .now) (s .n))) (held (c .before .before) .front)
+    let u = c .before .before .before .before .before .before .before .before .before .before in
+    c .repeats-in-file .ensures ∙ ap (answer u) (sym (c .before .before .before .src .given .1))
+
+is-among-requires : tie.Need-is-among-requires
+is-among-requires c κs = let u = c .before .before .before .before .before .before .before .before in (u .pre .0, omega (arith, u .pre .1))
+
+returns-2 : tie.Need-returns-2
+returns-2 c =
+    let a = c .before .before .before .before .before .before .before .before .before .args in
+    c .is-among .ensures
+    ∙ ap (λ (src : Source). among (keyAt src (a .rule) (a .s .now) (getD (a .starts .now) (a .n) 0) (getD (a .ends .now) (a .n) 0)) (keysBefore (a .src) (a .rule) (a .s .now) (a .starts .now) (a .ends .now) (a .n)))
+    (sym (c .before .before .enum-told .given .1))
 
 pub repeats-spec : {M : Type 1} → statement M
 repeats-spec =
@@ -57,13 +50,16 @@ repeats-spec =
     (λ c. search needs)
     (λ c. search needs)
     (λ c. search needs)
+    (λ c. omega (arith, c .before .before .before .before .before .pre .0 .paired, c .before .before .before .before .before .pre .1))
     (λ c. search needs)
-    sub-put-key
-    part-put-key-start
-    part-put-key-end
+    (λ c. at-n (c .before .before .before .before .before .before .before .before) .forward)
+    (λ c. at-n (c .before .before .before .before .before .before .before .before) .forward)
+    (λ c. at-n (c .before .before .before .before .before .before .before .before) .within)
+    repeats-in-file-requires
     (λ c. search needs)
-    put-key-requires
-    array-share-prefix-room
-    slice-aggregate-is-among
-    (λ c κs. search needs)
-    returns)
+    (λ c. at-n (c .before .before .before .before .before .before .before) .forward)
+    (λ c. at-n (c .before .before .before .before .before .before .before) .forward)
+    (λ c. at-n (c .before .before .before .before .before .before .before) .within)
+    is-among-requires
+    returns
+    returns-2)

@@ -1,0 +1,112 @@
+-- `spell::record::put` meets its contract. The invariant: what is still to be put is the text of the cells from here on.
+-- Assumes nothing.
+use mathlib.Core.Path.{_≡_, refl, sym, ap, _∙_}
+use mathlib.Core.Bool.{Bool}
+use mathlib.Core.List.{_++_}
+use Prim.Native.Nat.{_-_, _+_}
+use native.Mathlib.Omega.{arith}
+use lib.ListN.{length, getD}
+use lib.Dec.{eqb}
+use borrow.Author.Needs.{needs}
+use Rattle.model.specs.Dialect.{into}
+use Rattle.model.specs.Text.{recordText}
+use Rattle.model.specs.declared.Verdict.{Verdict}
+use Rattle.model.specs.Records.{_orElse_}
+use Rattle.model.specs.Api.{slice}
+use Rattle.buffers.proofs.Writing.{Putting, same-long, room-next, put-next, put-whole}
+use Rattle.decoder.specs.Sources.{cellsIn, Stretch}
+use Rattle.spell.specs.Cells.{valueOf}
+use Rattle.spell.specs.Columns.{columnText}
+use Rattle.spell.proofs.Columns.{PutUpTo, textAt, put-none, text-at, text-end, says-next, uncarried-end, orElse-sound}
+use Rattle.spell.proofs.record.put.Statement.{statement}
+use Rattle.spell.proofs.record.put.Tie as tie
+
+abbrev Inv-loop : tie.InvT-loop
+Inv-loop src t s starts ends kinds header out₀ at write only n₀ o₀ carries₀ out n o carries = PutUpTo src t s starts ends kinds header out₀ at write out n o carries
+
+abbrev μ-loop : tie.MeasureT-loop
+μ-loop src t s starts ends kinds header out₀ at write only n₀ o₀ carries₀ out n o carries = length starts - n
+
+loop-holds : tie.Need-loop-holds Inv-loop μ-loop
+loop-holds c = let u = c .before .before .before .before .before in put-none _ _ _ _ _ _ _ _ _ _ (u .pre .1)
+
+-- the cell stands in s
+at-n : (c : tie.After-shared-slice-known5 Inv-loop μ-loop)
+    → let a = c .before .before .before .before .before .before .before .before .args in
+    let n = c .before .before .loop .n in
+    Stretch (a .src) (a .s .now) (getD (a .starts .now) n 0) (getD (a .ends .now) n 0) (getD (a .kinds .now) n 0)
+at-n c =
+    let u = c .before .before .before .before .before .before .before .before in
+    u .pre .0 .each (c .before .before .loop .n) (c .before .loop-test .taken)
+
+-- the cell at n comes next
+cell-next : (c : tie.After-kind-of-number Inv-loop μ-loop)
+    → let l = c .before .before .before .before .before .loop in
+    let a = c .before .before .before .before .before .before .before .before .before .before .before .args in
+    let v = valueOf (a .src) (c .kind-of-number .result) (slice (a .s .now) (getD (a .starts .now) (l .n) 0) (getD (a .ends .now) (l .n) 0)) in
+    Putting (a .write) (a .out .now) (a .at) (recordText (into (a .t)) (a .header) (cellsIn (a .src) (a .s .now) (a .starts .now) (a .ends .now) (a .kinds .now))) (l .out) (l .o)
+    (columnText (a .t) (l .n) (eqb (length (a .starts .now)) 1) (a .header) v ++ textAt (a .src) (a .t) (a .s .now) (a .starts .now) (a .ends .now) (a .kinds .now) (a .header) (l .n + 1))
+cell-next c =
+    let l = c .before .before .before .before .before .loop in
+    let u = c .before .before .before .before .before .before .before .before .before .before .before in
+    let a = u .args in
+    let v = valueOf (a .src) (c .kind-of-number .result) (slice (a .s .now) (getD (a .starts .now) (l .n) 0) (getD (a .ends .now) (l .n) 0)) in
+    rw
+    (text-at (a .src) (a .t) (a .s .now) (a .starts .now) (a .ends .now) (a .kinds .now) (a .header) (u .pre .0 .with-ends) (u .pre .0 .with-kinds) (l .n) (c .before .before .before .before .loop-test .taken)
+    (eqb (length (a .starts .now)) 1) v refl (sym (c .kind-of-number .ensures)) refl)
+    at (l .inv .going)
+
+column-requires : tie.Need-column-requires Inv-loop μ-loop
+column-requires c κs =
+    let k = c .before .before in (
+      rw (k .kind-of-number .ensures) (at-n (k .before .before .before) .spelt),
+      (room-next _ _ (cell-next k), omega (arith, k .before .before .before .before .loop-test .taken)),
+    )
+
+loop-again : tie.Need-loop-again Inv-loop μ-loop
+loop-again c =
+    let x = c .before .before .before .column in
+    let k = c .before .before .before .before .before .before in
+    let l = k .before .before .before .before .before .loop in
+    let u = k .before .before .before .before .before .before .before .before .before .before .before in
+    let a = u .args in
+    record {
+      going = put-next _ (cell-next k) (x .ensures .0);
+      says =
+          says-next (a .src) (a .t) (a .s .now) (a .starts .now) (a .ends .now) (a .kinds .now) (a .header) (u .pre .0 .with-ends) (u .pre .0 .with-kinds) (l .n) (k .before .before .before .before .loop-test .taken)
+          _ (l .carries) (x .result .carries) (c .or-else .result) (k .kind-of-number .result) (k .kind-of-number .ensures) (x .ensures .1) (c .or-else .ensures) (l .inv .says);
+      within = omega (arith, k .before .before .before .before .loop-test .taken);
+    }
+
+returns : tie.Need-returns Inv-loop μ-loop
+returns c =
+    let l = c .before .loop in
+    let u = c .before .before .before .before .before .before .before in
+    let a = u .args in (
+      put-whole (rw (text-end (a .src) (a .t) (a .s .now) (a .starts .now) (a .ends .now) (a .kinds .now) (a .header) (u .pre .0 .with-ends) (u .pre .0 .with-kinds) (l .n) (c .loop-test .left)) at (l .inv .going)),
+      sym (l .inv .says ∙ ap (λ (v : Verdict). l .carries orElse v) (uncarried-end (a .src) (a .t) (a .s .now) (a .starts .now) (a .ends .now) (a .kinds .now) (a .header) (u .pre .0 .with-ends) (u .pre .0 .with-kinds) (l .n) (c .loop-test .left)) ∙ orElse-sound (l .carries)),
+    )
+
+pub put-spec : {M : Type 1} → statement M
+put-spec =
+    tie.close
+    (tie.spec
+    Inv-loop
+    μ-loop
+    loop-holds
+    (λ c. omega arith)
+    (λ c. omega arith)
+    (λ c. omega arith)
+    (λ c. omega (arith, c .before .before .before .before .before .before .before .before .before .pre .0 .with-ends))
+    (λ c. omega (arith, c .before .before .before .before .before .before .before .before .before .before .pre .0 .with-kinds))
+    (λ c κs. search needs)
+    (λ c. at-n (c .before .before .before) .forward)
+    (λ c. at-n (c .before .before .before) .forward)
+    (λ c. at-n (c .before .before .before) .within)
+    column-requires
+    (λ c κs. search needs)
+    (λ c. omega arith)
+    (λ c. omega arith)
+    loop-again
+    (λ c. same-long (c .before .loop .inv .going))
+    returns)

