@@ -22,7 +22,7 @@ use Rattle.model.proofs.CellRuns.{runs-sound, all-snoc}
 use Rattle.model.proofs.ScanLaws.{values-closing}
 use Rattle.model.proofs.TableText.{table-snoc}
 use Rattle.pieces.specs.Types.{Dialect, Target, FileState, Begin, Ending, Clean, Final, Cut, Fault, NoRecord, CutShort, Verdict, Sound, Faulty}
-use Rattle.pieces.specs.declared.place.Place.{Place}
+use Rattle.carried.specs.declared.place.Place.{Place}
 use Rattle.pieces.specs.Holding.{allKept, IsWhole, scanAt, readAt, Shown, Holding, faultAt, textAt}
 use Rattle.pieces.proofs.Faults.{fault-start, report-start, report-byte, is-first, fault-of, text-of}
 

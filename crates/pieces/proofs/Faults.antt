@@ -17,7 +17,7 @@ use Rattle.model.proofs.Tests.{split}
 use Rattle.model.proofs.TableText.{rows-empty}
 use Rattle.model.proofs.Meanings.{place-free}
 use Rattle.pieces.specs.Types.{Dialect, Target, Fault, CellCount, RepeatedName, HeaderKind, TooManyColumns, NoCells, LacksKind, LoneSurrogate, Clash, TextTooLong, OutputTooLong, Verdict, Sound, Faulty}
-use Rattle.pieces.specs.declared.place.Place.{Place}
+use Rattle.carried.specs.declared.place.Place.{Place}
 use Rattle.pieces.specs.Holding.{columnsOf, faultAt, textAt}
 
 -- ---- the place of a record's fault is its start
@@ -123,3 +123,16 @@ module _ (d : Dialect) (t : Target) (p : Place) (done : List Rec) (records : p .
 
   pub text-of : (ws vs : List Value) → SameCells ws vs → textAt t p ws ≡ recordText t (isEmpty done) vs ++ ending (t .dialect)
   text-of ws vs s = rw is-first (ap (λ l. l ++ ending (t .dialect)) (place-free .text t (isEmpty done) ws vs s))
+
+-- ---- two checks
+
+pub or-faulty : (v w : Verdict) (e : Fault) → v ≡ Faulty e → (v orElse w) ≡ Faulty e
+unfolding _orElse_
+or-faulty v w e h = rw h
+
+pub or-sound : (v w : Verdict) → v ≡ Sound → (v orElse w) ≡ w
+unfolding _orElse_
+or-sound v w h = rw h
+
+pub not-sound : {A : Type 0} (e : Fault) → Faulty e ≡ Sound → A
+not-sound e h = let z : _≡_ {A = ℕ} 0 1 = cc in absurd (omega arith)

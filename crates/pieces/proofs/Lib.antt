@@ -4,3 +4,7 @@ pub mod Faults
 pub mod Turning
 pub mod Ending
 pub mod Writes
+pub mod Kept
+pub mod Keeping
+pub mod Showing
+pub mod Walking

@@ -162,7 +162,7 @@ first-closes d limit s bs h o c = firsts d limit (s .offset) bs s (still-open h 
 
 -- the bytes of cells are counted beside those that were counted before
 pub data Grew (base : ℕ) : ScanResult → Type 0 where
-  grew-pends : {s : Scan} → base + (bytesIn (s .cells) + length (s .raw)) ≤ s .size → Grew base (pends s)
+  grew-pends : {s : Scan} → inRecord (s .state) ≡ true → base + (bytesIn (s .cells) + length (s .raw)) ≤ s .size → Grew base (pends s)
   grew-fails : {e : Fault} {s : Scan} → Grew base (fails e s)
   grew-completes : {s : Scan} {cs : List RawCell} {f : FileState} {next : ℕ} {left : Bytes} → base + bytesIn cs ≤ s .size → Grew base (completes s cs f next left)
 
@@ -199,7 +199,7 @@ module _ (d : Dialect) (limit base : ℕ) where
 
   grow : (bs : Bytes) → Grow bs
   unfolding scan
-  grow [] s h l = grew-pends l
+  grow [] s h l = grew-pends h l
   grow (b ∷ bs) s h l =
       split (Grew base) _ (λ _. grew-fails) λ _. split (Grew base) _ (λ _. grew-fails) λ _.
       step-grew s b bs (grow bs) l (fileStep d (s .state) b) (goes d (s .state) b h)

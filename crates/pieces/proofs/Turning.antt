@@ -27,9 +27,10 @@ use Rattle.model.proofs.TableText.{table-snoc}
 use Rattle.model.proofs.Meanings.{same-length}
 use Rattle.model.specs.Api.{slice}
 use Rattle.model.proofs.Cells.{cellAt}
+use Rattle.carried.specs.Sound.{atStart}
 use Rattle.pieces.specs.Types.{Dialect, Target, Fresh, FileState, Fault, Verdict, Sound, Faulty}
-use Rattle.pieces.specs.declared.place.Place.{Place}
-use Rattle.pieces.specs.Holding.{inCell, Open, in-cell, no-bytes, allKept, IsWhole, scanAt, readAt, columnsOf, Shown, Holding, faultAt, textAt, columnsWith, placeAfter, firstPlace, keptNone, startFrom, placePending}
+use Rattle.carried.specs.declared.place.Place.{Place}
+use Rattle.pieces.specs.Holding.{inCell, Open, in-cell, no-bytes, allKept, IsWhole, scanAt, readAt, columnsOf, Shown, Holding, faultAt, textAt, columnsWith, placeAfter, keptNone, startFrom, placePending}
 use Rattle.pieces.proofs.Faults.{fault-start, report-start, report-byte, is-first, fault-of, text-of}
 use Rattle.pieces.proofs.Scanning.{keptOf, Keeps, KeepsTo, keeps-pends, keeps-fails, keeps-completes, scan-keeps, FaultsAt, faults-pends, faults-fails, faults-completes, scan-faults}
 
@@ -91,7 +92,7 @@ pub record EndsIn (piece : Bytes) (s : Scan) (cs : List RawCell) (next : ℕ) (l
   pub inside : next ≤ length piece
   pub rest : left ≡ drop next piece
 
-ended-in : {piece : Bytes} {s : Scan} {cs : List RawCell} {f : FileState} {next : ℕ} {left : Bytes} → ScanResultIn piece (completes s cs f next left) → EndsIn piece s cs next left
+pub ended-in : {piece : Bytes} {s : Scan} {cs : List RawCell} {f : FileState} {next : ℕ} {left : Bytes} → ScanResultIn piece (completes s cs f next left) → EndsIn piece s cs next left
 ended-in (completes-in i c l r) = record { stand = c; place = refl; inside = l; rest = r }
 
 -- where the part ends
@@ -99,15 +100,15 @@ pub record PendsIn (piece : Bytes) (s : Scan) : Type 0 where
   pub stand : ScanIn piece s
   pub place : s .offset ≡ length piece
 
-pended-in : {piece : Bytes} {s : Scan} → ScanResultIn piece (pends s) → PendsIn piece s
+pub pended-in : {piece : Bytes} {s : Scan} → ScanResultIn piece (pends s) → PendsIn piece s
 pended-in (pends-in i l) = record { stand = i; place = l }
 
-part-none : (piece : Bytes) (o : ℕ) → [] ≡ slice piece o o
+pub part-none : (piece : Bytes) (o : ℕ) → [] ≡ slice piece o o
 part-none piece o = let z : o - o ≡ 0 = omega arith in rw z
 
 -- ---- before the first byte
 
-pub first-holds : (d : Dialect) (t : Target) (bytes ends : List ℕ) → Holding d t firstPlace bytes ends [] (keptNone 0)
+pub first-holds : (d : Dialect) (t : Target) (bytes ends : List ℕ) → Holding d t atStart bytes ends [] (keptNone 0)
 unfolding keptBytes keptEnds bytesIn cellAt rows tableText
 first-holds d t bytes ends =
     record {
@@ -124,7 +125,7 @@ first-holds d t bytes ends =
       written = refl;
     }
 
-pub first-reads : (d : Dialect) → readAt d firstPlace [] (keptNone 0) ≡ nothingRead
+pub first-reads : (d : Dialect) → readAt d atStart [] (keptNone 0) ≡ nothingRead
 unfolding nothingRead
 first-reads d = refl
 

@@ -15,7 +15,7 @@ use Rattle.model.specs.Scans.{RawCell, Scan, readOf, Kept, Holds, Sized}
 use Rattle.model.specs.Places.{keptBytes, keptEnds}
 use Rattle.model.proofs.CellRuns.{Runs}
 use Rattle.model.proofs.Cells.{cellAt}
-use Rattle.pieces.specs.declared.place.Place.{Place}
+use Rattle.carried.specs.declared.place.Place.{Place}
 
 -- ---- what is kept
 
@@ -103,10 +103,6 @@ columnsWith p cells = if p .records is 0 then cells else p .columns
 abbrev pub placeAfter : Place → (cells size : ℕ) → FileState → (offset : ℕ) → Place
 placeAfter p cells size f o =
     record { state = f; offset = o; start = o; size = 0; fill = 0; cells = 0; columns = columnsWith p cells; records = p .records + 1; written = p .written + size }
-
--- before the first byte
-abbrev pub firstPlace : Place
-firstPlace = record { state = Top; offset = 0; start = 0; size = 0; fill = 0; cells = 0; columns = 0; records = 0; written = 0 }
 
 -- nothing is kept behind a record
 abbrev pub keptNone : (offset : ℕ) → Kept

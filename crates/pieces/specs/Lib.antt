@@ -1,2 +1,4 @@
 pub mod Types
 pub mod Holding
+pub mod Completing
+pub mod Walking
