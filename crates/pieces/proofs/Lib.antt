@@ -8,3 +8,4 @@ pub mod Kept
 pub mod Keeping
 pub mod Showing
 pub mod Walking
+pub mod Taking

@@ -2,3 +2,4 @@ pub mod Types
 pub mod Holding
 pub mod Completing
 pub mod Walking
+pub mod Taking

@@ -14,6 +14,7 @@ ghost use Rattle.carried.specs.Hand.{Stand, rawCellsAt};
 ghost use Rattle.pieces.specs.Holding.{startFrom, Holding};
 ghost use Rattle.pieces.specs.Holding.{columnsWith};
 ghost use Rattle.pieces.specs.Walking.{Lists, Completes, pendedPlace, Pends, turnOf, Fitting, Ready, TurnBounds, Turns};
+ghost use Rattle.pieces.specs.Taking.{Begun, Took};
 use crate::record;
 use crate::record::Done;
 use carried::hand;
@@ -279,5 +280,64 @@ fn turned(
             p.records + 1,
             n + offset,
         )),
+    }
+}
+
+// ---- a piece
+
+// What a call comes to.
+pub struct Taken {
+    pub place: Place,
+    pub report: Report,
+    // How many bytes it wrote.
+    pub length: usize,
+}
+
+// A piece, turn by turn.
+pub fn take(
+    d: Dialect,
+    t: Dialect,
+    piece: &[u8],
+    place: Place,
+    bytes: &mut [u8],
+    ends: &mut [usize],
+    out: &mut [u8],
+) -> Taken
+    requires { ⌜ Ready (now piece) (place .offset) 0 place (now bytes) (now ends) (now out) 0 ⌝ }
+    ensures { λ r. ⌜ ((done : List Rec) (k : Kept) → Begun d (into t) (now (piece .entry)) place (now (bytes .entry)) (now (ends .entry)) (now (out .entry)) done k → Took d (into t) (now (piece .entry)) place done k (now (out .entry)) (now (bytes .exit)) (now (ends .exit)) (now (out .exit)) r) ⌝ }
+{
+    let n = place.offset;
+    let mut p = place;
+    let mut i = 0;
+    let mut o = 0;
+    loop {
+        match turned(d, t, piece, n, i, p, bytes, ends, out, o) {
+            Turn::Next { place: q, at, end } => {
+                p = q;
+                i = at;
+                o = end;
+            }
+            Turn::Pended(q) => {
+                return Taken {
+                    place: q,
+                    report: numbers::on_call(numbers::ACCEPTED),
+                    length: o,
+                };
+            }
+            Turn::Stopped(e) => {
+                return Taken {
+                    place: p,
+                    report: e,
+                    length: o,
+                };
+            }
+            Turn::Nowhere => {
+                return Taken {
+                    place: p,
+                    report: numbers::on_call(numbers::UNKNOWN_DIALECT),
+                    length: o,
+                };
+            }
+        }
     }
 }
