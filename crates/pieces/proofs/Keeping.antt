@@ -45,7 +45,7 @@ from-lower : {a b c : ℕ} {ends : List ℕ} → a ≤ b → InOrder b ends c �
 from-lower {a} {c = c} l (order-end h) = let g : a ≤ c = omega arith in order-end g
 from-lower {a} l (order-next {e = e} h hs) = let g : a ≤ e = omega arith in order-next g hs
 
-order-append : {a b c : ℕ} {xs ys : List ℕ} → InOrder a xs b → InOrder b ys c → InOrder a (xs ++ ys) c
+pub order-append : {a b c : ℕ} {xs ys : List ℕ} → InOrder a xs b → InOrder b ys c → InOrder a (xs ++ ys) c
 order-append (order-end h) k = from-lower h k
 order-append (order-next h hs) k = order-next h (order-append hs k)
 

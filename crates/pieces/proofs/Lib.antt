@@ -9,3 +9,4 @@ pub mod Keeping
 pub mod Showing
 pub mod Walking
 pub mod Taking
+pub mod Finishing

@@ -57,7 +57,7 @@ pub same-self : (vs : List Value) → SameCells vs vs
 same-self [] = no-cells
 same-self (v ∷ vs) = and-cell (record { kind = refl; content = refl }) (same-self vs)
 
-too-many-fault : (d : Dialect) (t : Target) (p : Place) (ws : List Value) → MAXCOLUMNS < length ws → faultAt d t p ws ≡ Faulty TooManyColumns
+pub too-many-fault : (d : Dialect) (t : Target) (p : Place) (ws : List Value) → MAXCOLUMNS < length ws → faultAt d t p ws ≡ Faulty TooManyColumns
 unfolding faultAt headerFault dataFault when _orElse_
 too-many-fault d t p ws h =
     split (λ (v : Verdict). (v orElse targetFault t (p .records is 0) (p .written) ws) ≡ Faulty TooManyColumns) (p .records is 0)
