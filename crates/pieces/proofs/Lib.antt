@@ -10,3 +10,4 @@ pub mod Showing
 pub mod Walking
 pub mod Taking
 pub mod Finishing
+pub mod Carrying

@@ -3,3 +3,4 @@ pub mod Holding
 pub mod Completing
 pub mod Walking
 pub mod Taking
+pub mod Carrying
