@@ -3,6 +3,7 @@
 //
 // The walk over a piece goes from record to record as the scanner finds them. The bytes of a record's cells are kept one after the
 // other, from whichever calls they came, and the record is validated and written from there.
+pub mod bounds;
 pub mod last;
 pub mod record;
 pub mod walk;
