@@ -24,12 +24,12 @@ use Rattle.carried.specs.Sound.{MAXCELLS, inRange, keptInRecord, inOrder
 
 -- ---- ends in order
 
-ordered : (at : ℕ) (es : List ℕ) (fill : ℕ) → inOrder at es fill ≡ true → InOrder at es fill
+pub ordered : (at : ℕ) (es : List ℕ) (fill : ℕ) → inOrder at es fill ≡ true → InOrder at es fill
 unfolding inOrder
 ordered at [] fill h = order-end (leb-true at fill h)
 ordered at (e ∷ es) fill h = let both = and-true (leb at e) (inOrder e es fill) h in order-next (leb-true at e (both .0)) (ordered e es fill (both .1))
 
-is-ordered : (at : ℕ) (es : List ℕ) (fill : ℕ) → InOrder at es fill → inOrder at es fill ≡ true
+pub is-ordered : (at : ℕ) (es : List ℕ) (fill : ℕ) → InOrder at es fill → inOrder at es fill ≡ true
 unfolding inOrder
 is-ordered at [] fill (order-end h) = le-leb at fill h
 is-ordered at (e ∷ es) fill (order-next h hs) = rw (le-leb at e h) (is-ordered e es fill hs)
@@ -124,7 +124,7 @@ module _ (ends : List ℕ) (n fill k at : ℕ) where
 
 -- ---- the check as a whole
 
-kept-outside : (p : Place) → keptInRecord p ≡ true → inRecord (p .state) ≡ false → (p .fill ≡ 0) × (p .cells ≡ 0)
+pub kept-outside : (p : Place) → keptInRecord p ≡ true → inRecord (p .state) ≡ false → (p .fill ≡ 0) × (p .cells ≡ 0)
 unfolding keptInRecord
 kept-outside p h e =
     let both = and-true (leb (p .fill) 0) (p .cells is 0) (rw e at h) in
@@ -136,7 +136,7 @@ unfolding keptInRecord
 is-kept-by p true e h = rw e
 is-kept-by p false e h = rw (e, le-leb (p .fill) 0 (omega (arith, h refl .0)), eq-eqb (p .cells) 0 (h refl .1))
 
-is-kept : (p : Place) → (inRecord (p .state) ≡ false → (p .fill ≡ 0) × (p .cells ≡ 0)) → keptInRecord p ≡ true
+pub is-kept : (p : Place) → (inRecord (p .state) ≡ false → (p .fill ≡ 0) × (p .cells ≡ 0)) → keptInRecord p ≡ true
 is-kept p h = is-kept-by p (inRecord (p .state)) refl h
 
 pub sound-gives : (p : Place) (ends : List ℕ) → isSound p ends ≡ true → SoundPlace p ends

@@ -96,7 +96,7 @@ fn is_in_range(p: Place) -> bool
 }
 
 // Whether the first n ends stand in order, up to `fill`.
-fn is_in_order(ends: &[usize], n: usize, fill: usize) -> bool
+pub fn is_in_order(ends: &[usize], n: usize, fill: usize) -> bool
     requires { ⌜ n ≤ length (now ends) ⌝ }
     ensures { λ r. ⌜ r ≡ inOrder 0 (take n (now (ends .entry))) fill ⌝ }
 {
@@ -134,7 +134,7 @@ pub fn in_record(f: FileState) -> bool
 }
 
 // Whether cells are kept only where a record is in hand: elsewhere its size may start anew, and would say nothing of what is kept.
-fn is_kept_in_record(p: Place) -> bool
+pub fn is_kept_in_record(p: Place) -> bool
     ensures { λ r. ⌜ r ≡ keptInRecord p ⌝ }
 {
     let state = p.state;

@@ -8,7 +8,7 @@
 // The loop holds numbers and the place in the part; tokens.rt finds what stands ahead of it, which is mostly a whole cell. Each
 // function on this way is called from one place, or its answer would go through memory: that costs half of the speed. For the same
 // reason the turn after a step stands twice in it: once for both costs an eighth more instructions.
-mod limits;
+pub mod limits;
 pub mod record_state;
 mod store;
 mod tokens;

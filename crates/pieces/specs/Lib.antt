@@ -1,0 +1,6 @@
+pub mod Types
+pub mod Holding
+pub mod Completing
+pub mod Walking
+pub mod Taking
+pub mod Carrying

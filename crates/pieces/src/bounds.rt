@@ -1,0 +1,44 @@
+// Whether a walk from a state stays in bounds, which is asked of any state that a caller hands in. A state that calls made passes.
+ghost use mathlib.Core.Path.{_≡_};
+ghost use mathlib.Core.Bool.{true};
+ghost use lib.ListN.{length};
+ghost use Rattle.model.specs.Report.{MAXCOLUMNS};
+ghost use Rattle.pieces.specs.Walking.{InBounds};
+use carried::checks;
+use carried::place::Place;
+use numbers::MAX_COLUMNS;
+use numbers::MAX_FILE;
+use numbers::MAX_RECORD;
+
+// The ends are asked only as far as they are kept: of a record with more cells than it may have none is.
+pub fn is_in_bounds(p: Place, ends: &[usize]) -> bool
+    requires { ⌜ length (now ends) ≡ MAXCOLUMNS ⌝ }
+    ensures { λ r. ⌜ (r ≡ true → InBounds p (now (ends .entry))) ⌝ }
+    ensures { λ r. ⌜ (InBounds p (now (ends .entry)) → r ≡ true) ⌝ }
+{
+    if MAX_RECORD < p.size {
+        return false;
+    }
+    if p.size < p.fill {
+        return false;
+    }
+    if MAX_FILE < p.offset {
+        return false;
+    }
+    if MAX_FILE < p.written {
+        return false;
+    }
+    if p.offset < p.records {
+        return false;
+    }
+    if p.offset < p.cells {
+        return false;
+    }
+    if !checks::is_kept_in_record(p) {
+        return false;
+    }
+    if MAX_COLUMNS < p.cells {
+        return true;
+    }
+    checks::is_in_order(ends, p.cells, p.fill)
+}
