@@ -6,7 +6,7 @@
      list overlaps another or what is read. It asks nothing else: every number and all bytes have an answer.
    - ends, and writes to what it was lent and nowhere else. On refusal every lent element is as it was.
    - keeps nothing and allocates nothing, so that threads may call at the same time, each with what it lends itself.
-   - takes stack: hk_read about 10 KB at most, hk_convert 11 KB, hk_write 5 KB, hk_decode 0.6 KB. This is measured by the tests and not
+   - takes stack: hk_read and hk_convert about 11 KB at most, hk_write 5 KB, hk_decode 0.6 KB. This is measured by the tests and not
      proved. */
 #ifndef HEMAKULIWI_H
 #define HEMAKULIWI_H
