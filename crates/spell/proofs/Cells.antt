@@ -36,8 +36,8 @@ use Rattle.decoder.specs.declared.first.Spelling.the-variants.{Nothing, AsItSta
 use Rattle.decoder.proofs.FirstByte.{content-first}
 use Rattle.spell.specs.declared.cell.Written.{Written}
 use Rattle.spell.specs.declared.cell.Written.the-variants.{AsText, AsNumber, AsWord}
-use Rattle.spell.specs.Units.{bodyText}
-use Rattle.spell.specs.Contents.{EdFollowed, Legible, has-none, as-it-stands, decoded, by-doubled, by-string}
+use Rattle.units.specs.Units.{bodyText}
+use Rattle.units.specs.Contents.{EdFollowed, Legible, has-none, as-it-stands, decoded, by-doubled, by-string}
 use Rattle.spell.specs.Cells.{isQuoted, quoteBy, textCell, writtenAs, wordFor}
 use Rattle.spell.proofs.Followed.{sound-followed}
 use Rattle.spell.proofs.Quoted.{cell-by}

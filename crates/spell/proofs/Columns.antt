@@ -21,13 +21,14 @@ use Rattle.model.specs.Dialect.{isCsvj, delimiterOf, into}
 use Rattle.model.specs.Text.{Value, isText, cellText, moreCells, allCells, recordText}
 use Rattle.model.specs.Utf8.{holdsLone}
 use Rattle.model.specs.Records.{_orElse_, when, hasKind, uncarriedFrom}
+use Rattle.model.proofs.Tests.{impossible}
 use Rattle.model.proofs.Verdicts.{else-assoc}
 use Rattle.buffers.specs.Wrote.{Room, Put}
 use Rattle.buffers.proofs.Writing.{Putting, putting, put-next, put-whole}
 use Rattle.decoder.specs.declared.source.Source.{Source}
 use Rattle.decoder.specs.Sources.{cellsIn}
 use Rattle.decoder.proofs.CellsIn.{cells-length, cellAt, cellsFrom, cells-next, cells-end}
-use Rattle.spell.specs.Columns.{beforeCell, isFirst, columnText, uncarriedCell}
+use Rattle.spell.specs.Columns.{beforeCell, isFirst, columnText, uncarriedCell, verdictOf}
 
 -- ---- one cell
 
@@ -76,12 +77,45 @@ module _ (t : Dialect) (n : ℕ) (k : Kind) (content : Bytes) where
         unfolding when _orElse_
         cell-sound l = rw (h, j, e, l)
 
+-- CSVJ carries every cell
+pub csvj-carries : (t : Dialect) (n : ℕ) (k : Kind) (content : Bytes) → isCsvj t ≡ true → uncarriedCell t n k content ≡ Sound
+csvj-carries Csvj n k content j = cell-in-csvj Csvj n k content refl j
+csvj-carries Tdif n k content j = impossible j
+csvj-carries (CsvPlus s) n k content j = impossible j
+
 -- ---- two verdicts
 
 pub orElse-sound : (a : Verdict) → a orElse Sound ≡ a
 unfolding _orElse_
 orElse-sound Sound = refl
 orElse-sound (Faulty e) = refl
+
+-- ---- what is said so far
+
+pub said-nothing : (column : ℕ) (lone : Bool) → column ≡ 0 → verdictOf column lone ≡ Sound
+said-nothing zero lone e = refl
+said-nothing (suc n) lone e = absurd (omega arith)
+
+-- then the cell is told
+pub said-then : (column : ℕ) (lone : Bool) (v : Verdict) → column ≡ 0 → verdictOf column lone orElse v ≡ v
+unfolding _orElse_
+said-then zero lone v e = refl
+said-then (suc n) lone v e = absurd (omega arith)
+
+-- and otherwise it is not
+pub said-before : (column : ℕ) (lone : Bool) (v : Verdict) → (column ≡ 0 → ⊥) → verdictOf column lone orElse v ≡ verdictOf column lone
+unfolding _orElse_
+said-before zero lone v e = absurd (e refl)
+said-before (suc n) true v e = refl
+said-before (suc n) false v e = refl
+
+pub says-lone : (column : ℕ) → (column ≡ 0 → ⊥) → verdictOf column true ≡ Faulty (LoneSurrogate column)
+says-lone zero e = absurd (e refl)
+says-lone (suc n) e = refl
+
+pub says-lacks : (column : ℕ) → (column ≡ 0 → ⊥) → verdictOf column false ≡ Faulty (LacksKind column)
+says-lacks zero e = absurd (e refl)
+says-lacks (suc n) e = refl
 
 -- ---- the cells from place n on
 

@@ -31,7 +31,7 @@ use Rattle.model.proofs.Tests.{split-on, impossible, within-true}
 use Rattle.model.proofs.Utf8.{quote-ascii, delimiter-ascii, broken-on}
 use Rattle.model.proofs.CellRuns.{Runs, here, there, sound-runs}
 use Rattle.model.proofs.CellContent.{char-on, no-more, no-stop, same-more}
-use Rattle.spell.specs.Contents.{EdFollows, EdFollowed}
+use Rattle.units.specs.Contents.{EdFollows, EdFollowed}
 
 -- a cell that waits for the byte after ED
 data AfterEd : Cell → Type 0 where

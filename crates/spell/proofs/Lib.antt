@@ -1,8 +1,5 @@
 pub mod Columns
-pub mod PlainRuns
-pub mod Units
-pub mod Contents
 pub mod Followed
 pub mod Quoted
-pub mod Bodies
 pub mod Cells
+pub mod Passing

@@ -18,11 +18,11 @@ use Rattle.model.proofs.Tests.{split-on, impossible, is→eq}
 use Rattle.model.proofs.Utf8.{quote-ascii, delimiter-ascii}
 use Rattle.decoder.specs.Units.{Unit, one, two, three, four}
 use Rattle.decoder.specs.declared.first.Spelling.{Spelling}
-use Rattle.spell.specs.PlainRuns.{isPlain, plainRun}
-use Rattle.spell.specs.Contents.{contentFrom, sourceQuote, Part}
-use Rattle.spell.proofs.PlainRuns.{Plain, plain-is}
-use Rattle.spell.proofs.Units.{first-one}
-use Rattle.spell.proofs.Contents.{content-part, content-end}
+use Rattle.units.specs.PlainRuns.{isPlain, plainRun}
+use Rattle.units.specs.Contents.{contentFrom, sourceQuote, Part}
+use Rattle.units.proofs.PlainRuns.{Plain, plain-is}
+use Rattle.units.proofs.Units.{first-one}
+use Rattle.units.proofs.Contents.{content-part, content-end}
 
 holds-append : (p : ℕ → Bool) (u v : Bytes) → holds p (u ++ v) ≡ (holds p u || holds p v)
 unfolding holds

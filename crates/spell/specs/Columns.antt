@@ -1,11 +1,12 @@
 -- A record a column at a time: the text of each cell with what stands before it, and what a target says of it.
 use Prim.Native.Nat.{ℕ, zero, suc}
-use mathlib.Core.Bool.{Bool, false, not, _&&_}
+use mathlib.Core.Bool.{Bool, true, false, not, _&&_}
 use mathlib.Core.List.{[], _∷_, _++_}
 use Rattle.model.specs.declared.Dialect.{Dialect}
 use Rattle.model.specs.declared.Fault.the-variants.{LacksKind, LoneSurrogate}
 use Rattle.model.specs.declared.Kind.{Kind}
 use Rattle.model.specs.declared.Verdict.{Verdict}
+use Rattle.model.specs.declared.Verdict.the-variants.{Sound, Faulty}
 use Rattle.model.specs.Base.{Bytes}
 use Rattle.model.specs.Dialect.{isCsvj, delimiterOf}
 use Rattle.model.specs.Text.{Value, isText, cellText}
@@ -31,3 +32,9 @@ abbrev pub uncarriedCell : (target : Dialect) → (n : ℕ) → Kind → Bytes �
 uncarriedCell t n k content =
     when (not (hasKind t k)) (LacksKind n)
     orElse when (not (isCsvj t) && isText k && holdsLone content) (LoneSurrogate n)
+
+-- what is said of the cells up to one, by the column of the first that the target can't carry, or 0, and by the reason
+abbrev pub verdictOf : (column : ℕ) → (lone : Bool) → Verdict
+verdictOf zero lone = Sound
+verdictOf (suc n) true = Faulty (LoneSurrogate (suc n))
+verdictOf (suc n) false = Faulty (LacksKind (suc n))

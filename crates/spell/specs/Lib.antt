@@ -1,6 +1,3 @@
 pub mod Columns
-pub mod PlainRuns
-pub mod Units
-pub mod Contents
-pub mod Bodies
 pub mod Cells
+pub mod Passing

@@ -8,17 +8,17 @@ ghost use Rattle.model.specs.Text.{isText, cellText};
 ghost use Rattle.buffers.specs.Wrote.{Room, Put};
 ghost use Rattle.decoder.specs.FirstByte.{contentIn};
 ghost use Rattle.decoder.specs.Sources.{contentBy, Spelt};
-ghost use Rattle.spell.specs.Units.{Spells};
-ghost use Rattle.spell.specs.Contents.{Legible};
+ghost use Rattle.units.specs.Units.{Spells};
+ghost use Rattle.units.specs.Contents.{Legible};
 ghost use Rattle.spell.specs.Cells.{isQuoted, quoteBy, textCell, writtenAs, wordFor, valueOf};
-use crate::body;
-use crate::body::Body;
 use crate::special;
 use decoder::first::Spelling;
 use decoder::source;
 use decoder::source::Source;
 use model::Dialect;
 use model::Kind;
+use units::body;
+use units::body::Body;
 
 // ---- texts
 

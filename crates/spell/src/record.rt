@@ -12,15 +12,17 @@ ghost use Rattle.model.specs.Records.{_orElse_, hasKind, uncarriedFrom};
 ghost use Rattle.buffers.specs.Wrote.{Room, Put};
 ghost use Rattle.decoder.specs.Sources.{kindFrom, contentBy, cellsIn, Spelt, Cells};
 ghost use Rattle.spell.specs.Cells.{valueOf};
-ghost use Rattle.spell.specs.Columns.{beforeCell, isFirst, columnText, uncarriedCell};
-use crate::cell;
-use crate::escape;
+ghost use Rattle.spell.specs.Columns.{beforeCell, isFirst, columnText, uncarriedCell, verdictOf};
+ghost use Rattle.spell.specs.Passing.{Direct};
+use crate::verbatim;
 use decoder::source;
 use decoder::source::Source;
 use model::Dialect;
 use model::Fault;
 use model::Kind;
 use model::Verdict;
+use units::body::Body;
+use units::escape;
 
 pub struct RecordText {
     // Where the text ends, without the record's ending.
@@ -54,34 +56,52 @@ fn has_kind(t: Dialect, k: Kind) -> bool
     }
 }
 
-// What is said of the cell in this column, in whose content a lone surrogate was met or not.
-fn uncarried(t: Dialect, kind: Kind, lone: bool, column: usize) -> Verdict
-    ensures { λ r. ⌜ ((content : Bytes) → (isText kind ≡ true → isCsvj t ≡ false → lone ≡ holdsLone content)
-        → r ≡ uncarriedCell t column kind content) ⌝ }
-{
-    if !has_kind(t, kind) {
-        return Verdict::Faulty(Fault::LacksKind { column });
-    }
-    if escape::is_csvj(t) {
-        return Verdict::Sound;
-    }
-    if !source::is_text(kind) {
-        return Verdict::Sound;
-    }
-    if lone {
-        return Verdict::Faulty(Fault::LoneSurrogate { column });
-    }
-    Verdict::Sound
+// What is said of the cells so far: nothing where the column is 0, else of the first that the target can't carry whether it holds a lone
+// surrogate or is of a kind that the target lacks. Two numbers: a verdict in the loop goes through memory, which costs a tenth of the time.
+struct Said {
+    column: usize,
+    lone: bool,
 }
 
-// The earlier verdict if it is a fault.
-fn or_else(a: Verdict, b: Verdict) -> Verdict
-    ensures { λ r. ⌜ r ≡ (a orElse b) ⌝ }
+// The same with the cell in this column, in whose content a lone surrogate was met or not.
+fn with_cell(said: Said, t: Dialect, number: u8, lone: bool, column: usize) -> Said
+    requires { ⌜ 0 < column ⌝ }
+    ensures { λ r. ⌜ ((content : Bytes) → (isText (kindFrom number) ≡ true → isCsvj t ≡ false → lone ≡ holdsLone content)
+        → verdictOf (r .column) (r .lone) ≡ (verdictOf (said .column) (said .lone) orElse uncarriedCell t column (kindFrom number) content)) ⌝ }
 {
-    match a {
-        Verdict::Sound => b,
-        Verdict::Faulty(e) => Verdict::Faulty(e),
+    if escape::is_csvj(t) {
+        return said;
     }
+    if said.column != 0 {
+        return said;
+    }
+    let kind = source::kind_of_number(number);
+    if !has_kind(t, kind) {
+        return Said {
+            column,
+            lone: false,
+        };
+    }
+    if !source::is_text(kind) {
+        return said;
+    }
+    if lone {
+        return Said { column, lone: true };
+    }
+    said
+}
+
+fn verdict_of(said: Said) -> Verdict
+    ensures { λ r. ⌜ r ≡ verdictOf (said .column) (said .lone) ⌝ }
+{
+    let column = said.column;
+    if column == 0 {
+        return Verdict::Sound;
+    }
+    if said.lone {
+        return Verdict::Faulty(Fault::LoneSurrogate { column });
+    }
+    Verdict::Faulty(Fault::LacksKind { column })
 }
 
 // ---- columns
@@ -110,7 +130,8 @@ fn is_first(n: usize, header: bool) -> bool
 fn column(
     src: Source,
     t: Dialect,
-    kind: Kind,
+    direct: bool,
+    number: u8,
     raw: &[u8],
     n: usize,
     only: bool,
@@ -118,29 +139,26 @@ fn column(
     out: &mut [u8],
     at: usize,
     write: bool,
-) -> RecordText
-    requires { ⌜ Spelt src kind (now raw) ⌝ }
-    requires { ⌜ Room write at (columnText t n only header (valueOf src kind (now raw))) (now out) ⌝ }
-    requires { ⌜ n < 0xFFFFFFFFFFFFFFFF ⌝ }
-    ensures { λ r. ⌜ Put write (now (out .entry)) at (columnText t n only header (valueOf src kind (now (raw .entry)))) (now (out .exit)) (r .end) ⌝ }
-    ensures { λ r. ⌜ r .carries ≡ uncarriedCell t (n + 1) kind (contentBy src (now (raw .entry))) ⌝ }
+) -> Body
+    requires { ⌜ Spelt src (kindFrom number) (now raw) ⌝ }
+    requires { ⌜ (direct ≡ true → Direct src t) ⌝ }
+    requires { ⌜ Room write at (columnText t n only header (valueOf src (kindFrom number) (now raw))) (now out) ⌝ }
+    ensures { λ r. ⌜ Put write (now (out .entry)) at (columnText t n only header (valueOf src (kindFrom number) (now (raw .entry)))) (now (out .exit)) (r .end) ⌝ }
+    ensures { λ r. ⌜ (isText (kindFrom number) ≡ true → isCsvj t ≡ false → r .lone ≡ holdsLone (contentBy src (now (raw .entry)))) ⌝ }
 {
     let from = put_delimiter(t, n, out, at, write);
-    let b = cell::put(
+    verbatim::put(
         src,
         t,
-        kind,
+        direct,
+        number,
         raw,
         only,
         is_first(n, header),
         out,
         from,
         write,
-    );
-    RecordText {
-        end: b.end,
-        carries: uncarried(t, kind, b.lone, n + 1),
-    }
+    )
 }
 
 // ---- records
@@ -166,20 +184,38 @@ pub fn put(
     ensures { λ r. ⌜ r .carries ≡ uncarriedFrom t 1 (cellsIn src (now (s .entry)) (now (starts .entry)) (now (ends .entry)) (now (kinds .entry))) ⌝ }
 {
     let only = starts.len() == 1;
+    let direct = verbatim::is_direct(src, t);
     let mut n = 0;
     let mut o = at;
-    let mut carries = Verdict::Sound;
+    let mut said = Said {
+        column: 0,
+        lone: false,
+    };
     while n < starts.len() {
         let from = starts[n];
         let upto = ends[n];
-        let kind = source::kind_of_number(kinds[n]);
-        let x = column(src, t, kind, &s[from..upto], n, only, header, out, o, write);
+        let number = kinds[n];
+        let x = column(
+            src,
+            t,
+            direct,
+            number,
+            &s[from..upto],
+            n,
+            only,
+            header,
+            out,
+            o,
+            write,
+        );
         o = x.end;
-        let v = x.carries;
-        carries = or_else(carries, v);
+        said = with_cell(said, t, number, x.lone, n + 1);
         n += 1;
     }
-    RecordText { end: o, carries }
+    RecordText {
+        end: o,
+        carries: verdict_of(said),
+    }
 }
 
 // A record's ending.

@@ -6,14 +6,14 @@ ghost use Rattle.model.specs.Base.{holds};
 ghost use Rattle.model.specs.Text.{special, beginsMark, hasQuotes};
 ghost use Rattle.decoder.specs.Units.{Unit};
 ghost use Rattle.decoder.specs.FirstByte.{contentIn};
-ghost use Rattle.spell.specs.Contents.{Decoded, Legible};
-use crate::run;
-use crate::unit;
+ghost use Rattle.units.specs.Contents.{Decoded, Legible};
 use decoder::content;
 use decoder::first::Spelling;
 use model::Dialect;
 use model::Settings;
 use numbers::MAX_RECORD;
+use units::run;
+use units::unit;
 
 fn is_special(s: Settings, b: u8) -> bool
     ensures { λ r. ⌜ r ≡ special s b ⌝ }

@@ -6,7 +6,7 @@ use mathlib.Core.List.{[], _++_, append-nil}
 use Rattle.model.specs.Base.{Bytes}
 use Rattle.buffers.proofs.Writing.{Putting, putting, same-long, room-as, put-as, room-next, room-rest, put-next, put-whole}
 use Rattle.decoder.specs.FirstByte.{contentIn}
-use Rattle.spell.specs.Units.{bodyText}
+use Rattle.units.specs.Units.{bodyText}
 use Rattle.spell.specs.Cells.{quoteBy, textCell}
 use Rattle.spell.proofs.Cells.{text-parts}
 use Rattle.spell.proofs.cell.put_text.Statement.{statement}

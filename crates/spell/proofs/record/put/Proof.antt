@@ -3,88 +3,92 @@
 use mathlib.Core.Path.{_≡_, refl, sym, ap, _∙_}
 use mathlib.Core.Bool.{Bool}
 use mathlib.Core.List.{_++_}
-use Prim.Native.Nat.{_-_, _+_}
+use Prim.Native.Nat.{_-_, _+_, _<_}
 use native.Mathlib.Omega.{arith}
 use lib.ListN.{length, getD}
 use lib.Dec.{eqb}
 use borrow.Author.Needs.{needs}
 use Rattle.model.specs.Dialect.{into}
+use Rattle.model.specs.Base.{Bytes}
 use Rattle.model.specs.Text.{recordText}
+use Rattle.model.specs.declared.Kind.{Kind}
 use Rattle.model.specs.declared.Verdict.{Verdict}
 use Rattle.model.specs.Records.{_orElse_}
 use Rattle.model.specs.Api.{slice}
 use Rattle.buffers.proofs.Writing.{Putting, same-long, room-next, put-next, put-whole}
-use Rattle.decoder.specs.Sources.{cellsIn, Stretch}
+use Rattle.decoder.specs.Sources.{kindFrom, contentBy, cellsIn, Stretch}
 use Rattle.spell.specs.Cells.{valueOf}
-use Rattle.spell.specs.Columns.{columnText}
+use Rattle.spell.specs.Columns.{columnText, uncarriedCell, verdictOf}
 use Rattle.spell.proofs.Columns.{PutUpTo, textAt, put-none, text-at, text-end, says-next, uncarried-end, orElse-sound}
 use Rattle.spell.proofs.record.put.Statement.{statement}
 use Rattle.spell.proofs.record.put.Tie as tie
 
 abbrev Inv-loop : tie.InvT-loop
-Inv-loop src t s starts ends kinds header out₀ at write only n₀ o₀ carries₀ out n o carries = PutUpTo src t s starts ends kinds header out₀ at write out n o carries
+Inv-loop src t s starts ends kinds header out₀ at write only direct n₀ o₀ said₀ out n o said = PutUpTo src t s starts ends kinds header out₀ at write out n o (verdictOf (said .column) (said .lone))
 
 abbrev μ-loop : tie.MeasureT-loop
-μ-loop src t s starts ends kinds header out₀ at write only n₀ o₀ carries₀ out n o carries = length starts - n
+μ-loop src t s starts ends kinds header out₀ at write only direct n₀ o₀ said₀ out n o said = length starts - n
 
 loop-holds : tie.Need-loop-holds Inv-loop μ-loop
-loop-holds c = let u = c .before .before .before .before .before in put-none _ _ _ _ _ _ _ _ _ _ (u .pre .1)
+loop-holds c = let u = c .before .before .before .before .before .before in put-none _ _ _ _ _ _ _ _ _ _ (u .pre .1)
 
 -- the cell stands in s
 at-n : (c : tie.After-shared-slice-known5 Inv-loop μ-loop)
-    → let a = c .before .before .before .before .before .before .before .before .args in
+    → let a = c .before .before .before .before .before .before .before .before .before .args in
     let n = c .before .before .loop .n in
     Stretch (a .src) (a .s .now) (getD (a .starts .now) n 0) (getD (a .ends .now) n 0) (getD (a .kinds .now) n 0)
 at-n c =
-    let u = c .before .before .before .before .before .before .before .before in
+    let u = c .before .before .before .before .before .before .before .before .before in
     u .pre .0 .each (c .before .before .loop .n) (c .before .loop-test .taken)
 
 -- the cell at n comes next
-cell-next : (c : tie.After-kind-of-number Inv-loop μ-loop)
-    → let l = c .before .before .before .before .before .loop in
+cell-next : (c : tie.After-shared-slice-known7 Inv-loop μ-loop)
+    → let l = c .before .before .before .before .loop in
     let a = c .before .before .before .before .before .before .before .before .before .before .before .args in
-    let v = valueOf (a .src) (c .kind-of-number .result) (slice (a .s .now) (getD (a .starts .now) (l .n) 0) (getD (a .ends .now) (l .n) 0)) in
+    let v = valueOf (a .src) (kindFrom (getD (a .kinds .now) (l .n) 0)) (slice (a .s .now) (getD (a .starts .now) (l .n) 0) (getD (a .ends .now) (l .n) 0)) in
     Putting (a .write) (a .out .now) (a .at) (recordText (into (a .t)) (a .header) (cellsIn (a .src) (a .s .now) (a .starts .now) (a .ends .now) (a .kinds .now))) (l .out) (l .o)
     (columnText (a .t) (l .n) (eqb (length (a .starts .now)) 1) (a .header) v ++ textAt (a .src) (a .t) (a .s .now) (a .starts .now) (a .ends .now) (a .kinds .now) (a .header) (l .n + 1))
 cell-next c =
-    let l = c .before .before .before .before .before .loop in
+    let l = c .before .before .before .before .loop in
     let u = c .before .before .before .before .before .before .before .before .before .before .before in
     let a = u .args in
-    let v = valueOf (a .src) (c .kind-of-number .result) (slice (a .s .now) (getD (a .starts .now) (l .n) 0) (getD (a .ends .now) (l .n) 0)) in
+    let v = valueOf (a .src) (kindFrom (getD (a .kinds .now) (l .n) 0)) (slice (a .s .now) (getD (a .starts .now) (l .n) 0) (getD (a .ends .now) (l .n) 0)) in
     rw
-    (text-at (a .src) (a .t) (a .s .now) (a .starts .now) (a .ends .now) (a .kinds .now) (a .header) (u .pre .0 .with-ends) (u .pre .0 .with-kinds) (l .n) (c .before .before .before .before .loop-test .taken)
-    (eqb (length (a .starts .now)) 1) v refl (sym (c .kind-of-number .ensures)) refl)
+    (text-at (a .src) (a .t) (a .s .now) (a .starts .now) (a .ends .now) (a .kinds .now) (a .header) (u .pre .0 .with-ends) (u .pre .0 .with-kinds) (l .n) (c .before .before .before .loop-test .taken)
+    (eqb (length (a .starts .now)) 1) v refl refl refl)
     at (l .inv .going)
 
+next-fits : (c : tie.After-shared-slice-known7 Inv-loop μ-loop) → c .before .before .before .before .loop .n < 0xFFFFFFFFFFFFFFFF
+next-fits c = omega (arith, c .before .before .before .loop-test .taken)
+
 column-requires : tie.Need-column-requires Inv-loop μ-loop
-column-requires c κs =
-    let k = c .before .before in (
-      rw (k .kind-of-number .ensures) (at-n (k .before .before .before) .spelt),
-      (room-next _ _ (cell-next k), omega (arith, k .before .before .before .before .loop-test .taken)),
-    )
+column-requires c κs = let k = c .before .before in (at-n (k .before .before) .spelt, (k .before .before .before .before .before .is-direct .ensures, room-next _ _ (cell-next k)))
 
 loop-again : tie.Need-loop-again Inv-loop μ-loop
 loop-again c =
     let x = c .before .before .before .column in
     let k = c .before .before .before .before .before .before in
-    let l = k .before .before .before .before .before .loop in
+    let l = k .before .before .before .before .loop in
     let u = k .before .before .before .before .before .before .before .before .before .before .before in
     let a = u .args in
+    let kind : Kind = kindFrom (getD (a .kinds .now) (l .n) 0) in
+    let content : Bytes = contentBy (a .src) (slice (a .s .now) (getD (a .starts .now) (l .n) 0) (getD (a .ends .now) (l .n) 0)) in
     record {
       going = put-next _ (cell-next k) (x .ensures .0);
       says =
-          says-next (a .src) (a .t) (a .s .now) (a .starts .now) (a .ends .now) (a .kinds .now) (a .header) (u .pre .0 .with-ends) (u .pre .0 .with-kinds) (l .n) (k .before .before .before .before .loop-test .taken)
-          _ (l .carries) (x .result .carries) (c .or-else .result) (k .kind-of-number .result) (k .kind-of-number .ensures) (x .ensures .1) (c .or-else .ensures) (l .inv .says);
-      within = omega (arith, k .before .before .before .before .loop-test .taken);
+          says-next (a .src) (a .t) (a .s .now) (a .starts .now) (a .ends .now) (a .kinds .now) (a .header) (u .pre .0 .with-ends) (u .pre .0 .with-kinds) (l .n) (k .before .before .before .loop-test .taken)
+          _ (verdictOf (l .said .column) (l .said .lone)) (uncarriedCell (a .t) (l .n + 1) kind content) (verdictOf (c .with-cell .result .column) (c .with-cell .result .lone)) kind refl refl (c .with-cell .ensures content (x .ensures .1)) (l .inv .says);
+      within = omega (arith, k .before .before .before .loop-test .taken);
     }
 
 returns : tie.Need-returns Inv-loop μ-loop
 returns c =
-    let l = c .before .loop in
-    let u = c .before .before .before .before .before .before .before in
+    let l = c .before .before .loop in
+    let said : Verdict = verdictOf (l .said .column) (l .said .lone) in
+    let u = c .before .before .before .before .before .before .before .before .before in
     let a = u .args in (
-      put-whole (rw (text-end (a .src) (a .t) (a .s .now) (a .starts .now) (a .ends .now) (a .kinds .now) (a .header) (u .pre .0 .with-ends) (u .pre .0 .with-kinds) (l .n) (c .loop-test .left)) at (l .inv .going)),
-      sym (l .inv .says ∙ ap (λ (v : Verdict). l .carries orElse v) (uncarried-end (a .src) (a .t) (a .s .now) (a .starts .now) (a .ends .now) (a .kinds .now) (a .header) (u .pre .0 .with-ends) (u .pre .0 .with-kinds) (l .n) (c .loop-test .left)) ∙ orElse-sound (l .carries)),
+      put-whole (rw (text-end (a .src) (a .t) (a .s .now) (a .starts .now) (a .ends .now) (a .kinds .now) (a .header) (u .pre .0 .with-ends) (u .pre .0 .with-kinds) (l .n) (c .before .loop-test .left)) at (l .inv .going)),
+      c .verdict-of .ensures ∙ sym (l .inv .says ∙ ap (λ (v : Verdict). said orElse v) (uncarried-end (a .src) (a .t) (a .s .now) (a .starts .now) (a .ends .now) (a .kinds .now) (a .header) (u .pre .0 .with-ends) (u .pre .0 .with-kinds) (l .n) (c .before .loop-test .left)) ∙ orElse-sound said),
     )
 
 pub put-spec : {M : Type 1} → statement M
@@ -93,20 +97,22 @@ put-spec =
     (tie.spec
     Inv-loop
     μ-loop
+    (λ c κs. search needs)
     loop-holds
     (λ c. omega arith)
     (λ c. omega arith)
     (λ c. omega arith)
-    (λ c. omega (arith, c .before .before .before .before .before .before .before .before .before .pre .0 .with-ends))
-    (λ c. omega (arith, c .before .before .before .before .before .before .before .before .before .before .pre .0 .with-kinds))
-    (λ c κs. search needs)
-    (λ c. at-n (c .before .before .before) .forward)
-    (λ c. at-n (c .before .before .before) .forward)
-    (λ c. at-n (c .before .before .before) .within)
+    (λ c. omega (arith, c .before .before .before .before .before .before .before .before .before .before .pre .0 .with-ends))
+    (λ c. omega (arith, c .before .before .before .before .before .before .before .before .before .before .before .pre .0 .with-kinds))
+    (λ c. at-n (c .before .before) .forward)
+    (λ c. at-n (c .before .before) .forward)
+    (λ c. at-n (c .before .before) .within)
     column-requires
-    (λ c κs. search needs)
-    (λ c. omega arith)
+    (λ c. omega (arith, next-fits (c .before .before .before .before .before)))
+    (λ c κs. omega arith)
+    (λ c. omega (arith, next-fits (c .before .before .before .before .before .before)))
     (λ c. omega arith)
     loop-again
-    (λ c. same-long (c .before .loop .inv .going))
+    (λ c κs. search needs)
+    (λ c. same-long (c .before .before .loop .inv .going))
     returns)

@@ -1,7 +1,7 @@
 -- `spell::special::begins_mark` meets its contract, spelling by spelling.
 -- Assumes nothing.
 use borrow.Author.Needs.{needs}
-use Rattle.spell.proofs.Contents.{legible-doubled, legible-string}
+use Rattle.units.proofs.Contents.{legible-doubled, legible-string}
 use Rattle.spell.proofs.special.begins_mark.Statement.{statement}
 use Rattle.spell.proofs.special.begins_mark.Tie as tie
 

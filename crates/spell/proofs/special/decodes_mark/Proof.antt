@@ -7,7 +7,7 @@ use Rattle.model.specs.Base.{Bytes}
 use Rattle.model.specs.Report.{MAXRECORD}
 use Rattle.model.specs.Text.{beginsMark}
 use Rattle.decoder.specs.FirstByte.{contentIn}
-use Rattle.spell.proofs.Contents.{decoded-short}
+use Rattle.units.proofs.Contents.{decoded-short}
 use Rattle.spell.proofs.Quoted.{Held, held}
 use Rattle.spell.proofs.special.decodes_mark.Statement.{statement}
 use Rattle.spell.proofs.special.decodes_mark.Tie as tie

@@ -8,7 +8,7 @@ use borrow.Author.Needs.{needs}
 use Rattle.model.specs.Base.{holds}
 use Rattle.model.specs.Text.{special}
 use Rattle.decoder.specs.FirstByte.{contentIn}
-use Rattle.spell.specs.Contents.{contentFrom}
+use Rattle.units.specs.Contents.{contentFrom}
 use Rattle.spell.proofs.Quoted.{special-on, special-end, special-there, special-next}
 use Rattle.spell.proofs.special.holds_special.Statement.{statement}
 use Rattle.spell.proofs.special.holds_special.Tie as tie

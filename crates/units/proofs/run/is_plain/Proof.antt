@@ -1,0 +1,19 @@
+-- `spell::run::is_plain` meets its contract: it tests as the definition does.
+-- Assumes nothing.
+use Rattle.model.proofs.Tests.{tests}
+use Rattle.units.specs.PlainRuns.{isPlain}
+use Rattle.units.proofs.run.is_plain.Statement.{statement}
+use Rattle.units.proofs.run.is_plain.Tie as tie
+
+pub is-plain-spec : {M : Type 1} → statement M
+unfolding isPlain
+is-plain-spec =
+    tie.close
+    (tie.spec
+    (λ c. search tests)
+    (λ c. search tests)
+    (λ c. search tests)
+    (λ c. search tests)
+    (λ c. search tests)
+    (λ c. search tests)
+    (λ c. search tests))

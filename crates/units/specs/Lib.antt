@@ -1,0 +1,4 @@
+pub mod PlainRuns
+pub mod Units
+pub mod Contents
+pub mod Bodies
