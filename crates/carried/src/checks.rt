@@ -1,12 +1,11 @@
-// What is asked before a call works on what is carried: the four checks of a call in the rules' order (§15.4 to §15.7), and whether the
-// numbers are such that a walk over a piece stays in bounds, which any bytes that a caller hands in as a state are asked.
+// What is asked before a call works on what is carried: the four checks of a call in the rules' order (§15.4 to §15.7), and whether ends
+// stand in order and cells are kept only in a record, which a walk over a piece needs to stay in bounds.
 ghost use mathlib.Core.Path.{_≡_};
 ghost use Prim.Native.Nat.{_≤_};
 ghost use lib.ListN.{length, take};
-ghost use Rattle.model.specs.Report.{MAXCOLUMNS};
 ghost use Rattle.carried.specs.Checks.{checkBetween, checkNow};
 ghost use Rattle.model.specs.Scans.{inRecord};
-ghost use Rattle.carried.specs.Sound.{inRange, keptInRecord, inOrder, isSound};
+ghost use Rattle.carried.specs.Sound.{keptInRecord, inOrder};
 use crate::place::Place;
 use model::Dialect;
 use model::FileState;
@@ -68,33 +67,6 @@ pub fn checked(
 
 // ---- staying in bounds
 
-// Cells of a record within its limit, of which all bytes are delimiters.
-const MAX_CELLS: usize = 4097;
-
-fn is_in_range(p: Place) -> bool
-    ensures { λ r. ⌜ r ≡ inRange p ⌝ }
-{
-    if numbers::MAX_RECORD < p.size {
-        return false;
-    }
-    if p.size < p.fill {
-        return false;
-    }
-    if numbers::MAX_FILE < p.offset {
-        return false;
-    }
-    if numbers::MAX_FILE < p.written {
-        return false;
-    }
-    if numbers::MAX_FILE < p.records {
-        return false;
-    }
-    if MAX_CELLS < p.cells {
-        return false;
-    }
-    p.columns <= numbers::MAX_COLUMNS
-}
-
 // Whether the first n ends stand in order, up to `fill`.
 pub fn is_in_order(ends: &[usize], n: usize, fill: usize) -> bool
     requires { ⌜ n ≤ length (now ends) ⌝ }
@@ -145,22 +117,4 @@ pub fn is_kept_in_record(p: Place) -> bool
         return false;
     }
     p.cells == 0
-}
-
-// Whether a walk over a piece stays in bounds from here.
-pub fn is_sound(p: Place, ends: &[usize]) -> bool
-    requires { ⌜ MAXCOLUMNS ≤ length (now ends) ⌝ }
-    ensures { λ r. ⌜ r ≡ isSound p (now (ends .entry)) ⌝ }
-{
-    if !is_in_range(p) {
-        return false;
-    }
-    if !is_kept_in_record(p) {
-        return false;
-    }
-    is_in_order(
-        ends,
-        numbers::least_of(p.cells, numbers::MAX_COLUMNS),
-        p.fill,
-    )
 }

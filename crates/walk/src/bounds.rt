@@ -3,7 +3,7 @@ ghost use mathlib.Core.Path.{_≡_};
 ghost use mathlib.Core.Bool.{true};
 ghost use lib.ListN.{length};
 ghost use Rattle.model.specs.Report.{MAXCOLUMNS};
-ghost use Rattle.pieces.specs.Walking.{InBounds};
+ghost use Rattle.turn.specs.Walking.{InBounds, handIn};
 use carried::checks;
 use carried::place::Place;
 use numbers::MAX_COLUMNS;
@@ -11,7 +11,7 @@ use numbers::MAX_FILE;
 use numbers::MAX_RECORD;
 
 // The ends are asked only as far as they are kept: of a record with more cells than it may have none is.
-pub fn is_in_bounds(p: Place, ends: &[usize]) -> bool
+fn is_kept_in_bounds(p: Place, ends: &[usize]) -> bool
     requires { ⌜ length (now ends) ≡ MAXCOLUMNS ⌝ }
     ensures { λ r. ⌜ (r ≡ true → InBounds p (now (ends .entry))) ⌝ }
     ensures { λ r. ⌜ (InBounds p (now (ends .entry)) → r ≡ true) ⌝ }
@@ -41,4 +41,16 @@ pub fn is_in_bounds(p: Place, ends: &[usize]) -> bool
         return true;
     }
     checks::is_in_order(ends, p.cells, p.fill)
+}
+
+// The same where the ends in hand are those of the header's names or of another record's cells.
+pub fn is_in_bounds(p: Place, name_ends: &[usize], ends: &[usize]) -> bool
+    requires { ⌜ (length (now «name_ends») ≡ MAXCOLUMNS) × (length (now ends) ≡ MAXCOLUMNS) ⌝ }
+    ensures { λ r. ⌜ (r ≡ true → InBounds p (handIn p (now («name_ends» .entry)) (now (ends .entry)))) ⌝ }
+    ensures { λ r. ⌜ (InBounds p (handIn p (now («name_ends» .entry)) (now (ends .entry))) → r ≡ true) ⌝ }
+{
+    if p.records == 0 {
+        return is_kept_in_bounds(p, name_ends);
+    }
+    is_kept_in_bounds(p, ends)
 }

@@ -1,0 +1,179 @@
+-- What the end of the file comes to, case by case.
+use Prim.Native.Nat.{ℕ, suc, _+_, _-_, _≤_, _<_}
+use native.Mathlib.Omega.{arith}
+use native.Mathlib.Numerals.{add-one}
+use mathlib.Core.Path.{_≡_, refl, sym, ap, ap₂, subst, _∙_}
+use mathlib.Core.Bool.{true}
+use mathlib.Core.List.{List, [], _∷_, _++_, append-assoc, append-nil}
+use lib.ListN.{length, take, set, length-append, length-map}
+use lib.Seq.{take-suc-set, drop-length}
+use Rattle.model.specs.Base.{if_then_else_, Bytes, isEmpty}
+use Rattle.model.specs.File.{fileEnd}
+use Rattle.model.specs.Text.{Value, recordText, tableText, ending}
+use Rattle.model.specs.Report.{accepted, report, numberOf, columnOf, LEASTOUTPUT, MAXCOLUMNS}
+use Rattle.model.specs.Records.{Rec, rows, Progress, going, stopped, between-records, faultReport, reportOf, recordsOf}
+use Rattle.model.specs.Trips.{SameCells}
+use Rattle.model.specs.Scans.{RawCell, Kept, valueOf, inRecord}
+use Rattle.model.specs.Places.{keptBytes, keptEnds}
+use Rattle.model.specs.Machine.{newText}
+use Rattle.model.proofs.Tests.{impossible}
+use Rattle.buffers.specs.Wrote.{written}
+use Rattle.buffers.proofs.Writing.{written-first}
+use Rattle.carried.specs.Sound.{InOrder, order-end, order-next}
+use Rattle.carried.specs.Hand.{InHand}
+use Rattle.carried.specs.declared.place.Place.{Place}
+use Rattle.turn.specs.Types.{Dialect, Target, FileState, Top, Begin, Ended, Mark1, Mark2, PlainMark1, PlainMark2, Comment, Blanks, Wanting, Inside, After, Cr, Final, Fault, TooManyColumns, Sound, Faulty}
+use Rattle.complete.specs.declared.Done.{Done}
+use Rattle.complete.specs.declared.Done.the-variants.{Written, Refused, Lost}
+use Rattle.walk.specs.declared.piece.Taken.{Taken}
+use Rattle.turn.specs.Holding.{readAt, Holding}
+use Rattle.complete.specs.Completing.{faultAt, textAt, Finishes, is-written, is-refused, has-no-room, Ruled, not-whole, ruled, keptValues, allWhole, LaterWhole, startsBy}
+use Rattle.walk.specs.Taking.{Begins, Finished}
+use Rattle.walk.proofs.Writes.{end-room, new-length, new-none, new-more, grows-none, grows-more}
+use Rattle.turn.proofs.Keeping.{order-append}
+use Rattle.turn.proofs.Showing.{none-whole, in-hand-of, kept-same, kept-whole}
+use Rattle.turn.proofs.Walking.{same-self, too-many-fault}
+use Rattle.ending.proofs.Ending.{readLast, lastCells, lastValues, doneLast, last-whole, last-faulty, last-reports, last-sound, last-text}
+
+-- ---- a call that writes nothing
+
+module _ (d : Dialect) (t : Target) (p : Place) (done : List Rec) (k : Kept) (out : List ℕ) (r : Taken) where
+  nothing-new : (q : Progress) → readLast d t p done k ≡ q → recordsOf q ≡ done → r .report ≡ reportOf q → r .length ≡ 0 → Finished d t p done k out out r
+  nothing-new q e f g l =
+      let none : newText t done (recordsOf q) ≡ [] = ap (newText t done) f ∙ new-none t done in
+      record { reports = rw e g; text = rw (e, none); long = rw (e, none) l }
+
+  pub finish-fault : (x : Fault) → readLast d t p done k ≡ stopped x (readAt d p done k) → r .report ≡ faultReport x (readAt d p done k) → r .length ≡ 0 → Finished d t p done k out out r
+  finish-fault x e g l = nothing-new (stopped x (readAt d p done k)) e refl g l
+
+  pub finish-clean : readLast d t p done k ≡ going (readAt d p done k) → r .report ≡ accepted → r .length ≡ 0 → Finished d t p done k out out r
+  finish-clean e g l = nothing-new (going (readAt d p done k)) e refl g l
+
+-- ---- the cell in hand joins the kept ones
+
+last-bytes : (cs : List RawCell) (c : RawCell) → keptBytes (cs ++ (c ∷ [])) ≡ keptBytes cs ++ c .bytes
+unfolding keptBytes
+last-bytes [] c = append-nil (c .bytes)
+last-bytes (x ∷ cs) c = ap (λ (l : Bytes). x .bytes ++ l) (last-bytes cs c) ∙ sym (append-assoc (x .bytes) (keptBytes cs) (c .bytes))
+
+last-ends : (o : ℕ) (cs : List RawCell) (c : RawCell) → keptEnds o (cs ++ (c ∷ [])) ≡ keptEnds o cs ++ ((o + length (keptBytes cs) + length (c .bytes)) ∷ [])
+unfolding keptBytes keptEnds
+last-ends o [] c = let e : o + length (c .bytes) ≡ o + 0 + length (c .bytes) = omega arith in ap (λ (n : ℕ). n ∷ []) e
+last-ends o (x ∷ cs) c =
+    let e : o + length (x .bytes) + length (keptBytes cs) + length (c .bytes) ≡ o + length (x .bytes ++ keptBytes cs) + length (c .bytes) = omega (arith, length-append (x .bytes) (keptBytes cs)) in
+    ap (λ (l : List ℕ). (o + length (x .bytes)) ∷ l) (last-ends (o + length (x .bytes)) cs c ∙ ap (λ (n : ℕ). keptEnds (o + length (x .bytes)) cs ++ (n ∷ [])) e)
+
+pub last-hand : {bytes : Bytes} {fill : ℕ} {ends : List ℕ} {cells : List RawCell} {raw : Bytes} (c : RawCell) → InHand bytes fill ends cells raw → c .bytes ≡ raw → length cells < length ends → InHand bytes fill (set ends (length cells) fill) (cells ++ (c ∷ [])) []
+last-hand {bytes} {fill} {ends} {cells} {raw} c h e l =
+    let b : keptBytes (cells ++ (c ∷ [])) ≡ keptBytes cells ++ raw = last-bytes cells c ∙ ap (λ (x : Bytes). keptBytes cells ++ x) e in
+    let n : length (cells ++ (c ∷ [])) ≡ suc (length cells) = length-append cells (c ∷ []) ∙ add-one (length cells) in
+    let f : fill ≡ 0 + length (keptBytes cells) + length (c .bytes) = omega (arith, h .filled, ap length e) in
+    record {
+      held = h .held ∙ sym b ∙ sym (append-nil (keptBytes (cells ++ (c ∷ []))));
+      filled = omega (arith, h .filled, ap length b, length-append (keptBytes cells) raw);
+      ended =
+          ap (λ (m : ℕ). take m (set ends (length cells) fill)) n ∙ take-suc-set ends (length cells) fill l
+          ∙ ap₂ (λ (x : List ℕ) (y : ℕ). x ++ (y ∷ [])) (h .ended) f ∙ sym (last-ends 0 cells c);
+    }
+
+pub last-order : (ends : List ℕ) (last fill : ℕ) → InOrder 0 (take last ends) fill → last < length ends → InOrder 0 (take (last + 1) (set ends last fill)) fill
+last-order ends last fill h l =
+    let g : fill ≤ fill = omega arith in
+    let e : take (last + 1) (set ends last fill) ≡ take last ends ++ (fill ∷ []) = ap (λ (m : ℕ). take m (set ends last fill)) (add-one last) ∙ take-suc-set ends last fill l in
+    rw e (order-append h (order-next g (order-end g)))
+
+-- a last record was in hand: all its cells may have bytes from before
+final-inside : (d : Dialect) (f : FileState) → fileEnd d f ≡ Final → inRecord f ≡ true
+unfolding fileEnd
+final-inside d Top e = let z : _≡_ {A = ℕ} 0 1 = cc in absurd (omega arith)
+final-inside d Begin e = let z : _≡_ {A = ℕ} 0 1 = cc in absurd (omega arith)
+final-inside d Ended e = let z : _≡_ {A = ℕ} 0 1 = cc in absurd (omega arith)
+final-inside d Mark1 e = let z : _≡_ {A = ℕ} 0 1 = cc in absurd (omega arith)
+final-inside d Mark2 e = let z : _≡_ {A = ℕ} 0 1 = cc in absurd (omega arith)
+final-inside d PlainMark1 e = refl
+final-inside d PlainMark2 e = refl
+final-inside d (Comment c) e = let z : _≡_ {A = ℕ} 0 1 = cc in absurd (omega arith)
+final-inside d Blanks e = let z : _≡_ {A = ℕ} 0 1 = cc in absurd (omega arith)
+final-inside d Wanting e = refl
+final-inside d (Inside c) e = refl
+final-inside d After e = refl
+final-inside d Cr e = refl
+
+pub last-later : (d : Dialect) (p : Place) (bytes ends : List ℕ) → fileEnd d (p .state) ≡ Final → length ends ≡ p .cells + 1 → LaterWhole d p bytes (startsBy 0 ends) ends
+unfolding if_then_else_
+last-later d p bytes ends e n = rw (final-inside d (p .state) e, sym n, drop-length ends) (none-whole d bytes _)
+
+-- ---- a last record
+
+module _ (d : Dialect) (t : Target) (p : Place) (bytes ends out : List ℕ) (done : List Rec) (k : Kept) (b : Begins d t [] p bytes ends out done k) (e : fileEnd d (p .state) ≡ Final) where
+  abbrev hold : Holding d t p bytes ends done k
+  hold = b .hold
+
+  counted : length (lastCells d t p done k) ≡ p .cells + 1
+  counted = omega (arith, length-append (k .cells) (record { from = k .opened; upto = p .offset; bytes = k .raw } ∷ []), hold .cells)
+
+  refuses : (x : Fault) (ws : List Value) (r : Taken) → SameCells ws (lastValues d t p done k) → faultAt d t p ws ≡ Faulty x → r .report ≡ report (numberOf x) (p .records + 1) (columnOf x) (p .start) → r .length ≡ 0 → Finished d t p done k out out r
+  refuses x ws r same q g l = finish-fault d t p done k out r x (last-faulty d t p done k hold e ws same x q) (g ∙ sym (last-reports d t p done k hold e ws same x q)) l
+
+  pub finish-many : MAXCOLUMNS ≤ p .cells → (r : Taken) → r .report ≡ report (numberOf TooManyColumns) (p .records + 1) (columnOf TooManyColumns) (p .start) → r .length ≡ 0 → Finished d t p done k out out r
+  finish-many h r g l =
+      let ws : List Value = lastValues d t p done k in
+      let m : length ws ≡ p .cells + 1 = length-map (lastCells d t p done k) (valueOf d) ∙ counted in
+      refuses TooManyColumns ws r (same-self ws) (too-many-fault d t p ws (omega arith)) g l
+
+  module _ (few : p .cells < MAXCOLUMNS) (long-ends : length ends ≡ MAXCOLUMNS) (ends′ : List ℕ) (is-set : ends′ ≡ set ends (p .cells) (p .fill)) where
+    hand : InHand bytes (p .fill) ends′ (lastCells d t p done k) []
+    hand =
+        let c : RawCell = record { from = k .opened; upto = p .offset; bytes = k .raw } in
+        let l : length (k .cells) ≤ MAXCOLUMNS = omega (arith, hold .cells) in
+        let z : InHand bytes (p .fill) (set ends (length (k .cells)) (p .fill)) (k .cells ++ (c ∷ [])) [] = last-hand c (in-hand-of (hold .shown l)) refl (omega (arith, hold .cells)) in
+        let same : ends′ ≡ set ends (length (k .cells)) (p .fill) = is-set ∙ ap (λ (n : ℕ). set ends n (p .fill)) (hold .cells) in
+        rw same z
+
+    abbrev theirs : List Value
+    theirs = keptValues d bytes (take (p .cells + 1) ends′)
+
+    same-theirs : SameCells theirs (lastValues d t p done k)
+    same-theirs = rw counted at (kept-same hand d)
+
+    -- the text
+    module _ (v : faultAt d t p theirs ≡ Sound) where
+      reads : readLast d t p done k ≡ going (between-records (doneLast d t p done k) Begin (p .offset))
+      reads = last-sound d t p done k hold e theirs same-theirs v
+
+      new : newText t done (doneLast d t p done k) ≡ textAt t p theirs
+      new =
+          new-more t (record { start = k .start; size = p .size; cells = lastValues d t p done k }) (grows-none t done)
+          ∙ ap (λ (l : Bytes). l ++ (recordText t (isEmpty done) (lastValues d t p done k) ++ ending (t .dialect))) (new-none t done)
+          ∙ sym (last-text d t p done k hold e theirs same-theirs)
+
+      fits : length (textAt t p theirs) ≤ LEASTOUTPUT
+      fits =
+          let most : length (tableText t (rows (doneLast d t p done k))) ≤ length (tableText t (rows done)) + LEASTOUTPUT = end-room d t (b .reached .consumed) (readAt d p done k) (b .reached .reads) (between-records (doneLast d t p done k) Begin (p .offset)) reads in
+          let sum : length (tableText t (rows done)) + length (newText t done (doneLast d t p done k)) ≡ length (tableText t (rows (doneLast d t p done k))) = new-length t (grows-more t (record { start = k .start; size = p .size; cells = lastValues d t p done k }) (grows-none t done)) in
+          omega (arith, ap length new)
+
+      written-last : (out′ : List ℕ) (r : Taken) → out′ ≡ written out 0 (textAt t p theirs) → r .length ≡ 0 + length (textAt t p theirs) → r .report ≡ accepted → Finished d t p done k out out′ r
+      written-last out′ r w l g =
+          let z : 0 + length (textAt t p theirs) ≡ length (textAt t p theirs) = omega arith in
+          record {
+            reports = rw reads g;
+            text = rw (reads, new) (w ∙ written-first out (textAt t p theirs));
+            long = rw (reads, new) (l ∙ z);
+          }
+
+    abbrev pub Told : List ℕ → Done → Taken → Type 0
+    Told out′ (Written end) r = (r .report ≡ accepted) × (r .length ≡ end)
+    Told out′ (Refused x) r = (r .report ≡ report (numberOf x) (p .records + 1) (columnOf x) (p .start)) × (r .length ≡ 0)
+    Told out′ Lost r = Unit {0}
+
+    finishing : (out′ : List ℕ) (x : Done) (r : Taken) → Finishes (faultAt d t p theirs) (textAt t p theirs) 0 out out′ x → Told out′ x r → Finished d t p done k out out′ r
+    finishing out′ (Written end) r (is-written v l w q) g = written-last v out′ r w (g .1 ∙ q) (g .0)
+    finishing out′ (Refused x) r (is-refused v w) g = subst (λ (z : List ℕ). Finished d t p done k out z r) (sym w) (refuses x theirs r same-theirs v (g .0) (g .1))
+    finishing out′ Lost r (has-no-room v l w) g = absurd (omega (arith, fits v, b .room))
+
+    pub finish-kept : (out′ : List ℕ) (x : Done) (r : Taken) → Ruled d t p bytes (take (p .cells + 1) ends′) 0 out out′ x → Told out′ x r → Finished d t p done k out out′ r
+    finish-kept out′ x r (not-whole z w y) g =
+        let yes : allWhole d bytes (startsBy 0 (take (length (lastCells d t p done k)) ends′)) (take (length (lastCells d t p done k)) ends′) ≡ true = kept-whole hand d (last-whole d t p done k hold e) in
+        impossible (sym w ∙ (rw counted at yes))
+    finish-kept out′ x r (ruled y) g = finishing out′ x r y g

@@ -1,0 +1,116 @@
+-- The end of the cell in hand joins the kept ones, and the record is ruled on from there.
+use Prim.Native.Nat.{_+_, _-_, _<_}
+use native.Mathlib.Omega.{arith}
+use mathlib.Core.Path.{_≡_, refl, ap, subst}
+use lib.ListN.{length, take, set, length-set, length-take}
+use borrow.Author.Needs.{needs}
+use Rattle.model.specs.Dialect.{into}
+use Rattle.complete.specs.declared.Done.the-variants.{Written, Refused, Lost}
+use Rattle.walk.specs.declared.piece.Taken.{Taken}
+use Rattle.complete.specs.Completing.{Ruled}
+use Rattle.turn.proofs.Keeping.{order-more}
+use Rattle.ending.proofs.Finishing.{last-order, last-later, finish-many, finish-kept}
+use Rattle.ending.proofs.last_record.Statement.{statement}
+use Rattle.ending.proofs.last_record.Tie as tie
+
+failed-requires : tie.Need-failed-requires
+failed-requires c κs = let s = c .before .before .before .before in let records = s .pre .0 .bounds .records in let offset = s .pre .0 .bounds .offset in omega arith
+
+returns : tie.Need-returns
+returns c =
+    let s = c .before .before .before .before .before in
+    let a = s .args in
+    λ done k b. finish-many (a .d) (into (a .t)) (a .p) (a .bytes .now) (a .ends .now) (a .out .now) done k b (s .pre .1) (c .before .if1 .taken) _ (ap (λ (x : Taken). x .report) (c .failed .ensures)) (ap (λ (x : Taken). x .length) (c .failed .ensures))
+
+slice-reshare-prefix-kept : tie.Need-slice-reshare-prefix-kept
+slice-reshare-prefix-kept c =
+    let s = c .before .before .before .before in
+    let long : length (s .args .ends .now) ≡ 64 = s .pre .0 .long-ends in
+    let few : s .args .p .cells < 64 = c .if1 .left in
+    omega (arith, length-set (s .args .ends .now) (s .args .p .cells) (s .args .p .fill))
+
+slice-aggregate-kept : tie.Need-slice-aggregate-kept
+slice-aggregate-kept c =
+    let s = c .before .before .before .before .before in
+    let a = s .args in
+    let long : length (a .ends .now) ≡ 64 = s .pre .0 .long-ends in
+    let few : a .p .cells < 64 = c .before .if1 .left in
+    omega (arith, length-set (a .ends .now) (a .p .cells) (a .p .fill), length-take (a .p .cells + 1) (set (a .ends .now) (a .p .cells) (a .p .fill)))
+
+kept-requires : tie.Need-kept-requires
+kept-requires c κs =
+    let s = c .before .before .before .before .before .before .before .before in
+    let a = s .args in
+    let long : length (a .ends .now) ≡ 64 = s .pre .0 .long-ends in
+    let size : length (a .bytes .now) ≡ 4096 = s .pre .0 .long-bytes in
+    let few : a .p .cells < 64 = c .before .before .before .before .if1 .left in
+    let fill = s .pre .0 .bounds .fill in
+    let most = s .pre .0 .bounds .size in
+    let n = length-set (a .ends .now) (a .p .cells) (a .p .fill) in
+    let m = length-take (a .p .cells + 1) (set (a .ends .now) (a .p .cells) (a .p .fill)) in (
+      order-more (last-order (a .ends .now) (a .p .cells) (a .p .fill) (s .pre .0 .bounds .ordered (omega arith)) (omega arith)) (omega arith),
+      (
+        (omega arith, omega arith, s .pre .0 .bounds .written, omega arith),
+        (
+          last-later (a .d) (a .p) (a .bytes .now) (take (a .p .cells + 1) (set (a .ends .now) (a .p .cells) (a .p .fill))) (s .pre .1) (omega arith),
+          (omega arith, search needs, search needs),
+        ),
+      ),
+    )
+
+failed-requires-2 : tie.Need-failed-requires-2
+failed-requires-2 c κs = let s = c .before .before .before .before .before .before .before .before .before .before .before .before .before .before .before .before in let records = s .pre .0 .bounds .records in let offset = s .pre .0 .bounds .offset in omega arith
+
+returns-2 : tie.Need-returns-2
+returns-2 c =
+    let s = c .before .before .before .before .before .before .before .before .before .before .before .before .before .before .before .before .before in
+    let a = s .args in
+    let q = c .before .before .before .before .before .before .before .before .kept in
+    λ done k b. finish-kept (a .d) (into (a .t)) (a .p) (a .bytes .now) (a .ends .now) (a .out .now) done k b (s .pre .1) (c .before .before .before .before .before .before .before .before .before .before .before .before .before .if1 .left) (s .pre .0 .long-ends) (set (a .ends .now) (a .p .cells) (a .p .fill)) refl _ (Written _) _
+    (subst (Ruled (a .d) (into (a .t)) (a .p) (a .bytes .now) (take (a .p .cells + 1) (set (a .ends .now) (a .p .cells) (a .p .fill))) 0 (a .out .now) _) (c .before .before .end .given .1) (q .ensures)) (c .on-call .ensures, refl)
+
+returns-3 : tie.Need-returns-3
+returns-3 c =
+    let s = c .before .before .before .before .before .before .before .before .before .before .before .before .before .before .before .before .before in
+    let a = s .args in
+    let q = c .before .before .before .before .before .before .before .before .kept in
+    λ done k b. finish-kept (a .d) (into (a .t)) (a .p) (a .bytes .now) (a .ends .now) (a .out .now) done k b (s .pre .1) (c .before .before .before .before .before .before .before .before .before .before .before .before .before .if1 .left) (s .pre .0 .long-ends) (set (a .ends .now) (a .p .cells) (a .p .fill)) refl _ (Refused _) _
+    (subst (Ruled (a .d) (into (a .t)) (a .p) (a .bytes .now) (take (a .p .cells + 1) (set (a .ends .now) (a .p .cells) (a .p .fill))) 0 (a .out .now) _) (c .before .before .e .given .1) (q .ensures)) (ap (λ (x : Taken). x .report) (c .failed2 .ensures), ap (λ (x : Taken). x .length) (c .failed2 .ensures))
+
+returns-4 : tie.Need-returns-4
+returns-4 c =
+    let s = c .before .before .before .before .before .before .before .before .before .before .before .before .before .before .before .before in
+    let a = s .args in
+    let q = c .before .before .before .before .before .before .before .kept in
+    λ done k b. finish-kept (a .d) (into (a .t)) (a .p) (a .bytes .now) (a .ends .now) (a .out .now) done k b (s .pre .1) (c .before .before .before .before .before .before .before .before .before .before .before .before .if1 .left) (s .pre .0 .long-ends) (set (a .ends .now) (a .p .cells) (a .p .fill)) refl _ Lost _
+    (subst (Ruled (a .d) (into (a .t)) (a .p) (a .bytes .now) (take (a .p .cells + 1) (set (a .ends .now) (a .p .cells) (a .p .fill))) 0 (a .out .now) _) (c .before .enum-told .given .1) (q .ensures)) tt
+
+pub last-record-spec : {M : Type 1} → statement M
+last-record-spec =
+    tie.close
+    (tie.spec
+    failed-requires
+    returns
+    (λ c. search needs)
+    (λ c. let s = c .before .before .before .before in let long : length (s .args .ends .now) ≡ 64 = s .pre .0 .long-ends in omega arith)
+    (λ c. search needs)
+    slice-reshare-prefix-kept
+    slice-aggregate-kept
+    (λ c. search needs)
+    (λ c. search needs)
+    kept-requires
+    (λ c. search needs)
+    (λ c κs. search needs)
+    (λ c. search needs)
+    failed-requires-2
+    (λ c. search needs)
+    (λ c κs. search needs)
+    (λ c. search needs)
+    (λ c. search needs)
+    returns-2
+    (λ c. search needs)
+    (λ c. search needs)
+    returns-3
+    (λ c. search needs)
+    (λ c. search needs)
+    returns-4)

@@ -1,0 +1,229 @@
+-- What a scan keeps, from wherever it begins: the cell in hand goes by the cell automaton and every complete cell is whole; something
+-- is in hand only in a record (`scan-keeps`). From a state that no bytes led to all cells but the first are whole (`scan-later`). How far it goes, and how many cells it finds (`scan-within`). Its faults are at a byte
+-- (`scan-faults`).
+use Prim.Native.Nat.{ℕ, suc, _+_, _≤_}
+use native.Mathlib.Omega.{arith}
+use mathlib.Core.Path.{_≡_, refl}
+use mathlib.Core.Bool.{Bool, true, false}
+use mathlib.Core.List.{List, [], _∷_, _++_}
+use lib.ListN.{length, length-append}
+use borrow.Author.Tests.{leb-false}
+use Rattle.model.specs.Base.{Bytes}
+use Rattle.model.specs.Cell.{cellStep, isWhole}
+use Rattle.model.specs.File.{fileStep}
+use Rattle.model.specs.Decode.{validateCell}
+use Rattle.model.specs.Report.{isAtByte}
+use Rattle.model.specs.Laws.{All, all-none}
+use Rattle.model.specs.Scans.{RawCell, Scan, ScanResult, pends, fails, completes, closingRaw, scanStep, scan, Kept, Holds, in-hand, nothing-in-hand, fresh}
+use Rattle.model.specs.declared.CellStep.the-variants.{More}
+use Rattle.model.proofs.Tests.{split}
+use Rattle.model.proofs.CellRuns.{Runs, here, snoc, runs-sound, all-snoc}
+use Rattle.model.proofs.Cells as cell
+use Rattle.model.proofs.Cells.{cellAt, Closes, Fits, step-fits}
+use Rattle.model.proofs.FileSteps as steps
+use Rattle.model.proofs.FileSteps.{Starts, Transition, step-transition}
+use Rattle.turn.specs.Types.{Dialect, Fresh, FileState, Outside, Passed, OfCell, Between, Tail, Ends, Step, To, Reject, Fault}
+use Rattle.turn.specs.Holding.{Open, in-cell, no-bytes, IsWhole}
+use Rattle.turn.proofs.Opening.{cell-record, grown-cell, opens-record, starts-not}
+
+-- ---- the cell in hand and the complete cells
+
+-- what is in hand, as a part of a file would keep it
+abbrev pub keptOf : Scan → Kept
+keptOf s = record { start = s .start; opened = s .opened; raw = s .raw; cells = s .cells }
+
+pub record Keeps (d : Dialect) (s : Scan) : Type 0 where
+  pub runs : Runs d Fresh (s .raw) (cellAt (s .state))
+  pub whole : All (IsWhole d) (s .cells)
+  pub opens : Open (s .state) (s .raw)
+  pub holds : Holds (s .state) (keptOf s)
+
+pub data KeepsTo (d : Dialect) : ScanResult → Type 0 where
+  keeps-pends : {s : Scan} → Keeps d s → KeepsTo d (pends s)
+  keeps-fails : {e : Fault} {s : Scan} → KeepsTo d (fails e s)
+  keeps-completes : {s : Scan} {cs : List RawCell} {f : FileState} {next : ℕ} {left : Bytes} → All (IsWhole d) cs → cellAt f ≡ Fresh → KeepsTo d (completes s cs f next left)
+
+closing-whole : {d : Dialect} (k : Bool) (s : Scan) → Keeps d s → Closes d (cellAt (s .state)) k → All (IsWhole d) (closingRaw k s)
+unfolding validateCell
+closing-whole true s z w = all-snoc (z .whole) (runs-sound 0 (z .runs) w)
+closing-whole false s z w = z .whole
+
+-- before a record nothing is in hand
+before-none : (s : Scan) → Starts (s .state) → Holds (s .state) (keptOf s) → s .cells ≡ []
+before-none s e (in-hand h) = starts-not e h
+before-none s e (nothing-in-hand r c) = c
+
+module _ (d : Dialect) (limit : ℕ) where
+  abbrev Keep : Bytes → Type 0
+  Keep bs = (s : Scan) → Keeps d s → KeepsTo d (scan d limit s bs)
+
+  step-keeps : (s : Scan) (b : ℕ) (bs : Bytes) → Keep bs → Keeps d s → (x : Step) → Transition d (s .state) b x → Fits d (cellAt (s .state)) b x → KeepsTo d (scanStep s b bs (λ s′. scan d limit s′ bs) x)
+  unfolding scanStep
+  step-keeps s b bs ih z (Reject e) (steps.refuses t) y = keeps-fails
+  step-keeps s b bs ih z (To f Outside) (steps.outside t a r) (cell.leaves e) =
+      ih _ (record { runs = rw e here; whole = all-none; opens = no-bytes refl; holds = nothing-in-hand refl refl })
+  step-keeps s b bs ih z (To f Passed) (steps.passes t a r) (cell.passes e) =
+      ih _ (record { runs = rw e here; whole = all-none; opens = no-bytes refl; holds = nothing-in-hand refl refl })
+  step-keeps s b bs ih z (To f OfCell) (steps.adds t n h g i q) (cell.adds e) =
+      ih _ (record { runs = snoc b (z .runs) e; whole = z .whole; opens = in-cell (grown-cell g); holds = in-hand (cell-record f (grown-cell g)) })
+  step-keeps s b bs ih z (To f (Between k)) (steps.blanks t n e c) (cell.parts y w) =
+      ih _ (record { runs = rw y here; whole = closing-whole k s z w; opens = no-bytes refl; holds = nothing-in-hand refl (before-none s e (z .holds)) })
+  step-keeps s b bs ih z (To f (Between k)) (steps.parts t n l o) (cell.parts y w) =
+      ih _ (record { runs = rw y here; whole = closing-whole k s z w; opens = no-bytes refl; holds = in-hand (opens-record o) })
+  step-keeps s b bs ih z (To f (Tail k)) (steps.turns t p l) (cell.turns y w) =
+      ih _ (record { runs = rw y here; whole = closing-whole k s z w; opens = no-bytes refl; holds = in-hand refl })
+  step-keeps s b bs ih z (To f (Ends k)) (steps.ends t p l g) (cell.completes y w) = keeps-completes (closing-whole k s z w) y
+  step-keeps s b bs ih z (To f (Ends k)) (steps.ends-cr t e p) (cell.completes y w) = keeps-completes (closing-whole k s z w) y
+
+  keep : (bs : Bytes) → Keep bs
+  unfolding scan
+  keep [] s z = keeps-pends z
+  keep (b ∷ bs) s z =
+      split (KeepsTo d) _ (λ _. keeps-fails) λ _. split (KeepsTo d) _ (λ _. keeps-fails) λ _.
+      step-keeps s b bs (keep bs) z (fileStep d (s .state) b) (step-transition d (s .state) b) (step-fits d (s .state) b)
+
+pub scan-keeps : (d : Dialect) (limit : ℕ) (s : Scan) (bs : Bytes) → Keeps d s → KeepsTo d (scan d limit s bs)
+scan-keeps d limit s bs z = keep d limit bs s z
+
+-- ---- the cells after the first, from any state
+
+-- with nothing in hand at first: once a cell closed, the one in hand goes by the cell automaton
+data Later (d : Dialect) (raw : Bytes) (f : FileState) : List RawCell → Type 0 where
+  no-cell-yet : Later d raw f []
+  cells-since : {c : RawCell} {cs : List RawCell} → All (IsWhole d) cs → Runs d Fresh raw (cellAt f) → Later d raw f (c ∷ cs)
+
+pub data AfterFirst (d : Dialect) : List RawCell → Type 0 where
+  no-cell : AfterFirst d []
+  first-and : {c : RawCell} {cs : List RawCell} → All (IsWhole d) cs → AfterFirst d (c ∷ cs)
+
+pub data LaterTo (d : Dialect) : ScanResult → Type 0 where
+  later-pends : {s : Scan} → LaterTo d (pends s)
+  later-fails : {e : Fault} {s : Scan} → LaterTo d (fails e s)
+  later-completes : {s : Scan} {cs : List RawCell} {f : FileState} {next : ℕ} {left : Bytes} → AfterFirst d cs → LaterTo d (completes s cs f next left)
+
+later-as : {d : Dialect} {raw : Bytes} {f : FileState} {cs : List RawCell} → Later d raw f cs → AfterFirst d cs
+later-as no-cell-yet = no-cell
+later-as (cells-since w r) = first-and w
+
+later-closes : {d : Dialect} {f : FileState} {cs : List RawCell} (c : RawCell) → Later d (c .bytes) f cs → isWhole d (cellAt f) ≡ true → AfterFirst d (cs ++ (c ∷ []))
+unfolding validateCell
+later-closes c no-cell-yet e = first-and all-none
+later-closes c (cells-since w r) e = first-and (all-snoc w (runs-sound 0 r e))
+
+later-closing : {d : Dialect} (k : Bool) (s : Scan) → Later d (s .raw) (s .state) (s .cells) → Closes d (cellAt (s .state)) k → AfterFirst d (closingRaw k s)
+later-closing true s z w = later-closes (record { from = s .opened; upto = s .offset; bytes = s .raw }) z w
+later-closing false s z w = later-as z
+
+later-grows : {d : Dialect} {raw : Bytes} {f g : FileState} {cs : List RawCell} (b : ℕ) → Later d raw f cs → cellStep d (cellAt f) b ≡ More (cellAt g) → Later d (raw ++ (b ∷ [])) g cs
+later-grows b no-cell-yet e = no-cell-yet
+later-grows b (cells-since w r) e = cells-since w (snoc b r e)
+
+later-fresh : {d : Dialect} {f : FileState} {cs : List RawCell} → AfterFirst d cs → cellAt f ≡ Fresh → Later d [] f cs
+later-fresh no-cell e = no-cell-yet
+later-fresh (first-and w) e = cells-since w (rw e here)
+
+module _ (d : Dialect) (limit : ℕ) where
+  abbrev Laters : Bytes → Type 0
+  Laters bs = (s : Scan) → Later d (s .raw) (s .state) (s .cells) → LaterTo d (scan d limit s bs)
+
+  step-later : (s : Scan) (b : ℕ) (bs : Bytes) → Laters bs → Later d (s .raw) (s .state) (s .cells) → (x : Step) → Fits d (cellAt (s .state)) b x → LaterTo d (scanStep s b bs (λ s′. scan d limit s′ bs) x)
+  unfolding scanStep
+  step-later s b bs ih z (Reject e) cell.rejects = later-fails
+  step-later s b bs ih z (To f Outside) (cell.leaves e) = ih _ no-cell-yet
+  step-later s b bs ih z (To f Passed) (cell.passes e) = ih _ no-cell-yet
+  step-later s b bs ih z (To f OfCell) (cell.adds e) = ih _ (later-grows b z e)
+  step-later s b bs ih z (To f (Between k)) (cell.parts y w) = ih _ (later-fresh (later-closing k s z w) y)
+  step-later s b bs ih z (To f (Tail k)) (cell.turns y w) = ih _ (later-fresh (later-closing k s z w) y)
+  step-later s b bs ih z (To f (Ends k)) (cell.completes y w) = later-completes (later-closing k s z w)
+
+  later : (bs : Bytes) → Laters bs
+  unfolding scan
+  later [] s z = later-pends
+  later (b ∷ bs) s z =
+      split (LaterTo d) _ (λ _. later-fails) λ _. split (LaterTo d) _ (λ _. later-fails) λ _.
+      step-later s b bs (later bs) z (fileStep d (s .state) b) (step-fits d (s .state) b)
+
+pub scan-later : (d : Dialect) (limit : ℕ) (f : FileState) (size i : ℕ) (bs : Bytes) → LaterTo d (scan d limit (fresh f size i) bs)
+scan-later d limit f size i bs = later d limit bs (fresh f size i) no-cell-yet
+
+-- ---- how far it goes
+
+-- a scan that began there stands at most at the limit, and has no more cells than bytes
+pub record Within (began limit : ℕ) (s : Scan) : Type 0 where
+  pub under : s .offset ≤ limit
+  pub few : began + length (s .cells) ≤ s .offset
+  pub started : s .start ≤ s .offset
+
+pub data WithinTo (began limit : ℕ) : ScanResult → Type 0 where
+  within-pends : {s : Scan} → Within began limit s → WithinTo began limit (pends s)
+  within-fails : {e : Fault} {s : Scan} → Within began limit s → WithinTo began limit (fails e s)
+  within-completes :
+      {s : Scan} {cs : List RawCell} {f : FileState} {next : ℕ} {left : Bytes} → Within began limit s → suc (s .offset) ≤ limit → began + length cs ≤ suc (s .offset) →
+      WithinTo began limit (completes s cs f next left)
+
+closing-few : (began : ℕ) (k : Bool) (s : Scan) → began + length (s .cells) ≤ s .offset → began + length (closingRaw k s) ≤ suc (s .offset)
+closing-few began true s h =
+    let x : RawCell = record { from = s .opened; upto = s .offset; bytes = s .raw } in
+    let e : length (s .cells ++ (x ∷ [])) ≡ length (s .cells) + 1 = length-append (s .cells) (x ∷ []) in omega arith
+closing-few began false s h = omega arith
+
+module _ (d : Dialect) (began limit : ℕ) where
+  abbrev Goes-in : Bytes → Type 0
+  Goes-in bs = (s : Scan) → Within began limit s → WithinTo began limit (scan d limit s bs)
+
+  step-within : (s : Scan) (b : ℕ) (bs : Bytes) → Goes-in bs → Within began limit s → suc (s .offset) ≤ limit → (x : Step) → WithinTo began limit (scanStep s b bs (λ s′. scan d limit s′ bs) x)
+  unfolding scanStep
+  step-within s b bs ih z l (Reject e) = within-fails z
+  step-within s b bs ih z l (To f Outside) =
+      let q : began + length (s .cells) ≤ s .offset = z .few in
+      let g : s .start ≤ s .offset = z .started in
+      ih _ (record { under = l; few = omega arith; started = omega arith })
+  step-within s b bs ih z l (To f Passed) =
+      let q : began + length (s .cells) ≤ s .offset = z .few in
+      ih _ (record { under = l; few = omega arith; started = omega arith })
+  step-within s b bs ih z l (To f OfCell) =
+      let q : began + length (s .cells) ≤ s .offset = z .few in
+      let g : s .start ≤ s .offset = z .started in
+      ih _ (record { under = l; few = omega arith; started = omega arith })
+  step-within s b bs ih z l (To f (Between k)) =
+      let g : s .start ≤ s .offset = z .started in
+      ih _ (record { under = l; few = closing-few began k s (z .few); started = omega arith })
+  step-within s b bs ih z l (To f (Tail k)) =
+      let g : s .start ≤ s .offset = z .started in
+      ih _ (record { under = l; few = closing-few began k s (z .few); started = omega arith })
+  step-within s b bs ih z l (To f (Ends k)) = within-completes z l (closing-few began k s (z .few))
+
+  go-in : (bs : Bytes) → Goes-in bs
+  unfolding scan
+  go-in [] s z = within-pends z
+  go-in (b ∷ bs) s z =
+      split (WithinTo began limit) _ (λ _. within-fails z) λ h. split (WithinTo began limit) _ (λ _. within-fails z) λ _.
+      step-within s b bs (go-in bs) z (leb-false limit (s .offset) h) (fileStep d (s .state) b)
+
+pub scan-within : (d : Dialect) (began limit : ℕ) (s : Scan) (bs : Bytes) → Within began limit s → WithinTo began limit (scan d limit s bs)
+scan-within d began limit s bs z = go-in d began limit bs s z
+
+-- ---- its faults
+
+pub data FaultsAt : ScanResult → Type 0 where
+  faults-pends : {s : Scan} → FaultsAt (pends s)
+  faults-fails : {e : Fault} {s : Scan} → isAtByte e ≡ true → FaultsAt (fails e s)
+  faults-completes : {s : Scan} {cs : List RawCell} {f : FileState} {next : ℕ} {left : Bytes} → FaultsAt (completes s cs f next left)
+
+module _ (d : Dialect) (limit : ℕ) where
+  step-faults : (s : Scan) (b : ℕ) (bs : Bytes) → ((s : Scan) → FaultsAt (scan d limit s bs)) → (x : Step) → FaultsAt (scanStep s b bs (λ s′. scan d limit s′ bs) x)
+  unfolding scanStep
+  step-faults s b bs ih (Reject e) = faults-fails refl
+  step-faults s b bs ih (To f Outside) = ih _
+  step-faults s b bs ih (To f Passed) = ih _
+  step-faults s b bs ih (To f OfCell) = ih _
+  step-faults s b bs ih (To f (Between k)) = ih _
+  step-faults s b bs ih (To f (Tail k)) = ih _
+  step-faults s b bs ih (To f (Ends k)) = faults-completes
+
+  pub scan-faults : (bs : Bytes) (s : Scan) → FaultsAt (scan d limit s bs)
+  unfolding scan
+  scan-faults [] s = faults-pends
+  scan-faults (b ∷ bs) s =
+      split FaultsAt _ (λ _. faults-fails refl) λ _. split FaultsAt _ (λ _. faults-fails refl) λ _.
+      step-faults s b bs (scan-faults bs) (fileStep d (s .state) b)

@@ -1,0 +1,381 @@
+-- What the scanner's answer says of the scan, what its lists show, and what is kept of the record in hand then.
+use Prim.Native.Nat.{ℕ, suc, _+_, _-_, _≤_, _<_}
+use native.Mathlib.Omega.{arith}
+use native.Mathlib.Nat.{add-zero}
+use mathlib.Core.Path.{_≡_, refl, sym, ap, ap₂, subst, _∙_}
+use mathlib.Core.Bool.{true, false}
+use mathlib.Core.List.{List, [], _∷_, _++_, map, append-assoc, append-nil}
+use lib.ListN.{length, take, drop, set, length-set, length-append, length-map, take-append-drop}
+use lib.Seq.{take-suc-set, drop-set-lt, take-append-seam, length-take-le}
+use borrow.Author.Tests.{lt-ltb, eq-eqb, ne-eqb}
+use Rattle.model.specs.Base.{if_then_else_, _is_, Bytes}
+use Rattle.model.specs.Report.{MAXRECORD, MAXCOLUMNS}
+use Rattle.model.specs.Api.{slice}
+use Rattle.model.specs.Laws.{All, all-none, all-cons}
+use Rattle.model.specs.Trips.{SameCells}
+use Rattle.model.specs.Scans.{RawCell, Scan, ScanResult, pends, fails, completes, scan, valueOf, inRecord, Kept, Holds, in-hand, nothing-in-hand, movedCell, joinedRaw, joinedCells, fresh, bytesIn, Sized, SizedTo, sized-pends, sized-completes}
+use Rattle.model.specs.Places.{StretchIn, keptBytes, keptStarts, keptEnds}
+use Rattle.model.proofs.Tests.{split, split-on, impossible}
+use Rattle.model.proofs.Stretches.{part-is}
+use Rattle.model.proofs.ScanSize.{scan-size}
+use Rattle.buffers.specs.Wrote.{written}
+use Rattle.carried.specs.Hand.{Shows, InHand, GoesOn, nothing-open, first-goes-on}
+use Rattle.carried.proofs.InHand.{hand-values, kept-open, kept-more}
+use Rattle.scanner.specs.Stored.{putAt, storedFrom}
+use Rattle.scanner.specs.Parts.{foundOf, handOf, rawStarts, rawEnds}
+use Rattle.scanner.specs.declared.record_state.RecordState.{RecordState}
+use Rattle.scanner.specs.declared.Reached.the-variants as reached
+use Rattle.carried.specs.declared.place.Place.{Place}
+use Rattle.model.proofs.CellRuns.{here}
+use Rattle.model.proofs.Cells.{cellAt}
+use Rattle.turn.specs.Types.{Dialect, Fresh, FileState, Top, Begin, Ended, Mark1, Mark2, PlainMark1, PlainMark2, Comment, Blanks, Wanting, Inside, After, Cr, Fault}
+use Rattle.turn.specs.Holding.{Open, in-cell, no-bytes, IsWhole, Shown}
+use Rattle.complete.specs.Completing.{startsBy, allWhole, LaterWhole, keptValues}
+use Rattle.turn.specs.Walking.{InBounds, FoundWhole, all-found, none-found, after-first}
+use Rattle.turn.proofs.Scanning.{keptOf, Keeps, KeepsTo, keeps-pends, keeps-completes, scan-keeps, AfterFirst, no-cell, first-and, LaterTo, later-completes, scan-later}
+use Rattle.turn.proofs.Keeping.{ends-then}
+use Rattle.turn.proofs.Opening.{ClosedFirst, closed-first, First, still-open, then-closed, FirstIn, first-pends, first-completes, first-closes, Grew, grew-pends, grew-completes, grows}
+
+-- ---- the answer
+
+pub record CompletedAs (x : ScanResult) (start cells : ℕ) (f : FileState) (next : ℕ) : Type 0 where
+  pub s : Scan
+  pub cs : List RawCell
+  pub left : Bytes
+  pub came : x ≡ completes s cs f next left
+  pub starts : s .start ≡ start
+  pub count : length cs ≡ cells
+
+pub completed-as : (x : ScanResult) (start cells : ℕ) (f : FileState) (next : ℕ) → foundOf x .answer ≡ reached.Completed start cells f next → CompletedAs x start cells f next
+completed-as (pends s) start cells f next e = let z : _≡_ {A = ℕ} 0 1 = cc in absurd (omega arith)
+completed-as (fails y s) start cells f next e = let z : _≡_ {A = ℕ} 0 1 = cc in absurd (omega arith)
+completed-as (completes s cs g o left) start cells f next e = record { s = s; cs = cs; left = left; came = (cc); starts = (cc); count = (cc) }
+
+pub record PendedAs (x : ScanResult) (f : FileState) (h : RecordState) : Type 0 where
+  pub s : Scan
+  pub came : x ≡ pends s
+  pub state : s .state ≡ f
+  pub hand : handOf s ≡ h
+
+pub pended-as : (x : ScanResult) (f : FileState) (h : RecordState) → foundOf x .answer ≡ reached.Pending f h → PendedAs x f h
+pended-as (pends s) f h e = record { s = s; came = refl; state = (cc); hand = (cc) }
+pended-as (fails y s) f h e = let z : _≡_ {A = ℕ} 0 1 = cc in absurd (omega arith)
+pended-as (completes s cs g o left) f h e = let z : _≡_ {A = ℕ} 0 1 = cc in absurd (omega arith)
+
+pub record FailedAs (x : ScanResult) (y : Fault) (o : ℕ) : Type 0 where
+  pub s : Scan
+  pub came : x ≡ fails y s
+  pub place : s .offset ≡ o
+
+pub failed-as : (x : ScanResult) (y : Fault) (o : ℕ) → foundOf x .answer ≡ reached.Failed y o → FailedAs x y o
+failed-as (pends s) y o e = let z : _≡_ {A = ℕ} 0 1 = cc in absurd (omega arith)
+failed-as (fails x s) y o e = record { s = s; came = (cc); place = (cc) }
+failed-as (completes s cs g q left) y o e = let z : _≡_ {A = ℕ} 0 1 = cc in absurd (omega arith)
+
+-- ---- the lists
+
+stored-all : (room k : ℕ) (xs old : List ℕ) → k + length xs ≤ room → room ≤ length old → storedFrom room k xs old ≡ take k old ++ (xs ++ drop (k + length xs) old)
+unfolding storedFrom putAt if_then_else_
+stored-all room k [] old h l = let e : k + 0 ≡ k = omega arith in rw e (sym (take-append-drop k old))
+stored-all room k (x ∷ xs) old h l =
+    let e : suc k + length xs ≡ k + suc (length xs) = omega arith in
+    let m : length (set old k x) ≡ length old = length-set old k x in
+    let t : take (suc k) (set old k x) ≡ take k old ++ (x ∷ []) = take-suc-set old k x (omega arith) in
+    let d : drop (suc k + length xs) (set old k x) ≡ drop (suc k + length xs) old = drop-set-lt (suc k + length xs) old k x (omega arith) in
+    rw (lt-ltb k room (omega arith))
+    (stored-all room (suc k) xs (set old k x) (omega arith) (omega arith)
+    ∙ rw (t, d, e) (append-assoc (take k old) (x ∷ []) (xs ++ drop (k + suc (length xs)) old)))
+
+shown-first : (room m : ℕ) (xs old new : List ℕ) → new ≡ storedFrom room 0 xs old → length xs ≡ m → m ≤ room → room ≤ length old → take (m - 0) (drop 0 new) ≡ xs
+shown-first room m xs old new e n h l =
+    let z : m - 0 ≡ length xs = omega arith in
+    ap₂ (λ (k : ℕ) (x : List ℕ). take k x) z (e ∙ stored-all room 0 xs old (omega arith) l) ∙ take-append-seam xs (drop (0 + length xs) old)
+
+pub lists-show :
+    {piece : Bytes} {cs : List RawCell} (m : ℕ) (starts stops starts′ stops′ : List ℕ) → starts′ ≡ storedFrom MAXCOLUMNS 0 (rawStarts cs) starts → stops′ ≡ storedFrom MAXCOLUMNS 0 (rawEnds cs) stops →
+    length cs ≡ m → m ≤ MAXCOLUMNS → MAXCOLUMNS ≤ length starts → MAXCOLUMNS ≤ length stops → All (StretchIn piece) cs → Shows piece starts′ stops′ 0 m cs
+lists-show {cs = cs} m starts stops starts′ stops′ e f n h l k all =
+    record {
+      starts-shown = shown-first MAXCOLUMNS m (rawStarts cs) starts starts′ e (length-map cs (λ (c : RawCell). c .from) ∙ n) h l;
+      stops-shown = shown-first MAXCOLUMNS m (rawEnds cs) stops stops′ f (length-map cs (λ (c : RawCell). c .upto) ∙ n) h k;
+      standing = all;
+    }
+
+-- ---- room to keep
+
+pub bytes-in : (cs : List RawCell) → bytesIn cs ≡ length (keptBytes cs)
+unfolding bytesIn keptBytes
+bytes-in [] = refl
+bytes-in (c ∷ cs) = omega (arith, bytes-in cs, length-append (c .bytes) (keptBytes cs))
+
+sized-done : {s : Scan} {cs : List RawCell} {f : FileState} {next : ℕ} {left : Bytes} → SizedTo (completes s cs f next left) → (s .size ≤ MAXRECORD) × (bytesIn cs ≤ s .size)
+sized-done (sized-completes z b) = (z .limit, b)
+
+grew-done : {base : ℕ} {s : Scan} {cs : List RawCell} {f : FileState} {next : ℕ} {left : Bytes} → Grew base (completes s cs f next left) → base + bytesIn cs ≤ s .size
+grew-done (grew-completes h) = h
+
+sized-pended : {s : Scan} → SizedTo (pends s) → Sized s
+sized-pended (sized-pends z) = z
+
+grew-pended : {base : ℕ} {s : Scan} → Grew base (pends s) → base + (bytesIn (s .cells) + length (s .raw)) ≤ s .size
+grew-pended (grew-pends r h) = h
+
+stays-in : {base : ℕ} {s : Scan} → Grew base (pends s) → inRecord (s .state) ≡ true
+stays-in (grew-pends r h) = r
+
+outside-fresh : (f : FileState) → inRecord f ≡ false → cellAt f ≡ Fresh
+unfolding cellAt
+outside-fresh Top h = refl
+outside-fresh Begin h = refl
+outside-fresh Ended h = refl
+outside-fresh Mark1 h = refl
+outside-fresh Mark2 h = refl
+outside-fresh PlainMark1 h = impossible (sym h)
+outside-fresh PlainMark2 h = impossible (sym h)
+outside-fresh (Comment c) h = refl
+outside-fresh Blanks h = refl
+outside-fresh Wanting h = refl
+outside-fresh (Inside c) h = impossible (sym h)
+outside-fresh After h = refl
+outside-fresh Cr h = refl
+
+module _ (d : Dialect) (limit : ℕ) (p : Place) (ends : List ℕ) (b : InBounds p ends) (i : ℕ) (bs : Bytes) where
+  abbrev from-here : ScanResult
+  from-here = scan d limit (fresh (p .state) (p .size) i) bs
+
+  sized-here : SizedTo from-here
+  unfolding bytesIn
+  sized-here = scan-size d limit (fresh (p .state) (p .size) i) bs (record { held = omega arith; limit = b .size })
+
+  grew-here : inRecord (p .state) ≡ true → Grew (p .size) from-here
+  unfolding bytesIn
+  grew-here h = grows d limit (p .size) (fresh (p .state) (p .size) i) bs h (omega arith)
+
+  pub room-done : (s : Scan) (cs : List RawCell) (f : FileState) (next : ℕ) (left : Bytes) → from-here ≡ completes s cs f next left → p .fill + length (keptBytes cs) ≤ MAXRECORD
+  room-done s cs f next left e = split-on (inRecord (p .state)) in-one between
+    where
+      z : (s .size ≤ MAXRECORD) × (bytesIn cs ≤ s .size)
+      z = sized-done (subst SizedTo e sized-here)
+
+      in-one : inRecord (p .state) ≡ true → p .fill + length (keptBytes cs) ≤ MAXRECORD
+      in-one h = omega (arith, grew-done (subst (Grew (p .size)) e (grew-here h)), z .0, b .fill, bytes-in cs)
+
+      between : inRecord (p .state) ≡ false → p .fill + length (keptBytes cs) ≤ MAXRECORD
+      between h = omega (arith, b .between h .0, z .0, z .1, bytes-in cs)
+
+  pub room-pended : (s : Scan) → from-here ≡ pends s → (p .fill + (length (keptBytes (s .cells)) + length (s .raw)) ≤ s .size) × (s .size ≤ MAXRECORD)
+  room-pended s e = (split-on (inRecord (p .state)) in-one between, z .limit)
+    where
+      z : Sized s
+      z = sized-pended (subst SizedTo e sized-here)
+
+      in-one : inRecord (p .state) ≡ true → p .fill + (length (keptBytes (s .cells)) + length (s .raw)) ≤ s .size
+      in-one h = omega (arith, grew-pended (subst (Grew (p .size)) e (grew-here h)), b .fill, bytes-in (s .cells))
+
+      between : inRecord (p .state) ≡ false → p .fill + (length (keptBytes (s .cells)) + length (s .raw)) ≤ s .size
+      between h = omega (arith, b .between h .0, z .held, bytes-in (s .cells))
+
+  keeps-here : inRecord (p .state) ≡ false → KeepsTo d from-here
+  keeps-here h =
+      scan-keeps d limit (fresh (p .state) (p .size) i) bs
+      (record { runs = rw (outside-fresh (p .state) h) here; whole = all-none; opens = no-bytes refl; holds = nothing-in-hand refl refl })
+
+  -- the cells that are found are whole, but the first of a record that was in hand
+  pub found-whole : (s : Scan) (cs : List RawCell) (f : FileState) (next : ℕ) (left : Bytes) → from-here ≡ completes s cs f next left → FoundWhole d (p .state) cs
+  found-whole s cs f next left e = split-on (inRecord (p .state)) (λ h. later h (subst (LaterTo d) e (scan-later d limit (p .state) (p .size) i bs))) (λ h. began h (subst (KeepsTo d) e (keeps-here h)))
+    where
+      after : {cs : List RawCell} → inRecord (p .state) ≡ true → AfterFirst d cs → FoundWhole d (p .state) cs
+      after h no-cell = none-found h
+      after h (first-and w) = after-first h w
+
+      later : inRecord (p .state) ≡ true → LaterTo d (completes s cs f next left) → FoundWhole d (p .state) cs
+      later h (later-completes w) = after h w
+
+      began : inRecord (p .state) ≡ false → KeepsTo d (completes s cs f next left) → FoundWhole d (p .state) cs
+      began h (keeps-completes w c) = all-found h w
+
+  -- outside records nothing is in hand
+  pub none-pended : (s : Scan) → from-here ≡ pends s → inRecord (s .state) ≡ false → (inRecord (p .state) ≡ false) × (s .cells ≡ []) × (s .raw ≡ [])
+  none-pended s e out = split-on (inRecord (p .state)) (λ h. impossible (sym out ∙ stays-in (subst (Grew (p .size)) e (grew-here h)))) was-out
+    where
+      held : Holds (s .state) (keptOf s) → inRecord (p .state) ≡ false → (inRecord (p .state) ≡ false) × (s .cells ≡ []) × (s .raw ≡ [])
+      held (in-hand h) u = impossible (sym out ∙ h)
+      held (nothing-in-hand r c) u = (u, c, r)
+
+      keeps : KeepsTo d (pends s) → Keeps d s
+      keeps (keeps-pends z) = z
+
+      was-out : inRecord (p .state) ≡ false → (inRecord (p .state) ≡ false) × (s .cells ≡ []) × (s .raw ≡ [])
+      was-out h = held (keeps (subst (KeepsTo d) e (keeps-here h)) .holds) h
+
+-- ---- what is kept
+
+pub shown-of : (p : Place) (k : Kept) {bytes : Bytes} {fill : ℕ} {ends : List ℕ} → InHand bytes fill ends (k .cells) (k .raw) → p .fill ≡ fill → Shown p k bytes ends
+shown-of p k h e =
+    record {
+      fill = e ∙ h .filled ∙ sym (length-append (keptBytes (k .cells)) (k .raw));
+      bytes-kept = rw e (h .held);
+      ends-kept = h .ended;
+    }
+
+pub in-hand-of : {p : Place} {k : Kept} {bytes ends : List ℕ} → Shown p k bytes ends → InHand bytes (p .fill) ends (k .cells) (k .raw)
+in-hand-of {p} {k} h = record { held = h .bytes-kept; filled = h .fill ∙ length-append (keptBytes (k .cells)) (k .raw); ended = h .ends-kept }
+
+starts-of-kept : (o : ℕ) (cs : List RawCell) → startsBy o (keptEnds o cs) ≡ keptStarts o cs
+unfolding startsBy keptEnds keptStarts
+starts-of-kept o [] = refl
+starts-of-kept o (c ∷ cs) = ap (λ (l : List ℕ). o ∷ l) (starts-of-kept (o + length (c .bytes)) cs)
+
+whole-among : (d : Dialect) (before after : Bytes) (cs : List RawCell) → All (IsWhole d) cs → allWhole d (before ++ (keptBytes cs ++ after)) (startsBy (length before) (keptEnds (length before) cs)) (keptEnds (length before) cs) ≡ true
+unfolding allWhole keptBytes keptEnds startsBy if_then_else_
+whole-among d before after [] all-none = refl
+whole-among d before after (c ∷ cs) (all-cons w ws) =
+    let x : Bytes = c .bytes in
+    let first : before ++ ((x ++ keptBytes cs) ++ after) ≡ before ++ (x ++ (keptBytes cs ++ after)) = ap (λ (l : Bytes). before ++ l) (append-assoc x (keptBytes cs) after) in
+    let raw : slice (before ++ ((x ++ keptBytes cs) ++ after)) (length before) (length before + length x) ≡ x = ap (λ (l : Bytes). slice l (length before) (length before + length x)) first ∙ part-is before x (keptBytes cs ++ after) (length before) (length before + length x) refl refl in
+    let all : before ++ x ++ (keptBytes cs ++ after) ≡ before ++ ((x ++ keptBytes cs) ++ after) = append-assoc before x (keptBytes cs ++ after) ∙ sym first in
+    let ih : allWhole d (before ++ x ++ (keptBytes cs ++ after)) (startsBy (length (before ++ x)) (keptEnds (length (before ++ x)) cs)) (keptEnds (length (before ++ x)) cs) ≡ true = whole-among d (before ++ x) after cs ws in
+    rw (raw, w) (rw (length-append before x, all) at ih)
+
+module _ {bytes : Bytes} {fill : ℕ} {ends : List ℕ} {cells : List RawCell} {raw : Bytes} (h : InHand bytes fill ends cells raw) (d : Dialect) where
+  pub kept-same : SameCells (keptValues d bytes (take (length cells) ends)) (map (valueOf d) cells)
+  kept-same = rw (h .ended, starts-of-kept 0 cells) (hand-values h d)
+
+  pub kept-whole : All (IsWhole d) cells → allWhole d bytes (startsBy 0 (take (length cells) ends)) (take (length cells) ends) ≡ true
+  kept-whole w =
+      let all : keptBytes cells ++ (raw ++ drop fill bytes) ≡ bytes = sym (append-assoc (keptBytes cells) raw (drop fill bytes)) ∙ ap (λ (l : Bytes). l ++ drop fill bytes) (sym (h .held)) ∙ take-append-drop fill bytes in
+      rw (h .ended) (rw all at (whole-among d [] (raw ++ drop fill bytes) cells w))
+
+-- ---- the cells behind those that may have bytes from before
+
+pub none-whole : (d : Dialect) (s : Bytes) (starts : List ℕ) → allWhole d s starts [] ≡ true
+unfolding allWhole
+none-whole d s [] = refl
+none-whole d s (x ∷ starts) = refl
+
+drop-starts : (at : ℕ) (xs : List ℕ) (e : ℕ) (es : List ℕ) → drop (suc (length xs)) (startsBy at (xs ++ (e ∷ es))) ≡ startsBy e es
+unfolding startsBy
+drop-starts at [] e es = refl
+drop-starts at (x ∷ xs) e es = drop-starts x xs e es
+
+drop-behind : (xs : List ℕ) (e : ℕ) (es : List ℕ) → drop (suc (length xs)) (xs ++ (e ∷ es)) ≡ es
+drop-behind [] e es = refl
+drop-behind (x ∷ xs) e es = drop-behind xs e es
+
+drop-past : (xs : List ℕ) → drop (suc (length xs)) xs ≡ []
+drop-past [] = refl
+drop-past (x ∷ xs) = drop-past xs
+
+module _ (d : Dialect) (bytes : Bytes) (fill : ℕ) (inside : fill ≤ length bytes) where
+  -- all cells behind the kept bytes
+  whole-behind : (cs : List RawCell) → All (IsWhole d) cs → allWhole d (written bytes fill (keptBytes cs)) (startsBy fill (keptEnds fill cs)) (keptEnds fill cs) ≡ true
+  whole-behind cs w =
+      let n : length (take fill bytes) ≡ fill = length-take-le fill bytes inside in
+      rw n at (whole-among d (take fill bytes) (drop (fill + length (keptBytes cs)) bytes) cs w)
+
+  -- all but the first
+  whole-after : (c : RawCell) (cs : List RawCell) → All (IsWhole d) cs → allWhole d (written bytes fill (keptBytes (c ∷ cs))) (startsBy (fill + length (c .bytes)) (keptEnds (fill + length (c .bytes)) cs)) (keptEnds (fill + length (c .bytes)) cs) ≡ true
+  unfolding keptBytes
+  whole-after c cs w =
+      let x : Bytes = c .bytes in
+      let after : Bytes = drop (fill + length (x ++ keptBytes cs)) bytes in
+      let n : length (take fill bytes ++ x) ≡ fill + length x = omega (arith, length-append (take fill bytes) x, length-take-le fill bytes inside) in
+      let all : take fill bytes ++ x ++ (keptBytes cs ++ after) ≡ take fill bytes ++ ((x ++ keptBytes cs) ++ after) = append-assoc (take fill bytes) x (keptBytes cs ++ after) ∙ ap (λ (l : Bytes). take fill bytes ++ l) (sym (append-assoc x (keptBytes cs) after)) in
+      rw (n, all) at (whole-among d (take fill bytes ++ x) after cs w)
+
+-- the cells of a part have joined the kept ones
+pub later-whole :
+    (d : Dialect) (p : Place) (bytes ends bytes′ ends′ : List ℕ) (cs : List RawCell) (total : ℕ) → (inRecord (p .state) ≡ false → (p .fill ≡ 0) × (p .cells ≡ 0)) → p .fill ≤ length bytes →
+    p .cells + length cs ≡ total → total ≤ length ends → bytes′ ≡ written bytes (p .fill) (keptBytes cs) → ends′ ≡ written ends (p .cells) (keptEnds (p .fill) cs) → FoundWhole d (p .state) cs →
+    LaterWhole d p bytes′ (startsBy 0 (take total ends′)) (take total ends′)
+unfolding if_then_else_ keptEnds
+later-whole d p bytes ends bytes′ ends′ cs total none inside count long x y found = rw (x, ends-then ends ends′ (p .fill) (p .cells) cs total count long y) (go cs found)
+  where
+    kept : List ℕ
+    kept = take (p .cells) ends
+
+    kept-long : p .cells ≤ length ends → suc (length kept) ≡ p .cells + 1
+    kept-long l = omega (arith, length-take-le (p .cells) ends l)
+
+    few : p .cells ≤ length ends
+    few = omega arith
+
+    go : (cs : List RawCell) → FoundWhole d (p .state) cs → LaterWhole d p (written bytes (p .fill) (keptBytes cs)) (startsBy 0 (kept ++ keptEnds (p .fill) cs)) (kept ++ keptEnds (p .fill) cs)
+    go cs (all-found h w) = rw (h, none h .0, none h .1) (whole-behind d bytes 0 (omega arith) cs w)
+    go [] (none-found h) = rw (h, sym (kept-long few), append-nil kept, drop-past kept) (none-whole d _ _)
+    go (c ∷ cs) (after-first h w) =
+        rw (h, sym (kept-long few), drop-starts 0 kept (p .fill + length (c .bytes)) (keptEnds (p .fill + length (c .bytes)) cs), drop-behind kept (p .fill + length (c .bytes)) (keptEnds (p .fill + length (c .bytes)) cs))
+        (whole-after d bytes (p .fill) inside c cs w)
+
+-- ---- cells of a part join it
+
+moved-bytes : (n : ℕ) (cs : List RawCell) → keptBytes (map (movedCell n) cs) ≡ keptBytes cs
+unfolding keptBytes
+moved-bytes n [] = refl
+moved-bytes n (c ∷ cs) = ap (λ (l : Bytes). c .bytes ++ l) (moved-bytes n cs)
+
+moved-ends : (n o : ℕ) (cs : List RawCell) → keptEnds o (map (movedCell n) cs) ≡ keptEnds o cs
+unfolding keptEnds
+moved-ends n o [] = refl
+moved-ends n o (c ∷ cs) = ap (λ (l : List ℕ). (o + length (c .bytes)) ∷ l) (moved-ends n (o + length (c .bytes)) cs)
+
+moved-later : (n i : ℕ) (cs : List RawCell) → All (λ (x : RawCell). suc i ≤ x .from) cs → All (λ (x : RawCell). n + i < x .from) (map (movedCell n) cs)
+moved-later n i [] all-none = all-none
+moved-later n i (c ∷ cs) (all-cons h hs) = let g : n + i < n + c .from = omega arith in all-cons g (moved-later n i cs hs)
+
+closed-goes : {k : Kept} (n i : ℕ) (cs : List RawCell) → ClosedFirst i cs → GoesOn k (n + i) (map (movedCell n) cs)
+closed-goes n i (c ∷ cs) (closed-first e all) = let g : n + c .from ≡ n + i = omega arith in first-goes-on g (moved-later n i cs all)
+
+-- the record in hand with the cells of the part
+pub joined-hand :
+    {bytes : Bytes} {fill : ℕ} {ends : List ℕ} (k : Kept) (n i : ℕ) (cs : List RawCell) → InHand bytes fill ends (k .cells) (k .raw) → GoesOn k (n + i) (map (movedCell n) cs) → length (k .cells) ≤ length ends →
+    InHand (written bytes fill (keptBytes cs)) (fill + length (keptBytes cs)) (written ends (length (k .cells)) (keptEnds fill cs)) (joinedCells k (n + i) (map (movedCell n) cs)) []
+joined-hand {bytes} {fill} {ends} k n i cs h g l =
+    rw (moved-bytes n cs, moved-ends n fill cs) at (kept-more k (n + i) (map (movedCell n) cs) h g l)
+
+pub goes-on :
+    {k : Kept} (d : Dialect) (limit : ℕ) (f : FileState) (size n i : ℕ) (bs : Bytes) → Open f (k .raw) → (s : Scan) (cs : List RawCell) (g : FileState) (next : ℕ) (left : Bytes) →
+    scan d limit (fresh f size i) bs ≡ completes s cs g next left → GoesOn k (n + i) (map (movedCell n) cs)
+goes-on d limit f size n i bs (no-bytes z) s cs g next left e = nothing-open z
+goes-on d limit f size n i bs (in-cell h) s cs g next left e = closed-goes n i cs (go (subst (FirstIn i) e (first-closes d limit (fresh f size i) bs h refl refl)))
+  where
+    go : FirstIn i (completes s cs g next left) → ClosedFirst i cs
+    go (first-completes c) = c
+
+-- ---- the part ends
+
+none-written : (l : List ℕ) (at : ℕ) → written l at [] ≡ l
+none-written l at = ap (λ (k : ℕ). take at l ++ drop k l) (add-zero at) ∙ take-append-drop at l
+
+moved-is : (n a b : ℕ) → a ≡ b → ((n + a) is (n + b)) ≡ true
+moved-is n a b e = eq-eqb (n + a) (n + b) (ap (λ (x : ℕ). n + x) e)
+
+moved-not : (n a b : ℕ) → suc b ≤ a → ((n + a) is (n + b)) ≡ false
+moved-not n a b l = ne-eqb (n + a) (n + b) (λ e. omega arith)
+
+module _ {bytes : Bytes} {fill : ℕ} {ends : List ℕ} (k : Kept) (h : InHand bytes fill ends (k .cells) (k .raw)) (l : length (k .cells) ≤ length ends) (n i : ℕ) (s : Scan) where
+  abbrev pub HandThen : Type 0
+  HandThen =
+      InHand (written (written bytes fill (keptBytes (s .cells))) (fill + length (keptBytes (s .cells))) (s .raw)) (fill + length (keptBytes (s .cells)) + length (s .raw)) (written ends (length (k .cells)) (keptEnds fill (s .cells)))
+      (joinedCells k (n + i) (map (movedCell n) (s .cells))) (joinedRaw k (n + i) (n + s .opened) (s .raw))
+
+  closed-then : GoesOn k (n + i) (map (movedCell n) (s .cells)) → joinedRaw k (n + i) (n + s .opened) (s .raw) ≡ s .raw → HandThen
+  closed-then g e = rw e (kept-open (s .raw) (joined-hand k n i (s .cells) h g l))
+
+  none-then : k .raw ≡ [] → HandThen
+  unfolding joinedRaw
+  none-then z = closed-then (nothing-open z) (split (λ (x : Bytes). x ≡ s .raw) ((n + s .opened) is (n + i)) (λ _. ap (λ (x : Bytes). x ++ s .raw) z) λ _. refl)
+
+  open-then : First i s → HandThen
+  unfolding joinedRaw keptBytes keptEnds if_then_else_
+  open-then (still-open u o c) =
+      let z : fill + 0 ≡ fill = omega arith in
+      rw (c, moved-is n (s .opened) i o, append-nil (k .cells), none-written bytes fill, none-written ends (length (k .cells)), z) (kept-open (s .raw) h)
+  open-then (then-closed u o c) = closed-then (closed-goes n i (s .cells) c) (rw (moved-not n (s .opened) i o))
+
+  pub hand-then : (d : Dialect) (limit : ℕ) (f : FileState) (size : ℕ) (bs : Bytes) → Open f (k .raw) → scan d limit (fresh f size i) bs ≡ pends s → HandThen
+  hand-then d limit f size bs (no-bytes z) e = none-then z
+  hand-then d limit f size bs (in-cell u) e = open-then (go (subst (FirstIn i) e (first-closes d limit (fresh f size i) bs u refl refl)))
+    where
+      go : FirstIn i (pends s) → First i s
+      go (first-pends x) = x

@@ -1,0 +1,87 @@
+-- The cells join the kept ones, whose ends stay in order, and the record is ruled on from there.
+use mathlib.Core.Path.{_≡_, refl, sym, ap, _∙_}
+use Prim.Native.Nat.{_+_, _-_, _≤_}
+use native.Mathlib.Omega.{arith}
+use mathlib.Core.List.{List}
+use lib.ListN.{length}
+use borrow.Author.Needs.{needs}
+use Rattle.model.specs.Scans.{RawCell}
+use Rattle.model.specs.Places.{keptBytes}
+use Rattle.buffers.proofs.Writing.{length-written}
+use Rattle.carried.specs.Hand.{rawCellsAt}
+use Rattle.turn.specs.Walking.{too-many, from-kept}
+use Rattle.turn.proofs.Keeping.{order-then, order-more, ends-long, listed}
+use Rattle.turn.proofs.Showing.{later-whole}
+use Rattle.turn.proofs.completed.Statement.{statement}
+use Rattle.turn.proofs.completed.Tie as tie
+
+abbrev shown : tie.Start → List RawCell
+shown s = rawCellsAt (s .args .piece .now) (s .args .starts .now) (s .args .stops .now) 0 (s .args .cells)
+
+returns : tie.Need-returns
+returns c = too-many (c .if1 .taken) refl refl
+
+keep-more-requires : tie.Need-keep-more-requires
+keep-more-requires c κs =
+    let s = c .before .before .before .before .before .before .before .before .before .before .before in
+    let a = s .args in
+    let l = s .pre .1 .0 in
+    let few : a .p .cells + a .cells ≤ 64 = c .before .before .before .if1 .left in
+    let long : length (a .ends .now) ≡ 64 = l .long-ends in
+    (l .stand few, (omega arith, l .room few))
+
+slice-aggregate-kept : tie.Need-slice-aggregate-kept
+slice-aggregate-kept c =
+    let s = c .before .before .before .before .before .before .before .before .before .before .before .before .before .before .before .before .before .before in
+    let a = s .args in
+    let l = s .pre .1 .0 in
+    let few : a .p .cells + a .cells ≤ 64 = c .before .before .before .before .before .before .before .before .before .before .if1 .left in
+    let long : length (a .ends .now) ≡ 64 = l .long-ends in
+    let count : length (shown s) ≡ a .cells = listed (l .stand few) in
+    sym (ends-long (a .ends .now) _ (a .p .fill) (a .p .cells) (shown s) (a .p .cells + a .cells) (omega arith) (omega arith) (c .before .before .before .before .before .before .keep-more .ensures .1 .1))
+
+kept-requires : tie.Need-kept-requires
+kept-requires c κs =
+    let s = c .before .before .before .before .before .before .before .before .before .before .before .before .before .before .before .before .before .before .before .before .before in
+    let a = s .args in
+    let l = s .pre .1 .0 in
+    let few : a .p .cells + a .cells ≤ 64 = c .before .before .before .before .before .before .before .before .before .before .before .before .before .if1 .left in
+    let long : length (a .ends .now) ≡ 64 = l .long-ends in
+    let size : length (a .bytes .now) ≡ 4096 = l .long-bytes in
+    let room = l .room few in
+    let count : length (shown s) ≡ a .cells = listed (l .stand few) in
+    let k = c .before .before .before .before .before .before .before .before .before .keep-more .ensures in
+    let same = ap length (k .1 .0) ∙ length-written (a .bytes .now) (a .p .fill) (keptBytes (shown s)) room in
+    let ordered = order-then (a .ends .now) _ (a .p .fill) (a .p .cells) (shown s) (a .p .cells + a .cells) (omega arith) (omega arith) (k .1 .1) (l .ordered (omega arith)) in
+    let ends = ends-long (a .ends .now) _ (a .p .fill) (a .p .cells) (shown s) (a .p .cells + a .cells) (omega arith) (omega arith) (k .1 .1) in (
+      order-more ordered (omega (arith, same)),
+      (
+        (omega (arith, ends), omega (arith, same), s .pre .1 .1 .0 .0, s .pre .1 .1 .0 .1),
+        (
+          later-whole (a .d) (a .p) (a .bytes .now) (a .ends .now) _ _ (shown s) (a .p .cells + a .cells) (l .between) (omega arith) (omega arith) (omega arith) (k .1 .0) (k .1 .1) (s .pre .1 .1 .1 few),
+          (l .few .0, s .pre .0 .long-starts, s .pre .0 .long-kinds),
+        ),
+      ),
+    )
+
+returns-2 : tie.Need-returns-2
+returns-2 c =
+    let k = c .before .before .before .before .before .before .before .before .before .before .before .before .before .before .before .before .keep-more .ensures in
+    from-kept (c .before .before .before .before .before .before .before .before .before .before .before .before .before .before .before .before .before .before .before .before .if1 .left) (k .1 .0) (k .1 .1) (c .before .before .before .before .before .before .kept .ensures)
+
+pub completed-spec : {M : Type 1} → statement M
+completed-spec =
+    tie.close
+    (tie.spec
+    (λ c. let s = c .before .before .before .before .before .before .before in let few = s .pre .1 .0 .few in let few0 = few .0 in let few1 = few .1 in record { fits = omega arith })
+    returns
+    keep-more-requires
+    (λ c. search needs)
+    slice-aggregate-kept
+    kept-requires
+    (λ c. search needs)
+    (λ c. search needs)
+    (λ c. search needs)
+    (λ c. search needs)
+    (λ c. search needs)
+    returns-2)

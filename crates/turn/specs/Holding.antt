@@ -1,0 +1,119 @@
+-- What a state of the piece converter holds: where reading stands, and what is kept of the record in hand.
+use Prim.Native.Nat.{ℕ, _+_, _≤_}
+use mathlib.Core.Path.{_≡_}
+use mathlib.Core.Bool.{Bool, true, false}
+use mathlib.Core.List.{List, [], _∷_, _++_}
+use lib.ListN.{length, take}
+use Rattle.turn.specs.Types.{Dialect, Target, Fresh, WholeCell, FileState, Top, Begin, Ended, Mark1, Mark2, PlainMark1, PlainMark2, Comment, Blanks, Wanting, Inside, After, Cr}
+use Rattle.model.specs.Base.{if_then_else_, _is_, Bytes}
+use Rattle.model.specs.Decode.{validateCell}
+use Rattle.model.specs.Text.{tableText}
+use Rattle.model.specs.Report.{MAXCOLUMNS}
+use Rattle.model.specs.Records.{Rec, rows, Read}
+use Rattle.model.specs.Laws.{All}
+use Rattle.model.specs.Scans.{RawCell, Scan, readOf, Kept, Holds, Sized}
+use Rattle.model.specs.Places.{keptBytes, keptEnds}
+use Rattle.model.proofs.CellRuns.{Runs}
+use Rattle.model.proofs.Cells.{cellAt}
+use Rattle.carried.specs.declared.place.Place.{Place}
+
+-- ---- what is kept
+
+-- a cell is open
+abbrev pub inCell : FileState → Bool
+inCell Top = false
+inCell Begin = false
+inCell Ended = false
+inCell Mark1 = false
+inCell Mark2 = false
+inCell PlainMark1 = true
+inCell PlainMark2 = true
+inCell (Comment c) = false
+inCell Blanks = false
+inCell Wanting = false
+inCell (Inside c) = true
+inCell After = false
+inCell Cr = false
+
+-- bytes of an open cell are kept only where one is open
+pub data Open (f : FileState) (raw : Bytes) : Type 0 where
+  in-cell : inCell f ≡ true → Open f raw
+  no-bytes : raw ≡ [] → Open f raw
+
+-- the bytes kept, one after another: those of the complete cells, and of the open one
+abbrev pub allKept : Kept → Bytes
+allKept k = keptBytes (k .cells) ++ k .raw
+
+-- a raw cell is whole
+abbrev pub IsWhole : Dialect → RawCell → Type 0
+IsWhole d c = validateCell d (c .bytes) ≡ WholeCell
+
+-- ---- where reading stands
+
+-- the record in hand at this place
+abbrev pub scanAt : Place → Kept → Scan
+scanAt p k =
+    record { state = p .state; offset = p .offset; start = k .start; size = p .size; opened = k .opened; raw = k .raw; cells = k .cells }
+
+-- reading at this place, after the records `done`
+abbrev pub readAt : Dialect → Place → (done : List Rec) → Kept → Read
+readAt d p done k = readOf d done (scanAt p k)
+
+-- the columns of a table: the cells of its header
+abbrev pub columnsOf : List Rec → ℕ
+columnsOf [] = 0
+columnsOf (h ∷ rs) = length (h .cells)
+
+-- the arrays hold what is kept of these cells
+pub record Shown (p : Place) (k : Kept) (bytes ends : List ℕ) : Type 0 where
+  pub fill : p .fill ≡ length (allKept k)
+  pub bytes-kept : take (p .fill) bytes ≡ allKept k
+  pub ends-kept : take (length (k .cells)) ends ≡ keptEnds 0 (k .cells)
+
+-- the place and the arrays stand for reading after the records `done`, with this kept of the record in hand
+pub record Holding (d : Dialect) (t : Target) (p : Place) (bytes ends : List ℕ) (done : List Rec) (k : Kept) : Type 0 where
+  pub starts : p .start ≡ k .start
+  pub opens : Open (p .state) (k .raw)
+  pub holds : Holds (p .state) k
+  pub sized : Sized (scanAt p k)
+  pub runs : Runs d Fresh (k .raw) (cellAt (p .state))
+  pub whole : All (IsWhole d) (k .cells)
+  pub cells : p .cells ≡ length (k .cells)
+  pub shown : length (k .cells) ≤ MAXCOLUMNS → Shown p k bytes ends
+  pub records : p .records ≡ length done
+  pub columns : p .columns ≡ columnsOf done
+  pub written : p .written ≡ length (tableText t (rows done))
+
+-- ---- a complete record
+
+-- the columns of the table once this record is complete
+abbrev pub columnsWith : Place → (cells : ℕ) → ℕ
+columnsWith p cells = if p .records is 0 then cells else p .columns
+
+-- the place behind a record
+abbrev pub placeAfter : Place → (cells size : ℕ) → FileState → (offset : ℕ) → Place
+placeAfter p cells size f o =
+    record { state = f; offset = o; start = o; size = 0; fill = 0; cells = 0; columns = columnsWith p cells; records = p .records + 1; written = p .written + size }
+
+-- nothing is kept behind a record
+abbrev pub keptNone : (offset : ℕ) → Kept
+keptNone o = record { start = o; opened = o; raw = []; cells = [] }
+
+-- where the record in hand starts, if in the part it starts there: where the part began it may have started before
+abbrev pub startFrom : Place → (before began start : ℕ) → ℕ
+startFrom p n i start = if start is i then p .start else n + start
+
+-- the place where a part ends
+abbrev pub placePending : Place → (before began fill : ℕ) → Scan → Place
+placePending p n i fill s =
+    record {
+      state = s .state;
+      offset = n + s .offset;
+      start = startFrom p n i (s .start);
+      size = s .size;
+      fill = fill;
+      cells = p .cells + length (s .cells);
+      columns = p .columns;
+      records = p .records;
+      written = p .written;
+    }

@@ -1,0 +1,136 @@
+-- Until the header is complete a turn goes over its own arrays; the turns behind it go over the others, and leave the names as they are.
+use Prim.Native.Nat.{_≤_, _<_}
+use native.Mathlib.Omega.{arith}
+use mathlib.Core.Path.{_≡_, refl, sym, subst, _∙_}
+use borrow.Author.Needs.{needs}
+use Rattle.model.specs.Dialect.{into}
+use Rattle.turn.specs.Walking.{TurnBounds, Turns}
+use Rattle.walk.specs.Taking.{Took}
+use Rattle.walk.proofs.Taking.{walk-begins, walk-nowhere, pended-in-bounds, none-in-hand, entered-of, begun-header, begun-later, ready-header, ready-later, ready-behind, headed-begins, headed-next, took-later, took-pended, took-stopped}
+use Rattle.walk.proofs.piece.take.Statement.{statement}
+use Rattle.walk.proofs.piece.take.Tie as tie
+
+walked-requires : tie.Need-walked-requires
+walked-requires c κs =
+    let more : 0 < c .before .before .before .before .before .before .before .before .before .before .before .before .before .before .args .place .records = c .before .before .before .before .before .before .if1 .taken in
+    (ready-later (c .before .before .before .before .before .before .before .before .before .before .before .before .before .before .pre) (λ e. omega arith), record { long-starts = search needs; long-stops = search needs; long-kinds = search needs })
+
+returns : tie.Need-returns
+returns c =
+    let a = c .before .before .before .before .before .before .before .before .before .before .before .before .before .before .before .before .before .before .before .before .before .before .before .before .args in
+    let more : 0 < a .place .records = c .before .before .before .before .before .before .before .before .before .before .before .before .before .before .before .before .if1 .taken in
+    λ done k b.
+    let h = headed-begins b more in
+    took-later h (c .before .before .before .before .before .before .before .before .before .walked .ensures (a .place) done k (a .out .now) (entered-of (begun-later b (λ e. omega arith))) refl (h .now))
+
+turned-requires : tie.Need-turned-requires
+turned-requires c κs =
+    let none : c .before .before .before .before .before .before .before .before .before .before .before .before .before .before .args .place .records ≤ 0 = c .before .before .before .before .before .before .if1 .left in
+    (ready-header (c .before .before .before .before .before .before .before .before .before .before .before .before .before .before .pre) (omega arith), record { long-starts = search needs; long-stops = search needs; long-kinds = search needs })
+
+walked-requires-2 : tie.Need-walked-requires-2
+walked-requires-2 c κs =
+    let s = c .before .before .before .before .before .before .before .before .before .before .before .before .before .before .before .before .before .before .before .before .before .before .before .before .before .before .before .before .before .before .before .before .before in
+    let a = s .args in
+    let t = c .before .before .before .before .before .before .before .before .before .before .before .before .before .before .before .before .before .before .turned in (
+      ready-behind (subst (TurnBounds (a .piece .now) (a .place .offset) 0 _ (a .out .now)) (c .before .before .before .before .before .before .before .q .given .1) (t .ensures .0)) (s .pre .long-bytes) (s .pre .long-ends) (c .before .before .before .before .before .before .before .before .before .before .before .before .before .out2 .given),
+      record { long-starts = c .before .before .before .before .before .before .before .before .before .before .before .starts4 .given; long-stops = c .before .before .before .before .before .before .before .before .before .before .stops4 .given; long-kinds = c .before .before .before .before .before .before .before .before .before .kinds4 .given },
+    )
+
+returns-2 : tie.Need-returns-2
+returns-2 c =
+    let a = c .before .before .before .before .before .before .before .before .before .before .before .before .before .before .before .before .before .before .before .before .before .before .before .before .before .before .before .before .before .before .before .before .before .before .before .before .before .before .before .before .before .before .before .args in
+    let t = c .before .before .before .before .before .before .before .before .before .before .before .before .before .before .before .before .before .before .before .before .before .before .before .before .before .before .before .before .turned in
+    let left : a .place .records ≤ 0 = c .before .before .before .before .before .before .before .before .before .before .before .before .before .before .before .before .before .before .before .before .before .before .before .before .before .before .before .before .before .before .before .before .before .before .before .if1 .left in
+    let none : a .place .records ≡ 0 = omega arith in
+    let bounds = subst (TurnBounds (a .piece .now) (a .place .offset) 0 _ (a .out .now)) (c .before .before .before .before .before .before .before .before .before .before .before .before .before .before .before .before .before .q .given .1) (t .ensures .0) in
+    λ done k b.
+    let begins = begun-header b none in
+    let turn = subst (Turns (a .d) (into (a .t)) (a .piece .now) 0 (a .place) done k 0 (a .out .now) _ _ _) (c .before .before .before .before .before .before .before .before .before .before .before .before .before .before .before .before .before .q .given .1) (t .ensures .1 done k (begins .hold)) in
+    let h = headed-next begins none turn (none-in-hand bounds) (a .bytes .now) (a .ends .now) in
+    took-later h (c .before .before .before .before .before .before .before .before .before .walked2 .ensures (a .place) done k (a .out .now) (entered-of begins) (c .before .before .before .before .before .before .before .before .before .before .before .before .before .before .before .before .before .before .before .before .before .before .before .out2 .given) (h .now))
+
+returns-3 : tie.Need-returns-3
+returns-3 c =
+    let a = c .before .before .before .before .before .before .before .before .before .before .before .before .before .before .before .before .before .before .before .before .before .before .before .before .before .before .before .before .before .args in
+    let t = c .before .before .before .before .before .before .before .before .before .before .before .before .before .before .turned in
+    let left : a .place .records ≤ 0 = c .before .before .before .before .before .before .before .before .before .before .before .before .before .before .before .before .before .before .before .before .before .if1 .left in
+    let none : a .place .records ≡ 0 = omega arith in
+    let bounds = subst (TurnBounds (a .piece .now) (a .place .offset) 0 _ (a .out .now)) (c .before .before .before .q2 .given .1) (t .ensures .0) in
+    λ done k b.
+    let begins = begun-header b none in
+    let turn = subst (Turns (a .d) (into (a .t)) (a .piece .now) 0 (a .place) done k 0 (a .out .now) _ _ _) (c .before .before .before .q2 .given .1) (t .ensures .1 done k (begins .hold)) in
+    subst (Took (a .d) (into (a .t)) (a .piece .now) (a .place) done k (a .out .now) _ _ (a .bytes .now) (a .ends .now) _) (sym (c .told .ensures))
+    (took-pended begins none turn (pended-in-bounds bounds) (c .before .on-call .ensures) (a .bytes .now) (a .ends .now))
+
+returns-4 : tie.Need-returns-4
+returns-4 c =
+    let a = c .before .before .before .before .before .before .before .before .before .before .before .before .before .before .before .before .before .before .before .before .before .before .before .before .before .before .before .before .args in
+    let t = c .before .before .before .before .before .before .before .before .before .before .before .before .before .turned in
+    let left : a .place .records ≤ 0 = c .before .before .before .before .before .before .before .before .before .before .before .before .before .before .before .before .before .before .before .before .if1 .left in
+    let none : a .place .records ≡ 0 = omega arith in
+    λ done k b.
+    let begins = begun-header b none in
+    let turn = subst (Turns (a .d) (into (a .t)) (a .piece .now) 0 (a .place) done k 0 (a .out .now) _ _ _) (c .before .before .e .given .1) (t .ensures .1 done k (begins .hold)) in
+    subst (Took (a .d) (into (a .t)) (a .piece .now) (a .place) done k (a .out .now) _ _ (a .bytes .now) (a .ends .now) _) (sym (c .told2 .ensures))
+    (took-stopped begins turn (a .bytes .now) (a .ends .now))
+
+returns-5 : tie.Need-returns-5
+unfolding walk-begins
+returns-5 c =
+    let a = c .before .before .before .before .before .before .before .before .before .before .before .before .before .before .before .before .before .before .before .before .before .before .before .before .before .before .before .before .args in
+    let t = c .before .before .before .before .before .before .before .before .before .before .before .before .before .turned in
+    let left : a .place .records ≤ 0 = c .before .before .before .before .before .before .before .before .before .before .before .before .before .before .before .before .before .before .before .before .if1 .left in
+    let none : a .place .records ≡ 0 = omega arith in
+    λ done k b.
+    let begins = begun-header b none in
+    let turn = subst (Turns (a .d) (into (a .t)) (a .piece .now) 0 (a .place) done k 0 (a .out .now) _ _ _) (c .before .before .enum-told .given .1) (t .ensures .1 done k (begins .hold)) in
+    walk-nowhere (walk-begins begins) (entered-of begins) refl turn
+
+pub take-spec : {M : Type 1} → statement M
+take-spec =
+    tie.close
+    (tie.spec
+    (λ c. search needs)
+    (λ c. search needs)
+    (λ c. search needs)
+    walked-requires
+    (λ c. search needs)
+    (λ c. search needs)
+    (λ c. search needs)
+    returns
+    (λ c. search needs)
+    (λ c. search needs)
+    (λ c. search needs)
+    turned-requires
+    (λ c. search needs)
+    (λ c. search needs)
+    (λ c. search needs)
+    (λ c. search needs)
+    walked-requires-2
+    (λ c. search needs)
+    (λ c κs. search needs)
+    (λ c κs. search needs)
+    (λ c. search needs)
+    (λ c κs. search needs)
+    (λ c. search needs)
+    (λ c κs. search needs)
+    (λ c κs. search needs)
+    (λ c. c .before .before .before .before .before .before .before .before .before .before .before .before .before .before .before .before .before .before .before .before .before .before .before .before .before .before .before .names .given)
+    (λ c. c .before .before .before .before .before .before .before .before .before .before .before .before .before .before .before .before .before .before .before .before .before .before .before .before .before .name-ends .given)
+    (λ c. c .before .before .before .before .before .before .before .before .bytes2 .given)
+    (λ c. c .before .before .before .before .before .before .ends2 .given)
+    (λ c. c .before .before .before .before .out3 .given ∙ c .before .before .before .before .before .before .before .before .before .before .before .before .before .before .before .before .before .before .before .before .before .before .before .out2 .given)
+    returns-2
+    (λ c. c .before .before .before .before .before .before .before .before .before .before .before .before .before .names .given)
+    (λ c. c .before .before .before .before .before .before .before .before .before .before .before .name-ends .given)
+    (λ c. c .before .before .before .before .before .before .before .before .before .out2 .given)
+    returns-3
+    (λ c. c .before .before .before .before .before .before .before .before .before .before .before .before .names .given)
+    (λ c. c .before .before .before .before .before .before .before .before .before .before .name-ends .given)
+    (λ c. c .before .before .before .before .before .before .before .before .out2 .given)
+    returns-4
+    (λ c. c .before .before .before .before .before .before .before .before .before .before .before .before .names .given)
+    (λ c. c .before .before .before .before .before .before .before .before .before .before .name-ends .given)
+    (λ c. c .before .before .before .before .before .before .before .before .out2 .given)
+    returns-5)
