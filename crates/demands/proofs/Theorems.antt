@@ -3,11 +3,13 @@ use mathlib.Core.Path.{_≡_}
 use Rattle.model.proofs.AllTrips.{trips}
 use Rattle.model.proofs.Laws.{laws}
 use Rattle.grammar.proofs.Theorems.{reader-exactly, reader-places}
-use Rattle.demands.specs.Demands.{Demand1, Demand2, Demands}
+use Rattle.pieces.proofs.Carrying.{new-carries}
+use Rattle.demands.specs.Demands.{Demand1, Demand2, Demand3, Demands}
 use Rattle.demands.proofs.Leaving.{reader-leaves, decoder-leaves, converter-leaves, writer-leaves}
 use Rattle.demands.proofs.Telling.{reader-unknown, decoder-unknown, converter-unknown, writer-unknown, reader-tells, decoder-tells, converter-tells, writer-tells}
 use Rattle.demands.proofs.Accepting.{converted-exactly}
 use Rattle.demands.proofs.Limits.{converted-limit, written-limit, converted-room}
+use Rattle.demands.proofs.Calls.{every-list, refused, joined, whole-text, end-call, fault-is-whole, fault-of-every-file, room, ten}
 
 pub demand-1 : Demand1
 demand-1 =
@@ -40,5 +42,19 @@ demand-2 =
       converted-room = converted-room;
     }
 
+pub demand-3 : Demand3
+demand-3 =
+    record {
+      every-list = every-list new-carries;
+      refused = refused new-carries;
+      joined = joined new-carries;
+      whole-text = whole-text new-carries;
+      end-is-whole = end-call new-carries;
+      fault-is-whole = fault-is-whole new-carries;
+      fault-of-every-file = fault-of-every-file new-carries;
+      room = room new-carries;
+      ten = ten new-carries;
+    }
+
 pub demands : Demands
-demands = record { one = demand-1; two = demand-2 }
+demands = record { one = demand-1; two = demand-2; three = demand-3 }

@@ -1,11 +1,13 @@
 -- Demands 1 and 2 over the definitions of the public calls: `readCall`, `decoder`, `converter` and `writer` of model's Api, whose texts
--- and leavings the calls' contracts repeat. Nothing else is here.
+-- and leavings the calls' contracts repeat. Demand 3 over the contract of the piece and end calls, `Called` of pieces' Calling, and the
+-- ledger of model. Nothing else is here.
 use Prim.Native.Nat.{ℕ, suc, _+_, _*_, _<_, _≤_}
 use mathlib.Core.Path.{_≡_}
 use mathlib.Core.Logic.{_≢_, _↔_}
+use mathlib.Core.Bool.{true, false}
 use mathlib.Core.Option.{Option, none, some}
-use mathlib.Core.List.{List, [], _++_, map}
-use lib.ListN.{length, drop}
+use mathlib.Core.List.{List, [], _∷_, _++_, map, zipWith}
+use lib.ListN.{length, take, drop}
 use Rattle.model.specs.declared.Report.{Report}
 use Rattle.model.specs.declared.Dialect.{Dialect}
 use Rattle.model.specs.declared.Fault.{Fault}
@@ -17,10 +19,17 @@ use Rattle.model.specs.Dialect.{dialectOf, into}
 use Rattle.model.specs.Decode.{contentOf, validateCell}
 use Rattle.model.specs.Text.{Value, tableText}
 use Rattle.model.specs.Report.{report, accepted, refusal, numberOf, columnOf, MAXFILE}
-use Rattle.model.specs.Records.{Rec, rows, Read, Progress, going, stopped, readBytes, readFile, placeOf}
+use Rattle.model.specs.Records.{Rec, rows, Read, Progress, going, stopped, readBytes, readFile, recordsOf, placeOf, faultReport}
 use Rattle.model.specs.Api.{ReadCall, reader, readCall, decoder, decoderLeaves, converter, converterLeaves, Table, rowsIn, rowsFault, writer, writerLeaves}
 use Rattle.model.specs.Targets.{Passes}
+use Rattle.model.specs.Laws.{All}
+use Rattle.model.specs.Ledger.{Call, piece, finish, Entry, roomOf, isFileFault, faultIn, endedIn, consumedIn, tooSmall, checked, history, ledger, callLeaves}
+use Rattle.model.specs.Demands.{seenIn}
 use Rattle.model.specs.Trips.{RoundTrip, SameText, ConvertedBack, ConvertedOnce, ReaderDecodes}
+use Rattle.numbers.specs.Named.{textAnswer}
+use Rattle.numbers.specs.declared.TextAnswer.{TextAnswer}
+use Rattle.pieces.specs.Calling.{newConverter, Called}
+use Rattle.pieces.specs.declared.Converter.{Converter}
 use Rattle.grammar.specs.Derived.{Derived, Line}
 use Rattle.grammar.specs.Derives.{Derives}
 use Rattle.grammar.specs.Accepted.{Acceptable, cellCount}
@@ -122,6 +131,84 @@ pub record Demand2 : Type 0 where
   -- six bytes for each byte of a file, and six more, are room enough for any conversion of it (§15.10)
   pub converted-room : (m n : ℕ) (file : Bytes) (room : ℕ) → 6 * (length file + 1) ≤ room → converter m n file room .report ≢ refusal 10
 
+-- ---- demand 3
+
+-- a call as it was made on the code: its lent output before it, what it told, and its output after it (§15.1 §15.3)
+pub record MadeCall : Type 0 where
+  pub call : Call
+  pub before : List ℕ
+  pub told : TextAnswer
+  pub after : List ℕ
+
+-- any list of calls, refused ones too, on a new converter, and the state that it led to; of a call only its contract is known (§15.1 §16.1)
+pub data LedTo (m n : ℕ) : List MadeCall → Converter → Type 0 where
+  fresh : LedTo m n [] (newConverter m n)
+  one-more :
+      {made : List MadeCall} {s next : Converter} {x : MadeCall} → LedTo m n made s → roomOf (x .call) ≡ length (x .before) →
+      Called s (x .call) (x .before) (x .told) next (x .after) → LedTo m n (made ++ (x ∷ [])) next
+
+-- what the ledger is fed of them (§16.2)
+abbrev pub callsOf : List MadeCall → List Call
+callsOf made = map (λ (x : MadeCall). x .call) made
+
+-- its own answers to them, by which it knows what came before a call (§16.3)
+abbrev pub entriesOf : (source target : ℕ) → List MadeCall → List Entry
+entriesOf m n made = history m n (callsOf made)
+
+-- the bytes consumed (§16.4)
+abbrev pub consumedBy : (source target : ℕ) → List MadeCall → Bytes
+consumedBy m n made = consumedIn (entriesOf m n made)
+
+-- the outputs joined: of each call the bytes that it says it wrote (§15.3)
+abbrev pub joinedOutputs : List MadeCall → Bytes
+joinedOutputs made = concat (map (λ (x : MadeCall). take (x .told .length) (x .after)) made)
+
+pub record Demand3 : Type 0 where
+  -- in every list each report and length is the ledger's, and each byte of an output is the ledger's or as it was (§16.1 §19.4)
+  pub every-list :
+      (m n : ℕ) (made : List MadeCall) (s : Converter) → LedTo m n made s →
+      (map (λ (x : MadeCall). x .told) made ≡ map textAnswer (ledger m n (callsOf made)))
+      × (map (λ (x : MadeCall). x .after) made ≡ zipWith callLeaves (ledger m n (callsOf made)) (map (λ (x : MadeCall). x .before) made))
+  -- a call that one of the four checks answers changes neither the state nor its output (§15.8)
+  pub refused :
+      (m n : ℕ) (made : List MadeCall) (s next : Converter) (c : Call) (out out′ : List ℕ) (told : TextAnswer) → LedTo m n made s →
+      Called s c out told next out′ → checked m n (entriesOf m n made) c ≡ true → (next ≡ s) × (out′ ≡ out)
+  -- the outputs joined are the canonical text of the records completed in the bytes consumed before any fault (§16.7 §19.4)
+  pub joined :
+      (m n : ℕ) (d t : Dialect) (made : List MadeCall) (s : Converter) → dialectOf m ≡ some d → dialectOf n ≡ some t → LedTo m n made s →
+      joinedOutputs made ≡ tableText (into t) (rows (recordsOf (seenIn d (into t) (entriesOf m n made))))
+  -- once an end call was accepted, the whole converter accepts the bytes consumed too, and its text is the outputs joined (§16.6 §19.4)
+  pub whole-text :
+      (m n : ℕ) (made : List MadeCall) (s : Converter) → LedTo m n made s → endedIn (entriesOf m n made) ≡ true →
+      converter m n (consumedBy m n made) MAXFILE ≡ record { report = accepted; text = joinedOutputs made }
+  -- an end call that no check answers reports what the whole converter does for the bytes consumed (§16.6)
+  pub end-is-whole :
+      (m n : ℕ) (made : List MadeCall) (s next : Converter) (out out′ : List ℕ) (told : TextAnswer) → LedTo m n made s →
+      Called s (finish (length out)) out told next out′ → checked m n (entriesOf m n made) (finish (length out)) ≡ false →
+      told .report ≡ converter m n (consumedBy m n made) MAXFILE .report
+  -- and so does any call, of a piece too, that reports a file fault (§15.5 §16.5 §16.6)
+  pub fault-is-whole :
+      (m n : ℕ) (made : List MadeCall) (s : Converter) → LedTo m n made s →
+      All (λ (x : MadeCall). isFileFault (x .told .report) ≡ true → x .told .report ≡ converter m n (consumedBy m n made) MAXFILE .report) made
+  -- a fault that a piece call meets, and the records before it, are those of every file that begins with the bytes consumed (§16.5 §16.7)
+  pub fault-of-every-file :
+      (m n : ℕ) (d t : Dialect) (made : List MadeCall) (s next : Converter) (bs out out′ : List ℕ) (told : TextAnswer) → dialectOf m ≡ some d →
+      dialectOf n ≡ some t → LedTo m n made s → faultIn (entriesOf m n made) ≡ none → Called s (piece bs (length out)) out told next out′ →
+      isFileFault (told .report) ≡ true →
+      (e : Fault) × (r : Read) × (told .report ≡ faultReport e r)
+      × ((rest : Bytes) →
+      (readFile d (some (into t)) (consumedBy m n made ++ bs ++ rest) ≡ stopped e r)
+      × (converter m n (consumedBy m n made ++ bs ++ rest) MAXFILE .report ≡ told .report))
+  -- no call writes past its output, which is as long as it was: 49,152 bytes are always enough (§15.11)
+  pub room :
+      (m n : ℕ) (made : List MadeCall) (s : Converter) → LedTo m n made s →
+      All (λ (x : MadeCall). (x .told .length ≤ length (x .before)) × (length (x .after) ≡ length (x .before))) made
+  -- 10 is for the sizes alone, and never for a call that was taken (§15.7)
+  pub ten :
+      (m n : ℕ) (made : List MadeCall) (s : Converter) → LedTo m n made s →
+      All (λ (x : MadeCall). x .told .report .number ≡ 10 → tooSmall (x .call) ≡ true) made
+
 pub record Demands : Type 0 where
   pub one : Demand1
   pub two : Demand2
+  pub three : Demand3

@@ -1,37 +1,52 @@
--- A call that is taken answers as the machine of model does, and what is carried then stands where the machine stands: `Steps` of
--- model's Machine, for the calls that no check answers.
-use Prim.Native.Nat.{ℕ, suc, _+_, _≤_, _<_}
+-- A call that is taken answers as the machine of model does, and the state then stands where the machine stands. A new converter
+-- stands before the first byte.
+use Prim.Native.Nat.{ℕ, _≤_, _<_}
 use native.Mathlib.Omega.{arith}
 use mathlib.Core.Path.{_≡_, refl, sym, ap, ap₂, subst, _∙_}
 use mathlib.Core.Bool.{Bool, true, false, _||_}
 use mathlib.Core.Option.{Option, none, some}
-use mathlib.Core.List.{List, [], _∷_, _++_}
-use lib.ListN.{length, take, drop}
-use lib.Seq.{take-append-seam}
+use mathlib.Core.List.{List, [], _++_}
+use lib.ListN.{length, replicate, length-replicate}
 use lib.Dec.{ltb}
 use borrow.Author.Tests.{ltb-false}
-use Rattle.model.specs.Base.{if_then_else_, within, Bytes, over}
+use Rattle.model.specs.declared.Report.{Report}
+use Rattle.model.specs.declared.Dialect.{Dialect}
+use Rattle.model.specs.declared.Fault.{Fault}
+use Rattle.model.specs.declared.FileState.{FileState}
+use Rattle.model.specs.Base.{if_then_else_, Bytes}
 use Rattle.model.specs.Dialect.{dialectOf, into}
 use Rattle.model.specs.Text.{tableText}
 use Rattle.model.specs.Report.{accepted, numberOf, MAXRECORD, MAXCOLUMNS, MAXPIECE, LEASTOUTPUT}
-use Rattle.model.specs.Records.{Rec, rows, Read, Progress, going, stopped, nothingRead, readBytes, readFrom, readEnd, reportOf, recordsOf, faultReport}
+use Rattle.model.specs.Records.{Rec, rows, Read, Progress, going, stopped, nothingRead, readBytes, readFrom, readEnd, reportOf, faultReport}
 use Rattle.model.specs.Api.{Written}
-use Rattle.model.specs.Ledger.{Call, piece, finish, tooSmall, taken}
-use Rattle.model.specs.Machine.{ConverterStage, taking, faulted, ended, answerAt, stageAfter, stageThen, newText}
+use Rattle.model.specs.Ledger.{piece, finish, tooSmall, taken, callLeaves}
+use Rattle.model.specs.Machine.{taking, faulted, stageThen, newText, carries-known, carries-source, carries-target}
 use Rattle.model.specs.Scans.{Kept}
-use Rattle.model.proofs.Tests.{split, impossible, within-true}
+use Rattle.model.proofs.Tests.{impossible, within-true}
 use Rattle.model.proofs.Histories.{fault-number}
+use Rattle.model.proofs.MachineLaws.{machine}
+use Rattle.numbers.specs.Named.{textAnswer}
+use Rattle.numbers.specs.declared.TextAnswer.{TextAnswer}
 use Rattle.carried.specs.Checks.{Tells, tells-taking, tells-faulted, tells-ended}
+use Rattle.carried.specs.Codes.{stateFrom, fixedState}
 use Rattle.carried.specs.Sound.{atStart, order-end}
 use Rattle.carried.specs.declared.place.Place.{Place}
-use Rattle.pieces.specs.Types.{Report, Dialect, Target, Fault}
-use Rattle.pieces.specs.declared.walk.Taken.{Taken}
-use Rattle.pieces.specs.Holding.{readAt, Holding, keptNone}
-use Rattle.pieces.specs.Walking.{InBounds, Ready}
-use Rattle.pieces.specs.Taking.{Reached, Begun, Took, took-all, took-fault, Finished}
-use Rattle.pieces.specs.Carrying.{Carried, Takes, Models, models-taking, models-faulted, models-ended, carriedThen, answerOf}
-use Rattle.pieces.proofs.Turning.{first-holds, first-reads}
-use Rattle.pieces.proofs.Writes.{reached-on}
+use Rattle.carried.proofs.Codes.{state-back}
+use Rattle.walk.specs.declared.piece.Taken.{Taken}
+use Rattle.turn.specs.Holding.{readAt, Holding, keptNone}
+use Rattle.turn.specs.Walking.{InBounds, handIn}
+use Rattle.walk.specs.Taking.{Reached, Begun, Took, took-all, took-fault, Finished}
+use Rattle.turn.proofs.Turning.{first-holds, first-reads}
+use Rattle.walk.proofs.Writes.{reached-on}
+use Rattle.pieces.specs.States.{placeIn, numbersOf}
+use Rattle.pieces.specs.Carrying.{Takes, StageOf, stage-taking, stage-faulted, stage-ended, stage-no-source, stage-no-target}
+use Rattle.pieces.specs.Calling.{converterOf, newConverter, Carries}
+use Rattle.pieces.specs.declared.Converter.{Converter}
+
+-- a place comes back from the numbers of a state
+pub place-back : (p : Place) (over : ℕ) (e : Report) → placeIn (numbersOf p over e) ≡ p
+place-back p over e =
+    ap (λ (f : FileState). record { state = f; offset = p .offset; start = p .start; size = p .size; fill = p .fill; cells = p .cells; columns = p .columns; records = p .records; written = p .written }) (state-back (p .state))
 
 or-none : (a b : Bool) → (a || b) ≡ false → (a ≡ false) × (b ≡ false)
 or-none true b h = impossible (sym h)
@@ -41,82 +56,126 @@ or-none false b h = (refl, h)
 numbered : (x : Fault) (r : Read) → 0 < faultReport x r .number
 numbered x r = let z = within-true 1 9 (numberOf x) (fault-number x) in let low = z .0 in omega arith
 
--- what was written can be read off
-read-off : (new out out′ : Bytes) (n : ℕ) → out′ ≡ over new out → n ≡ length new → take n out′ ≡ new
-read-off new out out′ n e l = ap₂ (λ (m : ℕ) (x : Bytes). take m x) l e ∙ take-append-seam new (drop (length new) out)
+-- report, length and output say this answer
+pub record Says (told : TextAnswer) (out out′ : List ℕ) (a : Written) : Type 0 where
+  pub answer : told ≡ textAnswer a
+  pub leaves : out′ ≡ callLeaves a out
 
-module _ (d t : Dialect) (s : Carried) (done : List Rec) (k : Kept) (h : Takes d t s done k) where
+-- the state after a call that was taken
+abbrev pub stateThen : Converter → Taken → (over : ℕ) → (ends name-ends bytes names : List ℕ) → Converter
+stateThen s r over ends name-ends bytes names =
+    converterOf (s .source) (s .target) (numbersOf (r .place) over (r .report)) ends name-ends bytes names
+
+-- what is told of it
+abbrev pub toldOf : Taken → TextAnswer
+toldOf r = record { report = r .report; length = r .length }
+
+-- ---- a call that is taken
+
+module _ (d t : Dialect) (s : Converter) (done : List Rec) (k : Kept) (h : Takes d t s done k) where
   abbrev stood : Read
-  stood = readAt d (s .place) done k
+  stood = readAt d (placeIn (s .numbers)) done k
 
-  -- a call that is taken is ready and has begun
-  pub ready-piece : (bs out : Bytes) → Ready bs (s .place .offset) 0 (s .place) (s .bytes) (s .ends) out 0
-  ready-piece bs out = record { bounds = h .bounds; at = omega arith; inside = omega arith; room = omega arith; long-bytes = h .long-bytes; long-ends = h .long-ends }
+  -- it has begun
+  begun : (bs out : Bytes) → length bs ≤ MAXPIECE → LEASTOUTPUT ≤ length out → Begun d (into t) bs (placeIn (s .numbers)) (s .names) (s .«name_ends») (s .bytes) (s .ends) out done k
+  begun bs out short room = record { begins = record { hold = h .hold; reached = h .reached; short = short; room = room }; named = h .named }
 
-  pub begun-piece : (bs out : Bytes) → tooSmall (piece bs (length out)) ≡ false → Begun d (into t) bs (s .place) (s .bytes) (s .ends) out done k
+  pub begun-piece : (bs out : Bytes) → tooSmall (piece bs (length out)) ≡ false → Begun d (into t) bs (placeIn (s .numbers)) (s .names) (s .«name_ends») (s .bytes) (s .ends) out done k
   begun-piece bs out e =
       let x = or-none (ltb MAXPIECE (length bs)) (ltb (length out) LEASTOUTPUT) e in
-      record { hold = h .hold; reached = h .reached; short = ltb-false MAXPIECE (length bs) (x .0); room = ltb-false (length out) LEASTOUTPUT (x .1) }
+      begun bs out (ltb-false MAXPIECE (length bs) (x .0)) (ltb-false (length out) LEASTOUTPUT (x .1))
 
-  pub begun-end : (out : Bytes) → tooSmall (finish (length out)) ≡ false → Begun d (into t) [] (s .place) (s .bytes) (s .ends) out done k
+  pub begun-end : (out : Bytes) → tooSmall (finish (length out)) ≡ false → Begun d (into t) [] (placeIn (s .numbers)) (s .names) (s .«name_ends») (s .bytes) (s .ends) out done k
   begun-end out e =
       let x = or-none (ltb MAXPIECE 0) (ltb (length out) LEASTOUTPUT) e in
-      record { hold = h .hold; reached = h .reached; short = omega arith; room = ltb-false (length out) LEASTOUTPUT (x .1) }
+      begun [] out (omega arith) (ltb-false (length out) LEASTOUTPUT (x .1))
 
-  answer-is : (q : Progress) (r : Taken) (out out′ : Bytes) → r .report ≡ reportOf q → out′ ≡ over (newText (into t) done (recordsOf q)) out → r .length ≡ length (newText (into t) done (recordsOf q)) → answerOf r out′ ≡ taken (into t) (tableText (into t) (rows done)) q
-  unfolding newText
-  answer-is q r out out′ g w l = ap₂ (λ (x : Report) (y : Bytes). record { report = x; text = y }) g (read-off (newText (into t) done (recordsOf q)) out out′ (r .length) w l)
+  says :
+      (q : Progress) (r : Taken) (out out′ : Bytes) → r .report ≡ reportOf q → out′ ≡ callLeaves (taken (into t) (tableText (into t) (rows done)) q) out →
+      r .length ≡ length (taken (into t) (tableText (into t) (rows done)) q .text) → Says (toldOf r) out out′ (taken (into t) (tableText (into t) (rows done)) q)
+  says q r out out′ g w l = record { answer = ap₂ (λ (x : Report) (n : ℕ). record { report = x; length = n }) g l; leaves = w }
 
   module _ (m n : ℕ) (p : dialectOf m ≡ some d) (q : dialectOf n ≡ some t) where
     -- a piece
-    module _ (bs out : Bytes) (small : tooSmall (piece bs (length out)) ≡ false) (r : Taken) (bytes′ ends′ out′ : List ℕ) where
-      pub piece-answers : Took d (into t) bs (s .place) done k out bytes′ ends′ out′ r → answerOf r out′ ≡ answerAt d (into t) (taking stood) (piece bs (length out))
-      unfolding answerAt if_then_else_
-      piece-answers (took-all done′ k′ reads hold b g w l) =
-          rw small (rw reads (answer-is (going (readAt d (r .place) done′ k′)) r out out′ g w l))
-      piece-answers (took-fault x z reads g w l) = rw small (rw reads (answer-is (stopped x z) r out out′ g w l))
+    module _ (bs out : Bytes) (r : Taken) (ends′ name-ends′ bytes′ names′ out′ : List ℕ) where
+      pub piece-says :
+          Took d (into t) bs (placeIn (s .numbers)) done k out names′ name-ends′ bytes′ ends′ out′ r →
+          Says (toldOf r) out out′ (taken (into t) (tableText (into t) (rows done)) (readFrom d (some (into t)) (going stood) bs))
+      unfolding newText
+      piece-says (took-all done′ k′ reads hold named b g w l) = rw reads (says (going (readAt d (r .place) done′ k′)) r out out′ g w l)
+      piece-says (took-fault x z reads g w l) = rw reads (says (stopped x z) r out out′ g w l)
 
-      pub piece-models :
-          Took d (into t) bs (s .place) done k out bytes′ ends′ out′ r → length bytes′ ≡ length (s .bytes) → length ends′ ≡ length (s .ends) →
-          Models m n (stageAfter d (into t) (taking stood) (piece bs (length out))) (carriedThen r 0 bytes′ ends′)
-      unfolding stageAfter if_then_else_
-      piece-models (took-all done′ k′ reads hold b g w l) x y =
-          let zero-number : r .report .number ≡ 0 = ap (λ (e : Report). e .number) g in
+      pub piece-stage :
+          Took d (into t) bs (placeIn (s .numbers)) done k out names′ name-ends′ bytes′ ends′ out′ r → length names′ ≡ MAXRECORD → length name-ends′ ≡ MAXCOLUMNS → length bytes′ ≡ MAXRECORD →
+          length ends′ ≡ MAXCOLUMNS → StageOf m n (stageThen false (readFrom d (some (into t)) (going stood) bs)) (stateThen s r 0 ends′ name-ends′ bytes′ names′)
+      piece-stage (took-all done′ k′ reads hold named b g w l) long-names long-name-ends long-bytes long-ends =
+          let back : r .place ≡ placeIn (numbersOf (r .place) 0 (r .report)) = sym (place-back (r .place) 0 (r .report)) in
           let on : Reached d (into t) (readAt d (r .place) done′ k′) = record { consumed = h .reached .consumed ++ bs; reads = reached-on d (into t) (h .reached .consumed) stood (h .reached .reads) bs (readAt d (r .place) done′ k′) reads } in
-          rw small (rw reads (models-taking d t done′ k′ p q refl (tells-taking zero-number) (record { hold = hold; bounds = b; reached = on; long-bytes = x ∙ h .long-bytes; long-ends = y ∙ h .long-ends })))
-      piece-models (took-fault x z reads g w l) a b =
-          let told : Tells (faulted (faultReport x z)) (r .report) 0 = subst (λ (e : Report). Tells (faulted (faultReport x z)) e 0) (sym g) (tells-faulted (numbered x z)) in
-          rw small (rw reads (models-faulted told))
+          let takes : Takes d t (stateThen s r 0 ends′ name-ends′ bytes′ names′) done′ k′ = record {
+            hold = subst (λ (x : Place). Holding d (into t) x (handIn x names′ bytes′) (handIn x name-ends′ ends′) done′ k′) back hold;
+            named = named;
+            bounds = subst (λ (x : Place). InBounds x (handIn x name-ends′ ends′)) back b;
+            reached = subst (λ (x : Place). Reached d (into t) (readAt d x done′ k′)) back on;
+            long-names = long-names;
+            long-name-ends = long-name-ends;
+            long-bytes = long-bytes;
+            long-ends = long-ends;
+          } in
+          rw reads (stage-taking d t done′ k′ p q (ap (λ (x : Place). readAt d x done′ k′) back) (tells-taking (ap (λ (e : Report). e .number) g)) takes)
+      piece-stage (took-fault x z reads g w l) long-names long-name-ends long-bytes long-ends =
+          rw reads (stage-faulted (subst (λ (e : Report). Tells (faulted (faultReport x z)) e 0) (sym g) (tells-faulted (numbered x z))))
 
     -- the end
-    module _ (out : Bytes) (small : tooSmall (finish (length out)) ≡ false) (r : Taken) (out′ : List ℕ) (f : Finished d (into t) (s .place) done k out out′ r) where
-      pub end-answers : answerOf r out′ ≡ answerAt d (into t) (taking stood) (finish (length out))
-      unfolding answerAt if_then_else_
-      end-answers = rw small (answer-is (readEnd d (some (into t)) (going stood)) r out out′ (f .reports) (f .text) (f .long))
+    module _ (out : Bytes) (r : Taken) (ends′ name-ends′ bytes′ names′ out′ : List ℕ) (f : Finished d (into t) (placeIn (s .numbers)) done k out out′ r) where
+      pub end-says : Says (toldOf r) out out′ (taken (into t) (tableText (into t) (rows done)) (readEnd d (some (into t)) (going stood)))
+      unfolding newText
+      end-says = says (readEnd d (some (into t)) (going stood)) r out out′ (f .reports) (f .text) (f .long)
 
       -- the flag is 1 where the end was accepted; after a fault it is not asked
-      pub end-models : (bytes′ ends′ : List ℕ) → Models m n (stageAfter d (into t) (taking stood) (finish (length out))) (carriedThen r 1 bytes′ ends′)
-      unfolding stageAfter if_then_else_
-      end-models bytes′ ends′ = rw small (go (readEnd d (some (into t)) (going stood)) (f .reports))
+      pub end-stage : StageOf m n (stageThen true (readEnd d (some (into t)) (going stood))) (stateThen s r 1 ends′ name-ends′ bytes′ names′)
+      end-stage = go (readEnd d (some (into t)) (going stood)) (f .reports)
         where
-          go : (z : Progress) → r .report ≡ reportOf z → Models m n (stageThen true z) (carriedThen r 1 bytes′ ends′)
-          go (going y) g = let one : 0 < 1 = omega arith in models-ended (tells-ended (ap (λ (e : Report). e .number) g) one)
-          go (stopped x y) g = models-faulted (subst (λ (e : Report). Tells (faulted (faultReport x y)) e 1) (sym g) (tells-faulted (numbered x y)))
+          go : (z : Progress) → r .report ≡ reportOf z → StageOf m n (stageThen true z) (stateThen s r 1 ends′ name-ends′ bytes′ names′)
+          go (going y) g = let one : 0 < 1 = omega arith in stage-ended (tells-ended (ap (λ (e : Report). e .number) g) one)
+          go (stopped x y) g = stage-faulted (subst (λ (e : Report). Tells (faulted (faultReport x y)) e 1) (sym g) (tells-faulted (numbered x y)))
 
 -- ---- a new converter
 
+first-place : placeIn (replicate 14 0) ≡ atStart
+unfolding stateFrom fixedState if_then_else_
+first-place = refl
+
+zeros : (n : ℕ) → length (replicate {A = ℕ} n 0) ≡ n
+zeros n = length-replicate n 0
+
 -- nothing is read yet
-pub new-takes : (d t : Dialect) (bytes ends : List ℕ) → length bytes ≡ MAXRECORD → length ends ≡ MAXCOLUMNS → Takes d t (record { place = atStart; fault = accepted; over = 0; bytes = bytes; ends = ends }) [] (keptNone 0)
-unfolding readBytes readFrom nothingRead
-new-takes d t bytes ends x y =
+new-takes :
+    (d t : Dialect) (m n : ℕ) (ends name-ends bytes names : List ℕ) → length names ≡ MAXRECORD → length name-ends ≡ MAXCOLUMNS → length bytes ≡ MAXRECORD →
+    length ends ≡ MAXCOLUMNS → Takes d t (converterOf m n (replicate 14 0) ends name-ends bytes names) [] (keptNone 0)
+unfolding readBytes readFrom
+new-takes d t m n ends name-ends bytes names long-names long-name-ends long-bytes long-ends =
     let z : 0 ≤ 0 = omega arith in
+    let bounds : InBounds atStart (handIn atStart name-ends ends) = record { size = omega arith; fill = z; offset = omega arith; written = omega arith; records = z; cells = z; ordered = λ _. order-end z; between = λ _. (refl, refl) } in
+    let reached : Reached d (into t) (readAt d atStart [] (keptNone 0)) = record { consumed = []; reads = ap going (sym (first-reads d)) } in
     record {
-      hold = first-holds d (into t) bytes ends;
-      bounds = record { size = omega arith; fill = z; offset = omega arith; written = omega arith; records = z; cells = z; ordered = λ _. order-end z; between = λ _. (refl, refl) };
-      reached = record { consumed = []; reads = refl };
-      long-bytes = x;
-      long-ends = y;
+      hold = subst (λ (x : Place). Holding d (into t) x (handIn x names bytes) (handIn x name-ends ends) [] (keptNone 0)) (sym first-place) (first-holds d (into t) (handIn atStart names bytes) (handIn atStart name-ends ends));
+      named = tt;
+      bounds = subst (λ (x : Place). InBounds x (handIn x name-ends ends)) (sym first-place) bounds;
+      reached = subst (λ (x : Place). Reached d (into t) (readAt d x [] (keptNone 0))) (sym first-place) reached;
+      long-names = long-names;
+      long-name-ends = long-name-ends;
+      long-bytes = long-bytes;
+      long-ends = long-ends;
     }
 
-pub new-models : (m n : ℕ) (d t : Dialect) → dialectOf m ≡ some d → dialectOf n ≡ some t → (bytes ends : List ℕ) → length bytes ≡ MAXRECORD → length ends ≡ MAXCOLUMNS → Models m n (taking nothingRead) (record { place = atStart; fault = accepted; over = 0; bytes = bytes; ends = ends })
-new-models m n d t p q bytes ends x y = models-taking d t [] (keptNone 0) p q (sym (first-reads d)) (tells-taking refl) (new-takes d t bytes ends x y)
+-- a new converter has answered no calls
+pub new-carries : (m n : ℕ) → Carries m n [] (newConverter m n)
+new-carries m n = go (dialectOf m) (dialectOf n) refl refl
+  where
+    go : (x y : Option Dialect) → dialectOf m ≡ x → dialectOf n ≡ y → Carries m n [] (newConverter m n)
+    go none y p q = carries-source p (record { source = refl; target = refl; stage = stage-no-source p })
+    go (some d) none p q = carries-target q (record { source = refl; target = refl; stage = stage-no-target q })
+    go (some d) (some t) p q =
+        let takes : Takes d t (newConverter m n) [] (keptNone 0) = new-takes d t m n (replicate MAXCOLUMNS 0) (replicate MAXCOLUMNS 0) (replicate MAXRECORD 0) (replicate MAXRECORD 0) (zeros MAXRECORD) (zeros MAXCOLUMNS) (zeros MAXRECORD) (zeros MAXCOLUMNS) in
+        let reads : nothingRead ≡ readAt d (placeIn (replicate 14 0)) [] (keptNone 0) = sym (first-reads d) ∙ ap (λ (x : Place). readAt d x [] (keptNone 0)) (sym first-place) in
+        carries-known d t (taking nothingRead) p q (machine m n d t p q .new) (record { source = refl; target = refl; stage = stage-taking d t [] (keptNone 0) p q reads (tells-taking refl) takes })

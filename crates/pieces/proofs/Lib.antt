@@ -1,13 +1,2 @@
-pub mod Opening
-pub mod Scanning
-pub mod Faults
-pub mod Turning
-pub mod Ending
-pub mod Writes
-pub mod Kept
-pub mod Keeping
-pub mod Showing
-pub mod Walking
-pub mod Taking
-pub mod Finishing
 pub mod Carrying
+pub mod Calling

@@ -1,6 +1,3 @@
-pub mod Types
-pub mod Holding
-pub mod Completing
-pub mod Walking
-pub mod Taking
+pub mod States
 pub mod Carrying
+pub mod Calling

@@ -1,0 +1,48 @@
+-- What the piece and end calls promise, by the calls that a converter has answered before.
+use Prim.Native.Nat.{ℕ}
+use mathlib.Core.Path.{_≡_}
+use mathlib.Core.Bool.{true}
+use mathlib.Core.List.{List, [], _∷_, _++_}
+use lib.ListN.{length, replicate}
+use Rattle.model.specs.declared.Report.{Report}
+use Rattle.model.specs.Report.{MAXRECORD, MAXCOLUMNS}
+use Rattle.model.specs.Api.{unwritten}
+use Rattle.model.specs.Ledger.{Call, bytesOf, roomOf, Entry, answerNow, checked, callLeaves}
+use Rattle.model.specs.Machine as machine
+use Rattle.numbers.specs.Named.{textAnswer}
+use Rattle.numbers.specs.declared.TextAnswer.{TextAnswer}
+use Rattle.carried.specs.Checks.{checkNow}
+use Rattle.carried.specs.declared.checks.Check.the-variants.{Refused}
+use Rattle.pieces.specs.States.{endedIn, faultIn}
+use Rattle.pieces.specs.Carrying.{Models}
+use Rattle.pieces.specs.declared.Converter.{Converter}
+
+abbrev pub converterOf : (source target : ℕ) → (numbers ends name-ends bytes names : List ℕ) → Converter
+converterOf m n numbers ends name-ends bytes names =
+    record { source = m; target = n; numbers = numbers; ends = ends; «name_ends» = name-ends; bytes = bytes; names = names }
+
+-- before the first call (§15.1)
+abbrev pub newConverter : (source target : ℕ) → Converter
+newConverter m n =
+    converterOf m n (replicate 14 0) (replicate MAXCOLUMNS 0) (replicate MAXCOLUMNS 0) (replicate MAXRECORD 0) (replicate MAXRECORD 0)
+
+-- a converter made with these two numbers has answered these calls (§15.3)
+abbrev pub Carries : (source target : ℕ) → (past : List Entry) → Converter → Type 0
+Carries = machine.Carries Models
+
+-- the contract of a call, with this output before it and that after it (§15.3 §15.8 §16.3)
+pub record Called (s : Converter) (c : Call) (out : List ℕ) (told : TextAnswer) (next : Converter) (out′ : List ℕ) : Type 0 where
+  -- report and length are the ledger's
+  pub answer : (m n : ℕ) (past : List Entry) → Carries m n past s → told ≡ textAnswer (answerNow m n past c)
+  -- each byte of the output is of the ledger's text or as it was
+  pub leaves : (m n : ℕ) (past : List Entry) → Carries m n past s → out′ ≡ callLeaves (answerNow m n past c) out
+  -- the next state has answered this call too
+  pub carries :
+      (m n : ℕ) (past : List Entry) → Carries m n past s → Carries m n (past ++ (record { call = c; answer = answerNow m n past c } ∷ [])) next
+  -- one of the four checks leaves the state as it was
+  pub unchanged : (m n : ℕ) (past : List Entry) → Carries m n past s → checked m n past c ≡ true → next ≡ s
+  -- what holds of any state, made by calls or not: it keeps its dialects, and the four checks go by its numbers (§15.9)
+  pub dialects : (next .source ≡ s .source) × (next .target ≡ s .target)
+  pub checks :
+      (e : Report) → checkNow (s .source) (s .target) (faultIn (s .numbers)) (endedIn (s .numbers)) (length (bytesOf c)) (roomOf c) ≡ Refused e →
+      (told ≡ textAnswer (unwritten e)) × (next ≡ s) × (out′ ≡ out)

@@ -1,0 +1,34 @@
+-- The numbers of a state, as what they stand for.
+use Prim.Native.Nat.{ℕ}
+use mathlib.Core.List.{List, [], _∷_}
+use lib.ListN.{getD}
+use Rattle.model.specs.declared.Report.{Report}
+use Rattle.carried.specs.Codes.{stateNumber, stateFrom}
+use Rattle.carried.specs.declared.place.Place.{Place}
+
+-- where the conversion stands (§15.2)
+abbrev pub placeIn : List ℕ → Place
+placeIn n =
+    record {
+      state = stateFrom (getD n 0 0);
+      offset = getD n 1 0;
+      start = getD n 2 0;
+      size = getD n 3 0;
+      fill = getD n 4 0;
+      cells = getD n 5 0;
+      columns = getD n 6 0;
+      records = getD n 7 0;
+      written = getD n 8 0;
+    }
+
+-- above 0 once an end was accepted (§15.6)
+abbrev pub endedIn : List ℕ → ℕ
+endedIn n = getD n 9 0
+
+-- the report of the fault that was met; its number is 0 before (§15.5)
+abbrev pub faultIn : List ℕ → Report
+faultIn n = record { number = getD n 10 0; record_number = getD n 11 0; column = getD n 12 0; offset = getD n 13 0 }
+
+abbrev pub numbersOf : Place → (ended : ℕ) → Report → List ℕ
+numbersOf p ended e =
+    stateNumber (p .state) ∷ p .offset ∷ p .start ∷ p .size ∷ p .fill ∷ p .cells ∷ p .columns ∷ p .records ∷ p .written ∷ ended ∷ e .number ∷ e .record_number ∷ e .column ∷ e .offset ∷ []

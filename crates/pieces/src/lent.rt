@@ -1,0 +1,90 @@
+// The calls over a state that is lent field by field, so that nothing is copied.
+ghost use lib.ListN.{length};
+ghost use Rattle.model.specs.Ledger.{piece, finish};
+ghost use Rattle.pieces.specs.Calling.{converterOf, Called};
+use crate::state;
+use carried::checks;
+use carried::checks::Check;
+use numbers::TextAnswer;
+use walk::bounds;
+
+// The next bytes of the file.
+pub fn piece(
+    source: u32,
+    target: u32,
+    numbers: &mut [usize; 14],
+    ends: &mut [usize; 64],
+    name_ends: &mut [usize; 64],
+    bytes: &mut [u8; 4096],
+    names: &mut [u8; 4096],
+    input: &[u8],
+    out: &mut [u8],
+) -> TextAnswer
+    ensures { λ r. ⌜ Called (converterOf source target (now (numbers .entry)) (now (ends .entry)) (now («name_ends» .entry)) (now (bytes .entry)) (now (names .entry))) (piece (now (input .entry)) (length (now (out .entry)))) (now (out .entry)) r (converterOf source target (now (numbers .exit)) (now (ends .exit)) (now («name_ends» .exit)) (now (bytes .exit)) (now (names .exit))) (now (out .exit)) ⌝ }
+{
+    let before = *numbers;
+    match checks::checked(
+        source,
+        target,
+        state::fault_in(before),
+        before[state::ENDED],
+        input.len(),
+        out.len(),
+    ) {
+        Check::Refused(e) => numbers::refused(e),
+        Check::Taken(d, t) => {
+            let p = state::place_in(before);
+            if !bounds::is_in_bounds(p, name_ends, ends) {
+                return numbers::refused(numbers::on_call(numbers::UNKNOWN_DIALECT));
+            }
+            let r = walk::piece::take(d, t, input, p, names, name_ends, bytes, ends, out);
+            let e = r.report;
+            let after = state::numbers_of(r.place, 0, e);
+            *numbers = after;
+            TextAnswer {
+                report: e,
+                length: r.length,
+            }
+        }
+    }
+}
+
+// The end of the file.
+pub fn end(
+    source: u32,
+    target: u32,
+    numbers: &mut [usize; 14],
+    ends: &mut [usize; 64],
+    name_ends: &mut [usize; 64],
+    bytes: &mut [u8; 4096],
+    names: &mut [u8; 4096],
+    out: &mut [u8],
+) -> TextAnswer
+    ensures { λ r. ⌜ Called (converterOf source target (now (numbers .entry)) (now (ends .entry)) (now («name_ends» .entry)) (now (bytes .entry)) (now (names .entry))) (finish (length (now (out .entry)))) (now (out .entry)) r (converterOf source target (now (numbers .exit)) (now (ends .exit)) (now («name_ends» .exit)) (now (bytes .exit)) (now (names .exit))) (now (out .exit)) ⌝ }
+{
+    let before = *numbers;
+    match checks::checked(
+        source,
+        target,
+        state::fault_in(before),
+        before[state::ENDED],
+        0,
+        out.len(),
+    ) {
+        Check::Refused(report) => numbers::refused(report),
+        Check::Taken(d, t) => {
+            let p = state::place_in(before);
+            if !bounds::is_in_bounds(p, name_ends, ends) {
+                return numbers::refused(numbers::on_call(numbers::UNKNOWN_DIALECT));
+            }
+            let r = ending::finish(d, t, p, names, name_ends, bytes, ends, out);
+            let e = r.report;
+            let after = state::numbers_of(r.place, 1, e);
+            *numbers = after;
+            TextAnswer {
+                report: e,
+                length: r.length,
+            }
+        }
+    }
+}
