@@ -1,5 +1,5 @@
 #!/usr/bin/env bash
-# Measures the proved reader and converter against memcpy, the second program and, where Debian's packages librust-csv-dev and
+# Measures the proved reader and converters against memcpy, the second program and, where Debian's packages librust-csv-dev and
 # librust-serde-json-dev are installed, csv-core, csv and serde_json. Without a folder it makes its own tables.
 #
 #   ./benchmark.sh [FOLDER [ROUNDS]]

@@ -4,10 +4,12 @@
    Every call
    - asks that each pointer leads to as many elements as the length beside it says (with length 0 it may be NULL), and that no lent
      list overlaps another or what is read. It asks nothing else: every number and all bytes have an answer.
-   - ends, and writes to what it was lent and nowhere else. On refusal every lent element is as it was.
+   - ends, and writes to what it was lent and nowhere else. On refusal every lent element is as it was, save where a call of a converter
+     meets a fault of the file (below).
    - keeps nothing and allocates nothing, so that threads may call at the same time, each with what it lends itself.
-   - takes stack: hk_read and hk_convert about 11 KB at most, hk_write 5 KB, hk_decode 0.6 KB. This is measured by the tests and not
-     proved. */
+   - takes stack: hk_read and hk_convert about 11 KB at most, hk_write 5 KB, hk_decode 0.6 KB, hk_converter_piece and hk_converter_end
+     12 KB, hk_converter_new 10 KB, hk_piece and hk_end 40 KB with the states that go in and come out. This is measured by the
+     tests and not proved. */
 #ifndef HEMAKULIWI_H
 #define HEMAKULIWI_H
 
@@ -24,6 +26,10 @@
 #define HK_FILE_BYTES 16777215
 #define HK_RECORD_BYTES 4096
 #define HK_COLUMNS 64
+
+/* What a converter takes in one call at most, and the output that each call asks for, which is enough for all that it can write. */
+#define HK_PIECE_BYTES 4096
+#define HK_PIECE_ROOM 49152
 
 /* Room that is enough for what a file of so many bytes is converted to: 6 bytes for each byte of the file, and 6 for a last record
    without an ending. */
@@ -47,7 +53,7 @@ enum hk_kind {
     HK_NULL = 5
 };
 
-/* The numbers of a report. 9 comes from hk_convert and hk_write only, 12 from hk_write only. */
+/* The numbers of a report. 9 comes from hk_convert, hk_write and converters only, 12 from hk_write only. */
 enum hk_report_number {
     HK_ACCEPTED = 0,
     HK_NO_RECORD = 1,      /* the file ends before a record begins */
@@ -59,8 +65,8 @@ enum hk_report_number {
     HK_HEADER_KIND = 7,    /* a header cell is not text */
     HK_LIMIT = 8,          /* more bytes or columns than the limits allow */
     HK_NOT_CARRIED = 9,    /* the target can't carry the record */
-    HK_ROOM = 10,          /* what was lent is too short, and nothing else is wrong */
-    HK_WRONG_CALL = 11,    /* an unknown dialect number */
+    HK_ROOM = 10,          /* what was lent is too short, or a piece too long, and nothing else is wrong */
+    HK_WRONG_CALL = 11,    /* an unknown dialect number, or a call after an accepted end */
     HK_NO_TABLE = 12       /* what is to be written is no table */
 };
 
@@ -98,7 +104,7 @@ struct hk_decode_answer {
    the content are left as they were. Every cell that hk_read finds is sound; HK_ROOM only if the content is longer than the room. */
 struct hk_decode_answer hk_decode(uint32_t dialect, const uint8_t *raw, size_t raw_length, uint8_t *room, size_t room_length);
 
-/* On refusal the length is 0. */
+/* On refusal the length is 0, save where a converter meets a fault: then it is that of the records before it. */
 struct hk_text_answer {
     struct hk_report report;
     size_t length;
@@ -122,6 +128,83 @@ struct hk_text_answer hk_convert(uint32_t from, uint32_t to, const uint8_t *file
 struct hk_text_answer hk_write(uint32_t dialect, const uint8_t *content, size_t content_length, const size_t *starts, size_t starts_length,
                                const size_t *ends, size_t ends_length, const uint8_t *kinds, size_t kinds_length, size_t columns,
                                size_t records, uint8_t *room, size_t room_length);
+
+/* A converter: a file comes in pieces, and its records go out as they complete (docs/RULES.md, section 15).
+
+     struct hk_converter converter = hk_converter_new(HK_CSV_PLUS, HK_CSVJ);
+     hk_converter_piece(&converter, piece, piece_length, out, sizeof out);   for each piece of the file, in order
+     hk_converter_end(&converter, out, sizeof out);                          after the last
+
+   It is plain data: it may be copied and kept, and be any numbers and bytes. Zeros are a converter of no dialect. With one that no calls
+   have made, such as one that was changed in between, a call is checked as below by the numbers that it finds, ends and stays inside what
+   it was lent; what it answers and writes may be anything.
+
+   Name k of the header, counted from 0, stands in `names` from 0 or name_ends[k - 1] up to name_ends[k], as it is spelt in the file, for
+   k below numbers[HK_AT_COLUMNS]; hk_decode gives its content. It is there once numbers[HK_AT_RECORDS] is above 0, and stays there after a
+   fault, so that a program can name the column. */
+struct hk_converter {
+    uint32_t source;
+    uint32_t target;
+    size_t numbers[14];
+    size_t ends[HK_COLUMNS];
+    size_t name_ends[HK_COLUMNS];
+    uint8_t bytes[HK_RECORD_BYTES];
+    uint8_t names[HK_RECORD_BYTES];
+};
+
+/* The places of `numbers` that are of use to a program. A last record that the end completes is not counted. */
+enum hk_converter_number {
+    HK_AT_OFFSET = 1,  /* how many bytes of the file were taken, as long as no fault was met */
+    HK_AT_COLUMNS = 6, /* the number of columns, once the header is complete */
+    HK_AT_RECORDS = 7  /* how many records are complete, the header too */
+};
+
+/* A converter before its first call. The numbers may be any: with one of no dialect every call is refused. */
+struct hk_converter hk_converter_new(uint32_t from, uint32_t to);
+
+/* What a call answers, and the converter for the next one. */
+struct hk_piece_answer {
+    struct hk_text_answer answer;
+    struct hk_converter next;
+};
+
+/* The next bytes of the file, and its end. A call writes to `out` the canonical text of the records that it completes: at their LF, in TDIF
+   at a CR, and at the end the last record of CSV+ if it has no ending. Bytes past the length are left as they were. It is checked in this
+   order:
+
+   - HK_WRONG_CALL if the converter was made with an unknown dialect number;
+   - the same report again if an earlier call has met a fault of the file, which is any of 1 to 9;
+   - HK_WRONG_CALL if an end was accepted before;
+   - HK_ROOM if the piece has more than HK_PIECE_BYTES bytes or the output fewer than HK_PIECE_ROOM.
+
+   A call that is refused so has length 0, and leaves the output and the converter as they were: after HK_ROOM it can be made once more with
+   other sizes. Else a piece is refused with the first fault at one of its bytes or of a record that it completes, and the end with what
+   hk_convert reports for all bytes together. A piece that meets a fault has written the records before it, as its length says; an end that
+   meets one has written nothing.
+
+   Here the converter goes in and comes out by value, 9 KB each way. */
+struct hk_piece_answer hk_piece(struct hk_converter converter, const uint8_t *piece, size_t piece_length, uint8_t *out, size_t out_length);
+struct hk_piece_answer hk_end(struct hk_converter converter, uint8_t *out, size_t out_length);
+
+/* The same over the fields of a converter where they are, so that nothing is copied. */
+struct hk_text_answer hk_piece_lent(uint32_t source, uint32_t target, size_t numbers[14], size_t ends[HK_COLUMNS],
+                                    size_t name_ends[HK_COLUMNS], uint8_t bytes[HK_RECORD_BYTES], uint8_t names[HK_RECORD_BYTES],
+                                    const uint8_t *piece, size_t piece_length, uint8_t *out, size_t out_length);
+struct hk_text_answer hk_end_lent(uint32_t source, uint32_t target, size_t numbers[14], size_t ends[HK_COLUMNS],
+                                  size_t name_ends[HK_COLUMNS], uint8_t bytes[HK_RECORD_BYTES], uint8_t names[HK_RECORD_BYTES],
+                                  uint8_t *out, size_t out_length);
+
+/* The same over a converter, which is what a program calls. */
+static inline struct hk_text_answer hk_converter_piece(struct hk_converter *converter, const uint8_t *piece, size_t piece_length,
+                                                       uint8_t *out, size_t out_length) {
+    return hk_piece_lent(converter->source, converter->target, converter->numbers, converter->ends, converter->name_ends, converter->bytes,
+                         converter->names, piece, piece_length, out, out_length);
+}
+
+static inline struct hk_text_answer hk_converter_end(struct hk_converter *converter, uint8_t *out, size_t out_length) {
+    return hk_end_lent(converter->source, converter->target, converter->numbers, converter->ends, converter->name_ends, converter->bytes,
+                       converter->names, out, out_length);
+}
 
 #ifdef __cplusplus
 }

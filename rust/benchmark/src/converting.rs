@@ -1,12 +1,53 @@
-//! Whole files, converted.
+//! Files converted, as a whole and in pieces.
 
 use crate::measure::{turn_by_turn, Contestant, Speeds};
 use crate::workload::{name_of, Table};
-use harness::compare::proved_converter;
+use harness::compare::{proved_converter, proved_start};
 use harness::rooms::WholeConverter;
 use harness::whole::{convert_room, convert_whole};
+use reference::limits::PIECE_ROOM;
 use reference::{convert, Dialect};
 use std::hint::black_box;
+
+/// How a file is handed over in pieces.
+struct Pieces {
+    name: &'static str,
+    size: usize,
+    /// With the state by value, or lent.
+    by_value: bool,
+}
+
+const fn lent(name: &'static str, size: usize) -> Pieces {
+    let by_value = false;
+    Pieces {
+        name,
+        size,
+        by_value,
+    }
+}
+
+const fn by_value(name: &'static str, size: usize) -> Pieces {
+    let by_value = true;
+    Pieces {
+        name,
+        size,
+        by_value,
+    }
+}
+
+/// For each pair of dialects.
+const LENT: [Pieces; 3] = [
+    lent("in pieces of 4,096", 4_096),
+    lent("in pieces of 512", 512),
+    lent("in pieces of 64", 64),
+];
+
+/// From CSV+ to CSVJ.
+const BY_VALUE: [Pieces; 3] = [
+    by_value("4,096, by value", 4_096),
+    by_value("512, by value", 512),
+    by_value("64, by value", 64),
+];
 
 /// Another converter, made of other libraries.
 pub struct ConvertingPeer {
@@ -25,8 +66,8 @@ pub struct ConvertingPeer {
 /// What the columns are.
 pub fn print_head() {
     println!(
-        "\nconverting: MB of the file a second; 'of peer' is the proved converter's speed as a part of the peer's, which \
-         writes the same text"
+        "\nconverting, as a whole and in pieces: MB of the file a second; 'of peer' is the proved converter's speed as a part \
+         of the peer's, which writes the same text as a whole"
     );
     println!(
         "  {:27} {:>9} {:>9}   {:>9} {:>9}   {:>9} {:>9}   {:>9} {:>9}",
@@ -59,7 +100,14 @@ pub fn compare(
     {
         return Err(format!("{title}: the texts differ"));
     }
+    let pieces = pieces_between(table.dialect, target);
+    for pieces in &pieces {
+        if converted_in_pieces(pieces, (from, to), file) != text {
+            return Err(format!("{title}, {}: the texts differ", pieces.name));
+        }
+    }
     let peer = peer_of(peers, table, target, &text);
+    let mut outputs = vec![vec![0; PIECE_ROOM]; pieces.len()];
     let mut written = Vec::with_capacity(convert_room(file.len()));
     let mut contestants = vec![
         contestant(
@@ -79,10 +127,70 @@ pub fn compare(
         };
         contestants.push(Contestant::new(peer.name, input, work).told_for(file.len()));
     }
+    let others = contestants.len();
+    for (pieces, out) in pieces.iter().zip(&mut outputs) {
+        contestants.push(Contestant::new(pieces.name, file, move |file| {
+            in_pieces(pieces, (from, to), file, out, |text| {
+                black_box(text);
+            })
+        }));
+    }
     let speeds = turn_by_turn(&mut contestants, rounds, text.len(), "bytes")
         .map_err(|error| format!("{title}: {error}"))?;
-    print_speeds(&title, &speeds);
+    let (whole, pieces) = speeds.split_at(others);
+    print_speeds(&title, whole);
+    for speed in pieces {
+        print_pieces(speed, whole.get(2));
+    }
     Ok(())
+}
+
+/// How a file of this dialect is handed over in pieces, to be converted to that.
+fn pieces_between(source: Dialect, target: Dialect) -> Vec<&'static Pieces> {
+    let by_value = (source, target) == (Dialect::CsvPlus, Dialect::Csvj);
+    let more = if by_value { &BY_VALUE[..] } else { &[] };
+    LENT.iter().chain(more).collect()
+}
+
+/// Converts a file in pieces, each time into the same output, and gives how many bytes were written; none on refusal.
+fn in_pieces(
+    pieces: &Pieces,
+    (from, to): (u32, u32),
+    file: &[u8],
+    out: &mut [u8],
+    mut take: impl FnMut(&[u8]),
+) -> usize {
+    let mut state = proved_start(from, to);
+    let mut written = 0;
+    let parts = file.chunks(pieces.size).map(Some).chain([None]);
+    for part in parts {
+        let answer = match (part, pieces.by_value) {
+            (Some(piece), false) => state.piece(piece, out),
+            (None, false) => state.end(out),
+            (_, true) => {
+                let done = match part {
+                    Some(piece) => state.piece_by_value(piece, out),
+                    None => state.end_by_value(out),
+                };
+                state = done.next;
+                done.answer
+            }
+        };
+        if answer.report.number != 0 {
+            return 0;
+        }
+        take(&out[..answer.length]);
+        written += answer.length;
+    }
+    written
+}
+
+fn converted_in_pieces(pieces: &Pieces, pair: (u32, u32), file: &[u8]) -> Vec<u8> {
+    let mut text = Vec::new();
+    in_pieces(pieces, pair, file, &mut vec![0; PIECE_ROOM], |part| {
+        text.extend(part);
+    });
+    text
 }
 
 fn contestant<'a>(
@@ -143,6 +251,22 @@ fn print_speeds(title: &str, speeds: &[Speeds]) {
             proved.best / peer.best,
             proved.median / peer.median,
             peer.name
+        ),
+    }
+}
+
+/// A line below that of the whole file.
+fn print_pieces(speed: &Speeds, peer: Option<&Speeds>) {
+    print!(
+        "    {:25} {:>9.1} {:>9.1}   {:>9} {:>9}   {:>9} {:>9}",
+        speed.name, speed.best, speed.median, "", "", "", ""
+    );
+    match peer {
+        None => println!(),
+        Some(peer) => println!(
+            "   {:>9.3} {:>9.3}",
+            speed.best / peer.best,
+            speed.median / peer.median
         ),
     }
 }

@@ -1,5 +1,5 @@
-//! Measures the proved reader against memcpy, the reference and other readers, and the proved converter against the
-//! reference and other libraries, and prints all in one run.
+//! Measures the proved reader against memcpy, the reference and other readers, and the proved converters, of whole files and of
+//! files in pieces, against the reference and other libraries, and prints all in one run.
 //!
 //! Everything goes over the same tables turn by turn, has to find as many cells as the reference, or to write the same
 //! text, and is told in MB (10^6 bytes) a second: by the best round and by the median one. Others are handed in as peers,

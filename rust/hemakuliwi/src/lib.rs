@@ -32,6 +32,22 @@
 //! assert_eq!(&room[..text.length], b"stop,note\r\nHarbour,\"say \"\"Mint\"\"\"\r\n");
 //! ```
 //!
+//! A file that comes in pieces is converted as it comes: each call writes the records that it completes. How much room is enough is
+//! always the same:
+//!
+//! ```
+//! use hemakuliwi::{Converter, CSVJ, CSV_PLUS, PIECE_ROOM};
+//! let mut out = vec![0; PIECE_ROOM];
+//! let mut converter = Converter::new(CSV_PLUS, CSVJ);
+//! let first = converter.piece(b"stop,note\nHarbour,\"say \"", &mut out);
+//! assert_eq!(&out[..first.length], b"\"stop\",\"note\"\n");
+//! assert_eq!(converter.name(1), Some(&b"note"[..]));
+//! let second = converter.piece(b"\"Mint\"\"\"", &mut out);
+//! assert_eq!((second.report.number, second.length), (0, 0));
+//! let last = converter.end(&mut out);
+//! assert_eq!(&out[..last.length], b"\"Harbour\",\"say \\\"Mint\\\"\"\n");
+//! ```
+//!
 //! A table is written from stretches of content, record by record:
 //!
 //! ```
@@ -79,6 +95,11 @@ pub const RECORD_BYTES: usize = 4_096;
 /// The most columns in a table.
 pub const COLUMNS: usize = 64;
 
+/// The most bytes in a piece of a converter.
+pub const PIECE_BYTES: usize = 4_096;
+/// The fewest bytes of output that a call of a converter asks for, which are enough for all that it can write.
+pub const PIECE_ROOM: usize = 49_152;
+
 /// What a call says: acceptance, which is all 0, or which fault and where.
 #[repr(C)]
 #[derive(Clone, Copy, Debug, PartialEq, Eq)]
@@ -119,14 +140,52 @@ pub struct DecodeAnswer {
     pub kind: usize,
 }
 
-/// What the converter and the writer answer.
+/// What the converters and the writer answer.
 #[repr(C)]
 #[derive(Clone, Copy, Debug, PartialEq, Eq)]
 pub struct TextAnswer {
     /// Acceptance, or the first fault.
     pub report: Report,
-    /// The text's length; 0 on refusal.
+    /// The text's length; 0 on refusal, save for a piece that meets a fault: then it is that of the records before it.
     pub length: usize,
+}
+
+/// Where `Converter::numbers` has how many bytes of the file were taken, as long as no fault was met.
+pub const AT_OFFSET: usize = 1;
+/// Where `Converter::numbers` has the number of columns, once the header is complete.
+pub const AT_COLUMNS: usize = 6;
+/// Where `Converter::numbers` has how many records are complete, the header too. A last one that the end completes is not counted.
+pub const AT_RECORDS: usize = 7;
+
+/// A converter of a file that comes in pieces. It is plain data, and with any numbers and bytes each call ends and stays inside what it
+/// was lent.
+#[repr(C)]
+#[derive(Clone, Debug, PartialEq, Eq)]
+pub struct Converter {
+    /// The number of the file's dialect.
+    pub source: u32,
+    /// The number of the dialect that is written.
+    pub target: u32,
+    /// Where the conversion stands.
+    pub numbers: [usize; 14],
+    /// Where the complete cells of the record in hand end in `bytes`.
+    pub ends: [usize; COLUMNS],
+    /// Where the names of the header end in `names`.
+    pub name_ends: [usize; COLUMNS],
+    /// The record in hand.
+    pub bytes: [u8; RECORD_BYTES],
+    /// The names of the header, as they are spelt in the file.
+    pub names: [u8; RECORD_BYTES],
+}
+
+/// What a call by value answers, and the converter for the next one.
+#[repr(C)]
+#[derive(Clone, Debug, PartialEq, Eq)]
+pub struct PieceAnswer {
+    /// The call's answer.
+    pub answer: TextAnswer,
+    /// The converter after the call.
+    pub next: Converter,
 }
 
 /// A table for the writer: its cells record by record, as stretches of the content.
@@ -191,6 +250,44 @@ extern "C" {
         records: usize,
         room: *mut u8,
         room_length: usize,
+    ) -> TextAnswer;
+
+    fn hk_converter_new(from: u32, to: u32) -> Converter;
+
+    fn hk_piece(
+        converter: Converter,
+        piece: *const u8,
+        piece_length: usize,
+        out: *mut u8,
+        out_length: usize,
+    ) -> PieceAnswer;
+
+    fn hk_end(converter: Converter, out: *mut u8, out_length: usize) -> PieceAnswer;
+
+    fn hk_piece_lent(
+        source: u32,
+        target: u32,
+        numbers: *mut usize,
+        ends: *mut usize,
+        name_ends: *mut usize,
+        bytes: *mut u8,
+        names: *mut u8,
+        piece: *const u8,
+        piece_length: usize,
+        out: *mut u8,
+        out_length: usize,
+    ) -> TextAnswer;
+
+    fn hk_end_lent(
+        source: u32,
+        target: u32,
+        numbers: *mut usize,
+        ends: *mut usize,
+        name_ends: *mut usize,
+        bytes: *mut u8,
+        names: *mut u8,
+        out: *mut u8,
+        out_length: usize,
     ) -> TextAnswer;
 }
 
@@ -276,5 +373,83 @@ pub fn write(dialect: u32, table: Table, room: &mut [u8]) -> TextAnswer {
             room.as_mut_ptr(),
             room.len(),
         )
+    }
+}
+
+impl Converter {
+    /// A converter before its first call. The numbers may be any: with one of no dialect every call is refused.
+    pub fn new(from: u32, to: u32) -> Self {
+        // SAFETY: the call is given two numbers.
+        unsafe { hk_converter_new(from, to) }
+    }
+
+    /// The next bytes of the file. Past the length, and on a refusal that meets no fault, the output is left as it was.
+    pub fn piece(&mut self, piece: &[u8], out: &mut [u8]) -> TextAnswer {
+        // SAFETY: the slices and the fields are alive for the call and do not overlap, and the call is proved to stay inside them.
+        unsafe {
+            hk_piece_lent(
+                self.source,
+                self.target,
+                self.numbers.as_mut_ptr(),
+                self.ends.as_mut_ptr(),
+                self.name_ends.as_mut_ptr(),
+                self.bytes.as_mut_ptr(),
+                self.names.as_mut_ptr(),
+                piece.as_ptr(),
+                piece.len(),
+                out.as_mut_ptr(),
+                out.len(),
+            )
+        }
+    }
+
+    /// The end of the file. Past the length, and on refusal, the output is left as it was.
+    pub fn end(&mut self, out: &mut [u8]) -> TextAnswer {
+        // SAFETY: the slice and the fields are alive for the call and do not overlap, and the call is proved to stay inside them.
+        unsafe {
+            hk_end_lent(
+                self.source,
+                self.target,
+                self.numbers.as_mut_ptr(),
+                self.ends.as_mut_ptr(),
+                self.name_ends.as_mut_ptr(),
+                self.bytes.as_mut_ptr(),
+                self.names.as_mut_ptr(),
+                out.as_mut_ptr(),
+                out.len(),
+            )
+        }
+    }
+
+    /// As `piece`, with the converter by value.
+    pub fn piece_by_value(self, piece: &[u8], out: &mut [u8]) -> PieceAnswer {
+        // SAFETY: the slices are alive for the call and do not overlap, and the call is proved to stay inside them.
+        unsafe {
+            hk_piece(
+                self,
+                piece.as_ptr(),
+                piece.len(),
+                out.as_mut_ptr(),
+                out.len(),
+            )
+        }
+    }
+
+    /// As `end`, with the converter by value.
+    pub fn end_by_value(self, out: &mut [u8]) -> PieceAnswer {
+        // SAFETY: the slice is alive for the call, and the call is proved to stay inside it.
+        unsafe { hk_end(self, out.as_mut_ptr(), out.len()) }
+    }
+
+    /// A name of the header as it is spelt in the file, by its place counted from 0, once a piece has completed the header.
+    pub fn name(&self, index: usize) -> Option<&[u8]> {
+        if self.numbers[AT_RECORDS] == 0 || index >= self.numbers[AT_COLUMNS] {
+            return None;
+        }
+        let start = match index {
+            0 => 0,
+            _ => *self.name_ends.get(index - 1)?,
+        };
+        self.names.get(start..*self.name_ends.get(index)?)
     }
 }
