@@ -1,7 +1,7 @@
 #!/usr/bin/env bash
 # Passes the tests: the layout of the Rattle files, the proofs, the vectors computed by the definitions, the library that the proofs
-# allow, and the tests of Rust and C callers, whose texts python3 reads where it is installed. Stops at the first failure and says
-# where. The last line is the verdict of `rt ci`, and stands there only if everything passed.
+# allow, and the tests of the program and of Rust and C callers, whose texts python3 reads where it is installed. Stops at the first
+# failure and says where. The last line is the verdict of `rt ci`, and stands there only if everything passed.
 set -euo pipefail
 cd "$(dirname "$0")"
 

@@ -2,11 +2,18 @@
 
 mod convert;
 mod decode;
+mod made_up;
+mod pieces;
 mod read;
 mod write;
 
 pub use convert::{convert_agrees, convert_in_rooms, convert_random, proved_converter};
 pub use decode::{decode_agrees, decode_random};
+pub use made_up::{made_up_random, MadeUpCounts};
+pub use pieces::{
+    output, pieces_random, proved_by_value, proved_lent, proved_start, PieceComparison,
+    PieceConverter, Trial, PROVED_PIECES,
+};
 pub use read::{proved_reader, read_agrees, read_in_rooms, read_random};
 pub use write::{proved_writer, write_agrees, write_in_rooms, write_random};
 

@@ -2,6 +2,7 @@
 //! states the vectors for the prover.
 
 pub mod antt;
+pub mod calls;
 #[cfg(feature = "proved")]
 pub mod compare;
 pub mod conformance;

@@ -1,10 +1,10 @@
 //! Other programs, run by the tests.
 
 use std::ffi::OsStr;
-use std::io::Write;
+use std::io::{ErrorKind, Write};
 use std::process::{Command, Output, Stdio};
 
-/// Runs a program that reads all of its input before it says much.
+/// Runs a program that reads all of its input before it says much, or stops reading.
 pub fn run(program: impl AsRef<OsStr>, arguments: &[&str], input: &[u8]) -> Output {
     let mut child = Command::new(program)
         .args(arguments)
@@ -14,7 +14,9 @@ pub fn run(program: impl AsRef<OsStr>, arguments: &[&str], input: &[u8]) -> Outp
         .spawn()
         .expect("the program starts");
     let mut stdin = child.stdin.take().expect("standard input is piped");
-    stdin.write_all(input).expect("it reads all");
+    if let Err(error) = stdin.write_all(input) {
+        assert_eq!(error.kind(), ErrorKind::BrokenPipe);
+    }
     drop(stdin);
     child.wait_with_output().expect("the program ends")
 }

@@ -469,7 +469,32 @@ fn converted_by(source: u32, target: u32, file: &[u8], size: usize) -> Result<An
     Err("no end call was made".to_string())
 }
 
-fn check_piece_calls(source: u32, target: u32, calls: &[PieceCall]) -> Result<(), String> {
+/// Makes the calls of a case; each answer has to be the expected one.
+pub fn check_pieces(
+    calls: &[PieceCall],
+    mut make: impl FnMut(&LedgerCall) -> Result<Answer, String>,
+) -> Result<(), String> {
+    with_calls(calls, |made| {
+        for (index, (call, expected)) in made.iter().zip(calls).enumerate() {
+            let answer = make(call)?;
+            let report = expected.fault.map_or(Report::ACCEPTED, report);
+            let text = expected.text.to_vec();
+            ensure(answer.report == report && answer.text == text, || {
+                format!(
+                    "call {}: {:?} and {}, expected {report:?} and {}",
+                    index + 1,
+                    answer.report,
+                    show(&answer.text),
+                    show(&text)
+                )
+            })?;
+        }
+        Ok(())
+    })
+}
+
+/// The calls of a case as the ledger takes them.
+fn with_calls<T>(calls: &[PieceCall], take: impl FnOnce(&[LedgerCall]) -> T) -> T {
     let pieces: Vec<Option<Vec<u8>>> = calls
         .iter()
         .map(|call| call.piece.as_ref().map(Bytes::to_vec))
@@ -485,24 +510,15 @@ fn check_piece_calls(source: u32, target: u32, calls: &[PieceCall]) -> Result<()
             }
         })
         .collect();
+    take(&made)
+}
+
+fn check_piece_calls(source: u32, target: u32, calls: &[PieceCall]) -> Result<(), String> {
     let mut session = Session::new(source, target);
-    for (index, (call, expected)) in made.iter().zip(calls).enumerate() {
-        let answer = session.make(call)?;
-        let report = expected.fault.map_or(Report::ACCEPTED, report);
-        let text = expected.text.to_vec();
-        ensure(answer.report == report && answer.text == text, || {
-            format!(
-                "call {}: {:?} and {}, expected {report:?} and {}",
-                index + 1,
-                answer.report,
-                show(&answer.text),
-                show(&text)
-            )
-        })?;
-    }
-    let length: usize = pieces.iter().flatten().map(Vec::len).sum();
-    if length <= SHORT_FILE {
-        check_calls(source, target, &made)?;
+    check_pieces(calls, |call| session.make(call))?;
+    let pieces = calls.iter().filter_map(|call| call.piece.as_ref());
+    if pieces.map(Bytes::len).sum::<usize>() <= SHORT_FILE {
+        with_calls(calls, |made| check_calls(source, target, made))?;
     }
     Ok(())
 }

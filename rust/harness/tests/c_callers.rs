@@ -1,10 +1,12 @@
 //! The library as C and C++ have it: installed by `make install`, and found as pkg-config tells.
 
+use harness::ledger::completed_text;
 use harness::programs::{run, succeeded};
 use harness::repository;
 use harness::whole::{convert_room, convert_whole};
-use reference::limits::{COLUMNS, FILE_BYTES, RECORD_BYTES};
+use reference::limits::{COLUMNS, FILE_BYTES, PIECE_BYTES, PIECE_ROOM, RECORD_BYTES};
 use std::fs;
+use std::mem::{offset_of, size_of};
 use std::path::{Path, PathBuf};
 use std::process::Command;
 use std::sync::OnceLock;
@@ -111,9 +113,10 @@ fn has_cpp() -> bool {
     has_cpp
 }
 
+const NAMES: [&str; 4] = ["", "csvj", "tdif", "csv+"];
+
 /// Converts as the example does, and as the reference does.
 fn convert_agrees(program: &Path, from: u32, to: u32, file: &[u8]) {
-    const NAMES: [&str; 4] = ["", "csvj", "tdif", "csv+"];
     let names = [NAMES[from as usize], NAMES[to as usize]];
     let told = run(program, &names, file);
     let shown = file.escape_ascii();
@@ -170,6 +173,68 @@ fn the_c_example_is_cpp_too() {
     }
 }
 
+/// Converts in pieces as the example does, and as the reference does.
+fn pieces_agree(program: &Path, from: u32, to: u32, file: &[u8], said: &str) {
+    let names = [NAMES[from as usize], NAMES[to as usize]];
+    let told = run(program, &names, file);
+    let (status, text) = match convert_whole(from, to, file) {
+        Ok(text) => (0, text),
+        Err(report) => (1, completed_text(from, to, &file[..report.offset])),
+    };
+    let shown = file.escape_ascii();
+    assert_eq!(told.stdout, text, "{shown}");
+    assert_eq!(String::from_utf8_lossy(&told.stderr), said, "{shown}");
+    assert_eq!(told.status.code(), Some(status), "{shown}");
+}
+
+fn the_example_converts_pieces(compiler: Compiler) {
+    let program = compile(compiler, "examples/pieces.c");
+    // The ring has 64 bytes, so that it wraps in the quoted cell.
+    let note = "\"as far as the ring goes, and a line\r\nmore; say \"\"Mint\"\" where it wraps, and again \"\"Mint\"\"\"";
+    let file = format!("\"stop\",\"note\"\n\"Harbour\",{note}\n\"Old Mint\",\"\"\n");
+    for shift in 0..64 {
+        let shifted = file.replacen("stop", &"s".repeat(shift + 1), 1);
+        for to in 1..=3 {
+            pieces_agree(&program, 3, to, shifted.as_bytes(), "");
+            pieces_agree(&program, 2, to, shifted.as_bytes(), "");
+        }
+    }
+    for (from, to, file, said) in [
+        (3, 1, &b"a,b\n1,2"[..], ""),
+        (2, 3, b"\"a\"\r\n\"b\"\r", ""),
+        (1, 1, b"", "pieces: fault 1 in record 1, at byte 0\n"),
+        (
+            3,
+            1,
+            b"a,b\n1,2\n3\n",
+            "pieces: fault 5 in record 3, at byte 8\n",
+        ),
+        (3, 1, b"a,a\n", "pieces: fault 6 in record 1, at byte 0\n"),
+        (
+            1,
+            3,
+            b"\"stop\",\"\\u0066are\"\n\"Harbour\",\"2.40\"\n\"Old Mint\",2.40\n",
+            "pieces: fault 9 in record 3, at byte 36, column 2, fare\n",
+        ),
+    ] {
+        pieces_agree(&program, from, to, file, said);
+    }
+    let wrong = run(&program, &["csvj"], b"");
+    assert_eq!(wrong.status.code(), Some(2));
+}
+
+#[test]
+fn the_c_example_converts_pieces() {
+    the_example_converts_pieces(C);
+}
+
+#[test]
+fn the_c_example_for_pieces_is_cpp_too() {
+    if has_cpp() {
+        the_example_converts_pieces(CPP);
+    }
+}
+
 #[test]
 fn the_cpp_example_counts_a_table() {
     if !has_cpp() {
@@ -186,6 +251,60 @@ fn nothing_may_be_lent() {
     succeeded(&run(&program, &[], b""));
 }
 
+/// The size of a struct and the offsets of its fields, as `layout.c` prints them.
+macro_rules! layout {
+    ($name:literal, $struct:ty, $($field:ident)+) => {{
+        let mut lines = format!("{} {}\n", $name, size_of::<$struct>());
+        $(lines += &format!("{}.{} {}\n", $name, stringify!($field), offset_of!($struct, $field));)+
+        lines
+    }};
+}
+
+#[test]
+fn structs_are_laid_out_as_the_header_says() {
+    let program = compile(C, "rust/harness/tests/c/layout.c");
+    let told = succeeded(&run(&program, &[], b""));
+    let layout = [
+        layout!("hk_report", hemakuliwi::Report, number record_number column offset),
+        layout!("hk_read_answer", hemakuliwi::ReadAnswer, report columns records cells),
+        layout!("hk_decode_answer", hemakuliwi::DecodeAnswer, report length kind),
+        layout!("hk_text_answer", hemakuliwi::TextAnswer, report length),
+        layout!("hk_converter", hemakuliwi::Converter, source target numbers ends name_ends bytes names),
+        layout!("hk_piece_answer", hemakuliwi::PieceAnswer, answer next),
+    ];
+    assert_eq!(told, layout.concat());
+}
+
+/// The functions that the header declares and does not define.
+fn declared(header: &str) -> Vec<&str> {
+    let mut functions: Vec<&str> = Vec::new();
+    for line in header.lines() {
+        let declares = line.starts_with("struct hk_") && line.contains('(');
+        let before = line.split('(').next().unwrap_or_default();
+        functions.extend(before.split(' ').next_back().filter(|_| declares));
+    }
+    functions
+}
+
+#[test]
+fn the_archive_has_every_function_of_the_header() {
+    let header = fs::read_to_string(repository().join("include/hemakuliwi.h")).expect("the header");
+    let functions = declared(&header);
+    assert_eq!(functions.len(), 9, "{functions:?}");
+    let archive = prefix().join("lib/libhemakuliwi.a");
+    let told = Command::new("nm")
+        .args(["-g", "--defined-only"])
+        .arg(archive)
+        .output();
+    let symbols = succeeded(&told.expect("nm starts"));
+    for function in functions {
+        let has = symbols
+            .lines()
+            .filter(|line| line.ends_with(&format!(" T {function}")));
+        assert_eq!(has.count(), 1, "{function}");
+    }
+}
+
 #[test]
 fn the_stack_is_as_small_as_the_header_says() {
     let program = compile(C, "rust/harness/tests/c/stack.c");
@@ -195,7 +314,7 @@ fn the_stack_is_as_small_as_the_header_says() {
         .split(' ')
         .filter_map(|word| word.trim().parse().ok())
         .collect();
-    let most = [11_000, 600, 11_500, 5_000];
+    let most = [11_000, 600, 11_500, 5_000, 10_000, 12_000, 50_000];
     assert_eq!(numbers.len(), most.len(), "{told}");
     assert!(
         numbers.iter().zip(most).all(|(taken, most)| *taken <= most),
@@ -227,6 +346,8 @@ fn the_header_has_the_version_and_the_limits() {
         format!("HK_FILE_BYTES {FILE_BYTES}"),
         format!("HK_RECORD_BYTES {RECORD_BYTES}"),
         format!("HK_COLUMNS {COLUMNS}"),
+        format!("HK_PIECE_BYTES {PIECE_BYTES}"),
+        format!("HK_PIECE_ROOM {PIECE_ROOM}"),
     ] {
         let line = format!("#define {line}");
         assert!(header.lines().any(|found| found == line), "{line}");
@@ -240,4 +361,6 @@ fn the_header_has_the_version_and_the_limits() {
         hemakuliwi::COLUMNS,
     );
     assert_eq!(limits, (FILE_BYTES, RECORD_BYTES, COLUMNS));
+    let of_pieces = (hemakuliwi::PIECE_BYTES, hemakuliwi::PIECE_ROOM);
+    assert_eq!(of_pieces, (PIECE_BYTES, PIECE_ROOM));
 }

@@ -1,14 +1,15 @@
 //! Random files, from fixed seeds.
 
+use harness::calls::random_calls;
 use harness::counts::Counts;
 use harness::generate::{mutate, sample};
-use harness::ledger::{check_calls, Call};
+use harness::ledger::check_calls;
 use harness::rng::Rng;
 use harness::whole::{
     cells_of, convert_whole, decode_whole, read_whole, write_whole, Cell, TableLists,
 };
 use harness::{DIALECTS, UNKNOWN};
-use reference::limits::{PIECE_BYTES, PIECE_ROOM, RECORD_BYTES};
+use reference::limits::RECORD_BYTES;
 use reference::Report;
 use std::collections::BTreeSet;
 
@@ -229,43 +230,4 @@ fn pieces_follow_the_ledger() {
     counts.print("calling");
     counts.require([0], 15_000).unwrap();
     counts.require(1..=11, 150).unwrap();
-}
-
-/// The file in pieces and its end, with calls among and after them that have to be refused.
-fn random_calls<'a>(rng: &mut Rng, file: &'a [u8]) -> Vec<Call<'a>> {
-    const TOO_LONG: &[u8] = &[b'\n'; PIECE_BYTES + 1];
-    let most = match file.len() {
-        0..=500 => rng.pick(&[1, 3, 10, 500]),
-        _ => PIECE_BYTES,
-    };
-    let mut calls = Vec::new();
-    let mut rest = file;
-    while !rest.is_empty() {
-        match rng.below(100) {
-            0..=4 => calls.push(Call::Piece(rest.get(..1).unwrap_or(rest), small_room(rng))),
-            5..=6 => calls.push(Call::Piece(TOO_LONG, PIECE_ROOM)),
-            7..=8 => calls.push(Call::End(small_room(rng))),
-            9 if rng.percent(20) => calls.push(Call::End(PIECE_ROOM)),
-            _ => {
-                let length = rng.between(0, most.min(rest.len()));
-                let (piece, after) = rest.split_at(length);
-                calls.push(Call::Piece(piece, PIECE_ROOM + rng.below(3)));
-                rest = after;
-            }
-        }
-    }
-    calls.push(Call::End(PIECE_ROOM));
-    for _ in 0..rng.below(3) {
-        calls.push(match rng.below(4) {
-            0 => Call::End(small_room(rng)),
-            1 => Call::Piece(TOO_LONG, PIECE_ROOM),
-            2 => Call::Piece(b"\"", PIECE_ROOM),
-            _ => Call::End(PIECE_ROOM),
-        });
-    }
-    calls
-}
-
-fn small_room(rng: &mut Rng) -> usize {
-    rng.pick(&[0, 1, 4_096, PIECE_ROOM - 1])
 }

@@ -1,13 +1,13 @@
 //! Compares the proved calls with the reference on random inputs until they differ or it is stopped: `compare SEED`.
 
 use harness::compare::{
-    convert_random, decode_random, proved_converter, proved_reader, proved_writer, read_random,
-    write_random,
+    convert_random, decode_random, made_up_random, pieces_random, proved_converter, proved_reader,
+    proved_writer, read_random, write_random, PROVED_PIECES,
 };
 use harness::DIALECTS;
 use std::process::ExitCode;
 
-/// How many cells, files and tables are compared with each seed.
+/// How many cells, files, tables, lists of calls and states are compared with each seed.
 const COUNT: usize = 200_000;
 
 fn main() -> ExitCode {
@@ -37,5 +37,9 @@ fn compare(seed: u64) -> Result<(), String> {
     }
     let tables = write_random(proved_writer, seed, COUNT)?;
     tables.print(&format!("seed {seed}: {COUNT} tables agree"));
+    let calls = pieces_random(&PROVED_PIECES, seed, COUNT)?;
+    calls.print(&format!("seed {seed}: {COUNT} lists of calls agree"));
+    let states = made_up_random(&PROVED_PIECES, seed, COUNT)?;
+    eprintln!("seed {seed}: {COUNT} states that no calls made agree: {states:?}");
     Ok(())
 }

@@ -49,5 +49,19 @@ int main(void) {
     room[0] = 0;
     struct hk_text_answer written = hk_write(HK_CSVJ, NULL, 0, NULL, 0, NULL, 0, NULL, 0, 0, 1, room, 1);
     EXPECT(written.report.number == HK_ACCEPTED && written.length == 1 && room[0] == '\n')
+
+    static uint8_t out[HK_PIECE_ROOM];
+    static struct hk_converter zeros;
+    struct hk_converter converter = zeros;
+    EXPECT(hk_converter_piece(&converter, NULL, 0, NULL, 0).report.number == HK_WRONG_CALL)
+    EXPECT(hk_converter_end(&converter, NULL, 0).report.number == HK_WRONG_CALL)
+    converter = hk_converter_new(HK_CSV_PLUS, HK_CSVJ);
+    EXPECT(hk_converter_piece(&converter, NULL, 0, NULL, 0).report.number == HK_ROOM)
+    EXPECT(hk_piece(converter, NULL, 0, NULL, 0).answer.report.number == HK_ROOM)
+    EXPECT(hk_converter_end(&converter, NULL, 0).report.number == HK_ROOM)
+    EXPECT(hk_end(converter, NULL, 0).answer.report.number == HK_ROOM)
+    EXPECT(hk_converter_piece(&converter, NULL, 0, out, sizeof out).report.number == HK_ACCEPTED)
+    EXPECT(hk_piece(converter, NULL, 0, out, sizeof out).answer.report.number == HK_ACCEPTED)
+    EXPECT(hk_converter_end(&converter, out, sizeof out).report.number == HK_NO_RECORD)
     return 0;
 }

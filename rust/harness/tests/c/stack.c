@@ -44,6 +44,39 @@ static void write_table(void) {
     }
 }
 
+/* A converter in pieces of this many bytes; the header comes in several, and so does the record. */
+enum { PIECE = 500 };
+static struct hk_converter converter;
+static struct hk_piece_answer answer;
+
+static void new_converter(void) {
+    converter = hk_converter_new(dialect, HK_CSVJ);
+}
+
+static void convert_pieces(void) {
+    for (uint32_t to = HK_CSVJ; to <= HK_CSV_PLUS; to++) {
+        converter.source = dialect;
+        converter.target = to;
+        memset(converter.numbers, 0, sizeof converter.numbers);
+        for (size_t i = 0; i < file_length; i += PIECE) {
+            hk_converter_piece(&converter, file + i, file_length - i < PIECE ? file_length - i : PIECE, text, sizeof text);
+        }
+        hk_converter_end(&converter, text, sizeof text);
+    }
+}
+
+static void convert_pieces_by_value(void) {
+    for (uint32_t to = HK_CSVJ; to <= HK_CSV_PLUS; to++) {
+        answer.next.source = dialect;
+        answer.next.target = to;
+        memset(answer.next.numbers, 0, sizeof answer.next.numbers);
+        for (size_t i = 0; i < file_length; i += PIECE) {
+            answer = hk_piece(answer.next, file + i, file_length - i < PIECE ? file_length - i : PIECE, text, sizeof text);
+        }
+        answer = hk_end(answer.next, text, sizeof text);
+    }
+}
+
 static void (*call)(void);
 
 static void *measure(void *unused) {
@@ -134,7 +167,9 @@ int main(void) {
         return 1;
     }
     size_t reading = most(read_file), decoding = most(decode_cells), converting = most(convert_file), writing = most(write_table);
-    printf("hk_read %zu hk_decode %zu hk_convert %zu hk_write %zu\n", reading, decoding, converting, writing);
+    size_t making = most(new_converter), lending = most(convert_pieces), by_value = most(convert_pieces_by_value);
+    printf("hk_read %zu hk_decode %zu hk_convert %zu hk_write %zu ", reading, decoding, converting, writing);
+    printf("hk_converter_new %zu hk_converter_piece %zu hk_piece %zu\n", making, lending, by_value);
     free(stack);
     return 0;
 }

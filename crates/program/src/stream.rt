@@ -1,0 +1,99 @@
+// Standard input to standard output, a piece at a time. A turn is loop-free: it reads once, converts what came and writes what that
+// completed.
+ghost use Rattle.io.specs.Counts.{Counts};
+use crate::refusal;
+use libc::STDIN_FILENO;
+use libc::STDOUT_FILENO;
+use numbers::LEAST_OUTPUT;
+use numbers::MAX_COLUMNS;
+use numbers::MAX_FILE;
+use numbers::MAX_PIECE;
+use numbers::MAX_RECORD;
+use numbers::TextAnswer;
+use pieces::lent;
+
+// How many bytes of the output a call wrote. No call of these answers more than the output has; that it is asked here once more spares the
+// proof of it.
+fn written(length: usize, out: &[u8]) -> usize
+    ensures { λ r. ⌜ Counts r (now (out .entry)) ⌝ }
+{
+    numbers::least_of(length, out.len())
+}
+
+// Writes what a call wrote, and answers whether the conversion goes on after it.
+fn deliver(answer: TextAnswer, out: &[u8]) -> bool {
+    let n = written(answer.length, out);
+    if !io::write_all(STDOUT_FILENO, &out[..n]) {
+        os::fail(b"standard output could not be written in full");
+        return false;
+    }
+    let e = answer.report;
+    if e.number == 0 {
+        return true;
+    }
+    refusal::say(e);
+    false
+}
+
+// One read and what follows from it. Answers whether there may be more to read.
+fn turn(
+    source: u32,
+    target: u32,
+    numbers: &mut [usize; 14],
+    ends: &mut [usize; MAX_COLUMNS],
+    name_ends: &mut [usize; MAX_COLUMNS],
+    bytes: &mut [u8; MAX_RECORD],
+    names: &mut [u8; MAX_RECORD],
+    out: &mut [u8; LEAST_OUTPUT],
+) -> bool {
+    let mut input = [0u8; MAX_PIECE];
+    let got = libc::read(STDIN_FILENO, &mut input);
+    if got < 0 {
+        os::fail(b"standard input could not be read to its end");
+        return false;
+    }
+    let n = io::count(got, &input);
+    if n == 0 {
+        let answer = lent::end(source, target, numbers, ends, name_ends, bytes, names, out);
+        deliver(answer, out);
+        return false;
+    }
+    let answer = lent::piece(
+        source,
+        target,
+        numbers,
+        ends,
+        name_ends,
+        bytes,
+        names,
+        &input[..n],
+        out,
+    );
+    deliver(answer, out)
+}
+
+// Converts all of standard input. A loop has to end, and nothing says that standard input does: but a turn after which there may be more
+// has read a byte or more, and a file of more than MAX_FILE bytes is refused. So the turns are never used up.
+pub fn convert(source: u32, target: u32) {
+    let mut numbers = [0usize; 14];
+    let mut ends = [0usize; MAX_COLUMNS];
+    let mut name_ends = [0usize; MAX_COLUMNS];
+    let mut bytes = [0u8; MAX_RECORD];
+    let mut names = [0u8; MAX_RECORD];
+    let mut out = [0u8; LEAST_OUTPUT];
+    let mut turns = MAX_FILE + 1;
+    while 0 < turns
+        && turn(
+            source,
+            target,
+            &mut numbers,
+            &mut ends,
+            &mut name_ends,
+            &mut bytes,
+            &mut names,
+            &mut out,
+        )
+    {
+        turns -= 1;
+    }
+}
