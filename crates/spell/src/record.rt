@@ -57,7 +57,7 @@ fn has_kind(t: Dialect, k: Kind) -> bool
 }
 
 // What is said of the cells so far: nothing where the column is 0, else of the first that the target can't carry whether it holds a lone
-// surrogate or is of a kind that the target lacks. Two numbers: a verdict in the loop goes through memory, which costs a tenth of the time.
+// surrogate or is of a kind that the target lacks. Two numbers: a verdict in the loop would go through memory.
 struct Said {
     column: usize,
     lone: bool,
