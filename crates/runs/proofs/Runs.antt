@@ -4,11 +4,11 @@ use Prim.Native.Nat.{ℕ, zero, suc, _+_, _-_, _≤_, _<_}
 use native.Mathlib.Numerals.{add-one}
 use native.Mathlib.Omega.{arith}
 use mathlib.Core.Path.{_≡_, refl, sym, ap, _∙_}
-use mathlib.Core.Bool.{Bool, true, false, not, _&&_, and-false}
+use mathlib.Core.Bool.{Bool, true, false, not, _&&_}
 use mathlib.Core.List.{[], _∷_}
 use lib.ListN.{length, take, drop, getD, length-drop}
 use lib.Seq.{take-nil, drop-cons, drop-drop, length-take-le}
-use borrow.Author.Tests.{eq-eqb, ne-eqb, le-leb, lt-leb, le-ltb}
+use borrow.Author.Tests.{ne-eqb, le-ltb}
 use Rattle.model.specs.declared.Dialect.{Dialect}
 use Rattle.model.specs.declared.Dialect.the-variants.{Csvj, Tdif, CsvPlus}
 use Rattle.model.specs.declared.Char.the-variants.{Whole, Within}
@@ -42,26 +42,6 @@ pub part-end : (s : Bytes) (i : ℕ) → slice s i i ≡ []
 part-end s i = let n : i - i ≡ 0 = omega arith in rw n
 
 -- ---- where a run ends
-
-pub below : (p q b : ℕ) → b < 0x20 → ordinary p q b ≡ false
-unfolding ordinary
-below p q b h = rw (lt-leb 0x20 b h)
-
-pub above : (p q b : ℕ) → 0x7E < b → ordinary p q b ≡ false
-unfolding ordinary
-above p q b h = rw (le-leb 0x20 b (omega arith), lt-leb b 0x7E h)
-
-pub first-stop : (p q b : ℕ) → b ≡ p → ordinary p q b ≡ false
-unfolding ordinary
-first-stop p q b e = rw (eq-eqb b p e, and-false (within 0x20 0x7E b))
-
-pub second-stop : (p q b : ℕ) → b ≡ q → ordinary p q b ≡ false
-unfolding ordinary
-second-stop p q b e = rw (eq-eqb b q e) (and-false (within 0x20 0x7E b && not (b is p)))
-
-pub goes-on : (p q b : ℕ) → 0x20 ≤ b → b ≤ 0x7E → ¬ (b ≡ p) → ¬ (b ≡ q) → ordinary p q b ≡ true
-unfolding ordinary
-goes-on p q b l h m n = rw (le-leb 0x20 b l, le-leb b 0x7E h, ne-eqb b p m, ne-eqb b q n)
 
 module _ (s : Bytes) (i stop p q : ℕ) (h : i < stop) (k : stop ≤ length s) where
   pub leading-on : ordinary p q (getD s i 0) ≡ true → i + leading p q (slice s i stop) ≡ (i + 1) + leading p q (slice s (i + 1) stop)

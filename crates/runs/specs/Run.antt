@@ -1,6 +1,5 @@
 -- Runs of ordinary bytes, and the rest of a cell.
 use Prim.Native.Nat.{ℕ, suc}
-use mathlib.Core.Bool.{Bool, not, _&&_}
 use mathlib.Core.List.{[], _∷_}
 use Rattle.model.specs.declared.Dialect.{Dialect}
 use Rattle.model.specs.declared.Char.{Char}
@@ -8,17 +7,14 @@ use Rattle.model.specs.declared.Char.the-variants.{Whole, Within}
 use Rattle.model.specs.declared.Cell.{Cell}
 use Rattle.model.specs.declared.Cell.the-variants.{Fresh, Quoted, Closed, Escape, Hex, InNumber, InWord, Plain, Complete}
 use Rattle.model.specs.declared.CellStep.the-variants.{More, Stop, Refuse}
-use Rattle.model.specs.Base.{Bytes, if_then_else_, _is_, within}
+use Rattle.model.specs.Base.{Bytes, if_then_else_}
 use Rattle.model.specs.Dialect.{delimiterOf, quoteOf}
 use Rattle.model.specs.Cell.{cellStep}
+unfoldable pub use Rattle.words.specs.Words.{ordinary}
 use Rattle.runs.specs.declared.RunStop.{RunStop}
 use Rattle.runs.specs.declared.RunStop.the-variants.{At, NoRun}
 use Rattle.runs.specs.declared.CellEnd.{CellEnd}
 use Rattle.runs.specs.declared.CellEnd.the-variants.{Stopped, Refused, Open}
-
--- an ordinary byte: 20 to 7E hex, and neither of these two
-unfoldable pub ordinary : (p q b : ℕ) → Bool
-ordinary p q b = within 0x20 0x7E b && not (b is p) && not (b is q)
 
 -- how many ordinary bytes stand at the beginning: all of these are ordinary, and the next is not or there is none
 unfoldable pub leading : (p q : ℕ) → Bytes → ℕ

@@ -6,14 +6,14 @@ use model::CellStep;
 use model::Char;
 use model::Dialect;
 ghost use mathlib.Core.Path.{_≡_};
-ghost use Prim.Native.Nat.{_+_, _≤_};
+ghost use Prim.Native.Nat.{_+_, _/_, _%_, _≤_, _<_};
 ghost use lib.ListN.{length};
 ghost use Rattle.model.specs.Api.{slice};
 ghost use Rattle.runs.specs.Run.{leading, commentRun, textStop, runStop, runLength, cellRun};
 
-// How far a run of ordinary bytes goes from `at`, at most to `stop`. The run ends at a byte outside 20 to 7E hex, at `p` and at `q`.
-fn run(s: &[u8], at: usize, stop: usize, p: u8, q: u8) -> usize
-    requires { ⌜ (at ≤ stop) × (stop ≤ length (now s)) ⌝ }
+// How far a run of ordinary bytes goes from `at` a byte at a time, where fewer than eight are left before `stop`.
+fn single_steps(s: &[u8], at: usize, stop: usize, p: u8, q: u8) -> usize
+    requires { ⌜ (at ≤ stop) × (stop ≤ length (now s)) × (stop < at + 8) ⌝ }
     ensures { λ r. ⌜ r ≡ at + leading p q (slice (now (s .entry)) at stop) ⌝ }
 {
     let mut i = at;
@@ -34,6 +34,45 @@ fn run(s: &[u8], at: usize, stop: usize, p: u8, q: u8) -> usize
         i += 1;
     }
     i
+}
+
+// A run of ordinary bytes in steps of eight bytes, and the bytes of it that are left after them.
+struct RunSteps {
+    words: usize,
+    rest: usize,
+}
+
+// The steps of a run from `at`, at most to `stop`. A word with a flag ends it: what stands before the flag is the rest.
+fn word_steps(s: &[u8], at: usize, stop: usize, p: u8, q: u8) -> RunSteps
+    requires { ⌜ (at ≤ stop) × (stop ≤ length (now s)) ⌝ }
+    ensures { λ r. ⌜ (r .words ≡ leading p q (slice (now (s .entry)) at stop) / 8) × (r .rest ≡ leading p q (slice (now (s .entry)) at stop) % 8) ⌝ }
+{
+    let mut words = 0;
+    let mut i = at;
+    while 8 <= stop - i {
+        let flags = words::unordinary(words::word(s, i), p, q);
+        if flags != 0 {
+            return RunSteps {
+                words,
+                rest: words::before_flag(flags),
+            };
+        }
+        words += 1;
+        i += 8;
+    }
+    RunSteps {
+        words,
+        rest: single_steps(s, i, stop, p, q) - i,
+    }
+}
+
+// How far a run of ordinary bytes goes from `at`, at most to `stop`. The run ends at a byte outside 20 to 7E hex, at `p` and at `q`.
+fn run(s: &[u8], at: usize, stop: usize, p: u8, q: u8) -> usize
+    requires { ⌜ (at ≤ stop) × (stop ≤ length (now s)) ⌝ }
+    ensures { λ r. ⌜ r ≡ at + leading p q (slice (now (s .entry)) at stop) ⌝ }
+{
+    let taken = word_steps(s, at, stop, p, q);
+    at + 8 * taken.words + taken.rest
 }
 
 // A comment has no stops of its own, and no ordinary byte is 0.

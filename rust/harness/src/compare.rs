@@ -22,7 +22,7 @@ use reference::{Converted, Report};
 use std::fmt::Debug;
 
 /// A proved call's report in the reference's terms.
-fn report(report: hemakuliwi::Report) -> Report {
+fn report(report: hemakuliwi::raw::Report) -> Report {
     Report {
         number: report.number,
         record: report.record_number,
@@ -32,7 +32,7 @@ fn report(report: hemakuliwi::Report) -> Report {
 }
 
 /// The proved converter's or writer's answer in the reference's terms.
-fn converted(answer: hemakuliwi::TextAnswer) -> Converted {
+fn converted(answer: hemakuliwi::raw::TextAnswer) -> Converted {
     Converted {
         report: report(answer.report),
         written: answer.length,

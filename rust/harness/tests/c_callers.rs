@@ -265,12 +265,12 @@ fn structs_are_laid_out_as_the_header_says() {
     let program = compile(C, "rust/harness/tests/c/layout.c");
     let told = succeeded(&run(&program, &[], b""));
     let layout = [
-        layout!("hk_report", hemakuliwi::Report, number record_number column offset),
-        layout!("hk_read_answer", hemakuliwi::ReadAnswer, report columns records cells),
-        layout!("hk_decode_answer", hemakuliwi::DecodeAnswer, report length kind),
-        layout!("hk_text_answer", hemakuliwi::TextAnswer, report length),
-        layout!("hk_converter", hemakuliwi::Converter, source target numbers ends name_ends bytes names),
-        layout!("hk_piece_answer", hemakuliwi::PieceAnswer, answer next),
+        layout!("hk_report", hemakuliwi::raw::Report, number record_number column offset),
+        layout!("hk_read_answer", hemakuliwi::raw::ReadAnswer, report columns records cells),
+        layout!("hk_decode_answer", hemakuliwi::raw::DecodeAnswer, report length kind),
+        layout!("hk_text_answer", hemakuliwi::raw::TextAnswer, report length),
+        layout!("hk_converter", hemakuliwi::raw::Converter, source target numbers ends name_ends bytes names),
+        layout!("hk_piece_answer", hemakuliwi::raw::PieceAnswer, answer next),
     ];
     assert_eq!(told, layout.concat());
 }
@@ -353,14 +353,14 @@ fn the_header_has_the_version_and_the_limits() {
         assert!(header.lines().any(|found| found == line), "{line}");
     }
     for length in [0, 1, 1_000, FILE_BYTES / 6 - 1, FILE_BYTES / 6, FILE_BYTES] {
-        assert_eq!(hemakuliwi::convert_room(length), convert_room(length));
+        assert_eq!(hemakuliwi::raw::convert_room(length), convert_room(length));
     }
     let limits = (
-        hemakuliwi::FILE_BYTES,
-        hemakuliwi::RECORD_BYTES,
-        hemakuliwi::COLUMNS,
+        hemakuliwi::raw::FILE_BYTES,
+        hemakuliwi::raw::RECORD_BYTES,
+        hemakuliwi::raw::COLUMNS,
     );
     assert_eq!(limits, (FILE_BYTES, RECORD_BYTES, COLUMNS));
-    let of_pieces = (hemakuliwi::PIECE_BYTES, hemakuliwi::PIECE_ROOM);
+    let of_pieces = (hemakuliwi::raw::PIECE_BYTES, hemakuliwi::raw::PIECE_ROOM);
     assert_eq!(of_pieces, (PIECE_BYTES, PIECE_ROOM));
 }

@@ -3,7 +3,7 @@
 use harness::compare::{decode_agrees, decode_random};
 use harness::vectors::{load_folder, Call};
 use harness::vectors_folder;
-use hemakuliwi::Report;
+use hemakuliwi::raw::Report;
 
 #[test]
 fn every_vector_is_decoded_as_it_says() {
@@ -28,7 +28,7 @@ fn every_vector_is_decoded_as_it_says() {
         let mut lent = vec![0xA5; room.unwrap_or(raw.len() + 1)];
         let mut wanted = lent.clone();
         wanted[..content.len()].copy_from_slice(&content);
-        let answer = hemakuliwi::decode(dialect, &raw, &mut lent);
+        let answer = hemakuliwi::raw::decode(dialect, &raw, &mut lent);
         let number = expected.as_ref().map_or_else(|fault| fault.number, |_| 0);
         let offset = expected.as_ref().map_or_else(|fault| fault.offset, |_| 0);
         let report = Report {

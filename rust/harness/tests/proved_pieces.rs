@@ -115,7 +115,7 @@ fn calls_over_states_that_no_calls_made_end_and_stay_inside() {
 #[test]
 fn a_new_converter_is_zeros() {
     for (source, target) in [(1, 3), (0, u32::MAX), (2, 2)] {
-        let state = hemakuliwi::Converter::new(source, target);
+        let state = hemakuliwi::raw::Converter::new(source, target);
         assert_eq!((state.source, state.target), (source, target));
         assert!(state.numbers.iter().all(|number| *number == 0));
         assert!(state

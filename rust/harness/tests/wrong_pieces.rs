@@ -2,7 +2,7 @@
 
 use harness::compare::{made_up_random, pieces_random, proved_lent, PieceConverter};
 use harness::ledger::Call;
-use hemakuliwi::{Converter, AT_OFFSET, AT_RECORDS};
+use hemakuliwi::raw::{Converter, AT_OFFSET, AT_RECORDS};
 use reference::limits::{PIECE_BYTES, PIECE_ROOM};
 use reference::{Converted, Dialect, Report};
 

@@ -11,7 +11,7 @@ use reference::{convert, Converted};
 
 /// The proved converter, answering in the reference's terms.
 pub fn proved_converter(from: u32, to: u32, file: &[u8], room: &mut [u8]) -> Converted {
-    converted(hemakuliwi::convert(from, to, file, room))
+    converted(hemakuliwi::raw::convert(from, to, file, room))
 }
 
 /// Converts a file with both and compares the answers and the whole room.

@@ -6,12 +6,12 @@ use crate::generate::{mutate, sample};
 use crate::rng::Rng;
 use crate::whole::read_whole;
 use crate::{DIALECTS, UNKNOWN};
-use hemakuliwi::{decode, DecodeAnswer};
+use hemakuliwi::raw::{decode, DecodeAnswer};
 use reference::{Decoded, Report};
 
 fn refused(report: Report) -> DecodeAnswer {
     DecodeAnswer {
-        report: hemakuliwi::Report {
+        report: hemakuliwi::raw::Report {
             number: report.number,
             record_number: report.record,
             column: report.column,

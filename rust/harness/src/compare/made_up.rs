@@ -9,7 +9,7 @@ use crate::ledger::{Answer, Call};
 use crate::rng::Rng;
 use crate::rooms::Output;
 use crate::DIALECTS;
-use hemakuliwi::Converter;
+use hemakuliwi::raw::Converter;
 use reference::limits::{COLUMNS, FILE_BYTES, PIECE_BYTES, PIECE_ROOM, RECORD_BYTES};
 use reference::{Converted, Dialect, Report};
 

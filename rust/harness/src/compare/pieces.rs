@@ -9,7 +9,7 @@ use crate::rng::Rng;
 use crate::rooms::Output;
 use crate::whole::read_whole;
 use crate::{DIALECTS, UNKNOWN};
-use hemakuliwi::{Converter, AT_COLUMNS, AT_OFFSET, AT_RECORDS};
+use hemakuliwi::raw::{Converter, AT_COLUMNS, AT_OFFSET, AT_RECORDS};
 use reference::limits::{PIECE_BYTES, PIECE_ROOM};
 use reference::{Converted, Dialect, Report};
 use std::collections::BTreeSet;
@@ -175,8 +175,8 @@ impl Past {
 
     /// The file's first fault, or its whole text, has to be that of the proved whole converter.
     fn is_whole(&self, report: Report) -> Result<(), String> {
-        let mut room = vec![0; hemakuliwi::convert_room(self.consumed.len())];
-        let whole = hemakuliwi::convert(self.source, self.target, &self.consumed, &mut room);
+        let mut room = vec![0; hemakuliwi::raw::convert_room(self.consumed.len())];
+        let whole = hemakuliwi::raw::convert(self.source, self.target, &self.consumed, &mut room);
         let whole = converted(whole);
         if whole.report != report {
             return Err(format!("the whole converter {:?}", whole.report));

@@ -18,7 +18,7 @@ pub fn proved_reader(
     ends: &mut [usize],
     kinds: &mut [u8],
 ) -> ReadAnswer {
-    let answer = hemakuliwi::read(dialect, file, starts, ends, kinds);
+    let answer = hemakuliwi::raw::read(dialect, file, starts, ends, kinds);
     ReadAnswer {
         report: report(answer.report),
         columns: answer.columns,

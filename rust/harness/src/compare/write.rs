@@ -11,7 +11,7 @@ use reference::{write, Converted, Table};
 
 /// The proved writer, answering in the reference's terms.
 pub fn proved_writer(target: u32, table: Table, room: &mut [u8]) -> Converted {
-    let table = hemakuliwi::Table {
+    let table = hemakuliwi::raw::Table {
         content: table.content,
         starts: table.starts,
         ends: table.ends,
@@ -19,7 +19,7 @@ pub fn proved_writer(target: u32, table: Table, room: &mut [u8]) -> Converted {
         columns: table.columns,
         records: table.records,
     };
-    converted(hemakuliwi::write(target, table, room))
+    converted(hemakuliwi::raw::write(target, table, room))
 }
 
 /// Writes a table with both and compares the answers and the whole room.

@@ -1,4 +1,5 @@
-//! Safe bindings to the proved library. `include/hemakuliwi.h` says what each call promises; `docs/RULES.md` has the rules.
+//! The calls of the library as C has them: numbers, and lists and rooms that the caller lends. `include/hemakuliwi.h` says what each call
+//! promises; `docs/RULES.md` has the rules.
 //!
 //! A file is read into lists that the caller lends. How many cells it has is not known before, so the lists double until they are
 //! long enough, which report 10 tells:
@@ -7,8 +8,8 @@
 //! let file = b"\"stop\",\"fare\"\n\"Harbour\",2.40\n";
 //! let (mut starts, mut ends, mut kinds) = (vec![0; 2], vec![0; 2], vec![0; 2]);
 //! let table = loop {
-//!     let answer = hemakuliwi::read(hemakuliwi::CSVJ, file, &mut starts, &mut ends, &mut kinds);
-//!     if answer.report.number != hemakuliwi::ROOM {
+//!     let answer = hemakuliwi::raw::read(hemakuliwi::raw::CSVJ, file, &mut starts, &mut ends, &mut kinds);
+//!     if answer.report.number != hemakuliwi::raw::ROOM {
 //!         break answer;
 //!     }
 //!     let doubled = 2 * starts.len();
@@ -18,8 +19,8 @@
 //! };
 //! assert_eq!((table.report.number, table.columns, table.records, table.cells), (0, 2, 1, 4));
 //!
-//! let mut room = [0; hemakuliwi::RECORD_BYTES];
-//! let cell = hemakuliwi::decode(hemakuliwi::CSVJ, &file[starts[2]..ends[2]], &mut room);
+//! let mut room = [0; hemakuliwi::raw::RECORD_BYTES];
+//! let cell = hemakuliwi::raw::decode(hemakuliwi::raw::CSVJ, &file[starts[2]..ends[2]], &mut room);
 //! assert_eq!(&room[..cell.length], b"Harbour");
 //! ```
 //!
@@ -27,8 +28,8 @@
 //!
 //! ```
 //! let file = b"\"stop\",\"note\"\n\"Harbour\",\"say \\\"Mint\\\"\"\n";
-//! let mut room = vec![0; hemakuliwi::convert_room(file.len())];
-//! let text = hemakuliwi::convert(hemakuliwi::CSVJ, hemakuliwi::CSV_PLUS, file, &mut room);
+//! let mut room = vec![0; hemakuliwi::raw::convert_room(file.len())];
+//! let text = hemakuliwi::raw::convert(hemakuliwi::raw::CSVJ, hemakuliwi::raw::CSV_PLUS, file, &mut room);
 //! assert_eq!(&room[..text.length], b"stop,note\r\nHarbour,\"say \"\"Mint\"\"\"\r\n");
 //! ```
 //!
@@ -36,7 +37,7 @@
 //! always the same:
 //!
 //! ```
-//! use hemakuliwi::{Converter, CSVJ, CSV_PLUS, PIECE_ROOM};
+//! use hemakuliwi::raw::{Converter, CSVJ, CSV_PLUS, PIECE_ROOM};
 //! let mut out = vec![0; PIECE_ROOM];
 //! let mut converter = Converter::new(CSV_PLUS, CSVJ);
 //! let first = converter.piece(b"stop,note\nHarbour,\"say \"", &mut out);
@@ -51,7 +52,7 @@
 //! A table is written from stretches of content, record by record:
 //!
 //! ```
-//! use hemakuliwi::{Table, NULL, NUMBER, TEXT};
+//! use hemakuliwi::raw::{Table, NULL, NUMBER, TEXT};
 //! let table = Table {
 //!     content: b"stopfareHarbour2.40",
 //!     starts: &[0, 4, 8, 15, 8, 0],
@@ -61,7 +62,7 @@
 //!     records: 3,
 //! };
 //! let mut room = [0; 100];
-//! let text = hemakuliwi::write(hemakuliwi::CSVJ, table, &mut room);
+//! let text = hemakuliwi::raw::write(hemakuliwi::raw::CSVJ, table, &mut room);
 //! assert_eq!(&room[..text.length], b"\"stop\",\"fare\"\n\"Harbour\",2.40\n\"Harbour\",null\n");
 //! ```
 

@@ -1,0 +1,4 @@
+pub mod Ordinary
+pub mod Bytewise
+pub mod Flagging
+pub mod Reading

@@ -1,0 +1,72 @@
+// Eight bytes at a time, as one number with the first byte lowest: whether all are ordinary, and if not, the first that is not.
+// The definitions are those of specs/Words.antt.
+//
+// The test is exact because its numbers never carry or borrow from one byte into the next: each byte of a sum is at most FF hex, and
+// each byte of a difference takes away no more than it has. So every operation works on each byte by itself, and the top bit of a byte
+// tells of that byte alone.
+ghost use mathlib.Core.Path.{_≡_};
+ghost use Prim.Native.Nat.{_+_, _*_, _≤_};
+ghost use mathlib.Core.List.{[], _∷_};
+ghost use lib.ListN.{length};
+ghost use Rattle.model.specs.Api.{slice};
+ghost use Rattle.words.specs.Words.{wordOf, Word, ONES, bytesOf, asciiStop, Flags, zeroBytes};
+
+// Eight bytes as one number, the first lowest.
+fn joined(b0: u8, b1: u8, b2: u8, b3: u8, b4: u8, b5: u8, b6: u8, b7: u8) -> u64
+    ensures { λ r. ⌜ r ≡ wordOf (b0 ∷ b1 ∷ b2 ∷ b3 ∷ b4 ∷ b5 ∷ b6 ∷ b7 ∷ []) ⌝ }
+{
+    let from_6 = (b7 as u64) * 0x100 + (b6 as u64);
+    let from_5 = from_6 * 0x100 + (b5 as u64);
+    let from_4 = from_5 * 0x100 + (b4 as u64);
+    let from_3 = from_4 * 0x100 + (b3 as u64);
+    let from_2 = from_3 * 0x100 + (b2 as u64);
+    let from_1 = from_2 * 0x100 + (b1 as u64);
+    from_1 * 0x100 + (b0 as u64)
+}
+
+// The eight bytes from `i` on. The compiler makes one load of them.
+pub fn word(s: &[u8], i: usize) -> u64
+    requires { ⌜ i + 8 ≤ length (now s) ⌝ }
+    ensures { λ r. ⌜ Word (slice (now (s .entry)) i (i + 8)) r ⌝ }
+{
+    joined(
+        s[i],
+        s[i + 1],
+        s[i + 2],
+        s[i + 3],
+        s[i + 4],
+        s[i + 5],
+        s[i + 6],
+        s[i + 7],
+    )
+}
+
+// A stop, eight times. Bytes from 80 hex on are not ordinary anyway, so a stop that is one of them is as good as 0, which is not either.
+fn eight_stops(p: u8) -> u64
+    ensures { λ r. ⌜ r ≡ asciiStop p * ONES ⌝ }
+{
+    if p < 0x80 {
+        (p as u64) * 0x0101010101010101
+    } else {
+        0
+    }
+}
+
+// The top bit of each byte that is not ordinary.
+pub fn unordinary(w: u64, p: u8, q: u8) -> u64
+    ensures { λ r. ⌜ Flags p q w r ⌝ }
+{
+    let low = w & 0x7F7F7F7F7F7F7F7F;
+    let is_first = 0x8080808080808080 - (low ^ eight_stops(p));
+    let is_second = 0x8080808080808080 - (low ^ eight_stops(q));
+    let below_20 = 0x9F9F9F9F9F9F9F9F - low;
+    let is_7f = low + 0x0101010101010101;
+    (w | is_first | is_second | below_20 | is_7f) & 0x8080808080808080
+}
+
+// How many bytes stand before the first flag.
+pub fn before_flag(flags: u64) -> usize
+    ensures { λ r. ⌜ r ≡ zeroBytes (bytesOf 8 flags) ⌝ }
+{
+    (u64::trailing_zeros(flags) as usize) / 8
+}
