@@ -5,6 +5,23 @@
 set -euo pipefail
 cd "$(dirname "$0")"
 
+# Whether there is room for temporary files in memory, and programs may run from there. For each check the prover copies the checked modules
+# below its crate, some hundred MB in some thousand files, and a disk makes it wait.
+memory=/dev/shm
+has_memory() {
+  local probe status=0
+  [[ -d $memory && -w $memory ]] || return 1
+  [[ $(df --output=avail --block-size=1M "$memory" | tail -n 1) -ge 4096 ]] || return 1
+  [[ $(awk '$1 == "MemAvailable:" { print int($2 / 1024) }' /proc/meminfo) -ge 8192 ]] || return 1
+  probe=$(mktemp "$memory/XXXXXX") || return 1
+  printf '#!/bin/sh\n' >"$probe"
+  chmod 700 "$probe"
+  "$probe" 2>/dev/null || status=1
+  rm -f "$probe"
+  return "$status"
+}
+if [[ -z ${TMPDIR:-} ]] && has_memory; then export TMPDIR=$memory; fi
+
 scratch=$(mktemp -d)
 running='' # the process group of what runs in the background
 now='' # the part that is waited for

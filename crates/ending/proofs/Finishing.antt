@@ -25,11 +25,11 @@ use Rattle.carried.specs.declared.place.Place.{Place}
 use Rattle.turn.specs.Types.{Dialect, Target, FileState, Top, Begin, Ended, Mark1, Mark2, PlainMark1, PlainMark2, Comment, Blanks, Wanting, Inside, After, Cr, Final, Fault, TooManyColumns, Sound, Faulty}
 use Rattle.complete.specs.declared.Done.{Done}
 use Rattle.complete.specs.declared.Done.the-variants.{Written, Refused, Lost}
-use Rattle.walk.specs.declared.piece.Taken.{Taken}
+use Rattle.turn.specs.declared.Taken.{Taken}
 use Rattle.turn.specs.Holding.{readAt, Holding}
 use Rattle.complete.specs.Completing.{faultAt, textAt, Finishes, is-written, is-refused, has-no-room, Ruled, not-whole, ruled, keptValues, allWhole, LaterWhole, startsBy}
-use Rattle.walk.specs.Taking.{Begins, Finished}
-use Rattle.walk.proofs.Writes.{end-room, new-length, new-none, new-more, grows-none, grows-more}
+use Rattle.turn.specs.Calls.{Begins, Finished}
+use Rattle.turn.proofs.Writes.{end-room, new-length, new-none, new-more, grows-none, grows-more}
 use Rattle.turn.proofs.Keeping.{order-append}
 use Rattle.turn.proofs.Showing.{none-whole, in-hand-of, kept-same, kept-whole}
 use Rattle.turn.proofs.Walking.{same-self, too-many-fault}

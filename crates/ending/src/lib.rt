@@ -10,14 +10,14 @@ ghost use Rattle.model.specs.File.{fileEnd};
 ghost use Rattle.model.specs.Records.{Rec};
 ghost use Rattle.model.specs.Scans.{Kept};
 ghost use Rattle.turn.specs.Walking.{Ready};
-ghost use Rattle.walk.specs.Taking.{Begins, ReadyPiece, Begun, failedAs, Finished};
+ghost use Rattle.turn.specs.Calls.{Begins, ReadyPiece, Begun, failedAs, Finished};
 use carried::place::Place;
 use complete::Done;
 use model::Dialect;
 use model::Ending;
 use model::Fault;
 use numbers::MAX_COLUMNS;
-use walk::piece::Taken;
+use turn::Taken;
 
 // A fault at this place of the file.
 fn failed(p: Place, e: Fault, at: usize) -> Taken
@@ -90,7 +90,7 @@ fn ended(
     ensures { λ r. ⌜ ((done : List Rec) (k : Kept) → Begins d (into t) [] p (now (bytes .entry)) (now (ends .entry)) (now (out .entry)) done k → Finished d (into t) p done k (now (out .entry)) (now (out .exit)) r) ⌝ }
 {
     let f = p.state;
-    match scanner::limits::file_end(d, f) {
+    match tokens::limits::file_end(d, f) {
         Ending::Cut => failed(p, Fault::CutShort, p.offset),
         Ending::Clean => {
             if p.records == 0 {

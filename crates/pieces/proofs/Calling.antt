@@ -28,10 +28,11 @@ use Rattle.carried.specs.Checks.{checkNow, Tells, Means, means-refused, means-t
 use Rattle.carried.specs.declared.checks.Check.{Check}
 use Rattle.carried.specs.declared.checks.Check.the-variants as checks
 use Rattle.carried.proofs.Checking.{unknown-source, unknown-target, checks-mean}
-use Rattle.walk.specs.declared.piece.Taken as walk-taken
+use Rattle.turn.specs.declared.Taken as call-taken
 use Rattle.turn.specs.Holding.{readAt}
 use Rattle.turn.specs.Walking.{InBounds, handIn}
-use Rattle.walk.specs.Taking.{Begun, Took, Finished}
+use Rattle.turn.specs.Calls.{Begun, Finished}
+use Rattle.walk.specs.Taking.{Took}
 use Rattle.pieces.specs.States.{placeIn, endedIn, faultIn}
 use Rattle.pieces.specs.Carrying.{Takes, StageOf, stage-taking, stage-faulted, stage-ended, stage-no-source, stage-no-target, Models}
 use Rattle.pieces.specs.Calling.{Carries, Called}
@@ -242,7 +243,7 @@ module _ (s : Converter) (d t : Dialect) (out : List ℕ) where
   pub lost-called : (c : Call) (told : TextAnswer) → checkOf s c ≡ checks.Taken d t → (InBounds (placeIn (s .numbers)) (handIn (placeIn (s .numbers)) (s .«name_ends») (s .ends)) → ⊥) → Called s c out told s out
   lost-called c told h out-of = taken-called s c d t h out told s out (refl, refl) λ m n done k p q takes small. absurd (out-of (takes .bounds))
 
-  module _ (r : walk-taken.Taken) (ends′ name-ends′ bytes′ names′ out′ : List ℕ) where
+  module _ (r : call-taken.Taken) (ends′ name-ends′ bytes′ names′ out′ : List ℕ) where
     pub piece-called :
         (bs : Bytes) → checkOf s (piece bs (length out)) ≡ checks.Taken d t →
         ((done : List Rec) (k : Kept) → Begun d (into t) bs (placeIn (s .numbers)) (s .names) (s .«name_ends») (s .bytes) (s .ends) out done k →

@@ -32,12 +32,13 @@ use Rattle.carried.specs.Codes.{stateFrom, fixedState}
 use Rattle.carried.specs.Sound.{atStart, order-end}
 use Rattle.carried.specs.declared.place.Place.{Place}
 use Rattle.carried.proofs.Codes.{state-back}
-use Rattle.walk.specs.declared.piece.Taken.{Taken}
+use Rattle.turn.specs.declared.Taken.{Taken}
 use Rattle.turn.specs.Holding.{readAt, Holding, keptNone}
 use Rattle.turn.specs.Walking.{InBounds, handIn}
-use Rattle.walk.specs.Taking.{Reached, Begun, Took, took-all, took-fault, Finished}
+use Rattle.turn.specs.Calls.{Reached, Begun, Finished}
+use Rattle.walk.specs.Taking.{Took, took-all, took-fault}
 use Rattle.turn.proofs.Turning.{first-holds, first-reads}
-use Rattle.walk.proofs.Writes.{reached-on}
+use Rattle.turn.proofs.Writes.{reached-on}
 use Rattle.pieces.specs.States.{placeIn, numbersOf}
 use Rattle.pieces.specs.Carrying.{Takes, StageOf, stage-taking, stage-faulted, stage-ended, stage-no-source, stage-no-target}
 use Rattle.pieces.specs.Calling.{converterOf, newConverter, Carries}

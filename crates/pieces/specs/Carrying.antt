@@ -14,7 +14,7 @@ use Rattle.model.specs.Machine.{ConverterStage, taking, faulted, ended}
 use Rattle.carried.specs.Checks.{Tells}
 use Rattle.turn.specs.Holding.{readAt, Holding}
 use Rattle.turn.specs.Walking.{InBounds, handIn}
-use Rattle.walk.specs.Taking.{Reached, Named}
+use Rattle.turn.specs.Calls.{Reached, Named}
 use Rattle.pieces.specs.States.{placeIn, endedIn, faultIn}
 use Rattle.pieces.specs.declared.Converter.{Converter}
 

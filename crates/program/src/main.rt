@@ -2,15 +2,13 @@
 // record written as it completes.
 //
 // It answers no status. A file was converted as a whole exactly if nothing was said on standard error.
-mod dialects;
-mod refusal;
 mod stream;
 
 // The dialect that an argument names, 0 where none does. The longest name has four bytes.
 fn argument(i: usize) -> u32 {
     let mut word = [0u8; 4];
     let length = os::arg(i, &mut word);
-    dialects::dialect_named(&word[..length])
+    wording::dialects::dialect_named(&word[..length])
 }
 
 fn help() {

@@ -1,9 +1,10 @@
 // Standard input to standard output, a piece at a time. A turn is loop-free: it reads once, converts what came and writes what that
 // completed.
 ghost use Rattle.io.specs.Counts.{Counts};
-use crate::refusal;
+use libc::STDERR_FILENO;
 use libc::STDIN_FILENO;
 use libc::STDOUT_FILENO;
+use model::Report;
 use numbers::LEAST_OUTPUT;
 use numbers::MAX_COLUMNS;
 use numbers::MAX_FILE;
@@ -11,6 +12,7 @@ use numbers::MAX_PIECE;
 use numbers::MAX_RECORD;
 use numbers::TextAnswer;
 use pieces::lent;
+use wording::refusal;
 
 // How many bytes of the output a call wrote. No call of these answers more than the output has; that it is asked here once more spares the
 // proof of it.
@@ -18,6 +20,13 @@ fn written(length: usize, out: &[u8]) -> usize
     ensures { λ r. ⌜ Counts r (now (out .entry)) ⌝ }
 {
     numbers::least_of(length, out.len())
+}
+
+// A refusal in words, on standard error.
+fn say(e: Report) {
+    let mut text = io::buffer();
+    let n = refusal::sentence(e, &mut text);
+    io::write_all(STDERR_FILENO, &text[..n]);
 }
 
 // Writes what a call wrote, and answers whether the conversion goes on after it.
@@ -31,7 +40,7 @@ fn deliver(answer: TextAnswer, out: &[u8]) -> bool {
     if e.number == 0 {
         return true;
     }
-    refusal::say(e);
+    say(e);
     false
 }
 

@@ -22,20 +22,22 @@ use Rattle.model.specs.Report.{accepted, refusal, MAXFILE}
 use Rattle.model.specs.Records.{Rec, rows, Read, Progress, going, readFile}
 use Rattle.model.specs.Api as api
 use Rattle.model.specs.Api.{startsOf, endsOf, kindsOf}
-use Rattle.scanner.specs.Stored.{storedFrom}
+use Rattle.tokens.specs.Stored.{storedFrom}
 use Rattle.numbers.proofs.Least.{least-first, least-second}
 use Rattle.reader.specs.declared.Answer.{Answer}
-use Rattle.reader.specs.declared.records.Pass.{Pass}
-use Rattle.reader.specs.declared.records.Pass.the-variants.{Accepted, Refused}
+use Rattle.passes.specs.declared.Pass.{Pass}
+use Rattle.passes.specs.declared.Pass.the-variants.{Accepted, Refused}
 use Rattle.reader.specs.Answers.{callAnswer, toAnswer, answerIn}
-use Rattle.reader.specs.Passes as passes
-use Rattle.reader.specs.Passes.{firstOf, Begins, Outcome, Passes}
-use Rattle.scanner.proofs.Filling.{stored-from-none, stored-from-over}
+use Rattle.passes.specs.Passes as passes
+use Rattle.passes.specs.Passes.{Outcome, Passes}
+use Rattle.reader.specs.Headers.{firstOf, Begins}
+use Rattle.tokens.proofs.Filling.{stored-from-none, stored-from-over}
 use Rattle.visitor.specs.declared.Aim.the-variants.{Reading}
 use Rattle.visitor.specs.declared.Visited.{Visited}
 use Rattle.visitor.specs.declared.Outcome.the-variants as outcomes
 use Rattle.visitor.specs.declared.Outcome as visitor
-use Rattle.visitor.specs.Visits.{restOf, Visits}
+use Rattle.file_records.specs.Reading.{restOf}
+use Rattle.visitor.specs.Visits.{Visits}
 use Rattle.visitor.proofs.Walking.{whole-rest, came, at-end, at-fault}
 
 -- the answer, and the lists after it

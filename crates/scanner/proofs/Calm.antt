@@ -17,7 +17,7 @@ use Rattle.model.specs.declared.FileState.{FileState}
 use Rattle.model.specs.declared.ByteRole.the-variants.{Outside, Passed, OfCell, Between, Tail, Ends}
 use Rattle.model.specs.declared.Step.{Step}
 use Rattle.model.specs.declared.Step.the-variants.{To, Reject}
-use Rattle.scanner.specs.Tokens.{outer}
+use Rattle.tokens.specs.Tokens.{outer}
 
 pub data Calm (f : FileState) (b : ℕ) : Step → Type 0 where
   refuses : {e : ByteFault} → Calm f b (Reject e)

@@ -1,10 +1,2 @@
-pub mod Placing
-pub mod Filling
-pub mod Coming
 pub mod Calm
 pub mod Scanning
-pub mod WholeFile
-pub mod Reading
-pub mod Events
-pub mod Complete
-pub mod Stretches

@@ -28,14 +28,17 @@ use Rattle.model.specs.declared.ByteRole.the-variants.{Outside, Passed, OfCell,
 use Rattle.model.specs.declared.Step.{Step}
 use Rattle.model.specs.declared.Step.the-variants.{To, Reject}
 use Rattle.model.specs.declared.Fault.the-variants.{Byte, FileTooLong, RecordTooLong}
-use Rattle.scanner.specs.Types.{RecordState, Token, Is, Skipped, AfterCell, Refused, Open, Reached}
-use Rattle.scanner.specs.declared.Reached.the-variants as reached
-use Rattle.scanner.specs.Next.{closesCell, endsRecord, oneMore, stateAfterByte, extendedBy}
-use Rattle.scanner.specs.Parts.{handOf, Found, foundOf, foundIn, rawStarts, rawEnds, rawKinds, HandInBounds, ReachedInBounds}
-use Rattle.scanner.specs.Tokens.{scanAt, cellsNext, steppedAt, metNext, outer, TokenInBounds, TokenCorrect}
-use Rattle.scanner.specs.Stored.{putIf, storedFrom}
-use Rattle.scanner.proofs.Placing.{stored-from-snoc, length-put-if, length-stored-from}
-use Rattle.scanner.proofs.Coming.{goes-to, refuses}
+use Rattle.tokens.specs.declared.record_state.RecordState.{RecordState}
+use Rattle.tokens.specs.declared.Token.{Token}
+use Rattle.tokens.specs.declared.Token.the-variants.{Is, Skipped, AfterCell, Refused, Open}
+use Rattle.tokens.specs.declared.Reached.{Reached}
+use Rattle.tokens.specs.declared.Reached.the-variants as reached
+use Rattle.tokens.specs.InHand.{closesCell, endsRecord, oneMore, stateAfterByte, extendedBy}
+use Rattle.tokens.specs.Parts.{handOf, Found, foundOf, foundIn, rawStarts, rawEnds, rawKinds, HandInBounds, ReachedInBounds}
+use Rattle.tokens.specs.Tokens.{scanAt, cellsNext, steppedAt, metNext, outer, TokenInBounds, TokenCorrect}
+use Rattle.tokens.specs.Stored.{putIf, storedFrom}
+use Rattle.tokens.proofs.Placing.{stored-from-snoc, length-put-if, length-stored-from}
+use Rattle.tokens.proofs.Coming.{goes-to, refuses}
 use Rattle.scanner.proofs.Calm.{Calm, step-calm, after-calm, leaves, passes, grows, blanks, parts, tails, finishes}
 
 -- ---- lists

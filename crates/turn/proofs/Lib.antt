@@ -5,3 +5,5 @@ pub mod Turning
 pub mod Keeping
 pub mod Showing
 pub mod Walking
+pub mod Writes
+pub mod Beginning

@@ -21,10 +21,10 @@ use Rattle.model.proofs.ScanSize.{scan-size}
 use Rattle.buffers.specs.Wrote.{written}
 use Rattle.carried.specs.Hand.{Shows, InHand, GoesOn, nothing-open, first-goes-on}
 use Rattle.carried.proofs.InHand.{hand-values, kept-open, kept-more}
-use Rattle.scanner.specs.Stored.{putAt, storedFrom}
-use Rattle.scanner.specs.Parts.{foundOf, handOf, rawStarts, rawEnds}
-use Rattle.scanner.specs.declared.record_state.RecordState.{RecordState}
-use Rattle.scanner.specs.declared.Reached.the-variants as reached
+use Rattle.tokens.specs.Stored.{putAt, storedFrom}
+use Rattle.tokens.specs.Parts.{foundOf, handOf, rawStarts, rawEnds}
+use Rattle.tokens.specs.declared.record_state.RecordState.{RecordState}
+use Rattle.tokens.specs.declared.Reached.the-variants as reached
 use Rattle.carried.specs.declared.place.Place.{Place}
 use Rattle.model.proofs.CellRuns.{here}
 use Rattle.model.proofs.Cells.{cellAt}

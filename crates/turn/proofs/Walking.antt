@@ -26,8 +26,8 @@ use Rattle.buffers.specs.Wrote.{written}
 use Rattle.carried.specs.Sound.{InOrder, order-end}
 use Rattle.carried.specs.Hand.{Shows, InHand, rawCellsAt}
 use Rattle.carried.proofs.InHand.{shown-are, shown-stand}
-use Rattle.scanner.specs.Stored.{storedFrom}
-use Rattle.scanner.specs.Parts.{foundOf, handOf, rawStarts, rawEnds}
+use Rattle.tokens.specs.Stored.{storedFrom}
+use Rattle.tokens.specs.Parts.{foundOf, handOf, rawStarts, rawEnds}
 use Rattle.carried.specs.declared.place.Place.{Place}
 use Rattle.turn.specs.Types.{Dialect, Target, FileState, Outside, Passed, OfCell, Between, Tail, Ends, Step, To, Reject, Fault, TooManyColumns, Verdict, Sound, Faulty}
 use Rattle.complete.specs.declared.Done.{Done}
@@ -36,7 +36,7 @@ use Rattle.turn.specs.Holding.{readAt, Shown, Holding, placeAfter, keptN
 use Rattle.complete.specs.Completing.{faultAt, textAt, Finishes, is-written, is-refused, has-no-room, SpellsRecord, Ruled, not-whole, ruled, keptValues, allWhole, startsBy}
 use Rattle.turn.specs.declared.Turn.the-variants.{Stopped, Pended}
 use Rattle.turn.specs.Walking.{InBounds, Lists, FoundWhole, Completes, too-many, from-kept, pendedPlace, Pends, too-many-yet, kept-on, Ready, turnOf, Fitting, TurnBounds, next-bounds, pended-bounds, stopped-bounds, nowhere-bounds, Turns, turns-next, turns-pended, turns-stopped, turns-nowhere}
-use Rattle.scanner.specs.declared.record_state.RecordState.{RecordState}
+use Rattle.tokens.specs.declared.record_state.RecordState.{RecordState}
 use Rattle.turn.proofs.Keeping.{order-then, order-more}
 use Rattle.turn.proofs.Scanning.{keptOf, Within, WithinTo, within-pends, within-fails, within-completes, scan-within}
 use Rattle.turn.proofs.Turning as turning

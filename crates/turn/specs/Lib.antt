@@ -1,3 +1,4 @@
 pub mod Types
 pub mod Holding
 pub mod Walking
+pub mod Calls

@@ -14,7 +14,7 @@ use Rattle.model.specs.Scans.{RawCell, inRecord, Kept}
 use Rattle.model.specs.Places.{keptBytes, keptEnds}
 use Rattle.buffers.specs.Wrote.{written}
 use Rattle.carried.specs.Hand.{Stand, rawCellsAt}
-use Rattle.scanner.specs.declared.record_state.RecordState.{RecordState}
+use Rattle.tokens.specs.declared.record_state.RecordState.{RecordState}
 use Rattle.turn.specs.Types.{Report, Dialect, Target, FileState, Fault, TooManyColumns}
 use Rattle.carried.specs.declared.place.Place.{Place}
 use Rattle.complete.specs.declared.Done.{Done}

@@ -24,8 +24,8 @@ use model::FileState;
 use model::Report;
 use numbers::MAX_COLUMNS;
 use numbers::MAX_FILE;
-use scanner::Reached;
-use scanner::record_state::RecordState;
+use tokens::Reached;
+use tokens::record_state::RecordState;
 
 // ---- what is kept
 
@@ -170,6 +170,14 @@ pub enum Turn {
     Stopped(Report),
     // No calls made this state.
     Nowhere,
+}
+
+// What a call, which is turns over a piece or the end, comes to.
+pub struct Taken {
+    pub place: Place,
+    pub report: Report,
+    // How many bytes it wrote.
+    pub length: usize,
 }
 
 fn columns_with(p: Place, cells: usize) -> usize

@@ -24,7 +24,7 @@ use Rattle.model.specs.Records.{Rec, rows, recordFault, headerFault, dataFault,
 use Rattle.model.proofs.Verdicts.{fault-sound, else-sound, when-sound, target-sound}
 use Rattle.model.proofs.TableText.{rows-empty, table-snoc}
 use Rattle.model.proofs.TargetLaws.{record-target}
-use Rattle.scanner.proofs.Complete.{header-fault, data-fault}
+use Rattle.file_records.proofs.Complete.{header-fault, data-fault}
 use Rattle.target.specs.declared.Ruling.{Ruling}
 use Rattle.visitor.specs.declared.Aim.{Aim}
 use Rattle.visitor.specs.declared.Aim.the-variants.{Reading, Into}

@@ -14,10 +14,10 @@ use Rattle.model.specs.Api.{startsOf, endsOf, kindsOf}
 use Rattle.decoder.specs.declared.source.Source.the-variants.{File}
 use Rattle.decoder.specs.Sources.{cellsIn, Cells}
 use Rattle.decoder.proofs.CellsIn.{cell-of, stretch-of, cells-are, cells-lie}
-use Rattle.scanner.specs.Stored.{storedFrom}
-use Rattle.scanner.specs.Stretches.{StandsIn}
-use Rattle.scanner.proofs.Placing.{length-stored-from}
-use Rattle.scanner.proofs.Filling.{stored-from-shown}
+use Rattle.tokens.specs.Stored.{storedFrom}
+use Rattle.file_records.specs.Stretches.{StandsIn}
+use Rattle.tokens.proofs.Placing.{length-stored-from}
+use Rattle.tokens.proofs.Filling.{stored-from-shown}
 use Rattle.visitor.specs.Visits.{Long, Kept, Shows}
 
 module _ (d : Dialect) (file : Bytes) {vs : List Value} (a : All (StandsIn d file) vs) where

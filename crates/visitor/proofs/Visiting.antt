@@ -25,21 +25,21 @@ use Rattle.model.specs.Api.{startsOf, endsOf, kindsOf}
 use Rattle.model.proofs.Tests.{split-on, impossible}
 use Rattle.decoder.specs.declared.source.Source.the-variants.{File}
 use Rattle.decoder.specs.Sources.{Cells}
-use Rattle.scanner.specs.Next.{Next, nextRecord, ended, EventInBounds}
-use Rattle.scanner.specs.Stored.{storedFrom}
-use Rattle.scanner.specs.Stretches.{StandsIn}
-use Rattle.scanner.specs.Reading.{ReadsAs}
-use Rattle.scanner.specs.Tokens.{outer}
-use Rattle.scanner.specs.declared.Event.{Event}
-use Rattle.scanner.specs.declared.Event.the-variants.{Completed, LastRecord, Failed, Finished}
-use Rattle.scanner.proofs.Reading.{stays, reads-on}
-use Rattle.scanner.proofs.Events.{on-record, on-last, on-fault, on-finish}
-use Rattle.scanner.proofs.Complete.{report-start, report-byte, recOf, complete-sound, complete-faulty}
-use Rattle.scanner.proofs.Stretches.{cells-stand, EndsOuter, record-outer}
+use Rattle.file_records.specs.Next.{Next, nextRecord, ended, EventInBounds}
+use Rattle.tokens.specs.Stored.{storedFrom}
+use Rattle.file_records.specs.Stretches.{StandsIn}
+use Rattle.file_records.specs.Reading.{restOf, ReadsAs}
+use Rattle.tokens.specs.Tokens.{outer}
+use Rattle.file_records.specs.declared.Event.{Event}
+use Rattle.file_records.specs.declared.Event.the-variants.{Completed, LastRecord, Failed, Finished}
+use Rattle.file_records.proofs.Reading.{stays, reads-on}
+use Rattle.file_records.proofs.Events.{on-record, on-last, on-fault, on-finish}
+use Rattle.file_records.proofs.Complete.{report-start, report-byte, recOf, complete-sound, complete-faulty}
+use Rattle.file_records.proofs.Stretches.{cells-stand, EndsOuter, record-outer}
 use Rattle.visitor.specs.declared.Aim.{Aim}
 use Rattle.visitor.specs.declared.Outcome.{Outcome}
 use Rattle.visitor.specs.declared.Outcome.the-variants.{Record, Refused}
-use Rattle.visitor.specs.Visits.{targetOf, textOf, textNext, restOf, Long, Kept, Shows, Completes, sound, faulty, Ends, no-record, at-end, Visits, visited, finished, refused}
+use Rattle.visitor.specs.Visits.{targetOf, textOf, textNext, Long, Kept, Shows, Completes, sound, faulty, Ends, no-record, at-end, Visits, visited, finished, refused}
 use Rattle.visitor.proofs.Lists.{still-kept, still-long, stand-there, shows}
 use Rattle.visitor.proofs.Asking.{text-snoc, columns-snoc}
 

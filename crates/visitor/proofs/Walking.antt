@@ -16,14 +16,15 @@ use Rattle.model.specs.Text.{tableText}
 use Rattle.model.specs.Report.{MAXFILE, MAXCOLUMNS}
 use Rattle.model.specs.Records.{Rec, rows, Read, between-records, nothingRead, Progress, going, stopped, faultReport, readFrom, readBytes, readFile, recordsOf}
 use Rattle.model.proofs.Reading.{read-grows, end-grows, grows-trans}
-use Rattle.scanner.specs.Tokens.{outer}
+use Rattle.tokens.specs.Tokens.{outer}
 use Rattle.visitor.specs.declared.Aim.{Aim}
 use Rattle.visitor.specs.declared.Aim.the-variants.{Reading, Into}
 use Rattle.visitor.specs.declared.Visited.{Visited}
 use Rattle.visitor.specs.declared.Outcome.{Outcome}
 use Rattle.visitor.specs.declared.Outcome.the-variants.{Record, End, Refused}
 use Rattle.visitor.specs.Visits as visits
-use Rattle.visitor.specs.Visits.{targetOf, restOf, After, Long, Kept, Visits}
+use Rattle.file_records.specs.Reading.{restOf}
+use Rattle.visitor.specs.Visits.{targetOf, After, Long, Kept, Visits}
 
 -- the whole file is what is left from i on, after the records rs
 pub record Walking (d : Dialect) (aim : Aim) (file : Bytes) (f : FileState) (i done columns written : ℕ) : Type 0 where

@@ -15,11 +15,12 @@ use Rattle.model.specs.Base.{Bytes, isEmpty}
 use Rattle.model.specs.Dialect.{into}
 use Rattle.model.specs.Text.{Value, recordText, tableText, ending}
 use Rattle.model.specs.Report.{report, numberOf, columnOf, MAXFILE, MAXCOLUMNS}
-use Rattle.model.specs.Records.{Rec, rows, Read, between-records, Progress, going, stopped, readFrom, readEnd, recordFault, faultReport}
+use Rattle.model.specs.Records.{Rec, rows, Read, between-records, going, stopped, recordFault, faultReport}
 use Rattle.decoder.specs.declared.source.Source.the-variants.{File}
 use Rattle.decoder.specs.Sources.{cellsIn, Cells}
-use Rattle.scanner.specs.Next.{nextRecord}
-use Rattle.scanner.specs.Tokens.{outer}
+use Rattle.file_records.specs.Next.{nextRecord}
+use Rattle.file_records.specs.Reading.{restOf}
+use Rattle.tokens.specs.Tokens.{outer}
 use Rattle.target.specs.declared.Ruling.{Ruling}
 use Rattle.visitor.specs.declared.Aim.{Aim}
 use Rattle.visitor.specs.declared.Aim.the-variants.{Reading, Into}
@@ -55,10 +56,6 @@ pub record After (aim : Aim) (done columns written : ℕ) (rs : List Rec) : Type
   pub count : length rs ≡ done
   pub headed : Columns rs columns
   pub text : length (textOf aim rs) ≡ written
-
--- reading from i to the end of the file, after these records
-abbrev pub restOf : Dialect → Option Target → (file : Bytes) → List Rec → FileState → (i : ℕ) → Progress
-restOf d target file rs f i = readEnd d target (readFrom d target (going (between-records rs f i)) (drop i file))
 
 -- ---- a complete record
 

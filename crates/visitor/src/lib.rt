@@ -15,16 +15,16 @@ ghost use Rattle.model.specs.Report.{MAXFILE, MAXCOLUMNS};
 ghost use Rattle.model.specs.Records.{Rec, recordFault};
 ghost use Rattle.decoder.specs.declared.source.Source.the-variants.{File};
 ghost use Rattle.decoder.specs.Sources.{cellsIn, Cells};
-ghost use Rattle.scanner.specs.Tokens.{outer};
+ghost use Rattle.tokens.specs.Tokens.{outer};
 ghost use Rattle.visitor.specs.Visits.{Columns, After, Ruled, Long, Kept, Shows, Completes, Ends, Visits};
 use decoder::source::Source;
+use file_records::Event;
 use model::Dialect;
 use model::Fault;
 use model::FileState;
 use model::Report;
 use model::Verdict;
 use numbers::MAX_COLUMNS;
-use scanner::Event;
 use target::Ruling;
 
 // What a file is visited for.
@@ -193,7 +193,7 @@ pub fn visit(
     ensures { λ r. ⌜ ((rs : List Rec) → After aim done columns written rs → Visits d aim (now (file .entry)) rs state from (now (starts .exit)) (now (ends .exit)) (now (kinds .exit)) r) ⌝ }
     ensures { λ r. ⌜ Kept (now (starts .entry)) (now (ends .entry)) (now (kinds .entry)) (now (starts .exit)) (now (ends .exit)) (now (kinds .exit)) ⌝ }
 {
-    match scanner::next_record(d, file, from, state, MAX_COLUMNS, 0, starts, ends, kinds) {
+    match file_records::next_record(d, file, from, state, MAX_COLUMNS, 0, starts, ends, kinds) {
         Event::Completed {
             start,
             cells,

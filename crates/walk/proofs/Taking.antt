@@ -6,8 +6,7 @@ use mathlib.Core.Path.{_≡_, refl, sym, ap, ap₂, subst, _∙_}
 use mathlib.Core.List.{List, [], _∷_, _++_, append-assoc}
 use lib.ListN.{length, take, drop, length-append}
 use lib.Seq.{take-append-seam, drop-append-add, drop-drop}
-use borrow.Author.Tests.{eq-eqb, ne-eqb}
-use Rattle.model.specs.Base.{if_then_else_, Bytes, isEmpty, over}
+use Rattle.model.specs.Base.{Bytes, isEmpty, over}
 use Rattle.model.specs.Text.{recordText, tableText, ending}
 use Rattle.model.specs.Report.{accepted, LEASTOUTPUT, MAXRECORD, MAXCOLUMNS}
 use Rattle.model.specs.Records.{Rec, rows}
@@ -19,12 +18,14 @@ use Rattle.carried.specs.declared.place.Place.{Place}
 use Rattle.turn.specs.Types.{Report, Dialect, Target}
 use Rattle.carried.specs.Sound.{order-end}
 use Rattle.complete.specs.Completing.{SpellsRecord}
-use Rattle.walk.specs.declared.piece.Taken.{Taken}
+use Rattle.turn.specs.declared.Taken.{Taken}
 use Rattle.turn.specs.declared.Turn.the-variants.{Next, Pended, Stopped, Nowhere}
 use Rattle.turn.specs.Holding.{allKept, readAt, Holding}
-use Rattle.turn.specs.Walking.{InBounds, handIn, Ready, TurnBounds, next-bounds, pended-bounds, Turns, turns-next, turns-pended, turns-stopped, turns-nowhere}
-use Rattle.walk.specs.Taking.{Begins, Named, ReadyPiece, Begun, Walked, Entered, Goes, goes-all, goes-fault, Took, took-all, took-fault}
-use Rattle.walk.proofs.Writes.{piece-room, new-length, new-none, new-more, grows-none, grows-more}
+use Rattle.turn.specs.Walking.{InBounds, Ready, TurnBounds, next-bounds, pended-bounds, Turns, turns-next, turns-pended, turns-stopped, turns-nowhere}
+use Rattle.turn.specs.Calls.{Begins, Named, Begun}
+use Rattle.walk.specs.Taking.{Walked, Entered, Goes, goes-all, goes-fault, Took, took-all, took-fault}
+use Rattle.turn.proofs.Beginning.{first-in-hand, second-in-hand, begun-later}
+use Rattle.turn.proofs.Writes.{piece-room, new-length, new-none, new-more, grows-none, grows-more}
 
 -- what a call wrote, and one text more
 pub written-over : (new old text : Bytes) → written (over new old) (length new) text ≡ over (new ++ text) old
@@ -104,32 +105,6 @@ goes-forward (next-bounds b a on in-piece room none) = (on, in-piece)
 
 pub pended-in-bounds : {piece : Bytes} {n i : ℕ} {q : Place} {ends′ out : List ℕ} → TurnBounds piece n i ends′ out (Pended q) → InBounds q ends′
 pended-in-bounds (pended-bounds b) = b
-
--- ---- the arrays of the record in hand
-
-first-in-hand : (p : Place) (a b : List ℕ) → p .records ≡ 0 → handIn p a b ≡ a
-unfolding if_then_else_
-first-in-hand p a b e = rw (eq-eqb (p .records) 0 e)
-
-second-in-hand : (p : Place) (a b : List ℕ) → (p .records ≡ 0 → ⊥) → handIn p a b ≡ b
-unfolding if_then_else_
-second-in-hand p a b e = rw (ne-eqb (p .records) 0 e)
-
-module _ {d : Dialect} {t : Target} {piece : Bytes} {p : Place} {names name-ends bytes ends out : List ℕ} {done : List Rec} {k : Kept} (b : Begun d t piece p names name-ends bytes ends out done k) where
-  pub begun-header : p .records ≡ 0 → Begins d t piece p names name-ends out done k
-  begun-header e = rw (first-in-hand p names bytes e, first-in-hand p name-ends ends e) at (b .begins)
-
-  pub begun-later : (p .records ≡ 0 → ⊥) → Begins d t piece p bytes ends out done k
-  begun-later e = rw (second-in-hand p names bytes e, second-in-hand p name-ends ends e) at (b .begins)
-
-module _ {p : Place} {names name-ends bytes ends : List ℕ} (r : ReadyPiece p names name-ends bytes ends) where
-  pub ready-header : {piece out : List ℕ} → p .records ≡ 0 → Ready piece (p .offset) 0 p names name-ends out 0
-  ready-header {piece} {out} e =
-      record { bounds = rw (first-in-hand p name-ends ends e) at (r .bounds); at = omega arith; inside = omega arith; room = omega arith; long-bytes = r .long-names; long-ends = r .long-name-ends }
-
-  pub ready-later : {piece out : List ℕ} → (p .records ≡ 0 → ⊥) → Ready piece (p .offset) 0 p bytes ends out 0
-  ready-later {piece} {out} e =
-      record { bounds = rw (second-in-hand p name-ends ends e) at (r .bounds); at = omega arith; inside = omega arith; room = omega arith; long-bytes = r .long-bytes; long-ends = r .long-ends }
 
 -- ---- from the header's arrays to the others
 

@@ -7,20 +7,14 @@ ghost use Rattle.model.specs.Dialect.{into};
 ghost use Rattle.model.specs.Records.{Rec};
 ghost use Rattle.model.specs.Scans.{Kept};
 ghost use Rattle.turn.specs.Walking.{Scratch, Ready};
-ghost use Rattle.walk.specs.Taking.{ReadyPiece, Begun, Walked, Entered, Goes, Took};
+ghost use Rattle.turn.specs.Calls.{ReadyPiece, Begun};
+ghost use Rattle.walk.specs.Taking.{Walked, Entered, Goes, Took};
 use carried::place::Place;
 use model::Dialect;
 use model::Report;
 use numbers::MAX_COLUMNS;
+use turn::Taken;
 use turn::Turn;
-
-// What a call comes to.
-pub struct Taken {
-    pub place: Place,
-    pub report: Report,
-    // How many bytes it wrote.
-    pub length: usize,
-}
 
 fn told(place: Place, report: Report, length: usize) -> Taken
     ensures { λ r. ⌜ r ≡ record { place = place; report = report; length = length } ⌝ }

@@ -4,7 +4,7 @@ use mathlib.Core.Path.{refl, sym, ap, _∙_}
 use borrow.Author.Needs.{needs}
 use Rattle.model.specs.Dialect.{into}
 use Rattle.turn.specs.Types.{NoRecord, CutShort}
-use Rattle.walk.specs.declared.piece.Taken.{Taken}
+use Rattle.turn.specs.declared.Taken.{Taken}
 use Rattle.ending.proofs.Ending.{cut-reads, cut-reports, none-reads, none-reports, clean-reads}
 use Rattle.ending.proofs.Finishing.{finish-fault, finish-clean}
 use Rattle.ending.proofs.ended.Statement.{statement}

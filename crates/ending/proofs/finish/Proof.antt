@@ -1,6 +1,6 @@
 -- The record in hand is in the first arrays until the header is complete.
 use borrow.Author.Needs.{needs}
-use Rattle.walk.proofs.Taking.{begun-header, begun-later, ready-header, ready-later}
+use Rattle.turn.proofs.Beginning.{begun-header, begun-later, ready-header, ready-later}
 use Rattle.ending.proofs.finish.Statement.{statement}
 use Rattle.ending.proofs.finish.Tie as tie
 

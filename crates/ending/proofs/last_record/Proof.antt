@@ -6,7 +6,7 @@ use lib.ListN.{length, take, set, length-set, length-take}
 use borrow.Author.Needs.{needs}
 use Rattle.model.specs.Dialect.{into}
 use Rattle.complete.specs.declared.Done.the-variants.{Written, Refused, Lost}
-use Rattle.walk.specs.declared.piece.Taken.{Taken}
+use Rattle.turn.specs.declared.Taken.{Taken}
 use Rattle.complete.specs.Completing.{Ruled}
 use Rattle.turn.proofs.Keeping.{order-more}
 use Rattle.ending.proofs.Finishing.{last-order, last-later, finish-many, finish-kept}

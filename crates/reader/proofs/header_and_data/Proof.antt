@@ -5,8 +5,8 @@ use Prim.Native.Nat.{_≤_}
 use mathlib.Core.Path.{_≡_, ap, _∙_}
 use lib.ListN.{length}
 use borrow.Author.Needs.{needs}
-use Rattle.scanner.proofs.Placing.{length-stored-from}
-use Rattle.reader.proofs.Passing.{held-lengths}
+use Rattle.tokens.proofs.Placing.{length-stored-from}
+use Rattle.passes.proofs.Passing.{held-lengths}
 use Rattle.reader.proofs.Answering.{unchanged, few-cells, WithPart, part-room, part-long, data-refused, data-crowded, data-roomy}
 use Rattle.reader.proofs.header_and_data.Statement.{statement}
 use Rattle.reader.proofs.header_and_data.Tie as tie

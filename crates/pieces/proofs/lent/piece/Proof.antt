@@ -19,7 +19,8 @@ use Rattle.carried.specs.Checks.{checkNow}
 use Rattle.carried.specs.declared.checks.Check.the-variants as checks
 use Rattle.carried.specs.declared.place.Place.{Place}
 use Rattle.turn.specs.Walking.{InBounds, handIn}
-use Rattle.walk.specs.Taking.{Begun, Took}
+use Rattle.turn.specs.Calls.{Begun}
+use Rattle.walk.specs.Taking.{Took}
 use Rattle.pieces.specs.States.{placeIn, endedIn, numbersOf}
 use Rattle.pieces.specs.Calling.{converterOf, Called}
 use Rattle.pieces.specs.declared.Converter.{Converter}

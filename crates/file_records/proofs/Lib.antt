@@ -1,0 +1,5 @@
+pub mod WholeFile
+pub mod Reading
+pub mod Events
+pub mod Complete
+pub mod Stretches

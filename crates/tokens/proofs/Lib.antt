@@ -1,0 +1,3 @@
+pub mod Placing
+pub mod Filling
+pub mod Coming

@@ -1,0 +1,5 @@
+pub mod Types
+pub mod InHand
+pub mod Parts
+pub mod Tokens
+pub mod Stored

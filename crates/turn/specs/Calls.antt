@@ -1,0 +1,61 @@
+-- What a call begins with, over a piece or at the end, and what the end comes to.
+use Prim.Native.Nat.{ℕ, _+_, _≤_}
+use mathlib.Core.Path.{_≡_}
+use mathlib.Core.Option.{some}
+use mathlib.Core.List.{List, [], _∷_}
+use lib.ListN.{length}
+use Rattle.model.specs.Base.{Bytes, over}
+use Rattle.model.specs.Report.{report, numberOf, columnOf, MAXRECORD, MAXCOLUMNS, MAXPIECE, LEASTOUTPUT}
+use Rattle.model.specs.Records.{Rec, Read, going, readBytes, readEnd, reportOf, recordsOf}
+use Rattle.model.specs.Scans.{Kept}
+use Rattle.model.specs.Machine.{newText}
+use Rattle.carried.specs.declared.place.Place.{Place}
+use Rattle.complete.specs.Completing.{SpellsRecord}
+use Rattle.turn.specs.Types.{Dialect, Target, Fault}
+use Rattle.turn.specs.declared.Taken.{Taken}
+use Rattle.turn.specs.Holding.{readAt, Holding}
+use Rattle.turn.specs.Walking.{InBounds, handIn}
+
+-- some bytes were read up to here
+pub record Reached (d : Dialect) (t : Target) (r : Read) : Type 0 where
+  pub consumed : Bytes
+  pub reads : readBytes d (some t) consumed ≡ going r
+
+-- a call begins where earlier calls have come to, with a piece and an output of the sizes that are taken
+pub record Begins (d : Dialect) (t : Target) (piece : Bytes) (p : Place) (bytes ends out : List ℕ) (done : List Rec) (k : Kept) : Type 0 where
+  pub hold : Holding d t p bytes ends done k
+  pub reached : Reached d t (readAt d p done k)
+  pub short : length piece ≤ MAXPIECE
+  pub room : LEASTOUTPUT ≤ length out
+
+-- ---- the header's names
+
+-- the first record is the header: these arrays spell its names (§15.2)
+abbrev pub Named : Dialect → (names name-ends : List ℕ) → List Rec → Type 0
+Named d names ends [] = Unit {0}
+Named d names ends (h ∷ rs) = SpellsRecord d names ends h
+
+-- what a call may rely on: it stays in bounds from this place
+pub record ReadyPiece (p : Place) (names name-ends bytes ends : List ℕ) : Type 0 where
+  pub bounds : InBounds p (handIn p name-ends ends)
+  pub long-names : length names ≡ MAXRECORD
+  pub long-name-ends : length name-ends ≡ MAXCOLUMNS
+  pub long-bytes : length bytes ≡ MAXRECORD
+  pub long-ends : length ends ≡ MAXCOLUMNS
+
+-- a call begins, with the header's cells in the first two arrays, and those of another record in the other two
+pub record Begun (d : Dialect) (t : Target) (piece : Bytes) (p : Place) (names name-ends bytes ends out : List ℕ) (done : List Rec) (k : Kept) : Type 0 where
+  pub begins : Begins d t piece p (handIn p names bytes) (handIn p name-ends ends) out done k
+  pub named : Named d names name-ends done
+
+-- ---- the end
+
+-- a fault at this place
+abbrev pub failedAs : Place → Fault → (at : ℕ) → Taken
+failedAs p e at = record { place = p; report = report (numberOf e) (p .records + 1) (columnOf e) at; length = 0 }
+
+-- the report on the file's end, and the text of a last record
+pub record Finished (d : Dialect) (t : Target) (p : Place) (done : List Rec) (k : Kept) (out out′ : List ℕ) (r : Taken) : Type 0 where
+  pub reports : r .report ≡ reportOf (readEnd d (some t) (going (readAt d p done k)))
+  pub text : out′ ≡ over (newText t done (recordsOf (readEnd d (some t) (going (readAt d p done k))))) out
+  pub long : r .length ≡ length (newText t done (recordsOf (readEnd d (some t) (going (readAt d p done k)))))
