@@ -1,87 +1,31 @@
--- The cells that stand in kept bytes one after another: what is asked of them, and that they are whole.
+-- The cells that stand in kept bytes one after another: what is asked of them, and that they may be spelt.
 use Prim.Native.Nat.{ℕ, zero, suc, _+_, _-_, _≤_, _<_}
 use native.Mathlib.Omega.{arith}
-use native.Mathlib.Numerals.{add-one}
 use mathlib.Core.Path.{_≡_, refl, sym, ap, ap₂, _∙_}
-use mathlib.Core.Bool.{Bool, true, false}
+use mathlib.Core.Bool.{true}
 use mathlib.Core.List.{List, [], _∷_, _++_, append-nil}
 use lib.ListN.{length, take, drop, getD, length-take, length-drop}
-use lib.Seq.{drop-cons, drop-nil, take-at, take-length, length-take-le, getD-take}
-use lib.Dec.{leb}
+use lib.Dec.{ltb}
+use borrow.Author.Tests.{ltb-true, ltb-false}
+use lib.Seq.{take-at, take-length, getD-take, getD-drop}
 use Rattle.model.specs.Base.{if_then_else_, Bytes, over}
-use Rattle.model.specs.Decode.{kindNumber, kindOf, validateCell}
+use Rattle.model.specs.Decode.{kindNumber, kindOf}
 use Rattle.model.specs.Report.{MAXRECORD}
-use Rattle.model.specs.Api.{least, slice, kindsOf, kindNamed}
+use Rattle.model.specs.Api.{slice, kindsOf, kindNamed}
 use Rattle.model.specs.Places.{valuesIn}
 use Rattle.model.specs.declared.Kind.{Kind}
 use Rattle.model.specs.declared.Kind.the-variants.{Text, Number, True, False, Null}
-use Rattle.model.specs.declared.CellCheck.the-variants.{WholeCell, Unsound}
-use Rattle.model.proofs.Tests.{split, impossible}
+use Rattle.model.proofs.Tests.{split-on, impossible}
 use Rattle.buffers.specs.Wrote.{Room, Put}
 use Rattle.buffers.proofs.Writing.{Putting, putting, room-next, room-rest, put-next, put-whole}
 use Rattle.decoder.specs.declared.source.Source.{Source}
 use Rattle.decoder.specs.declared.source.Source.the-variants.{File}
+use Rattle.decoder.specs.Followed.{EdFollows, EdFollowed}
 use Rattle.decoder.specs.Sources.{kindFrom, cellsIn, Spelt, in-file, Cells}
 use Rattle.carried.specs.Hand.{Stand, kindsAt}
 use Rattle.model.specs.declared.Dialect.{Dialect}
-use Rattle.model.specs.declared.Fault.{Fault}
-use Rattle.model.specs.declared.CellCheck.{CellCheck}
 use Rattle.carried.specs.Sound.{InOrder, order-end, order-next}
-use Rattle.complete.specs.Completing.{startsBy, Inside, isSoundCell, allWhole}
-
--- ---- whole cells, one by one
-
-drop-over : (n : ℕ) (l : List ℕ) → length l ≤ n → drop n l ≡ []
-drop-over n [] h = drop-nil n
-drop-over zero (x ∷ l) h = absurd (omega arith)
-drop-over (suc n) (x ∷ l) h = drop-over n l (omega arith)
-
-abbrev pub wholeFrom : Dialect → Bytes → (starts ends : List ℕ) → ℕ → Bool
-wholeFrom d s starts ends n = allWhole d s (drop n starts) (drop n ends)
-
-module _ (d : Dialect) (s : Bytes) (starts ends : List ℕ) (same : length starts ≡ length ends) (n : ℕ) where
-  pub whole-end : length starts ≤ n → wholeFrom d s starts ends n ≡ true
-  unfolding allWhole
-  whole-end h = rw (drop-over n starts h)
-
-  module _ (h : n < length starts) where
-    opened : wholeFrom d s starts ends n ≡ allWhole d s (getD starts n 0 ∷ drop (suc n) starts) (getD ends n 0 ∷ drop (suc n) ends)
-    opened = rw (drop-cons starts n 0 h, drop-cons ends n 0 (omega arith))
-
-    pub whole-next : validateCell d (slice s (getD starts n 0) (getD ends n 0)) ≡ WholeCell → wholeFrom d s starts ends n ≡ wholeFrom d s starts ends (n + 1)
-    unfolding allWhole if_then_else_
-    whole-next e = opened ∙ rw (e, add-one n)
-
-    pub whole-not : (x : Fault) (o : ℕ) → validateCell d (slice s (getD starts n 0) (getD ends n 0)) ≡ Unsound x o → wholeFrom d s starts ends n ≡ false
-    unfolding allWhole if_then_else_
-    whole-not x o e = opened ∙ rw e
-
--- ---- the first cells, and those behind them
-
-module _ (d : Dialect) (s : Bytes) where
-  whole-parts : (n : ℕ) (starts ends : List ℕ) → length starts ≡ length ends → allWhole d s (drop n starts) (drop n ends) ≡ true → allWhole d s (take n starts) (take n ends) ≡ allWhole d s starts ends
-  unfolding allWhole
-  whole-parts zero starts ends e h = sym h
-  whole-parts (suc n) [] ends e h = refl
-  whole-parts (suc n) (i ∷ starts) [] e h = absurd (omega arith)
-  whole-parts (suc n) (i ∷ starts) (j ∷ ends) e h = ap (λ (b : Bool). if isSoundCell (validateCell d (slice s i j)) then b else false) (whole-parts n starts ends (omega arith) h)
-
-  pub whole-first :
-      (n : ℕ) (starts ends : List ℕ) → length starts ≡ length ends → allWhole d s (drop n starts) (drop n ends) ≡ true →
-      allWhole d s (take (least n (length starts)) starts) (take (least n (length starts)) ends) ≡ allWhole d s starts ends
-  whole-first n starts ends e h =
-      split (λ (m : ℕ). allWhole d s (take m starts) (take m ends) ≡ allWhole d s starts ends) (leb n (length starts)) (λ _. whole-parts n starts ends e h) λ _.
-      whole-parts (length starts) starts ends e (whole-end d s starts ends e (length starts) (omega arith))
-
-pub inside-first : {size : ℕ} {starts ends : List ℕ} (n : ℕ) → n ≤ length starts → Inside size starts ends → Inside size (take n starts) (take n ends)
-inside-first {size} {starts} {ends} n h i =
-    let a : length (take n starts) ≡ n = length-take-le n starts h in
-    let b : length (take n ends) ≡ n = length-take-le n ends (omega (arith, i .same)) in
-    record {
-      same = a ∙ sym b;
-      forward = λ k l. rw (getD-take n starts k 0 (omega arith), getD-take n ends k 0 (omega arith)) (i .forward k (omega arith));
-      within = λ k l. rw (getD-take n ends k 0 (omega arith)) (i .within k (omega arith));
-    }
+use Rattle.complete.specs.Completing.{startsBy, endOf, HoldsNoEd}
 
 -- ---- kinds
 
@@ -121,11 +65,6 @@ ordered-at at upto (e ∷ es) (order-next h hs) zero l = (h, order-over hs)
 ordered-at at upto (e ∷ es) (order-next h hs) (suc k) l = ordered-at e upto es hs k (omega arith)
 ordered-at at upto [] (order-end h) k l = absurd (omega arith)
 
-pub inside-of : {upto : ℕ} {ends : List ℕ} → InOrder 0 ends upto → Inside upto (startsBy 0 ends) ends
-inside-of {upto} {ends} h =
-    let n = starts-count 0 ends in
-    record { same = n; forward = λ k l. ordered-at 0 upto ends h k (omega arith) .0; within = λ k l. ordered-at 0 upto ends h k (omega arith) .1 }
-
 pub stand-of : {s : Bytes} {ends : List ℕ} → InOrder 0 ends (length s) → Stand s (startsBy 0 ends) ends 0 (length ends)
 stand-of {s} {ends} h =
     let n = starts-count 0 ends in
@@ -142,31 +81,101 @@ starts-by at (e ∷ es) = ap (λ (l : List ℕ). at ∷ l) (starts-by e es)
 slice-short : (s : Bytes) (i j : ℕ) → length s ≤ MAXRECORD → length (slice s i j) ≤ MAXRECORD
 slice-short s i j h = omega (arith, length-take (j - i) (drop i s), length-drop i s)
 
-sound-of : (x : CellCheck) {b : Bool} → (if isSoundCell x then b else false) ≡ true → (x ≡ WholeCell) × (b ≡ true)
-unfolding if_then_else_
-sound-of WholeCell h = (refl, h)
-sound-of (Unsound e o) h = impossible h
+-- where the last cell ends
+pub end-none : (ends : List ℕ) → length ends ≡ 0 → 0 ≡ endOf 0 ends
+unfolding endOf
+end-none [] h = refl
+end-none (e ∷ es) h = absurd (omega arith)
 
-module _ (d : Dialect) (s : Bytes) (short : length s ≤ MAXRECORD) where
-  spelt-at : (at : ℕ) (ends : List ℕ) → allWhole d s (startsBy at ends) ends ≡ true → (k : ℕ) → k < length ends → Spelt (File d) (kindFrom (getD (kindsOf (valuesIn d s (startsBy at ends) ends)) k 0)) (slice s (getD (startsBy at ends) k 0) (getD ends k 0))
-  unfolding startsBy valuesIn allWhole
-  spelt-at at [] w k l = absurd (omega arith)
-  spelt-at at (e ∷ es) w zero l = in-file (slice-short s at e short) (sound-of (validateCell d (slice s at e)) w .0) (kind-back (kindOf d (slice s at e)))
-  spelt-at at (e ∷ es) w (suc k) l = spelt-at e es (sound-of (validateCell d (slice s at e)) w .1) k (omega arith)
+end-last : (at e : ℕ) (es : List ℕ) → getD (e ∷ es) (length es) 0 ≡ endOf at (e ∷ es)
+unfolding endOf
+end-last at e [] = refl
+end-last at e (x ∷ xs) = end-last e x xs
 
-  pub cells-kept : (ends : List ℕ) → InOrder 0 ends (length s) → allWhole d s (startsBy 0 ends) ends ≡ true → Cells (File d) s (startsBy 0 ends) ends (kindsOf (valuesIn d s (startsBy 0 ends) ends))
-  cells-kept ends h w =
-      let n = starts-count 0 ends in
-      let m = kinds-count d s 0 ends in
-      record {
-        with-ends = n;
-        with-kinds = n ∙ sym m;
-        each = λ k l. record {
-          forward = ordered-at 0 (length s) ends h k (omega arith) .0;
-          within = ordered-at 0 (length s) ends h k (omega arith) .1;
-          spelt = spelt-at 0 ends w k (omega arith);
-        };
-      }
+pub end-some : (ends : List ℕ) (n : ℕ) → length ends ≡ n → 0 < n → getD ends (n - 1) 0 ≡ endOf 0 ends
+end-some [] n e h = absurd (omega arith)
+end-some (x ∷ xs) n e h = let m : n - 1 ≡ length xs = omega arith in rw m (end-last 0 x xs)
+
+end-over : (at upto : ℕ) (ends : List ℕ) → InOrder at ends upto → endOf at ends ≤ upto
+unfolding endOf
+end-over at upto [] (order-end h) = h
+end-over at upto (e ∷ es) (order-next h hs) = end-over e upto es hs
+
+pub end-inside : {upto : ℕ} {ends : List ℕ} → InOrder 0 ends upto → endOf 0 ends ≤ upto
+end-inside {upto} {ends} h = end-over 0 upto ends h
+
+end-from : (at upto : ℕ) (ends : List ℕ) → InOrder at ends upto → at ≤ endOf at ends
+unfolding endOf
+end-from at upto [] (order-end h) = omega arith
+end-from at upto (e ∷ es) (order-next h hs) = let k = end-from e upto es hs in omega arith
+
+-- ---- bytes asked one after another
+
+pub no-ed-next : (s : Bytes) (i : ℕ) → ((j : ℕ) → j < i → getD s j 0 ≡ 0xED → ⊥) → (getD s i 0 ≡ 0xED → ⊥) → (j : ℕ) → j < i + 1 → getD s j 0 ≡ 0xED → ⊥
+no-ed-next s i h n j l e =
+    split-on (ltb j i) (λ p. h j (ltb-true j i p) e) λ p. let q : i ≡ j = omega (arith, ltb-false j i p) in n (ap (λ (k : ℕ). getD s k 0) q ∙ e)
+
+pub no-ed-followed : (s : Bytes) → HoldsNoEd s → EdFollowed s
+no-ed-followed s h i l e = absurd (h i (omega arith) e)
+
+-- up to i each ED is followed
+abbrev pub FollowedTo : Bytes → ℕ → Type 0
+FollowedTo s i = (j : ℕ) → j + 1 < i → j + 1 < length s → getD s j 0 ≡ 0xED → EdFollows s j
+
+pub followed-next : (s : Bytes) (i : ℕ) → FollowedTo s i → (getD s (i - 1) 0 ≡ 0xED → (0x80 ≤ getD s i 0) × (getD s i 0 < 0xA0)) → FollowedTo s (i + 1)
+followed-next s i h n j l m e =
+    split-on (ltb (j + 1) i) (λ p. h j (ltb-true (j + 1) i p) m e) λ p.
+    let g : i ≤ j + 1 = ltb-false (j + 1) i p in
+    let back : i - 1 ≡ j = omega arith in
+    let on : j + 1 ≡ i = omega arith in
+    let w = n (ap (λ (k : ℕ). getD s k 0) back ∙ e) in
+    record { least = rw on (w .0); most = rw on (w .1) }
+
+pub followed-whole : (s : Bytes) (i : ℕ) → FollowedTo s i → length s ≤ i → EdFollowed s
+followed-whole s i h l j m e = h j (omega arith) m e
+
+pub not-followed : (s : Bytes) (i : ℕ) → 1 ≤ i → i < length s → getD s (i - 1) 0 ≡ 0xED → (0x80 ≤ getD s i 0 → getD s i 0 < 0xA0 → ⊥) → EdFollowed s → ⊥
+not-followed s i f l e n h =
+    let on : i - 1 + 1 ≡ i = omega arith in
+    let w : EdFollows s (i - 1) = h (i - 1) (omega arith) e in
+    n (rw on at (w .least)) (rw on at (w .most))
+
+-- ---- a stretch of bytes that may be spelt may be
+
+slice-followed : (s : Bytes) (n i j : ℕ) → j ≤ n → EdFollowed (take n s) → EdFollowed (slice s i j)
+slice-followed s n i j below h k l e =
+    let a : length (slice s i j) ≤ j - i = omega (arith, length-take (j - i) (drop i s)) in
+    let b : length (slice s i j) ≤ length s - i = omega (arith, length-take (j - i) (drop i s), length-drop i s) in
+    let m : i + k + 1 < length (take n s) = omega (arith, length-take n s) in
+    let at : (x : ℕ) → x < j - i → getD (slice s i j) x 0 ≡ getD (take n s) (i + x) 0 =
+    λ x y. getD-take (j - i) (drop i s) x 0 y ∙ getD-drop i s x 0 ∙ sym (getD-take n s (i + x) 0 (omega arith)) in
+    let f : EdFollows (take n s) (i + k) = h (i + k) m (sym (at k (omega arith)) ∙ e) in
+    let next : getD (slice s i j) (k + 1) 0 ≡ getD (take n s) (i + k + 1) 0 = at (k + 1) (omega arith) ∙ ap (λ (x : ℕ). getD (take n s) x 0) (omega arith) in
+    record { least = rw next (f .least); most = rw next (f .most) }
+
+module _ (d : Dialect) (s : Bytes) (short : length s ≤ MAXRECORD) (n : ℕ) (followed : EdFollowed (take n s)) where
+  spelt-at :
+      (at upto : ℕ) (ends : List ℕ) → InOrder at ends upto → endOf at ends ≤ n → (k : ℕ) → k < length ends →
+      Spelt (File d) (kindFrom (getD (kindsOf (valuesIn d s (startsBy at ends) ends)) k 0)) (slice s (getD (startsBy at ends) k 0) (getD ends k 0))
+  unfolding startsBy valuesIn endOf
+  spelt-at at upto [] h w k l = absurd (omega arith)
+  spelt-at at upto (e ∷ es) (order-next h hs) w zero l =
+      in-file (slice-short s at e short) (slice-followed s n at e (omega (arith, end-from e upto es hs)) followed) (kind-back (kindOf d (slice s at e)))
+  spelt-at at upto (e ∷ es) (order-next h hs) w (suc k) l = spelt-at e upto es hs w k (omega arith)
+
+pub cells-kept : (d : Dialect) (s : Bytes) (ends : List ℕ) → length s ≤ MAXRECORD → InOrder 0 ends (length s) → EdFollowed (take (endOf 0 ends) s) → Cells (File d) s (startsBy 0 ends) ends (kindsOf (valuesIn d s (startsBy 0 ends) ends))
+cells-kept d s ends short h w =
+    let n = starts-count 0 ends in
+    let m = kinds-count d s 0 ends in
+    record {
+      with-ends = n;
+      with-kinds = n ∙ sym m;
+      each = λ k l. record {
+        forward = ordered-at 0 (length s) ends h k (omega arith) .0;
+        within = ordered-at 0 (length s) ends h k (omega arith) .1;
+        spelt = spelt-at d s short (endOf 0 ends) w 0 (length s) ends h (omega arith) k (omega arith);
+      };
+    }
 
 -- ---- a text and what follows it
 
@@ -208,9 +217,6 @@ starts-made ends old new e =
     ap (take (length ends)) e ∙ take-over (length ends) (take (length ends) (0 ∷ ends)) old n ∙ starts-by 0 ends
 
 module _ (d : Dialect) (s : Bytes) (starts ends : List ℕ) (e : starts ≡ startsBy 0 ends) where
-  pub starts-inside : InOrder 0 ends (length s) → Inside (length s) starts ends
-  starts-inside h = rw e (inside-of h)
-
   pub starts-stand : InOrder 0 ends (length s) → Stand s starts ends 0 (length ends)
   starts-stand h = rw e (stand-of h)
 
@@ -223,10 +229,8 @@ module _ (d : Dialect) (s : Bytes) (starts ends : List ℕ) (e : starts ≡ star
       ap (take (length ends)) (f ∙ ap (λ (x : List ℕ). over x old) k) ∙ take-over (length ends) (kindsOf (valuesIn d s (startsBy 0 ends) ends)) old (kinds-count d s 0 ends)
 
   module _ (old new : List ℕ) (f : new ≡ over (kindsAt d s starts ends (length ends)) old) where
-    pub made-cells : length s ≤ MAXRECORD → InOrder 0 ends (length s) → allWhole d s starts ends ≡ true → Cells (File d) s starts ends (take (length ends) new)
-    made-cells short h w =
-        let w′ : allWhole d s (startsBy 0 ends) ends ≡ true = rw e at w in
-        rw (e, kinds-made old new f) (cells-kept d s short ends h w′)
+    pub made-cells : length s ≤ MAXRECORD → InOrder 0 ends (length s) → EdFollowed (take (endOf 0 ends) s) → Cells (File d) s starts ends (take (length ends) new)
+    made-cells short h w = rw (e, kinds-made old new f) (cells-kept d s ends short h w)
 
     pub made-values : cellsIn (File d) s starts ends (take (length ends) new) ≡ valuesIn d s (startsBy 0 ends) ends
     made-values = rw (e, kinds-made old new f) (cells-are d s (startsBy 0 ends) ends)

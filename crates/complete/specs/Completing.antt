@@ -1,25 +1,20 @@
 -- A complete record from the kept bytes of its cells: each end is also the next start.
 use Prim.Native.Nat.{ℕ, _+_, _≤_, _<_}
 use mathlib.Core.Path.{_≡_}
-use mathlib.Core.Bool.{Bool, true, false}
 use mathlib.Core.List.{List, [], _∷_, _++_}
-use lib.ListN.{length, take, drop, getD}
+use lib.ListN.{length, take, getD}
 use Rattle.model.specs.Base.{if_then_else_, _is_, Bytes}
-use Rattle.model.specs.Decode.{validateCell}
 use Rattle.model.specs.Text.{Value, recordText, ending}
-use Rattle.model.specs.Api.{slice}
 use Rattle.model.specs.Places.{valuesIn}
 use Rattle.model.specs.Records.{Rec, _orElse_, headerFault, dataFault, targetFault}
-use Rattle.model.specs.Scans.{inRecord}
 use Rattle.model.specs.Trips.{SameCells}
-use Rattle.model.specs.declared.CellCheck.the-variants.{WholeCell, Unsound}
 use Rattle.buffers.specs.Wrote.{written}
+use Rattle.decoder.specs.Followed.{EdFollowed}
 use Rattle.model.specs.declared.Dialect.{Dialect}
 use Rattle.model.specs.declared.Target.{Target}
 use Rattle.model.specs.declared.Fault.{Fault}
 use Rattle.model.specs.declared.Verdict.{Verdict}
 use Rattle.model.specs.declared.Verdict.the-variants.{Sound, Faulty}
-use Rattle.model.specs.declared.CellCheck.{CellCheck}
 use Rattle.carried.specs.declared.place.Place.{Place}
 use Rattle.complete.specs.declared.Done.{Done}
 use Rattle.complete.specs.declared.Done.the-variants.{Written, Refused, Lost}
@@ -31,30 +26,14 @@ unfoldable pub startsBy : (at : ℕ) → List ℕ → List ℕ
 startsBy at [] = []
 startsBy at (e ∷ es) = at ∷ startsBy e es
 
--- as many ends as starts, and each with its start a stretch of so many bytes
-pub record Inside (size : ℕ) (starts ends : List ℕ) : Type 0 where
-  pub same : length starts ≡ length ends
-  pub forward : (k : ℕ) → k < length starts → getD starts k 0 ≤ getD ends k 0
-  pub within : (k : ℕ) → k < length starts → getD ends k 0 ≤ size
+-- where the last of them ends
+unfoldable pub endOf : (at : ℕ) → List ℕ → ℕ
+endOf at [] = at
+endOf at (e ∷ es) = endOf e es
 
-abbrev pub isSoundCell : CellCheck → Bool
-isSoundCell WholeCell = true
-isSoundCell (Unsound e o) = false
-
--- the cells of these stretches are whole
-unfoldable pub allWhole : Dialect → Bytes → (starts ends : List ℕ) → Bool
-allWhole d s [] ends = true
-allWhole d s (i ∷ starts) [] = true
-allWhole d s (i ∷ starts) (j ∷ ends) = if isSoundCell (validateCell d (slice s i j)) then allWhole d s starts ends else false
-
--- how many cells of a record may have bytes from before the turn, which may be of a state that no calls made: of a record that was in
--- hand then those that were kept, and the open one (§15.9)
-abbrev pub fromBefore : Place → ℕ
-fromBefore p = if inRecord (p .state) then p .cells + 1 else 0
-
--- the cells behind those are whole: the automaton came to their ends
-abbrev pub LaterWhole : Dialect → Place → Bytes → (starts ends : List ℕ) → Type 0
-LaterWhole d p s starts ends = allWhole d s (drop (fromBefore p) starts) (drop (fromBefore p) ends) ≡ true
+-- ED stands nowhere
+abbrev pub HoldsNoEd : Bytes → Type 0
+HoldsNoEd bs = (i : ℕ) → i < length bs → getD bs i 0 ≡ 0xED → ⊥
 
 -- ---- what becomes of a record
 
@@ -81,7 +60,7 @@ keptValues d bytes ends = valuesIn d bytes (startsBy 0 ends) ends
 abbrev pub SpellsRecord : Dialect → (bytes ends : List ℕ) → Rec → Type 0
 SpellsRecord d bytes ends x = SameCells (keptValues d bytes (take (length (x .cells)) ends)) (x .cells)
 
--- the same for a record whose cells are first asked to be whole
+-- the same for a record whose cells are first asked whether they may be spelt
 pub data Ruled (d : Dialect) (t : Target) (p : Place) (bytes ends : List ℕ) (o : ℕ) (out out′ : List ℕ) (r : Done) : Type 0 where
-  not-whole : r ≡ Lost → allWhole d bytes (startsBy 0 ends) ends ≡ false → out′ ≡ out → Ruled d t p bytes ends o out out′ r
+  not-spelt : r ≡ Lost → (EdFollowed (take (endOf 0 ends) bytes) → ⊥) → out′ ≡ out → Ruled d t p bytes ends o out out′ r
   ruled : Finishes (faultAt d t p (keptValues d bytes ends)) (textAt t p (keptValues d bytes ends)) o out out′ r → Ruled d t p bytes ends o out out′ r

@@ -1,12 +1,12 @@
 // A complete record, from the kept bytes of its cells: validated, and written if it is sound and there is room.
 //
-// The cells that calls keep are whole and have room, as the laws of proofs/ show. A record that was in hand before the call may be of a
-// state that no calls made: of it both are asked here, so that the call stays in bounds, and such a record is lost. Only the cells that
-// may have bytes from before are asked to be whole: the scanner finds no other.
+// The cells that calls keep are whole and have room, as the laws of proofs/ show. A record may also be of a state that no calls made, and its
+// cells any bytes: of them is asked what their spelling needs, so that the call stays in bounds, and a record without it is lost.
 ghost use mathlib.Core.Path.{_≡_};
+ghost use mathlib.Core.Bool.{true, false};
 ghost use mathlib.Core.List.{_++_};
 ghost use Prim.Native.Nat.{_+_, _≤_};
-ghost use lib.ListN.{length};
+ghost use lib.ListN.{length, take};
 ghost use Rattle.model.specs.declared.Verdict.the-variants.{Sound};
 ghost use Rattle.model.specs.Base.{if_then_else_, _is_};
 ghost use Rattle.model.specs.Dialect.{into};
@@ -15,15 +15,13 @@ ghost use Rattle.model.specs.Report.{MAXFILE, MAXRECORD, MAXCOLUMNS};
 ghost use Rattle.model.specs.Records.{headerFault, dataFault};
 ghost use Rattle.buffers.specs.Wrote.{written};
 ghost use Rattle.decoder.specs.declared.source.Source.the-variants.{File};
+ghost use Rattle.decoder.specs.Followed.{EdFollowed};
 ghost use Rattle.decoder.specs.Sources.{cellsIn, Cells};
 ghost use Rattle.carried.specs.Sound.{InOrder};
-ghost use Rattle.complete.specs.Completing.{faultAt, textAt, startsBy, allWhole, LaterWhole, Inside, Finishes, Ruled};
-use carried::checks;
+ghost use Rattle.complete.specs.Completing.{faultAt, textAt, startsBy, endOf, HoldsNoEd, Finishes, Ruled};
 use carried::hand;
 use carried::place::Place;
-use decoder::single;
 use decoder::source::Source;
-use model::CellCheck;
 use model::Dialect;
 use model::Fault;
 use model::Verdict;
@@ -35,7 +33,7 @@ pub enum Done {
     // It is written, up to this place.
     Written(usize),
     Refused(Fault),
-    // Its cells are not whole, or its text has no room: no calls made this state.
+    // Its cells can't be spelt, or its text has no room: no calls made this state.
     Lost,
 }
 
@@ -152,44 +150,66 @@ fn finished(
     }
 }
 
-// Whether all these cells are whole.
-fn are_whole(d: Dialect, s: &[u8], starts: &[usize], ends: &[usize]) -> bool
-    requires { ⌜ Inside (length (now s)) (now starts) (now ends) ⌝ }
-    ensures { λ r. ⌜ r ≡ allWhole d (now (s .entry)) (now (starts .entry)) (now (ends .entry)) ⌝ }
+// ---- bytes that no calls kept
+
+// Whether ED hex stands among these bytes. All are asked, with no way out before the last: so the machine asks sixteen at once, and a record
+// in which none stands, as nearly all are, costs next to nothing.
+fn holds_ed(s: &[u8]) -> bool
+    ensures { λ r. ⌜ (r ≡ false → HoldsNoEd (now (s .entry))) ⌝ }
 {
-    let mut n = 0;
-    while n < starts.len() {
-        let from = starts[n];
-        let upto = ends[n];
-        match single::validate_cell(d, &s[from..upto]) {
-            CellCheck::WholeCell => {
-                n += 1;
+    let mut found = false;
+    let mut i = 0;
+    while i < s.len() {
+        if s[i] == 0xED {
+            found = true;
+        }
+        i += 1;
+    }
+    found
+}
+
+// Whether a byte from 80 to 9F hex stands behind each ED.
+fn is_ed_followed(s: &[u8]) -> bool
+    ensures { λ r. ⌜ (r ≡ true → EdFollowed (now (s .entry))) ⌝ }
+    ensures { λ r. ⌜ (EdFollowed (now (s .entry)) → r ≡ true) ⌝ }
+{
+    let mut i = 1;
+    while i < s.len() {
+        if s[i - 1] == 0xED {
+            if s[i] < 0x80 {
+                return false;
             }
-            CellCheck::Unsound {
-                fault: _,
-                offset: _,
-            } => {
+            if 0x9F < s[i] {
                 return false;
             }
         }
+        i += 1;
     }
     true
 }
 
-// Whether all cells of a record are whole. It is asked of those that may have bytes from before the turn; the others are as the scanner
-// found them.
-fn has_whole_cells(d: Dialect, bytes: &[u8], starts: &[usize], ends: &[usize], p: Place) -> bool
-    requires { ⌜ Inside (length (now bytes)) (now starts) (now ends) ⌝ }
-    requires { ⌜ LaterWhole d p (now bytes) (now starts) (now ends) ⌝ }
-    requires { ⌜ p .cells ≤ MAXFILE ⌝ }
-    ensures { λ r. ⌜ r ≡ allWhole d (now (bytes .entry)) (now (starts .entry)) (now (ends .entry)) ⌝ }
+// Where the last cell ends.
+fn last_end(ends: &[usize]) -> usize
+    ensures { λ r. ⌜ r ≡ endOf 0 (now (ends .entry)) ⌝ }
 {
-    let f = p.state;
-    if !checks::in_record(f) {
-        return true;
+    let n = ends.len();
+    if n == 0 {
+        return 0;
     }
-    let n = numbers::least_of(p.cells + 1, starts.len());
-    are_whole(d, bytes, &starts[..n], &ends[..n])
+    ends[n - 1]
+}
+
+// Whether the cells of a record may be spelt.
+fn may_be_spelt(bytes: &[u8], ends: &[usize]) -> bool
+    requires { ⌜ InOrder 0 (now ends) (length (now bytes)) ⌝ }
+    ensures { λ r. ⌜ (r ≡ true → EdFollowed (take (endOf 0 (now (ends .entry))) (now (bytes .entry)))) ⌝ }
+    ensures { λ r. ⌜ (EdFollowed (take (endOf 0 (now (ends .entry))) (now (bytes .entry))) → r ≡ true) ⌝ }
+{
+    let to = last_end(ends);
+    if holds_ed(&bytes[..to]) {
+        return is_ed_followed(&bytes[..to]);
+    }
+    true
 }
 
 // A record whose cells stand in the kept bytes, with their starts.
@@ -207,11 +227,10 @@ fn known(
     requires { ⌜ now starts ≡ startsBy 0 (now ends) ⌝ }
     requires { ⌜ InOrder 0 (now ends) (length (now bytes)) ⌝ }
     requires { ⌜ (length (now ends) ≤ MAXCOLUMNS) × (length (now bytes) ≤ MAXRECORD) × (p .written ≤ MAXFILE) × (o ≤ length (now out)) ⌝ }
-    requires { ⌜ LaterWhole d p (now bytes) (now starts) (now ends) ⌝ }
-    requires { ⌜ (p .cells ≤ MAXFILE) × (length (now kinds) ≡ MAXCOLUMNS) ⌝ }
+    requires { ⌜ length (now kinds) ≡ MAXCOLUMNS ⌝ }
     ensures { λ r. ⌜ Ruled d (into t) p (now (bytes .entry)) (now (ends .entry)) o (now (out .entry)) (now (out .exit)) r ⌝ }
 {
-    if !has_whole_cells(d, bytes, starts, ends, p) {
+    if !may_be_spelt(bytes, ends) {
         return Done::Lost;
     }
     let n = ends.len();
@@ -233,8 +252,7 @@ pub fn kept(
 ) -> Done
     requires { ⌜ InOrder 0 (now ends) (length (now bytes)) ⌝ }
     requires { ⌜ (length (now ends) ≤ MAXCOLUMNS) × (length (now bytes) ≤ MAXRECORD) × (p .written ≤ MAXFILE) × (o ≤ length (now out)) ⌝ }
-    requires { ⌜ LaterWhole d p (now bytes) (startsBy 0 (now ends)) (now ends) ⌝ }
-    requires { ⌜ (p .cells ≤ MAXFILE) × (length (now starts) ≡ MAXCOLUMNS) × (length (now kinds) ≡ MAXCOLUMNS) ⌝ }
+    requires { ⌜ (length (now starts) ≡ MAXCOLUMNS) × (length (now kinds) ≡ MAXCOLUMNS) ⌝ }
     ensures { λ r. ⌜ Ruled d (into t) p (now (bytes .entry)) (now (ends .entry)) o (now (out .entry)) (now (out .exit)) r ⌝ }
 {
     let n = ends.len();

@@ -20,6 +20,7 @@ use Rattle.buffers.proofs.Writing.{drop-next}
 use Rattle.decoder.specs.declared.source.Source.{Source}
 use Rattle.decoder.specs.declared.source.Source.the-variants.{File}
 use Rattle.decoder.specs.Sources.{kindFrom, cellIn, cellsIn, in-file, Stretch, Cells}
+use Rattle.decoder.proofs.Followed.{sound-followed}
 
 -- as many cells as stretches
 pub cells-length : (src : Source) (s : Bytes) (starts ends kinds : List ℕ) → length starts ≡ length ends → length starts ≡ length kinds
@@ -77,7 +78,7 @@ module _ (d : Dialect) (file : Bytes) where
       record {
         forward = forward;
         within = within;
-        spelt = in-file (stretch-short (v .from) (v .upto) forward within short) sound (number-kind (v .kind) ∙ kind);
+        spelt = in-file (stretch-short (v .from) (v .upto) forward within short) (sound-followed d (slice file (v .from) (v .upto)) sound) (number-kind (v .kind) ∙ kind);
       }
 
   -- cells of which each has its kind and content, and lies where it says

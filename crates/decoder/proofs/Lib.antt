@@ -4,4 +4,5 @@ pub mod Doubled
 pub mod FirstByte
 pub mod Validating
 pub mod Answers
+pub mod Followed
 pub mod CellsIn

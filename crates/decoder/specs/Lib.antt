@@ -3,4 +3,5 @@ pub mod Strings
 pub mod Wrote
 pub mod FirstByte
 pub mod Answer
+pub mod Followed
 pub mod Sources

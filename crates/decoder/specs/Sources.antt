@@ -7,15 +7,15 @@ use lib.ListN.{length, getD}
 use Rattle.model.specs.declared.Dialect.{Dialect}
 use Rattle.model.specs.declared.Kind.{Kind}
 use Rattle.model.specs.declared.Kind.the-variants.{Null}
-use Rattle.model.specs.declared.CellCheck.the-variants.{WholeCell}
 use Rattle.model.specs.Base.{Bytes}
-use Rattle.model.specs.Decode.{kindOf, contentOf, validateCell}
+use Rattle.model.specs.Decode.{kindOf, contentOf}
 use Rattle.model.specs.Text.{Value}
 use Rattle.model.specs.Report.{MAXRECORD}
 use Rattle.model.specs.Api.{kindNamed, slice}
 use Rattle.decoder.specs.declared.first.Spelling.{Spelling}
 use Rattle.decoder.specs.declared.first.Spelling.the-variants.{AsItStands}
 use Rattle.decoder.specs.FirstByte.{spellingBy}
+use Rattle.decoder.specs.Followed.{EdFollowed}
 use Rattle.decoder.specs.declared.source.Source.{Source}
 use Rattle.decoder.specs.declared.source.Source.the-variants.{File, Contents}
 
@@ -49,12 +49,11 @@ cellsIn src s (i ∷ starts) [] kinds = []
 cellsIn src s (i ∷ starts) (j ∷ ends) [] = []
 cellsIn src s (i ∷ starts) (j ∷ ends) (k ∷ kinds) = cellIn src s i j k ∷ cellsIn src s starts ends kinds
 
--- bytes that a cell of this kind may have: in a file those of a sound cell, which is no longer than a record and tells its own
--- kind; as contents any
+-- bytes that a cell of this kind may have: in a file no more than a record has, with no lone surrogate as it is, and those of the kind
+-- that they tell, as it is with every sound cell; as contents any
 pub data Spelt : Source → Kind → Bytes → Type 0 where
   in-file :
-      {d : Dialect} {k : Kind} {raw : Bytes} → length raw ≤ MAXRECORD → validateCell d raw ≡ WholeCell → k ≡ kindOf d raw →
-      Spelt (File d) k raw
+      {d : Dialect} {k : Kind} {raw : Bytes} → length raw ≤ MAXRECORD → EdFollowed raw → k ≡ kindOf d raw → Spelt (File d) k raw
   as-content : {k : Kind} {raw : Bytes} → Spelt Contents k raw
 
 -- a stretch of s whose bytes a cell of the kind that this number names may have

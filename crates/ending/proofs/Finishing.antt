@@ -27,11 +27,11 @@ use Rattle.complete.specs.declared.Done.{Done}
 use Rattle.complete.specs.declared.Done.the-variants.{Written, Refused, Lost}
 use Rattle.turn.specs.declared.Taken.{Taken}
 use Rattle.turn.specs.Holding.{readAt, Holding}
-use Rattle.complete.specs.Completing.{faultAt, textAt, Finishes, is-written, is-refused, has-no-room, Ruled, not-whole, ruled, keptValues, allWhole, LaterWhole, startsBy}
+use Rattle.complete.specs.Completing.{faultAt, textAt, Finishes, is-written, is-refused, has-no-room, Ruled, not-spelt, ruled, keptValues}
 use Rattle.turn.specs.Calls.{Begins, Finished}
 use Rattle.turn.proofs.Writes.{end-room, new-length, new-none, new-more, grows-none, grows-more}
 use Rattle.turn.proofs.Keeping.{order-append}
-use Rattle.turn.proofs.Showing.{none-whole, in-hand-of, kept-same, kept-whole}
+use Rattle.turn.proofs.Showing.{in-hand-of, kept-same, kept-followed}
 use Rattle.turn.proofs.Walking.{same-self, too-many-fault}
 use Rattle.ending.proofs.Ending.{readLast, lastCells, lastValues, doneLast, last-whole, last-faulty, last-reports, last-sound, last-text}
 
@@ -81,27 +81,6 @@ last-order ends last fill h l =
     let g : fill ≤ fill = omega arith in
     let e : take (last + 1) (set ends last fill) ≡ take last ends ++ (fill ∷ []) = ap (λ (m : ℕ). take m (set ends last fill)) (add-one last) ∙ take-suc-set ends last fill l in
     rw e (order-append h (order-next g (order-end g)))
-
--- a last record was in hand: all its cells may have bytes from before
-final-inside : (d : Dialect) (f : FileState) → fileEnd d f ≡ Final → inRecord f ≡ true
-unfolding fileEnd
-final-inside d Top e = let z : _≡_ {A = ℕ} 0 1 = cc in absurd (omega arith)
-final-inside d Begin e = let z : _≡_ {A = ℕ} 0 1 = cc in absurd (omega arith)
-final-inside d Ended e = let z : _≡_ {A = ℕ} 0 1 = cc in absurd (omega arith)
-final-inside d Mark1 e = let z : _≡_ {A = ℕ} 0 1 = cc in absurd (omega arith)
-final-inside d Mark2 e = let z : _≡_ {A = ℕ} 0 1 = cc in absurd (omega arith)
-final-inside d PlainMark1 e = refl
-final-inside d PlainMark2 e = refl
-final-inside d (Comment c) e = let z : _≡_ {A = ℕ} 0 1 = cc in absurd (omega arith)
-final-inside d Blanks e = let z : _≡_ {A = ℕ} 0 1 = cc in absurd (omega arith)
-final-inside d Wanting e = refl
-final-inside d (Inside c) e = refl
-final-inside d After e = refl
-final-inside d Cr e = refl
-
-pub last-later : (d : Dialect) (p : Place) (bytes ends : List ℕ) → fileEnd d (p .state) ≡ Final → length ends ≡ p .cells + 1 → LaterWhole d p bytes (startsBy 0 ends) ends
-unfolding if_then_else_
-last-later d p bytes ends e n = rw (final-inside d (p .state) e, sym n, drop-length ends) (none-whole d bytes _)
 
 -- ---- a last record
 
@@ -173,7 +152,5 @@ module _ (d : Dialect) (t : Target) (p : Place) (bytes ends out : List ℕ) (don
     finishing out′ Lost r (has-no-room v l w) g = absurd (omega (arith, fits v, b .room))
 
     pub finish-kept : (out′ : List ℕ) (x : Done) (r : Taken) → Ruled d t p bytes (take (p .cells + 1) ends′) 0 out out′ x → Told out′ x r → Finished d t p done k out out′ r
-    finish-kept out′ x r (not-whole z w y) g =
-        let yes : allWhole d bytes (startsBy 0 (take (length (lastCells d t p done k)) ends′)) (take (length (lastCells d t p done k)) ends′) ≡ true = kept-whole hand d (last-whole d t p done k hold e) in
-        impossible (sym w ∙ (rw counted at yes))
+    finish-kept out′ x r (not-spelt z w y) g = absurd (w (rw counted at (kept-followed hand d (last-whole d t p done k hold e))))
     finish-kept out′ x r (ruled y) g = finishing out′ x r y g

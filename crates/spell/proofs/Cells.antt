@@ -11,24 +11,19 @@ use Rattle.model.specs.declared.Dialect.{Dialect}
 use Rattle.model.specs.declared.Dialect.the-variants.{Csvj, Tdif, CsvPlus}
 use Rattle.model.specs.declared.Kind.{Kind}
 use Rattle.model.specs.declared.Kind.the-variants.{Text, Number, True, False, Null}
-use Rattle.model.specs.declared.Cell.{Cell}
-use Rattle.model.specs.declared.Cell.the-variants.{Fresh}
-use Rattle.model.specs.declared.CellStep.the-variants.{More}
-use Rattle.model.specs.declared.CellCheck.the-variants.{WholeCell}
 use Rattle.model.specs.Base.{Bytes, if_then_else_, _is_, holds, isEmpty, QUOTE}
 use Rattle.model.specs.Dialect.{quoteOf, isCsvj}
 use Rattle.model.specs.Report.{MAXRECORD}
-use Rattle.model.specs.Cell.{isDigit, firstByte, cellStep}
-use Rattle.model.specs.Decode.{kindOf, contentOf, validateCell}
+use Rattle.model.specs.Cell.{isDigit}
+use Rattle.model.specs.Decode.{kindOf, contentOf}
 use Rattle.model.specs.Text.{Value, isText, special, beginsMark, doubled, jsonCell, quotedText, cellText, hasQuotes}
 use Rattle.model.proofs.Tests.{split, split-on, impossible, is→eq}
 use Rattle.model.proofs.Utf8.{quote-ascii}
 use Rattle.model.proofs.Lengths.{content-length}
-use Rattle.model.proofs.CellRuns.{Runs, there, WholeRun, sound-runs}
-use Rattle.model.proofs.CellContent.{no-more}
 use Rattle.buffers.specs.Wrote.{Room, Put}
 use Rattle.buffers.proofs.Writing.{Putting, putting, put-next, put-whole, same-long}
 use Rattle.decoder.specs.FirstByte.{spellingBy, contentIn}
+use Rattle.decoder.specs.Followed.{EdFollowed}
 use Rattle.decoder.specs.Sources.{spellingIn, contentBy, Spelt, in-file, as-content}
 use Rattle.decoder.specs.declared.source.Source.{Source}
 use Rattle.decoder.specs.declared.first.Spelling.{Spelling}
@@ -37,9 +32,8 @@ use Rattle.decoder.proofs.FirstByte.{content-first}
 use Rattle.spell.specs.declared.cell.Written.{Written}
 use Rattle.spell.specs.declared.cell.Written.the-variants.{AsText, AsNumber, AsWord}
 use Rattle.units.specs.Units.{bodyText}
-use Rattle.units.specs.Contents.{EdFollowed, Legible, has-none, as-it-stands, decoded, by-doubled, by-string}
-use Rattle.spell.specs.Cells.{isQuoted, quoteBy, textCell, writtenAs, wordFor}
-use Rattle.spell.proofs.Followed.{sound-followed}
+use Rattle.units.specs.Contents.{Legible, has-none, as-it-stands, decoded, by-doubled, by-string}
+use Rattle.spell.specs.Cells.{isQuoted, quoteBy, textCell, numberIn, writtenAs, wordFor}
 use Rattle.spell.proofs.Quoted.{cell-by}
 
 -- ---- a text: a quote, the body and a quote
@@ -176,6 +170,9 @@ number-way (CsvPlus s) k e = let z : _≡_ {A = ℕ} 0 1 = cc in absurd (omega a
 pub number-no-text : {A : Type 0} → AsNumber ≡ AsText → A
 number-no-text e = let z : _≡_ {A = ℕ} 0 1 = cc in absurd (omega arith)
 
+no-null : {A : Type 0} → Number ≡ Null → A
+no-null e = let z : _≡_ {A = ℕ} 0 1 = cc in absurd (omega arith)
+
 pub word-no-text : {A : Type 0} → AsWord ≡ AsText → A
 word-no-text e = let z : _≡_ {A = ℕ} 0 1 = cc in absurd (omega arith)
 
@@ -219,51 +216,24 @@ pub spelt-legible : {src : Source} {k : Kind} {raw : Bytes} → Spelt src k raw 
 spelt-legible (in-file {d} {raw} h j e) =
     let c : Spelling = spellingBy d (getD raw 0 0) in
     let short : length (contentIn c raw) ≤ MAXRECORD = rw (content-first d raw) (omega (arith, content-length d raw)) in
-    legible-of c raw (λ q f. spelt-quote d (getD raw 0 0) q f) short (sound-followed d raw j)
+    legible-of c raw (λ q f. spelt-quote d (getD raw 0 0) q f) short j
 spelt-legible as-content = as-it-stands
 
--- the content of a number is the cell itself
+-- the content of a number is the cell itself, if it begins as one
 no-text : {A : Type 0} → Number ≡ Text → A
 no-text e = let z : _≡_ {A = ℕ} 0 1 = cc in absurd (omega arith)
 
-no-true : {A : Type 0} → Number ≡ True → A
-no-true e = let z : _≡_ {A = ℕ} 0 1 = cc in absurd (omega arith)
+number-in-csvj : (raw : Bytes) → Number ≡ kindOf Csvj raw → contentOf Csvj raw ≡ numberIn (spellingBy Csvj (getD raw 0 0)) raw
+unfolding contentOf kindOf spellingBy if_then_else_
+number-in-csvj [] e = refl
+number-in-csvj (b ∷ bs) e = split-on (b is QUOTE) (λ p. no-text (rw p at e)) λ p. split-on (b is 0x2D || isDigit b) (λ q. rw (p, q)) λ q. rw (p, q)
 
-no-false : {A : Type 0} → Number ≡ False → A
-no-false e = let z : _≡_ {A = ℕ} 0 1 = cc in absurd (omega arith)
+number-content : (d : Dialect) (raw : Bytes) → Number ≡ kindOf d raw → contentOf d raw ≡ numberIn (spellingBy d (getD raw 0 0)) raw
+unfolding kindOf
+number-content Csvj raw e = number-in-csvj raw e
+number-content Tdif raw e = split (λ (k : Kind). Number ≡ k → contentOf Tdif raw ≡ numberIn (spellingBy Tdif (getD raw 0 0)) raw) _ (λ _ f. no-text f) (λ _ f. no-null f) e
+number-content (CsvPlus s) raw e = no-text e
 
-no-null : {A : Type 0} → Number ≡ Null → A
-no-null e = let z : _≡_ {A = ℕ} 0 1 = cc in absurd (omega arith)
-
-zero-digit : (b : ℕ) → isDigit b ≡ false → (b is 0x30) ≡ false
-zero-digit b e = split-on (b is 0x30) (λ f. impossible (sym e ∙ rw (is→eq b 0x30 f))) λ f. f
-
-number-first : (b : ℕ) (c : Cell) (bs : Bytes) → cellStep Csvj Fresh b ≡ More c → Number ≡ kindOf Csvj (b ∷ bs) → contentOf Csvj (b ∷ bs) ≡ b ∷ bs
-unfolding cellStep firstByte kindOf contentOf if_then_else_
-number-first b c bs x e =
-    split-on (b is QUOTE) (λ p. no-text (rw p at e)) λ p.
-    split-on (b is 0x2D || isDigit b) (λ q. rw (p, q)) λ q.
-    let m : (b is 0x2D) ≡ false = first-false (b is 0x2D) (isDigit b) q in
-    let d : isDigit b ≡ false = second-false (b is 0x2D) (isDigit b) q in
-    split-on (b is 0x74) (λ r. no-true (rw (p, r) at e)) λ r.
-    split-on (b is 0x66) (λ t. no-false (rw (p, r, t) at e)) λ t.
-    split-on (b is 0x6E) (λ u. no-null (rw (p, r, t, u) at e)) λ u.
-    no-more (rw (p, m, zero-digit b d, d, r, t, u) at x)
-
-number-whole : (raw : Bytes) → WholeRun Csvj Fresh raw → Number ≡ kindOf Csvj raw → contentOf Csvj raw ≡ raw
-unfolding contentOf
-number-whole [] w e = refl
-number-whole (b ∷ bs) w e = first (w .runs)
-  where
-    first : {c : Cell} → Runs Csvj Fresh (b ∷ bs) c → contentOf Csvj (b ∷ bs) ≡ b ∷ bs
-    first (there {c′} x r) = number-first b c′ bs x e
-
-number-content : (d : Dialect) (raw : Bytes) → validateCell d raw ≡ WholeCell → Number ≡ kindOf d raw → contentOf d raw ≡ raw
-unfolding validateCell kindOf
-number-content Csvj raw j e = number-whole raw (sound-runs Csvj Fresh 0 raw j) e
-number-content Tdif raw j e = split (λ (k : Kind). Number ≡ k → contentOf Tdif raw ≡ raw) _ (λ _ f. no-text f) (λ _ f. no-null f) e
-number-content (CsvPlus s) raw j e = no-text e
-
-pub spelt-number : {src : Source} {k : Kind} {raw : Bytes} → Spelt src k raw → k ≡ Number → contentBy src raw ≡ raw
-spelt-number (in-file {d} {raw} h j e) f = number-content d raw j (sym f ∙ e)
+pub spelt-number : {src : Source} {k : Kind} {raw : Bytes} → Spelt src k raw → k ≡ Number → contentBy src raw ≡ numberIn (spellingIn src raw) raw
+spelt-number (in-file {d} {raw} h j e) f = number-content d raw (sym f ∙ e)
 spelt-number as-content f = refl

@@ -1,5 +1,4 @@
 pub mod Columns
-pub mod Followed
 pub mod Quoted
 pub mod Cells
 pub mod Passing

@@ -8,6 +8,8 @@ use Rattle.model.specs.declared.Kind.the-variants.{Text, Number, True, False, N
 use Rattle.model.specs.Base.{Bytes, QUOTE, BACKSLASH}
 use Rattle.model.specs.Dialect.{quoteOf}
 use Rattle.model.specs.Text.{Value, jsonCell, quotedText, csvPlusCell, hasQuotes}
+use Rattle.decoder.specs.declared.first.Spelling.{Spelling}
+use Rattle.decoder.specs.declared.first.Spelling.the-variants.{Nothing, AsItStands, Doubled, Escaped}
 use Rattle.decoder.specs.declared.source.Source.{Source}
 use Rattle.decoder.specs.Sources.{contentBy}
 use Rattle.spell.specs.declared.cell.Written.{Written}
@@ -33,6 +35,13 @@ abbrev pub textCell : Dialect → (only first : Bool) → Bytes → Bytes
 textCell Csvj only first bs = jsonCell Text bs
 textCell Tdif only first bs = quotedText QUOTE bs
 textCell (CsvPlus s) only first bs = csvPlusCell s only first bs
+
+-- the content of a number, by how it is spelt: as it stands, or nothing (§2.5)
+abbrev pub numberIn : Spelling → Bytes → Bytes
+numberIn Nothing raw = []
+numberIn AsItStands raw = raw
+numberIn (Doubled q) raw = raw
+numberIn Escaped raw = raw
 
 -- how `cellText` has it (§14.5 §14.6 §14.7)
 abbrev pub writtenAs : Dialect → Kind → Written

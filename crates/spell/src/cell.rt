@@ -10,7 +10,7 @@ ghost use Rattle.decoder.specs.FirstByte.{contentIn};
 ghost use Rattle.decoder.specs.Sources.{contentBy, Spelt};
 ghost use Rattle.units.specs.Units.{Spells};
 ghost use Rattle.units.specs.Contents.{Legible};
-ghost use Rattle.spell.specs.Cells.{isQuoted, quoteBy, textCell, writtenAs, wordFor, valueOf};
+ghost use Rattle.spell.specs.Cells.{isQuoted, quoteBy, textCell, numberIn, writtenAs, wordFor, valueOf};
 use crate::special;
 use decoder::first::Spelling;
 use decoder::source;
@@ -64,6 +64,19 @@ fn put_text(
     let b = body::put(c, t, raw, out, from, write);
     let end = put_quote(quoted, t, out, b.end, write);
     Body { end, lone: b.lone }
+}
+
+// ---- numbers
+
+// A number as it stands. Bytes of that kind that begin as none does have no content.
+fn put_number(c: Spelling, raw: &[u8], out: &mut [u8], o: usize, write: bool) -> usize
+    requires { ⌜ Room write o (numberIn c (now raw)) (now out) ⌝ }
+    ensures { λ r. ⌜ Put write (now (out .entry)) o (numberIn c (now (raw .entry))) (now (out .exit)) r ⌝ }
+{
+    match c {
+        Spelling::Nothing => o,
+        _ => buffers::put(out, o, raw, write),
+    }
 }
 
 // ---- words
@@ -195,7 +208,8 @@ pub fn put(
             put_text(c, t, raw, only, first, out, o, write)
         }
         Written::AsNumber => {
-            let end = buffers::put(out, o, raw, write);
+            let c = source::spelling_in(src, raw);
+            let end = put_number(c, raw, out, o, write);
             Body { end, lone: false }
         }
         Written::AsWord => {

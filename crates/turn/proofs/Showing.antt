@@ -19,6 +19,8 @@ use Rattle.model.proofs.Tests.{split, split-on, impossible}
 use Rattle.model.proofs.Stretches.{part-is}
 use Rattle.model.proofs.ScanSize.{scan-size}
 use Rattle.buffers.specs.Wrote.{written}
+use Rattle.decoder.specs.Followed.{EdFollowed}
+use Rattle.decoder.proofs.Followed.{EdClosed, closed-none, sound-closed, closed-append, closed-followed}
 use Rattle.carried.specs.Hand.{Shows, InHand, GoesOn, nothing-open, first-goes-on}
 use Rattle.carried.proofs.InHand.{hand-values, kept-open, kept-more}
 use Rattle.tokens.specs.Stored.{putAt, storedFrom}
@@ -30,10 +32,9 @@ use Rattle.model.proofs.CellRuns.{here}
 use Rattle.model.proofs.Cells.{cellAt}
 use Rattle.turn.specs.Types.{Dialect, Fresh, FileState, Top, Begin, Ended, Mark1, Mark2, PlainMark1, PlainMark2, Comment, Blanks, Wanting, Inside, After, Cr, Fault}
 use Rattle.turn.specs.Holding.{Open, in-cell, no-bytes, IsWhole, Shown}
-use Rattle.complete.specs.Completing.{startsBy, allWhole, LaterWhole, keptValues}
-use Rattle.turn.specs.Walking.{InBounds, FoundWhole, all-found, none-found, after-first}
-use Rattle.turn.proofs.Scanning.{keptOf, Keeps, KeepsTo, keeps-pends, keeps-completes, scan-keeps, AfterFirst, no-cell, first-and, LaterTo, later-completes, scan-later}
-use Rattle.turn.proofs.Keeping.{ends-then}
+use Rattle.complete.specs.Completing.{startsBy, endOf, keptValues}
+use Rattle.turn.specs.Walking.{InBounds}
+use Rattle.turn.proofs.Scanning.{keptOf, Keeps, KeepsTo, keeps-pends, keeps-completes, scan-keeps}
 use Rattle.turn.proofs.Opening.{ClosedFirst, closed-first, First, still-open, then-closed, FirstIn, first-pends, first-completes, first-closes, Grew, grew-pends, grew-completes, grows}
 
 -- ---- the answer
@@ -180,20 +181,6 @@ module _ (d : Dialect) (limit : ℕ) (p : Place) (ends : List ℕ) (b : InBounds
       scan-keeps d limit (fresh (p .state) (p .size) i) bs
       (record { runs = rw (outside-fresh (p .state) h) here; whole = all-none; opens = no-bytes refl; holds = nothing-in-hand refl refl })
 
-  -- the cells that are found are whole, but the first of a record that was in hand
-  pub found-whole : (s : Scan) (cs : List RawCell) (f : FileState) (next : ℕ) (left : Bytes) → from-here ≡ completes s cs f next left → FoundWhole d (p .state) cs
-  found-whole s cs f next left e = split-on (inRecord (p .state)) (λ h. later h (subst (LaterTo d) e (scan-later d limit (p .state) (p .size) i bs))) (λ h. began h (subst (KeepsTo d) e (keeps-here h)))
-    where
-      after : {cs : List RawCell} → inRecord (p .state) ≡ true → AfterFirst d cs → FoundWhole d (p .state) cs
-      after h no-cell = none-found h
-      after h (first-and w) = after-first h w
-
-      later : inRecord (p .state) ≡ true → LaterTo d (completes s cs f next left) → FoundWhole d (p .state) cs
-      later h (later-completes w) = after h w
-
-      began : inRecord (p .state) ≡ false → KeepsTo d (completes s cs f next left) → FoundWhole d (p .state) cs
-      began h (keeps-completes w c) = all-found h w
-
   -- outside records nothing is in hand
   pub none-pended : (s : Scan) → from-here ≡ pends s → inRecord (s .state) ≡ false → (inRecord (p .state) ≡ false) × (s .cells ≡ []) × (s .raw ≡ [])
   none-pended s e out = split-on (inRecord (p .state)) (λ h. impossible (sym out ∙ stays-in (subst (Grew (p .size)) e (grew-here h)))) was-out
@@ -226,86 +213,29 @@ unfolding startsBy keptEnds keptStarts
 starts-of-kept o [] = refl
 starts-of-kept o (c ∷ cs) = ap (λ (l : List ℕ). o ∷ l) (starts-of-kept (o + length (c .bytes)) cs)
 
-whole-among : (d : Dialect) (before after : Bytes) (cs : List RawCell) → All (IsWhole d) cs → allWhole d (before ++ (keptBytes cs ++ after)) (startsBy (length before) (keptEnds (length before) cs)) (keptEnds (length before) cs) ≡ true
-unfolding allWhole keptBytes keptEnds startsBy if_then_else_
-whole-among d before after [] all-none = refl
-whole-among d before after (c ∷ cs) (all-cons w ws) =
-    let x : Bytes = c .bytes in
-    let first : before ++ ((x ++ keptBytes cs) ++ after) ≡ before ++ (x ++ (keptBytes cs ++ after)) = ap (λ (l : Bytes). before ++ l) (append-assoc x (keptBytes cs) after) in
-    let raw : slice (before ++ ((x ++ keptBytes cs) ++ after)) (length before) (length before + length x) ≡ x = ap (λ (l : Bytes). slice l (length before) (length before + length x)) first ∙ part-is before x (keptBytes cs ++ after) (length before) (length before + length x) refl refl in
-    let all : before ++ x ++ (keptBytes cs ++ after) ≡ before ++ ((x ++ keptBytes cs) ++ after) = append-assoc before x (keptBytes cs ++ after) ∙ sym first in
-    let ih : allWhole d (before ++ x ++ (keptBytes cs ++ after)) (startsBy (length (before ++ x)) (keptEnds (length (before ++ x)) cs)) (keptEnds (length (before ++ x)) cs) ≡ true = whole-among d (before ++ x) after cs ws in
-    rw (raw, w) (rw (length-append before x, all) at ih)
+end-of-kept : (o : ℕ) (cs : List RawCell) → endOf o (keptEnds o cs) ≡ o + length (keptBytes cs)
+unfolding endOf keptEnds keptBytes
+end-of-kept o [] = omega arith
+end-of-kept o (c ∷ cs) = end-of-kept (o + length (c .bytes)) cs ∙ omega (arith, length-append (c .bytes) (keptBytes cs))
+
+-- whole cells may be spelt, and so may they one after another
+kept-closed : (d : Dialect) {cs : List RawCell} → All (IsWhole d) cs → EdClosed (keptBytes cs)
+unfolding keptBytes
+kept-closed d all-none = closed-none
+kept-closed d (all-cons {x} w ws) = closed-append (sound-closed d (x .bytes) w) (kept-closed d ws)
 
 module _ {bytes : Bytes} {fill : ℕ} {ends : List ℕ} {cells : List RawCell} {raw : Bytes} (h : InHand bytes fill ends cells raw) (d : Dialect) where
   pub kept-same : SameCells (keptValues d bytes (take (length cells) ends)) (map (valueOf d) cells)
   kept-same = rw (h .ended, starts-of-kept 0 cells) (hand-values h d)
 
-  pub kept-whole : All (IsWhole d) cells → allWhole d bytes (startsBy 0 (take (length cells) ends)) (take (length cells) ends) ≡ true
-  kept-whole w =
-      let all : keptBytes cells ++ (raw ++ drop fill bytes) ≡ bytes = sym (append-assoc (keptBytes cells) raw (drop fill bytes)) ∙ ap (λ (l : Bytes). l ++ drop fill bytes) (sym (h .held)) ∙ take-append-drop fill bytes in
-      rw (h .ended) (rw all at (whole-among d [] (raw ++ drop fill bytes) cells w))
-
--- ---- the cells behind those that may have bytes from before
-
-pub none-whole : (d : Dialect) (s : Bytes) (starts : List ℕ) → allWhole d s starts [] ≡ true
-unfolding allWhole
-none-whole d s [] = refl
-none-whole d s (x ∷ starts) = refl
-
-drop-starts : (at : ℕ) (xs : List ℕ) (e : ℕ) (es : List ℕ) → drop (suc (length xs)) (startsBy at (xs ++ (e ∷ es))) ≡ startsBy e es
-unfolding startsBy
-drop-starts at [] e es = refl
-drop-starts at (x ∷ xs) e es = drop-starts x xs e es
-
-drop-behind : (xs : List ℕ) (e : ℕ) (es : List ℕ) → drop (suc (length xs)) (xs ++ (e ∷ es)) ≡ es
-drop-behind [] e es = refl
-drop-behind (x ∷ xs) e es = drop-behind xs e es
-
-drop-past : (xs : List ℕ) → drop (suc (length xs)) xs ≡ []
-drop-past [] = refl
-drop-past (x ∷ xs) = drop-past xs
-
-module _ (d : Dialect) (bytes : Bytes) (fill : ℕ) (inside : fill ≤ length bytes) where
-  -- all cells behind the kept bytes
-  whole-behind : (cs : List RawCell) → All (IsWhole d) cs → allWhole d (written bytes fill (keptBytes cs)) (startsBy fill (keptEnds fill cs)) (keptEnds fill cs) ≡ true
-  whole-behind cs w =
-      let n : length (take fill bytes) ≡ fill = length-take-le fill bytes inside in
-      rw n at (whole-among d (take fill bytes) (drop (fill + length (keptBytes cs)) bytes) cs w)
-
-  -- all but the first
-  whole-after : (c : RawCell) (cs : List RawCell) → All (IsWhole d) cs → allWhole d (written bytes fill (keptBytes (c ∷ cs))) (startsBy (fill + length (c .bytes)) (keptEnds (fill + length (c .bytes)) cs)) (keptEnds (fill + length (c .bytes)) cs) ≡ true
-  unfolding keptBytes
-  whole-after c cs w =
-      let x : Bytes = c .bytes in
-      let after : Bytes = drop (fill + length (x ++ keptBytes cs)) bytes in
-      let n : length (take fill bytes ++ x) ≡ fill + length x = omega (arith, length-append (take fill bytes) x, length-take-le fill bytes inside) in
-      let all : take fill bytes ++ x ++ (keptBytes cs ++ after) ≡ take fill bytes ++ ((x ++ keptBytes cs) ++ after) = append-assoc (take fill bytes) x (keptBytes cs ++ after) ∙ ap (λ (l : Bytes). take fill bytes ++ l) (sym (append-assoc x (keptBytes cs) after)) in
-      rw (n, all) at (whole-among d (take fill bytes ++ x) after cs w)
-
--- the cells of a part have joined the kept ones
-pub later-whole :
-    (d : Dialect) (p : Place) (bytes ends bytes′ ends′ : List ℕ) (cs : List RawCell) (total : ℕ) → (inRecord (p .state) ≡ false → (p .fill ≡ 0) × (p .cells ≡ 0)) → p .fill ≤ length bytes →
-    p .cells + length cs ≡ total → total ≤ length ends → bytes′ ≡ written bytes (p .fill) (keptBytes cs) → ends′ ≡ written ends (p .cells) (keptEnds (p .fill) cs) → FoundWhole d (p .state) cs →
-    LaterWhole d p bytes′ (startsBy 0 (take total ends′)) (take total ends′)
-unfolding if_then_else_ keptEnds
-later-whole d p bytes ends bytes′ ends′ cs total none inside count long x y found = rw (x, ends-then ends ends′ (p .fill) (p .cells) cs total count long y) (go cs found)
-  where
-    kept : List ℕ
-    kept = take (p .cells) ends
-
-    kept-long : p .cells ≤ length ends → suc (length kept) ≡ p .cells + 1
-    kept-long l = omega (arith, length-take-le (p .cells) ends l)
-
-    few : p .cells ≤ length ends
-    few = omega arith
-
-    go : (cs : List RawCell) → FoundWhole d (p .state) cs → LaterWhole d p (written bytes (p .fill) (keptBytes cs)) (startsBy 0 (kept ++ keptEnds (p .fill) cs)) (kept ++ keptEnds (p .fill) cs)
-    go cs (all-found h w) = rw (h, none h .0, none h .1) (whole-behind d bytes 0 (omega arith) cs w)
-    go [] (none-found h) = rw (h, sym (kept-long few), append-nil kept, drop-past kept) (none-whole d _ _)
-    go (c ∷ cs) (after-first h w) =
-        rw (h, sym (kept-long few), drop-starts 0 kept (p .fill + length (c .bytes)) (keptEnds (p .fill + length (c .bytes)) cs), drop-behind kept (p .fill + length (c .bytes)) (keptEnds (p .fill + length (c .bytes)) cs))
-        (whole-after d bytes (p .fill) inside c cs w)
+  pub kept-followed : All (IsWhole d) cells → EdFollowed (take (endOf 0 (take (length cells) ends)) bytes)
+  kept-followed w =
+      let all : bytes ≡ keptBytes cells ++ (raw ++ drop fill bytes) = sym (take-append-drop fill bytes) ∙ ap (λ (l : Bytes). l ++ drop fill bytes) (h .held) ∙ append-assoc (keptBytes cells) raw (drop fill bytes) in
+      let none : 0 + length (keptBytes cells) ≡ length (keptBytes cells) = omega arith in
+      let n : endOf 0 (take (length cells) ends) ≡ length (keptBytes cells) = ap (endOf 0) (h .ended) ∙ end-of-kept 0 cells ∙ none in
+      let first : take (endOf 0 (take (length cells) ends)) bytes ≡ keptBytes cells =
+      ap₂ (λ (k : ℕ) (l : Bytes). take k l) n all ∙ take-append-seam (keptBytes cells) (raw ++ drop fill bytes) in
+      rw first (closed-followed (kept-closed d w))
 
 -- ---- cells of a part join it
 

@@ -33,15 +33,15 @@ use Rattle.turn.specs.Types.{Dialect, Target, FileState, Outside, Passed
 use Rattle.complete.specs.declared.Done.{Done}
 use Rattle.complete.specs.declared.Done.the-variants.{Written, Refused, Lost}
 use Rattle.turn.specs.Holding.{readAt, Shown, Holding, placeAfter, keptNone, startFrom, placePending}
-use Rattle.complete.specs.Completing.{faultAt, textAt, Finishes, is-written, is-refused, has-no-room, SpellsRecord, Ruled, not-whole, ruled, keptValues, allWhole, startsBy}
+use Rattle.complete.specs.Completing.{faultAt, textAt, Finishes, is-written, is-refused, has-no-room, SpellsRecord, Ruled, not-spelt, ruled, keptValues}
 use Rattle.turn.specs.declared.Turn.the-variants.{Stopped, Pended}
-use Rattle.turn.specs.Walking.{InBounds, Lists, FoundWhole, Completes, too-many, from-kept, pendedPlace, Pends, too-many-yet, kept-on, Ready, turnOf, Fitting, TurnBounds, next-bounds, pended-bounds, stopped-bounds, nowhere-bounds, Turns, turns-next, turns-pended, turns-stopped, turns-nowhere}
+use Rattle.turn.specs.Walking.{InBounds, Lists, Completes, too-many, from-kept, pendedPlace, Pends, too-many-yet, kept-on, Ready, turnOf, Fitting, TurnBounds, next-bounds, pended-bounds, stopped-bounds, nowhere-bounds, Turns, turns-next, turns-pended, turns-stopped, turns-nowhere}
 use Rattle.tokens.specs.declared.record_state.RecordState.{RecordState}
 use Rattle.turn.proofs.Keeping.{order-then, order-more}
 use Rattle.turn.proofs.Scanning.{keptOf, Within, WithinTo, within-pends, within-fails, within-completes, scan-within}
 use Rattle.turn.proofs.Turning as turning
 use Rattle.turn.proofs.Turning.{EndsIn, ended-in, PendsIn, pended-in, pend-reads, pend-holds, fail-reads, fail-reports, part-none, allCells, inFile, complete-whole, valuesNow, doneThen, faulty-reads, faulty-reports, placeThen, sound-reads, text-here, sound-holds}
-use Rattle.turn.proofs.Showing.{CompletedAs, PendedAs, FailedAs, room-pended, none-pended, found-whole, shown-of, hand-then, lists-show, room-done, in-hand-of, joined-hand, goes-on, kept-same, kept-whole}
+use Rattle.turn.proofs.Showing.{CompletedAs, PendedAs, FailedAs, room-pended, none-pended, shown-of, hand-then, lists-show, room-done, in-hand-of, joined-hand, goes-on, kept-same, kept-followed}
 
 none-bytes : length (keptBytes []) ≡ 0
 unfolding keptBytes
@@ -156,9 +156,6 @@ module _ (d : Dialect) (piece : Bytes) (n i : ℕ) (p : Place) (bytes ends out :
       pub cells-shown : p .cells + cells ≤ MAXCOLUMNS → rawCellsAt piece starts′ stops′ 0 cells ≡ a .cs
       cells-shown h = shown-are (shows h)
 
-      pub cells-whole : p .cells + cells ≤ MAXCOLUMNS → FoundWhole d (p .state) (rawCellsAt piece starts′ stops′ 0 cells)
-      cells-whole h = rw (cells-shown h) (found-whole d (MAXFILE - n) p ends (ready .bounds) i (drop i piece) (a .s) (a .cs) f next (a .left) (a .came))
-
       pub lists-done : length starts′ ≡ length starts → length stops′ ≡ length stops → cells ≤ MAXFILE → Lists piece starts′ stops′ cells p bytes ends
       lists-done x y m =
           record {
@@ -180,7 +177,7 @@ module _ (d : Dialect) (piece : Bytes) (n i : ℕ) (p : Place) (bytes ends out :
           by e h = subst (Fitting p o) (sym e) h
 
           ruling : Ruled d t p bytes′ (take (p .cells + cells) ends′) o out out′ r → Fitting p o r
-          ruling (not-whole e w x) = by e tt
+          ruling (not-spelt e w x) = by e tt
           ruling (ruled y) = finish-fits d t p (keptValues d bytes′ (take (p .cells + cells) ends′)) o out out′ r y
 
           go : Completes d t p cs (p .cells + cells) bytes ends o out bytes′ ends′ out′ r → Fitting p o r
@@ -197,7 +194,7 @@ module _ (d : Dialect) (piece : Bytes) (n i : ℕ) (p : Place) (bytes ends out :
           not-lost z = let y : _≡_ {A = ℕ} 0 1 = cc in absurd (omega arith)
 
           ruling : Ruled d t p bytes′ (take (p .cells + cells) ends′) o out out′ r → end ≤ length out
-          ruling (not-whole z w x) = not-lost z
+          ruling (not-spelt z w x) = not-lost z
           ruling (ruled y) = finish-room (faultAt d t p (keptValues d bytes′ (take (p .cells + cells) ends′))) (textAt t p (keptValues d bytes′ (take (p .cells + cells) ends′))) o out out′ end (rw e at y)
 
           go : Completes d t p cs (p .cells + cells) bytes ends o out bytes′ ends′ out′ r → end ≤ length out
@@ -293,9 +290,8 @@ module _ (d : Dialect) (piece : Bytes) (n i : ℕ) (p : Place) (bytes ends out :
                 rw (x′, y′) z
 
             ruling : p .cells + cells ≤ MAXCOLUMNS → InHand bytes′ (p .fill + length (keptBytes (a .cs))) ends′ (allCells u (a .cs)) [] → Ruled d t p bytes′ (take (p .cells + cells) ends′) o out out′ r → Then r
-            ruling h z (not-whole e w x) =
-                let yes : allWhole d bytes′ (startsBy 0 (take (length (allCells u (a .cs))) ends′)) (take (length (allCells u (a .cs))) ends′) ≡ true = kept-whole z d (complete-whole u hold (ready .at) under (ready .inside) (a .s) (a .cs) f next (a .left) (a .came)) in
-                impossible (sym w ∙ (rw counted at yes))
+            ruling h z (not-spelt e w x) =
+                absurd (w (rw counted at (kept-followed z d (complete-whole u hold (ready .at) under (ready .inside) (a .s) (a .cs) f next (a .left) (a .came)))))
             ruling h z (ruled y) =
                 let same : SameCells (keptValues d bytes′ (take (p .cells + cells) ends′)) (map (valueOf d) (allCells u (a .cs))) = rw counted at (kept-same z d) in
                 let count : length (this .cells) ≡ p .cells + cells = length-map (allCells u (a .cs)) (valueOf d) ∙ counted in

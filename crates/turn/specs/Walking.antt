@@ -60,12 +60,6 @@ pub record Lists (piece starts stops : List ℕ) (cells : ℕ) (p : Place) (byte
 
 -- ---- a complete record
 
--- the cells that a scan from this state finds are whole, but the first of a record that was in hand: it may have begun before (§15.9)
-pub data FoundWhole (d : Dialect) (f : FileState) : List RawCell → Type 0 where
-  all-found : {cs : List RawCell} → inRecord f ≡ false → All (IsWhole d) cs → FoundWhole d f cs
-  none-found : inRecord f ≡ true → FoundWhole d f []
-  after-first : {c : RawCell} {cs : List RawCell} → inRecord f ≡ true → All (IsWhole d) cs → FoundWhole d f (c ∷ cs)
-
 -- the cells join the kept ones, and the record is ruled on from there; or they are too many
 pub data Completes (d : Dialect) (t : Target) (p : Place) (cs : List RawCell) (total : ℕ) (bytes ends : List ℕ) (o : ℕ) (out bytes′ ends′ out′ : List ℕ) (r : Done) : Type 0 where
   too-many : MAXCOLUMNS < total → r ≡ Refused TooManyColumns → out′ ≡ out → Completes d t p cs total bytes ends o out bytes′ ends′ out′ r

@@ -14,7 +14,7 @@ ghost use Rattle.model.specs.Places.{keptBytes, keptEnds};
 ghost use Rattle.buffers.specs.Wrote.{written};
 ghost use Rattle.carried.specs.Hand.{Stand, rawCellsAt};
 ghost use Rattle.turn.specs.Holding.{startFrom, Holding, columnsWith};
-ghost use Rattle.turn.specs.Walking.{Scratch, Lists, FoundWhole, Completes, pendedPlace, Pends, turnOf, Fitting, Ready, TurnBounds, Turns};
+ghost use Rattle.turn.specs.Walking.{Scratch, Lists, Completes, pendedPlace, Pends, turnOf, Fitting, Ready, TurnBounds, Turns};
 use carried::hand;
 use carried::place::Place;
 use complete::Done;
@@ -80,7 +80,6 @@ fn completed(
     requires { ⌜ Scratch (now starts) (now stops) (now kinds) ⌝ }
     requires { ⌜ Lists (now piece) (now starts) (now stops) cells p (now bytes) (now ends) ⌝ }
     requires { ⌜ (p .written ≤ MAXFILE) × (o ≤ length (now out)) ⌝ }
-    requires { ⌜ (p .cells + cells ≤ MAXCOLUMNS → FoundWhole d (p .state) (rawCellsAt (now piece) (now starts) (now stops) 0 cells)) ⌝ }
     ensures { λ r. ⌜ Completes d (into t) p (rawCellsAt (now (piece .entry)) (now (starts .entry)) (now (stops .entry)) 0 cells) (p .cells + cells) (now (bytes .entry)) (now (ends .entry)) o (now (out .entry)) (now (bytes .exit)) (now (ends .exit)) (now (out .exit)) r ⌝ }
 {
     let kept = p.cells;

@@ -7,7 +7,8 @@ use Prim.Native.Nat.{ℕ, _+_, _-_, _≤_, _<_}
 use native.Mathlib.Omega.{arith}
 use lib.ListN.{length, take, drop, getD, length-drop, drop-of-length-le}
 use lib.Seq.{drop-drop}
-use borrow.Author.Tests.{lt-leb, eq-eqb}
+use lib.Dec.{ltb}
+use borrow.Author.Tests.{lt-leb, eq-eqb, ltb-true, ltb-false}
 use Rattle.model.specs.Base.{Bytes, QUOTE, BACKSLASH, _is_}
 use Rattle.model.specs.Report.{MAXRECORD}
 use Rattle.model.specs.Decode.{undouble}
@@ -16,13 +17,14 @@ use Rattle.buffers.proofs.Writing.{drop-next}
 use Rattle.decoder.specs.Units.{one}
 use Rattle.decoder.specs.Strings.{Goes}
 use Rattle.decoder.specs.FirstByte.{contentIn}
+use Rattle.decoder.specs.Followed.{EdFollows, EdFollowed}
 use Rattle.decoder.specs.declared.first.Spelling.{Spelling}
 use Rattle.decoder.specs.declared.first.Spelling.the-variants.{Nothing, AsItStands, Doubled, Escaped}
 use Rattle.decoder.proofs.Doubled as undoubled
 use Rattle.decoder.proofs.Strings.{string-end, string-quote, string-byte}
 use Rattle.units.specs.PlainRuns.{plainRun}
 use Rattle.units.specs.Units.{paired}
-use Rattle.units.specs.Contents.{contentOn, contentFrom, sourceQuote, EdFollows, EdFollowed, Decoded, by-doubled, by-string, Legible, has-none, as-it-stands, decoded, Part}
+use Rattle.units.specs.Contents.{contentOn, contentFrom, sourceQuote, Decoded, by-doubled, by-string, Legible, has-none, as-it-stands, decoded, Part}
 use Rattle.units.proofs.PlainRuns.{run-inside, content-run}
 use Rattle.units.proofs.Units.{no-surrogate}
 
@@ -148,16 +150,23 @@ first-one : (l : Bytes) (n : ℕ) → n ≡ 1 → length (take n l) ≡ n → ta
 first-one [] n e h = let z : _≡_ {A = ℕ} 0 1 = rw e at h in absurd (omega arith)
 first-one (a ∷ l) n e h = rw e
 
+-- behind ED stands a byte that begins no lone surrogate with it, or nothing
+ed-apart : {c : Spelling} {raw : Bytes} (i : ℕ) → Decoded c raw → getD raw i 0 ≡ 0xED → paired (0xED ∷ contentFrom c raw (i + 1)) ≡ false
+ed-apart {c} {raw} i d e =
+    split-on (ltb (i + 1) (length raw))
+    (λ f.
+    let l : i + 1 < length raw = ltb-true (i + 1) (length raw) f in
+    let w : EdFollows raw i = decoded-ed d i l e in
+    ap (λ (bs : Bytes). paired (0xED ∷ bs)) (high-byte (i + 1) d l (w .least)) ∙ paired-low 0xED (getD raw (i + 1) 0) (contentFrom c raw (i + 1 + 1)) (w .most)) λ f.
+    ap (λ (bs : Bytes). paired (0xED ∷ bs)) (content-end c raw (i + 1) (ltb-false (i + 1) (length raw) f))
+
 pub part-apart : {c : Spelling} {raw : Bytes} {i : ℕ} {bytes : Bytes} {size next : ℕ} → Decoded c raw → Part c raw i bytes size next → size ≡ 1 → paired (contentFrom c raw i) ≡ false
 part-apart {c} {raw} {i} {bytes} {size} {next} d p e =
     let b : ℕ = getD bytes 0 0 in
     let whole : contentFrom c raw i ≡ b ∷ contentFrom c raw next = p .stands ∙ ap (λ (l : Bytes). l ++ contentFrom c raw next) (first-one bytes size e (p .sized)) in
     split-on (b is 0xED)
     (λ f.
-    let k : ℕ = next - 1 in
-    let back : k + 1 ≡ next = omega (arith, p .on) in
-    let w : EdFollows raw k = decoded-ed d k (omega (arith, p .on, p .inside)) (p .single e (is→eq b 0xED f)) in
-    let low : getD raw next 0 < 0xA0 = rw back at (w .most) in
-    let rest : contentFrom c raw next ≡ getD raw next 0 ∷ contentFrom c raw (next + 1) = high-byte next d (rw back at (w .inside)) (rw back at (w .least)) in
-    ap paired (whole ∙ ap (λ (l : Bytes). b ∷ l) rest) ∙ paired-low b (getD raw next 0) (contentFrom c raw (next + 1)) low) λ f.
+    let back : next - 1 + 1 ≡ next = omega (arith, p .on) in
+    let apart : paired (0xED ∷ contentFrom c raw next) ≡ false = rw back at (ed-apart (next - 1) d (p .single e (is→eq b 0xED f))) in
+    ap paired whole ∙ rw (is→eq b 0xED f) apart) λ f.
     ap paired whole ∙ paired-none b (contentFrom c raw next) λ z. impossible (sym f ∙ eq-eqb b 0xED z)

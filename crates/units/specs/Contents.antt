@@ -9,6 +9,7 @@ use Rattle.model.specs.Report.{MAXRECORD}
 use Rattle.model.specs.Decode.{undouble, between, units, textOf}
 use Rattle.decoder.specs.Units.{Unit}
 use Rattle.decoder.specs.FirstByte.{contentIn}
+use Rattle.decoder.specs.Followed.{EdFollowed}
 use Rattle.decoder.specs.declared.first.Spelling.{Spelling}
 use Rattle.decoder.specs.declared.first.Spelling.the-variants.{Nothing, AsItStands, Doubled, Escaped}
 
@@ -29,17 +30,8 @@ sourceQuote AsItStands = QUOTE
 sourceQuote (Doubled q) = q
 sourceQuote Escaped = QUOTE
 
--- the byte after i is one that follows ED in a character
-pub record EdFollows (raw : Bytes) (i : ℕ) : Type 0 where
-  pub inside : i + 1 < length raw
-  pub least : 0x80 ≤ getD raw (i + 1) 0
-  pub most : getD raw (i + 1) 0 < 0xA0
-
--- no ED of a cell begins a lone surrogate, or stands before a quote or an escape
-abbrev pub EdFollowed : Bytes → Type 0
-EdFollowed raw = (i : ℕ) → i < length raw → getD raw i 0 ≡ 0xED → EdFollows raw i
-
--- a cell that has to be decoded, as one of a sound file is: its content is no longer than a record
+-- a cell that has to be decoded, as one of a sound file is: its content is no longer than a record, and has a lone surrogate by an escape
+-- only
 pub data Decoded : Spelling → Bytes → Type 0 where
   by-doubled : {q : ℕ} {raw : Bytes} → q ≤ 0x7F → length (contentIn (Doubled q) raw) ≤ MAXRECORD → EdFollowed raw → Decoded (Doubled q) raw
   by-string : {raw : Bytes} → length (contentIn Escaped raw) ≤ MAXRECORD → EdFollowed raw → Decoded Escaped raw

@@ -11,14 +11,14 @@ starts-of-requires : tie.Need-starts-of-requires
 starts-of-requires c κs =
     let s = c .before .before .before .before .before .before in
     let few = s .pre .1 .0 .0 in
-    let long = s .pre .1 .1 .1 .1 in
+    let long = s .pre .1 .1 in
     (omega arith, omega arith)
 
 slice-reshare-prefix-known : tie.Need-slice-reshare-prefix-known
 slice-reshare-prefix-known c =
     let s = c .before .before .before .before .before .before .before .before .before in
     let few = s .pre .1 .0 .0 in
-    let long = s .pre .1 .1 .1 .1 in
+    let long = s .pre .1 .1 in
     let same = c .before .starts .given in
     omega arith
 
@@ -33,7 +33,7 @@ known-requires c κs =
     let made = starts-made (s .args .ends .now) _ _ (c .before .before .before .before .before .starts-of .ensures) in
     let q = s .pre .1 .0 in
     let l = s .pre .1 .1 in
-    (made, (s .pre .0, ((q .0, q .1, q .2, q .3), (rw made (l .0), (l .1 .0, l .1 .2)))))
+    (made, (s .pre .0, ((q .0, q .1, q .2, q .3), l .1)))
 
 pub kept-spec : {M : Type 1} → statement M
 kept-spec =

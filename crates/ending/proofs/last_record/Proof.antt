@@ -9,7 +9,7 @@ use Rattle.complete.specs.declared.Done.the-variants.{Written, Refused, Lost}
 use Rattle.turn.specs.declared.Taken.{Taken}
 use Rattle.complete.specs.Completing.{Ruled}
 use Rattle.turn.proofs.Keeping.{order-more}
-use Rattle.ending.proofs.Finishing.{last-order, last-later, finish-many, finish-kept}
+use Rattle.ending.proofs.Finishing.{last-order, finish-many, finish-kept}
 use Rattle.ending.proofs.last_record.Statement.{statement}
 use Rattle.ending.proofs.last_record.Tie as tie
 
@@ -51,10 +51,7 @@ kept-requires c κs =
       order-more (last-order (a .ends .now) (a .p .cells) (a .p .fill) (s .pre .0 .bounds .ordered (omega arith)) (omega arith)) (omega arith),
       (
         (omega arith, omega arith, s .pre .0 .bounds .written, omega arith),
-        (
-          last-later (a .d) (a .p) (a .bytes .now) (take (a .p .cells + 1) (set (a .ends .now) (a .p .cells) (a .p .fill))) (s .pre .1) (omega arith),
-          (omega arith, search needs, search needs),
-        ),
+        (search needs, search needs),
       ),
     )
 

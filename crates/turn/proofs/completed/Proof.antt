@@ -11,7 +11,6 @@ use Rattle.buffers.proofs.Writing.{length-written}
 use Rattle.carried.specs.Hand.{rawCellsAt}
 use Rattle.turn.specs.Walking.{too-many, from-kept}
 use Rattle.turn.proofs.Keeping.{order-then, order-more, ends-long, listed}
-use Rattle.turn.proofs.Showing.{later-whole}
 use Rattle.turn.proofs.completed.Statement.{statement}
 use Rattle.turn.proofs.completed.Tie as tie
 
@@ -56,11 +55,8 @@ kept-requires c κs =
     let ends = ends-long (a .ends .now) _ (a .p .fill) (a .p .cells) (shown s) (a .p .cells + a .cells) (omega arith) (omega arith) (k .1 .1) in (
       order-more ordered (omega (arith, same)),
       (
-        (omega (arith, ends), omega (arith, same), s .pre .1 .1 .0 .0, s .pre .1 .1 .0 .1),
-        (
-          later-whole (a .d) (a .p) (a .bytes .now) (a .ends .now) _ _ (shown s) (a .p .cells + a .cells) (l .between) (omega arith) (omega arith) (omega arith) (k .1 .0) (k .1 .1) (s .pre .1 .1 .1 few),
-          (l .few .0, s .pre .0 .long-starts, s .pre .0 .long-kinds),
-        ),
+        (omega (arith, ends), omega (arith, same), s .pre .1 .1 .0, s .pre .1 .1 .1),
+        (s .pre .0 .long-starts, s .pre .0 .long-kinds),
       ),
     )
 

@@ -9,7 +9,7 @@ use Rattle.model.specs.Report.{MAXCOLUMNS}
 use Rattle.model.specs.Scans.{ScanResult}
 use Rattle.turn.specs.Walking.{TurnBounds, stopped-bounds, Turns}
 use Rattle.turn.proofs.Showing.{completed-as, pended-as, failed-as}
-use Rattle.turn.proofs.Walking.{here, lists-done, cells-shown, cells-whole, next-file, cells-few, start-in, fits-done, bounds-done, turns-done, lists-pended, cells-yet, room-open, end-file, start-yet, opened-yet, bounds-pended, turns-pended-on, failed-file, turns-failed}
+use Rattle.turn.proofs.Walking.{here, lists-done, cells-shown, next-file, cells-few, start-in, fits-done, bounds-done, turns-done, lists-pended, cells-yet, room-open, end-file, start-yet, opened-yet, bounds-pended, turns-pended-on, failed-file, turns-failed}
 use Rattle.turn.proofs.turned.Statement.{statement}
 use Rattle.turn.proofs.turned.Tie as tie
 
@@ -47,10 +47,7 @@ completed-requires c κs =
       record { long-starts = c .before .before .before .before .before .before .before .before .before .before .before .before .before .before .starts .given ∙ s .pre .1 .long-starts; long-stops = c .before .before .before .before .before .before .before .before .before .before .before .before .stops .given ∙ s .pre .1 .long-stops; long-kinds = c .before .before .before .before .before .before .before .before .before .before .kinds .given ∙ s .pre .1 .long-kinds },
       (
         lists-done (a .d) (a .piece .now) (a .n) (a .i) (a .p) (a .bytes .now) (a .ends .now) (a .out .now) (a .o) (s .pre .0) _ _ _ _ x _ _ _ _ (adv .1 .0) (adv .1 .1 .0) (in-starts s) (in-stops s) (c .before .before .before .before .before .before .before .before .before .before .before .before .before .before .starts .given) (c .before .before .before .before .before .before .before .before .before .before .before .before .stops .given) (omega arith),
-        (
-          (s .pre .0 .bounds .written, s .pre .0 .room),
-          cells-whole (a .d) (a .piece .now) (a .n) (a .i) (a .p) (a .bytes .now) (a .ends .now) (a .out .now) (a .o) (s .pre .0) _ _ _ _ x _ _ _ _ (adv .1 .0) (adv .1 .1 .0) (in-starts s) (in-stops s),
-        ),
+        (s .pre .0 .bounds .written, s .pre .0 .room),
       ),
     )
 

@@ -7,8 +7,9 @@ use Rattle.model.specs.Utf8.{holdsLone}
 use Rattle.model.specs.Text.{cellText}
 use Rattle.buffers.proofs.Writing.{room-as, put-as}
 use Rattle.decoder.specs.FirstByte.{contentIn}
+use Rattle.decoder.specs.declared.first.Spelling.{Spelling}
 use Rattle.spell.specs.declared.cell.Written.the-variants.{AsNumber}
-use Rattle.spell.specs.Cells.{valueOf, textCell, writtenAs, wordFor}
+use Rattle.spell.specs.Cells.{valueOf, textCell, numberIn, writtenAs, wordFor}
 use Rattle.spell.proofs.Cells.{spelt-legible, spelt-number, legible-as, number-way, text-way, cell-as-text, cell-as-number, cell-as-word, number-no-text, word-no-text, put-long}
 use Rattle.spell.proofs.cell.put.Statement.{statement}
 use Rattle.spell.proofs.cell.put.Tie as tie
@@ -42,23 +43,26 @@ returns c =
 
 -- ---- a number
 
-as-number : (c : tie.After-enum-told2) → let start = c .before .before .before .before .before in start .args .raw .now ≡ cell start
+as-number : (c : tie.After-spelling-in2)
+    → let start = c .before .before .before .before .before .before in
+    numberIn (c .spelling-in2 .result) (start .args .raw .now) ≡ cell start
 as-number c =
-    let asked = c .before .before in
+    let asked = c .before .before .before in
     let start = asked .before .before .before in
     let a = start .args in
-    let way : AsNumber ≡ writtenAs (a .t) (a .kind) = sym (c .enum-told2 .given .1) ∙ asked .written-as .ensures in
-    sym (cell-as-number (a .only) (a .first) (a .t) (valueOf (a .src) (a .kind) (a .raw .now)) way ∙ spelt-number (start .pre .0) (number-way (a .t) (a .kind) way))
+    let way : AsNumber ≡ writtenAs (a .t) (a .kind) = sym (c .before .enum-told2 .given .1) ∙ asked .written-as .ensures in
+    ap (λ (s : Spelling). numberIn s (a .raw .now)) (c .spelling-in2 .ensures .1)
+    ∙ sym (cell-as-number (a .only) (a .first) (a .t) (valueOf (a .src) (a .kind) (a .raw .now)) way ∙ spelt-number (start .pre .0) (number-way (a .t) (a .kind) way))
 
-put-requires : tie.Need-put-requires
-put-requires c κs = let u = c .before in room-as (as-number u) (u .before .before .before .before .before .pre .1)
+put-number-requires : tie.Need-put-number-requires
+put-number-requires c κs = let u = c .before in room-as (as-number u) (u .before .before .before .before .before .before .pre .1)
 
 returns-2 : tie.Need-returns-2
 returns-2 c =
     let u = c .before .before .before .before in
-    let asked = u .before .before in
+    let asked = u .before .before .before in
     let a = asked .before .before .before .args in
-    (put-as (sym (as-number u)) (c .before .before .put .ensures), λ e f. number-no-text (sym (u .enum-told2 .given .1) ∙ text-way (a .t) (a .kind) (asked .written-as .result) (asked .written-as .ensures) e f))
+    (put-as (sym (as-number u)) (c .before .before .put-number .ensures), λ e f. number-no-text (sym (u .before .enum-told2 .given .1) ∙ text-way (a .t) (a .kind) (asked .written-as .result) (asked .written-as .ensures) e f))
 
 -- ---- a word
 
@@ -87,12 +91,13 @@ put-spec =
     (λ c κs. search needs)
     put-text-requires
     (λ c. search needs)
-    put-requires
+    (λ c κs. search needs)
+    put-number-requires
     (λ c. search needs)
     put-word-requires
     (λ c. let start = c .before .before .before .before .before .before .before .before .before .before in put-long (start .args .write) (start .pre .1) (returns c .0))
     returns
-    (λ c. let start = c .before .before .before .before .before .before .before .before .before in put-long (start .args .write) (start .pre .1) (returns-2 c .0))
+    (λ c. let start = c .before .before .before .before .before .before .before .before .before .before in put-long (start .args .write) (start .pre .1) (returns-2 c .0))
     returns-2
     (λ c. let start = c .before .before .before .before .before .before .before .before .before in put-long (start .args .write) (start .pre .1) (returns-3 c .0))
     returns-3)

@@ -1,11 +1,12 @@
--- In a sound cell no byte ED begins a lone surrogate: the byte after it is from 80 to 9F.
+-- In a sound cell no byte ED begins a lone surrogate: a byte from 80 to 9F comes after it, in the cell. So it is in sound cells that stand
+-- one after another.
 -- Assumes nothing.
-use mathlib.Core.Path.{_≡_, refl, ap}
+use mathlib.Core.Path.{_≡_, refl, sym, ap, _∙_}
 use mathlib.Core.Bool.{true, false}
-use mathlib.Core.List.{[], _∷_}
-use Prim.Native.Nat.{ℕ, zero, suc, _+_, _≤_}
+use mathlib.Core.List.{[], _∷_, _++_}
+use Prim.Native.Nat.{ℕ, zero, suc, _+_, _≤_, _<_}
 use native.Mathlib.Omega.{arith}
-use borrow.Author.Tests.{ne-eqb}
+use borrow.Author.Tests.{ne-eqb, eq-eqb}
 use Rattle.model.specs.declared.Dialect.{Dialect}
 use Rattle.model.specs.declared.Dialect.the-variants.{Csvj, Tdif, CsvPlus}
 use Rattle.model.specs.declared.Lead.the-variants.{C2ToDf, E0, E1ToEc, Ed, EeToEf, F0, F1ToF3, F4}
@@ -27,11 +28,11 @@ use Rattle.model.specs.Dialect.{quoteOf, delimiterOf}
 use Rattle.model.specs.Utf8.{rowOf, leads, leadByte, innerStep, charStep}
 use Rattle.model.specs.Cell.{numeralStep, firstByte, quotedByte, plainByte, cellStep, isWhole}
 use Rattle.model.specs.Decode.{validateCell}
-use Rattle.model.proofs.Tests.{split-on, impossible, within-true}
+use Rattle.model.proofs.Tests.{split-on, impossible, is→eq, within-true}
 use Rattle.model.proofs.Utf8.{quote-ascii, delimiter-ascii, broken-on}
 use Rattle.model.proofs.CellRuns.{Runs, here, there, sound-runs}
 use Rattle.model.proofs.CellContent.{char-on, no-more, no-stop, same-more}
-use Rattle.units.specs.Contents.{EdFollows, EdFollowed}
+use Rattle.decoder.specs.Followed.{EdFollows, EdFollowed}
 
 -- a cell that waits for the byte after ED
 data AfterEd : Cell → Type 0 where
@@ -127,17 +128,41 @@ low-next d in-quotes here w = impossible w
 low-next d in-plain here w = impossible w
 low-next d a (there {b} x r) w = let l = low-step d b a x in low-first (l .0) (l .1)
 
-low-at : (b : ℕ) (bs : Bytes) → LowFirst bs → EdFollows (b ∷ bs) 0
-low-at b bs (low-first {b = x} {bs = xs} l m) = record { inside = omega arith; least = l; most = omega arith }
+-- ---- bytes in which it is so, up to the last
+
+pub data EdClosed : Bytes → Type 0 where
+  closed-none : EdClosed []
+  closed-other : {b : ℕ} {bs : Bytes} → (b ≡ 0xED → ⊥) → EdClosed bs → EdClosed (b ∷ bs)
+  closed-ed : {b c : ℕ} {bs : Bytes} → 0x80 ≤ c → c < 0xA0 → EdClosed (c ∷ bs) → EdClosed (b ∷ c ∷ bs)
+
+low-closed : {b : ℕ} {bs : Bytes} → LowFirst bs → EdClosed bs → EdClosed (b ∷ bs)
+low-closed (low-first l m) h = closed-ed l (omega arith) h
+
+run-closed : (d : Dialect) {c e : Cell} {bs : Bytes} → Runs d c bs e → isWhole d e ≡ true → EdClosed bs
+run-closed d here w = closed-none
+run-closed d {c} (there {c′} {b} {bs} x r) w =
+    split-on (b is 0xED)
+    (λ f. low-closed (low-next d (after-ed (ed-step d c) (rw (is→eq b 0xED f) at x)) r w) (run-closed d r w)) λ f.
+    closed-other (λ z. impossible (sym f ∙ eq-eqb b 0xED z)) (run-closed d r w)
+
+pub sound-closed : (d : Dialect) (raw : Bytes) → validateCell d raw ≡ WholeCell → EdClosed raw
+unfolding validateCell
+sound-closed d raw j = let r = sound-runs d Fresh 0 raw j in run-closed d (r .runs) (r .whole)
+
+pub closed-append : {xs ys : Bytes} → EdClosed xs → EdClosed ys → EdClosed (xs ++ ys)
+closed-append closed-none k = k
+closed-append (closed-other n h) k = closed-other n (closed-append h k)
+closed-append (closed-ed l m h) k = closed-ed l m (closed-append h k)
 
 further : (b : ℕ) (bs : Bytes) (i : ℕ) → EdFollows bs i → EdFollows (b ∷ bs) (suc i)
-further b bs i f = let n : suc i + 1 ≡ suc (i + 1) = omega arith in record { inside = omega (arith, f .inside); least = rw n (f .least); most = rw n (f .most) }
+further b bs i f = let n : suc i + 1 ≡ suc (i + 1) = omega arith in record { least = rw n (f .least); most = rw n (f .most) }
 
-run-followed : (d : Dialect) {c e : Cell} {bs : Bytes} → Runs d c bs e → isWhole d e ≡ true → EdFollowed bs
-run-followed d here w i h e = absurd (omega arith)
-run-followed d {c} (there {c′} {b} {bs} x r) w zero h e = low-at b bs (low-next d (after-ed (ed-step d c) (rw e at x)) r w)
-run-followed d (there {b} {bs} x r) w (suc i) h e = further b bs i (run-followed d r w i (omega arith) e)
+pub closed-followed : {bs : Bytes} → EdClosed bs → EdFollowed bs
+closed-followed closed-none i l e = absurd (omega arith)
+closed-followed (closed-other n h) zero l e = absurd (n e)
+closed-followed (closed-other {b} {bs} n h) (suc i) l e = further b bs i (closed-followed h i (omega arith) e)
+closed-followed (closed-ed l m h) zero k e = record { least = l; most = m }
+closed-followed (closed-ed {b} {c} {bs} l m h) (suc i) k e = further b (c ∷ bs) i (closed-followed h i (omega arith) e)
 
 pub sound-followed : (d : Dialect) (raw : Bytes) → validateCell d raw ≡ WholeCell → EdFollowed raw
-unfolding validateCell
-sound-followed d raw j = let r = sound-runs d Fresh 0 raw j in run-followed d (r .runs) (r .whole)
+sound-followed d raw j = closed-followed (sound-closed d raw j)
