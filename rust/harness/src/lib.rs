@@ -3,10 +3,13 @@
 
 pub mod antt;
 pub mod calls;
+pub mod clauses;
 #[cfg(feature = "proved")]
 pub mod compare;
 pub mod conformance;
 pub mod counts;
+pub mod examples;
+pub mod figures;
 pub mod generate;
 pub mod json;
 pub mod ledger;

@@ -1,20 +1,10 @@
 //! The rules and what cites them, both ways: every definition of the model cites a clause of `docs/RULES.md` that exists, and
 //! every clause is cited by a comment in specs/ or src/ or by a vector.
 
+use harness::clauses::{declared, number, Clause};
 use std::collections::{BTreeMap, BTreeSet};
-use std::fmt;
 use std::fs;
 use std::path::{Path, PathBuf};
-
-/// A clause's number: section and place in it.
-#[derive(Clone, Copy, Debug, PartialEq, Eq, PartialOrd, Ord)]
-struct Clause(u32, u32);
-
-impl fmt::Display for Clause {
-    fn fmt(&self, f: &mut fmt::Formatter<'_>) -> fmt::Result {
-        write!(f, "{}.{}", self.0, self.1)
-    }
-}
 
 /// A file of the repository, by its path from the root.
 struct File {
@@ -63,16 +53,6 @@ struct Tally {
     helpers: Vec<String>,
 }
 
-/// A number N.M at the beginning of a text, and how many bytes it has.
-fn number(text: &str) -> Option<(Clause, usize)> {
-    let digits = |s: &str| s.bytes().take_while(u8::is_ascii_digit).count();
-    let section = digits(text);
-    let rest = text[section..].strip_prefix('.')?;
-    let place = digits(rest);
-    let clause = Clause(text[..section].parse().ok()?, rest[..place].parse().ok()?);
-    Some((clause, section + 1 + place))
-}
-
 /// The citations of a text: `§` and a number; an error has what follows a `§` that is none.
 fn citations(text: &str) -> Vec<Result<Clause, String>> {
     text.split('§')
@@ -83,14 +63,6 @@ fn citations(text: &str) -> Vec<Result<Clause, String>> {
                 .ok_or_else(|| rest.split_whitespace().next().unwrap_or("").to_string())
         })
         .collect()
-}
-
-/// The clause that a line declares: its number in bold at the beginning of the line or of a table's row.
-fn declared(line: &str) -> Option<Clause> {
-    let line = line.strip_prefix("| ").unwrap_or(line);
-    let bold = line.strip_prefix("**")?;
-    let (clause, length) = number(bold)?;
-    bold[length..].starts_with("**").then_some(clause)
 }
 
 /// The section that a line opens: `## 3. NAME`.
