@@ -1,11 +1,22 @@
-# The library for C: `make`, and `make install PREFIX=..` for the archive, the header and the pkg-config file. Nothing is built whose
-# proof does not pass.
+# The library for C: `make` builds the archive and the shared library from the same objects, `make install PREFIX=..` installs both with
+# the header and the pkg-config file, and `make uninstall` takes them away again. Nothing is built whose proof does not pass.
 PREFIX ?= /usr/local
-library := target/staticlib/libhemakuliwi.a
-version := $(shell sed -n 's/^#define HK_VERSION "\(.*\)"/\1/p' include/hemakuliwi.h)
+libdir ?= $(PREFIX)/lib
+includedir ?= $(PREFIX)/include
+pkgconfigdir ?= $(libdir)/pkgconfig
+INSTALL ?= install
 
-.PHONY: all install program
-all: $(library)
+version := $(shell sed -n 's/^#define HK_VERSION "\(.*\)"/\1/p' include/hemakuliwi.h)
+library := target/staticlib/libhemakuliwi.a
+# The file of the shared library, the name that programs ask the loader for, and the name that the linker looks for.
+shared_name := libhemakuliwi.so.$(version)
+loader_name := libhemakuliwi.so.$(basename $(basename $(version)))
+linker_name := libhemakuliwi.so
+shared := target/staticlib/$(shared_name)
+links := target/staticlib/$(loader_name) target/staticlib/$(linker_name)
+
+.PHONY: all install install-library uninstall uninstall-library program
+all: $(library) $(shared) $(links)
 
 # Four object files, each with a lexer of its own: docs/DECISIONS.md, "Code".
 $(library): crates.txt $(shell find crates -name '*.rt' -o -name '*.antt')
@@ -17,14 +28,39 @@ $(library): crates.txt $(shell find crates -name '*.rt' -o -name '*.antt')
 	rm -f $@
 	ar rcsD $@ target/staticlib/c_files.o target/staticlib/c_convert.o target/staticlib/c_pieces.o target/staticlib/c_cells.o
 
+# The objects need no relocation in their code, and the linker refuses (-z text) if that changes. Before version 1.0.0 a minor version may
+# change structs while the loader's name stays: the version of the symbols is what keeps a program from a library that it doesn't fit.
+symbol_version := HEMAKULIWI_$(basename $(version))
+$(shared): $(library) include/hemakuliwi.h Makefile
+	printf '%s { global: hk_*; local: *; };\n' $(symbol_version) >target/staticlib/libhemakuliwi.map
+	$(CC) -shared -nostartfiles $(LDFLAGS) -o $@ -Wl,-soname,$(loader_name) -Wl,--version-script,target/staticlib/libhemakuliwi.map \
+		-Wl,-z,text,-z,defs,-z,noexecstack,-z,relro,-z,now -Wl,--whole-archive $(library) -Wl,--no-whole-archive
+
+$(links): $(shared)
+	ln -sf $(shared_name) $@
+
 # The program that converts standard input: `./convert.sh FROM TO`.
 program: target/bin/program
 target/bin/program: crates.txt $(shell find crates -name '*.rt' -o -name '*.antt')
 	rt check program
 	touch $@
 
-install: $(library)
-	install -d $(DESTDIR)$(PREFIX)/lib/pkgconfig $(DESTDIR)$(PREFIX)/include
-	install -m 644 $(library) $(DESTDIR)$(PREFIX)/lib
-	install -m 644 include/hemakuliwi.h $(DESTDIR)$(PREFIX)/include
-	sed 's|@PREFIX@|$(PREFIX)|; s|@VERSION@|$(version)|' hemakuliwi.pc.in >$(DESTDIR)$(PREFIX)/lib/pkgconfig/hemakuliwi.pc
+# In the pkg-config file a folder below the prefix is named from it, so that a tree that was moved needs one other line.
+below_prefix = $(patsubst $(PREFIX)/%,$${prefix}/%,$(1))
+
+install: install-library
+install-library: all
+	$(INSTALL) -d '$(DESTDIR)$(libdir)' '$(DESTDIR)$(includedir)' '$(DESTDIR)$(pkgconfigdir)'
+	$(INSTALL) -m 644 $(library) '$(DESTDIR)$(libdir)'
+	$(INSTALL) -m 755 $(shared) '$(DESTDIR)$(libdir)'
+	ln -sf $(shared_name) '$(DESTDIR)$(libdir)/$(loader_name)'
+	ln -sf $(loader_name) '$(DESTDIR)$(libdir)/$(linker_name)'
+	$(INSTALL) -m 644 include/hemakuliwi.h '$(DESTDIR)$(includedir)'
+	sed -e 's|@PREFIX@|$(PREFIX)|' -e 's|@LIBDIR@|$(call below_prefix,$(libdir))|' -e 's|@VERSION@|$(version)|' \
+		-e 's|@INCLUDEDIR@|$(call below_prefix,$(includedir))|' hemakuliwi.pc.in >'$(DESTDIR)$(pkgconfigdir)/hemakuliwi.pc'
+	chmod 644 '$(DESTDIR)$(pkgconfigdir)/hemakuliwi.pc'
+
+uninstall: uninstall-library
+uninstall-library:
+	rm -f $(patsubst %,'$(DESTDIR)$(libdir)/%',libhemakuliwi.a $(shared_name) $(loader_name) $(linker_name)) \
+		'$(DESTDIR)$(includedir)/hemakuliwi.h' '$(DESTDIR)$(pkgconfigdir)/hemakuliwi.pc'

@@ -2,29 +2,19 @@
    64 bytes; what lies there in one stretch is a piece, so that a cell may be cut anywhere, and where the ring wraps too. Each record is
    written as it completes.
 
-     pieces csvj|tdif|csv+ csvj|tdif|csv+ <FILE */
-#include <hemakuliwi.h>
-#include <stdio.h>
-#include <string.h>
+     pieces csvj|tdif|csv+ csvj|tdif|csv+ <FILE
 
-static const char *const dialects[] = {NULL, "csvj", "tdif", "csv+"};
+   A file that is refused (exit status 1) has the records before its fault as its output. Memory is constant, and none is allocated. */
+#include "words.h"
 
-/* The bytes from `drained` up to `received` are waiting; both count from the file's start. */
+/* The bytes from `drained` up to `received` are waiting; both count from the file's start. The ring's size is a power of two, so that
+   their remainders stay right if they overflow. */
 enum { RING = 64, BURST = 23 };
 static uint8_t ring[RING];
 static size_t received, drained;
 
 static struct hk_converter converter;
 static uint8_t out[HK_PIECE_ROOM];
-
-/* 0 if the word names no dialect. */
-static uint32_t dialect_of(const char *word) {
-    uint32_t dialect = HK_CSV_PLUS;
-    while (dialect > 0 && strcmp(word, dialects[dialect]) != 0) {
-        dialect--;
-    }
-    return dialect;
-}
 
 /* One burst into the ring, which has room for it. 0 if the file has ended. */
 static int receive(void) {
@@ -38,41 +28,45 @@ static int receive(void) {
     return 1;
 }
 
-/* Hands on what a call wrote, and says why if it was refused. */
-static int accepted(struct hk_text_answer answer) {
-    fwrite(out, 1, answer.length, stdout);
-    if (answer.report.number == HK_ACCEPTED) {
-        return 1;
+/* The converter knows the columns' names, as they are spelt in the file, once the header is complete. */
+static void explain_column(size_t column) {
+    if (column == 0 || converter.numbers[HK_AT_RECORDS] == 0) {
+        return;
     }
-    fprintf(stderr, "pieces: fault %zu in record %zu, at byte %zu", answer.report.number, answer.report.record_number,
-            answer.report.offset);
-    /* The converter knows the names of the columns once the header is complete. */
-    if (answer.report.column > 0 && converter.numbers[HK_AT_RECORDS] > 0) {
-        size_t column = answer.report.column - 1;
-        size_t start = column > 0 ? converter.name_ends[column - 1] : 0;
-        uint8_t name[HK_RECORD_BYTES];
-        struct hk_decode_answer cell =
-            hk_decode(converter.source, converter.names + start, converter.name_ends[column] - start, name, sizeof name);
-        fprintf(stderr, ", column %zu, ", answer.report.column);
-        fwrite(name, 1, cell.length, stderr);
+    size_t start = column > 1 ? converter.name_ends[column - 2] : 0;
+    size_t end = converter.name_ends[column - 1];
+    uint8_t name[HK_RECORD_BYTES];
+    struct hk_decode_answer cell = hk_decode(converter.source, converter.names + start, end - start, name, sizeof name);
+    fprintf(stderr, "Column %zu is ", column);
+    fwrite(name, 1, cell.length, stderr);
+    fprintf(stderr, ".\n");
+}
+
+/* Hands on what a call wrote, also where it was refused: these records were sound. */
+static int deliver(struct hk_text_answer answer) {
+    if (fwrite(out, 1, answer.length, stdout) != answer.length || fflush(stdout) != 0) {
+        return failed("pieces: the output could not be written in full");
     }
-    fprintf(stderr, "\n");
-    return 0;
+    if (answer.report.number != HK_ACCEPTED) {
+        explain(answer.report);
+        explain_column(answer.report.column);
+        return REFUSED;
+    }
+    return DONE;
 }
 
 /* Hands the waiting bytes to the converter, in one piece or, where the ring wraps, in two. */
 static int drain(void) {
-    while (drained < received) {
+    int status = DONE;
+    while (status == DONE && drained != received) {
         size_t start = drained % RING, length = received - drained;
         if (length > RING - start) {
             length = RING - start;
         }
-        if (!accepted(hk_converter_piece(&converter, ring + start, length, out, sizeof out))) {
-            return 0;
-        }
+        status = deliver(hk_converter_piece(&converter, ring + start, length, out, sizeof out));
         drained += length;
     }
-    return 1;
+    return status;
 }
 
 int main(int argc, char **argv) {
@@ -80,24 +74,19 @@ int main(int argc, char **argv) {
     uint32_t to = argc == 3 ? dialect_of(argv[2]) : 0;
     if (from == 0 || to == 0) {
         fprintf(stderr, "usage: pieces csvj|tdif|csv+ csvj|tdif|csv+ <FILE\n");
-        return 2;
+        return WRONG_ARGUMENTS;
     }
+    int status = DONE;
     converter = hk_converter_new(from, to);
-    while (receive()) {
-        if (!drain()) {
-            return 1;
-        }
+    while (status == DONE && receive()) {
+        status = drain();
     }
-    if (ferror(stdin)) {
-        fprintf(stderr, "pieces: the input could not be read to its end\n");
-        return 3;
+    if (status == DONE && ferror(stdin)) {
+        /* No end call: what was received is not the whole file, and a record that was cut off might look complete. */
+        status = failed("pieces: the input could not be read to its end");
     }
-    if (!accepted(hk_converter_end(&converter, out, sizeof out))) {
-        return 1;
+    if (status == DONE) {
+        status = deliver(hk_converter_end(&converter, out, sizeof out));
     }
-    if (fflush(stdout) != 0 || ferror(stdout)) {
-        fprintf(stderr, "pieces: the output could not be written in full\n");
-        return 3;
-    }
-    return 0;
+    return status;
 }

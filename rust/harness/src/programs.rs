@@ -1,8 +1,10 @@
 //! Other programs, run by the tests.
 
+use crate::repository;
 use std::ffi::OsStr;
 use std::io::{ErrorKind, Write};
 use std::process::{Command, Output, Stdio};
+use std::sync::{Mutex, PoisonError};
 
 /// Runs a program that reads all of its input before it says much, or stops reading.
 pub fn run(program: impl AsRef<OsStr>, arguments: &[&str], input: &[u8]) -> Output {
@@ -26,4 +28,15 @@ pub fn succeeded(output: &Output) -> String {
     let [told, said] = [&output.stdout, &output.stderr].map(|bytes| String::from_utf8_lossy(bytes));
     assert!(output.status.success(), "{}\n{told}{said}", output.status);
     told.into_owned()
+}
+
+/// Runs make at the root of the repository, which has to succeed. One at a time: two runs could write the same file.
+pub fn make(arguments: &[String]) {
+    static RUNNING: Mutex<()> = Mutex::new(());
+    let _running = RUNNING.lock().unwrap_or_else(PoisonError::into_inner);
+    let mut make = Command::new("make");
+    make.current_dir(repository())
+        .arg("--silent")
+        .args(arguments);
+    succeeded(&make.output().expect("make starts"));
 }

@@ -21,8 +21,13 @@ pub struct Written {
 
 /// Whether a Python is at hand that can judge: since 3.11 its csv module takes a byte 0 for a character.
 pub fn is_installed() -> bool {
-    let asked = "import sys; sys.exit(sys.version_info < (3, 11))";
-    let answer = Command::new("python3").args(["-c", asked]).status();
+    is_at_least(11)
+}
+
+/// Whether a Python 3 is at hand with this minor version or a later one.
+pub fn is_at_least(minor: u32) -> bool {
+    let asked = format!("import sys; sys.exit(sys.version_info < (3, {minor}))");
+    let answer = Command::new("python3").args(["-c", &asked]).status();
     answer.is_ok_and(|status| status.success())
 }
 

@@ -1,107 +1,33 @@
-//! The library as C and C++ have it: installed by `make install`, and found as pkg-config tells.
+//! The library as C and C++ have it: installed by `make install`, and found as pkg-config tells, shared and static.
 
+use harness::frames::Frames;
+use harness::installed::{
+    dynamic_entries, inspected, needed, Compiler, Installed, Linked, C, CPP, LOADER_NAME,
+};
 use harness::ledger::completed_text;
-use harness::programs::{run, succeeded};
+use harness::programs::{make, run, succeeded};
 use harness::repository;
 use harness::whole::{convert_room, convert_whole};
 use reference::limits::{COLUMNS, FILE_BYTES, PIECE_BYTES, PIECE_ROOM, RECORD_BYTES};
+use std::collections::{BTreeMap, BTreeSet};
 use std::fs;
 use std::mem::{offset_of, size_of};
 use std::path::{Path, PathBuf};
-use std::process::Command;
+use std::process::{Command, Output};
 use std::sync::OnceLock;
 
-/// A compiler, the language that it takes a source for, and its standard.
-type Compiler = [&'static str; 3];
-
-const C: Compiler = ["cc", "c", "-std=c11"];
-const CPP: Compiler = ["c++", "c++", "-std=c++17"];
-const STRICT: [&str; 4] = ["-Wall", "-Wextra", "-Wpedantic", "-Werror"];
-
-/// The folder that the library is installed below, once for all tests.
-fn prefix() -> &'static Path {
-    static PREFIX: OnceLock<PathBuf> = OnceLock::new();
-    PREFIX.get_or_init(|| {
+/// The library where most tests have it, installed once for them all.
+fn installed() -> &'static Installed {
+    static INSTALLED: OnceLock<Installed> = OnceLock::new();
+    INSTALLED.get_or_init(|| {
         let prefix = Path::new(env!("CARGO_TARGET_TMPDIR")).join("installed");
-        let mut make = Command::new("make");
-        make.current_dir(repository())
-            .args(["--silent", "install"])
-            .arg(format!("PREFIX={}", prefix.display()));
-        succeeded(&make.output().expect("make starts"));
-        prefix
+        let variables = vec![format!("PREFIX={}", prefix.display())];
+        Installed::new(PathBuf::new(), prefix.join("lib"), variables)
     })
 }
 
-/// What pkg-config tells or, where that is not installed, what it would read.
-fn flags() -> Vec<String> {
-    let folder = prefix().join("lib/pkgconfig");
-    let told = Command::new("pkg-config")
-        .args(["--cflags", "--libs", "hemakuliwi"])
-        .env("PKG_CONFIG_PATH", &folder)
-        .output();
-    let text = match told {
-        Ok(output) => succeeded(&output),
-        Err(_) => fields(&fs::read_to_string(folder.join("hemakuliwi.pc")).expect("the file")),
-    };
-    text.split_whitespace().map(str::to_string).collect()
-}
-
-/// The flags that a pkg-config file has, with its variables replaced.
-fn fields(file: &str) -> String {
-    let mut fields = file
-        .lines()
-        .filter_map(|line| line.strip_prefix("Cflags:").or(line.strip_prefix("Libs:")))
-        .collect::<String>();
-    let variables: Vec<(&str, &str)> = file
-        .lines()
-        .filter_map(|line| line.split_once('='))
-        .collect();
-    for (name, value) in variables.iter().rev() {
-        fields = fields.replace(&format!("${{{name}}}"), value);
-    }
-    fields
-}
-
-/// Compiles a program of the repository as strictly as can be, and gives where it is.
-fn compile([compiler, language, standard]: Compiler, source: &str) -> PathBuf {
-    let source = repository().join(source);
-    let name = source.file_stem().expect("a file").to_string_lossy();
-    let program = prefix().join(format!("{name}-by-{compiler}"));
-    let mut command = Command::new(compiler);
-    command
-        .arg(standard)
-        .args(STRICT)
-        .args(["-O2", "-pthread", "-x", language])
-        .arg(&source)
-        .args(["-x", "none", "-o"])
-        .arg(&program)
-        .args(flags());
-    succeeded(&command.output().expect("the compiler starts"));
-    program
-}
-
-#[test]
-fn the_c_example_reads_a_table() {
-    let program = compile(C, "examples/read.c");
-    let table = b"\"stop\",\"fare\"\n\"Harbour\",2.40\n\"Old \\\"Mint\\\"\",null\n";
-    let told = succeeded(&run(&program, &["csvj"], table));
-    assert_eq!(
-        told,
-        "1.1 text stop\n1.2 text fare\n2.1 text Harbour\n2.2 number 2.40\n3.1 text Old \"Mint\"\n3.2 null\n"
-    );
-    let many = "\\N\n".repeat(100_000);
-    let told = succeeded(&run(
-        &program,
-        &["tdif"],
-        format!("\"a\"\n{many}").as_bytes(),
-    ));
-    assert!(told.ends_with("\n100001.1 null\n"));
-    let refused = run(&program, &["csv+"], b"a,b\n1\n");
-    assert_eq!(refused.status.code(), Some(1));
-    assert_eq!(
-        refused.stderr,
-        b"read: fault 5 in record 2, column 0, at byte 4\n"
-    );
+fn compile(compiler: Compiler, linked: Linked, source: &str) -> PathBuf {
+    installed().compile(compiler, linked, source)
 }
 
 /// Whether there is a C++ compiler; if not, it is said.
@@ -111,6 +37,77 @@ fn has_cpp() -> bool {
         eprintln!("no C++ compiler is installed, so that the header was not tried with one");
     }
     has_cpp
+}
+
+/// Tests an example as C with the shared library, and as C++ with the archive.
+fn in_both_languages(source: &str, test: impl Fn(&Path)) {
+    test(&compile(C, Linked::Shared, source));
+    if has_cpp() {
+        test(&compile(CPP, Linked::Static, source));
+    }
+}
+
+/// What a program ends with that reads a folder, which can't be read, and then one whose output has no room.
+fn fails_as_a_machine_does(program: &Path, arguments: &[&str]) {
+    let name = program.file_name().expect("a program").to_string_lossy();
+    let (name, _) = name.split_once('-').expect("a name");
+    let shell = |redirection: &str| -> Output {
+        let script = format!("\"$@\" {redirection}");
+        Command::new("bash")
+            .args(["-c", &script, "bash"])
+            .arg(program)
+            .args(arguments)
+            .output()
+            .expect("bash starts")
+    };
+    for (redirection, said) in [
+        ("</", "the input could not be read to its end"),
+        (
+            ">/dev/full <<<'\"a\"'",
+            "the output could not be written in full",
+        ),
+    ] {
+        let told = shell(redirection);
+        assert_eq!(
+            String::from_utf8_lossy(&told.stderr),
+            format!("{name}: {said}\n")
+        );
+        assert_eq!(told.status.code(), Some(3), "{name} {redirection}");
+        assert_eq!(told.stdout, b"", "{name} {redirection}");
+    }
+}
+
+#[test]
+fn the_example_reads_a_table() {
+    in_both_languages("examples/read.c", |program| {
+        let table = b"\"stop\",\"fare\"\n\"Harbour\",2.40\n\"Old \\\"Mint\\\"\",null\n";
+        let told = succeeded(&run(program, &["csvj"], table));
+        assert_eq!(
+            told,
+            "1.1 text stop\n1.2 text fare\n2.1 text Harbour\n2.2 number 2.40\n3.1 text Old \"Mint\"\n3.2 null\n"
+        );
+        let many = "\\N\n".repeat(100_000);
+        let told = succeeded(&run(
+            program,
+            &["tdif"],
+            format!("\"a\"\n{many}").as_bytes(),
+        ));
+        assert!(told.ends_with("\n100001.1 null\n"));
+        assert_eq!(succeeded(&run(program, &["csvj"], b"\n\n")), "");
+        let refused = run(program, &["csv+"], b"a,b\n1\n");
+        assert_eq!(refused.status.code(), Some(1));
+        assert_eq!(refused.stdout, b"");
+        assert_eq!(
+            String::from_utf8_lossy(&refused.stderr),
+            "Fault 5 in record 2 at byte offset 4: this record does not have as many cells as the header.\n"
+        );
+        let too_long = run(program, &["csv+"], &vec![b'\n'; FILE_BYTES + 1]);
+        assert_eq!(too_long.status.code(), Some(1));
+        for wrong in [&[][..], &["csv"], &["csvj", "csvj"]] {
+            assert_eq!(run(program, wrong, b"").status.code(), Some(2));
+        }
+        fails_as_a_machine_does(program, &["csvj"]);
+    });
 }
 
 const NAMES: [&str; 4] = ["", "csvj", "tdif", "csv+"];
@@ -133,10 +130,9 @@ fn convert_agrees(program: &Path, from: u32, to: u32, file: &[u8]) {
     }
 }
 
-fn the_example_converts(compiler: Compiler) {
-    let program = compile(compiler, "examples/convert.c");
+fn converts_a_table(program: &Path) {
     let table = b"\"stop\",\"note\"\n\"Harbour\",\"say \\\"Mint\\\"\"\n";
-    let told = succeeded(&run(&program, &["csvj", "csv+"], table));
+    let told = succeeded(&run(program, &["csvj", "csv+"], table));
     assert_eq!(told, "stop,note\r\nHarbour,\"say \"\"Mint\"\"\"\r\n");
     let fares = b"\"stop\",\"fare\"\n\"Harbour\",2.40\n";
     for (from, to, file) in [
@@ -155,31 +151,29 @@ fn the_example_converts(compiler: Compiler) {
         (1, 2, b"\"a\",\"A\"\n"),
         (3, 1, &vec![b'\n'; FILE_BYTES + 1]),
     ] {
-        convert_agrees(&program, from, to, file);
+        convert_agrees(program, from, to, file);
     }
-    let wrong = run(&program, &["csvj"], b"");
+    let wrong = run(program, &["csvj"], b"");
     assert_eq!(wrong.status.code(), Some(2));
+    fails_as_a_machine_does(program, &["csvj", "csvj"]);
 }
 
 #[test]
-fn the_c_example_converts_a_table() {
-    the_example_converts(C);
+fn the_example_converts_a_table() {
+    in_both_languages("examples/convert.c", converts_a_table);
 }
 
-#[test]
-fn the_c_example_is_cpp_too() {
-    if has_cpp() {
-        the_example_converts(CPP);
-    }
-}
-
-/// Converts in pieces as the example does, and as the reference does.
-fn pieces_agree(program: &Path, from: u32, to: u32, file: &[u8], said: &str) {
+/// Converts in pieces as the example does, and as the reference does. A refusal may be followed by a sentence on the column.
+fn pieces_agree(program: &Path, from: u32, to: u32, file: &[u8], column: &str) {
     let names = [NAMES[from as usize], NAMES[to as usize]];
     let told = run(program, &names, file);
-    let (status, text) = match convert_whole(from, to, file) {
-        Ok(text) => (0, text),
-        Err(report) => (1, completed_text(from, to, &file[..report.offset])),
+    let (status, text, said) = match convert_whole(from, to, file) {
+        Ok(text) => (0, text, String::new()),
+        Err(report) => (
+            1,
+            completed_text(from, to, &file[..report.offset]),
+            format!("{}\n{column}", report.sentence()),
+        ),
     };
     let shown = file.escape_ascii();
     assert_eq!(told.stdout, text, "{shown}");
@@ -187,51 +181,83 @@ fn pieces_agree(program: &Path, from: u32, to: u32, file: &[u8], said: &str) {
     assert_eq!(told.status.code(), Some(status), "{shown}");
 }
 
-fn the_example_converts_pieces(compiler: Compiler) {
-    let program = compile(compiler, "examples/pieces.c");
+fn converts_pieces(program: &Path) {
     // The ring has 64 bytes, so that it wraps in the quoted cell.
     let note = "\"as far as the ring goes, and a line\r\nmore; say \"\"Mint\"\" where it wraps, and again \"\"Mint\"\"\"";
     let file = format!("\"stop\",\"note\"\n\"Harbour\",{note}\n\"Old Mint\",\"\"\n");
     for shift in 0..64 {
         let shifted = file.replacen("stop", &"s".repeat(shift + 1), 1);
         for to in 1..=3 {
-            pieces_agree(&program, 3, to, shifted.as_bytes(), "");
-            pieces_agree(&program, 2, to, shifted.as_bytes(), "");
+            pieces_agree(program, 3, to, shifted.as_bytes(), "");
+            pieces_agree(program, 2, to, shifted.as_bytes(), "");
         }
     }
-    for (from, to, file, said) in [
+    for (from, to, file, column) in [
         (3, 1, &b"a,b\n1,2"[..], ""),
         (2, 3, b"\"a\"\r\n\"b\"\r", ""),
-        (1, 1, b"", "pieces: fault 1 in record 1, at byte 0\n"),
-        (
-            3,
-            1,
-            b"a,b\n1,2\n3\n",
-            "pieces: fault 5 in record 3, at byte 8\n",
-        ),
-        (3, 1, b"a,a\n", "pieces: fault 6 in record 1, at byte 0\n"),
+        (1, 1, b"", ""),
+        (3, 1, b"a,b\n1,2\n3\n", ""),
+        (3, 1, b"a,a\n", ""),
         (
             1,
             3,
             b"\"stop\",\"\\u0066are\"\n\"Harbour\",\"2.40\"\n\"Old Mint\",2.40\n",
-            "pieces: fault 9 in record 3, at byte 36, column 2, fare\n",
+            "Column 2 is fare.\n",
         ),
     ] {
-        pieces_agree(&program, from, to, file, said);
+        pieces_agree(program, from, to, file, column);
     }
-    let wrong = run(&program, &["csvj"], b"");
+    let wrong = run(program, &["csvj"], b"");
     assert_eq!(wrong.status.code(), Some(2));
+    fails_as_a_machine_does(program, &["csvj", "csvj"]);
 }
 
 #[test]
-fn the_c_example_converts_pieces() {
-    the_example_converts_pieces(C);
+fn the_example_converts_pieces() {
+    in_both_languages("examples/pieces.c", converts_pieces);
+}
+
+/// A program that ends with 99 where it leaks, or reads or writes what is not its own. None, and it is said, if the compiler has no such.
+fn watched(source: &str) -> Option<PathBuf> {
+    let (mut compile, program) = installed().compiler(C, Linked::Static, source);
+    let watched = program.with_extension("watched");
+    let sanitizers = "-fsanitize=address,undefined";
+    compile.args([sanitizers, "-fno-sanitize-recover=all", "-o"]);
+    let output = compile.arg(&watched).output().expect("cc starts");
+    if !output.status.success() {
+        eprintln!("cc has no {sanitizers}, so that {source} was not watched for leaks");
+    }
+    output.status.success().then_some(watched)
 }
 
 #[test]
-fn the_c_example_for_pieces_is_cpp_too() {
-    if has_cpp() {
-        the_example_converts_pieces(CPP);
+fn the_examples_release_what_they_take() {
+    let many = [b"a\n".repeat(5_000), b"b\"\n".to_vec()].concat();
+    for (source, arguments) in [
+        ("examples/read.c", &["csv+"][..]),
+        ("examples/convert.c", &["csv+", "tdif"]),
+        ("examples/pieces.c", &["csv+", "tdif"]),
+    ] {
+        let Some(program) = watched(source) else {
+            continue;
+        };
+        let settings = [
+            "ASAN_OPTIONS=exitcode=99:detect_leaks=1",
+            "UBSAN_OPTIONS=exitcode=99",
+            program.to_str().expect("a path of characters"),
+        ];
+        let all = [&settings[..], arguments].concat();
+        for (file, status) in [(&many[..10_000], 0), (&many[..], 1), (b"", 1)] {
+            let told = run("env", &all, file);
+            let said = String::from_utf8_lossy(&told.stderr);
+            if said.contains("LeakSanitizer has encountered a fatal error") {
+                eprintln!(
+                    "leaks can't be looked for here, so that {source} was not watched for them"
+                );
+                return;
+            }
+            assert_eq!(told.status.code(), Some(status), "{source}: {said}");
+        }
     }
 }
 
@@ -240,15 +266,26 @@ fn the_cpp_example_counts_a_table() {
     if !has_cpp() {
         return;
     }
-    let program = compile(CPP, "examples/count.cpp");
+    let program = compile(CPP, Linked::Shared, "examples/count.cpp");
     let told = succeeded(&run(&program, &[], b"stop,fare\nHarbour,2.40\n"));
     assert_eq!(told, "2 columns, 1 data records, 4 cells\n");
+    let many = succeeded(&run(&program, &[], &b"\n".repeat(100_000)));
+    assert_eq!(many, "1 columns, 99999 data records, 100000 cells\n");
+    let refused = run(&program, &[], b"a\n\"");
+    assert_eq!(refused.status.code(), Some(1));
+    assert_eq!(
+        String::from_utf8_lossy(&refused.stderr),
+        "Fault 4 in record 2 at byte offset 3: the file ends too early; its last part is cut off.\n"
+    );
+    fails_as_a_machine_does(&program, &[]);
 }
 
 #[test]
 fn nothing_may_be_lent() {
-    let program = compile(C, "rust/harness/tests/c/empty.c");
-    succeeded(&run(&program, &[], b""));
+    for linked in [Linked::Shared, Linked::Static] {
+        let program = compile(C, linked, "rust/harness/tests/c/empty.c");
+        succeeded(&run(&program, &[], b""));
+    }
 }
 
 /// The size of a struct and the offsets of its fields, as `layout.c` prints them.
@@ -262,8 +299,6 @@ macro_rules! layout {
 
 #[test]
 fn structs_are_laid_out_as_the_header_says() {
-    let program = compile(C, "rust/harness/tests/c/layout.c");
-    let told = succeeded(&run(&program, &[], b""));
     let layout = [
         layout!("hk_report", hemakuliwi::raw::Report, number record_number column offset),
         layout!("hk_read_answer", hemakuliwi::raw::ReadAnswer, report columns records cells),
@@ -272,69 +307,242 @@ fn structs_are_laid_out_as_the_header_says() {
         layout!("hk_converter", hemakuliwi::raw::Converter, source target numbers ends name_ends bytes names),
         layout!("hk_piece_answer", hemakuliwi::raw::PieceAnswer, answer next),
     ];
-    assert_eq!(told, layout.concat());
+    for linked in [Linked::Shared, Linked::Static] {
+        let program = compile(C, linked, "rust/harness/tests/c/layout.c");
+        let told = succeeded(&run(&program, &[], b""));
+        assert_eq!(told, layout.concat(), "{linked:?}");
+    }
+}
+
+fn header() -> String {
+    fs::read_to_string(repository().join("include/hemakuliwi.h")).expect("the header")
 }
 
 /// The functions that the header declares and does not define.
-fn declared(header: &str) -> Vec<&str> {
-    let mut functions: Vec<&str> = Vec::new();
-    for line in header.lines() {
+fn declared() -> BTreeSet<String> {
+    let mut functions = Vec::new();
+    for line in header().lines() {
         let declares = line.starts_with("struct hk_") && line.contains('(');
         let before = line.split('(').next().unwrap_or_default();
-        functions.extend(before.split(' ').next_back().filter(|_| declares));
+        let name = before.split(' ').next_back().filter(|_| declares);
+        functions.extend(name.map(str::to_string));
     }
-    functions
+    assert_eq!(functions.len(), 9, "{functions:?}");
+    functions.into_iter().collect()
+}
+
+/// The names in what nm tells that stand after this letter, without their versions.
+fn symbols(told: &str, letter: char) -> Vec<String> {
+    let of_letter = told
+        .lines()
+        .filter_map(|line| line.split_once(&format!(" {letter} ")));
+    of_letter
+        .map(|(_, name)| name.split('@').next().unwrap_or(name).to_string())
+        .collect()
+}
+
+fn needs_nothing_but_memory_calls(undefined: Vec<String>) {
+    let undefined: BTreeSet<String> = undefined.into_iter().collect();
+    let expected = ["memcpy", "memset"].map(str::to_string);
+    assert_eq!(undefined, BTreeSet::from(expected));
 }
 
 #[test]
 fn the_archive_has_every_function_of_the_header() {
-    let header = fs::read_to_string(repository().join("include/hemakuliwi.h")).expect("the header");
-    let functions = declared(&header);
-    assert_eq!(functions.len(), 9, "{functions:?}");
-    let archive = prefix().join("lib/libhemakuliwi.a");
-    let told = Command::new("nm")
-        .args(["-g", "--defined-only"])
-        .arg(archive)
-        .output();
-    let symbols = succeeded(&told.expect("nm starts"));
-    for function in functions {
-        let has = symbols
-            .lines()
-            .filter(|line| line.ends_with(&format!(" T {function}")));
-        assert_eq!(has.count(), 1, "{function}");
-    }
+    let archive = installed().library_folder.join("libhemakuliwi.a");
+    let told = inspected("nm", &["--extern-only"], &archive);
+    let mut defined = symbols(&told, 'T');
+    defined.sort();
+    assert_eq!(defined, declared().into_iter().collect::<Vec<_>>());
+    needs_nothing_but_memory_calls(symbols(&told, 'U'));
 }
 
 #[test]
-fn the_stack_is_as_small_as_the_header_says() {
-    let program = compile(C, "rust/harness/tests/c/stack.c");
-    let told = succeeded(&run(&program, &[], b""));
-    eprint!("bytes of stack: {told}");
-    let numbers: Vec<usize> = told
-        .split(' ')
-        .filter_map(|word| word.trim().parse().ok())
-        .collect();
-    let most = [11_000, 600, 11_500, 5_000, 10_000, 12_000, 50_000];
-    assert_eq!(numbers.len(), most.len(), "{told}");
-    assert!(
-        numbers.iter().zip(most).all(|(taken, most)| *taken <= most),
+fn the_shared_library_exports_the_functions_of_the_header_alone() {
+    let library = installed().library_folder.join("libhemakuliwi.so");
+    let told = inspected("nm", &["--dynamic"], &library);
+    let exported: BTreeSet<String> = symbols(&told, 'T').into_iter().collect();
+    assert_eq!(exported, declared());
+    needs_nothing_but_memory_calls(symbols(&told, 'U'));
+    // An absolute symbol is the name of the version that all of them have: a minor version may change what they mean.
+    let (minor, _) = env!("CARGO_PKG_VERSION")
+        .rsplit_once('.')
+        .expect("a version");
+    let version = format!("HEMAKULIWI_{minor}");
+    assert_eq!(symbols(&told, 'A').concat(), version);
+    let ending = format!("@@{version}");
+    let versioned = told.lines().filter(|line| line.ends_with(&ending));
+    assert_eq!(versioned.count(), exported.len(), "{told}");
+    let memory_calls_and_version = 3;
+    assert_eq!(
+        told.lines().count(),
+        exported.len() + memory_calls_and_version,
         "{told}"
     );
 }
 
 #[test]
+fn the_shared_library_is_loaded_as_such_libraries_are() {
+    let library = installed().library_folder.join("libhemakuliwi.so");
+    let soname = dynamic_entries(&library, "(SONAME)");
+    assert_eq!(soname, BTreeSet::from([LOADER_NAME.to_string()]));
+    let libc = BTreeSet::from(["libc.so.6".to_string()]);
+    assert_eq!(needed(&library), libc);
+    let dynamic = inspected("readelf", &["--dynamic", "--wide"], &library);
+    assert!(!dynamic.contains("TEXTREL"), "{dynamic}");
+    let segments = inspected("readelf", &["--segments", "--wide"], &library);
+    let flags = |line: &str| -> String {
+        let words: Vec<&str> = line.split_whitespace().collect();
+        words[6..words.len() - 1].concat()
+    };
+    let mut segments = segments.lines().map(str::trim_start);
+    let stack = segments.clone().find(|line| line.starts_with("GNU_STACK"));
+    assert_eq!(stack.map(flags).as_deref(), Some("RW"));
+    let code = segments.find(|line| line.starts_with("LOAD") && flags(line) == "RWE");
+    assert_eq!(code, None, "a segment can be written and run");
+}
+
+#[test]
+fn make_has_nothing_to_do_once_it_is_done() {
+    make(&[]);
+    make(&["--question".to_string()]);
+}
+
+/// An installation below a stage, in folders of its own choice.
+fn staged() -> Installed {
+    let stage = Path::new(env!("CARGO_TARGET_TMPDIR")).join("stage");
+    let _ = fs::remove_dir_all(&stage);
+    let library_folder = stage.join("opt/tables/lib64");
+    let variables = vec![
+        format!("DESTDIR={}", stage.display()),
+        "PREFIX=/opt/tables".to_string(),
+        "libdir=/opt/tables/lib64".to_string(),
+        "includedir=/usr/include/tables".to_string(),
+    ];
+    Installed::new(stage, library_folder, variables)
+}
+
+#[test]
+fn a_staged_install_serves_both_libraries_and_is_taken_away_again() {
+    let staged = staged();
+    let shared = format!("libhemakuliwi.so.{}", env!("CARGO_PKG_VERSION"));
+    for (link, target) in [("libhemakuliwi.so", LOADER_NAME), (LOADER_NAME, &shared)] {
+        let found = fs::read_link(staged.library_folder.join(link)).expect("a link");
+        assert_eq!(found, Path::new(target));
+    }
+    assert!(staged
+        .stage
+        .join("usr/include/tables/hemakuliwi.h")
+        .is_file());
+    let file = staged.library_folder.join("pkgconfig/hemakuliwi.pc");
+    let file = fs::read_to_string(file).expect("the pkg-config file");
+    let known = "prefix=/opt/tables\nlibdir=${prefix}/lib64\nincludedir=/usr/include/tables\n";
+    assert!(file.starts_with(known) && !file.contains('@'), "{file}");
+    for linked in [Linked::Shared, Linked::Static] {
+        let program = staged.compile(C, linked, "examples/convert.c");
+        let told = run(&program, &["csv+", "csvj"], b"stop\nHarbour\n");
+        assert_eq!(succeeded(&told), "\"stop\"\n\"Harbour\"\n");
+    }
+    fs::remove_dir_all(staged.library_folder.join("programs")).expect("the programs");
+    make(&[vec!["uninstall-library".to_string()], staged.variables].concat());
+    assert_eq!(files_below(&staged.stage), Vec::<PathBuf>::new());
+}
+
+/// The files and links below a folder, by their paths from there, in order.
+fn files_below(folder: &Path) -> Vec<PathBuf> {
+    let mut found = Vec::new();
+    let mut folders = vec![folder.to_path_buf()];
+    while let Some(next) = folders.pop() {
+        for entry in fs::read_dir(next).expect("a folder") {
+            let path = entry.expect("an entry").path();
+            if path.is_dir() {
+                folders.push(path);
+            } else {
+                found.push(
+                    path.strip_prefix(folder)
+                        .expect("a path below")
+                        .to_path_buf(),
+                );
+            }
+        }
+    }
+    found.sort();
+    found
+}
+
+#[test]
 fn the_pkg_config_file_can_be_read_without_pkg_config() {
-    let file = fs::read_to_string(prefix().join("lib/pkgconfig/hemakuliwi.pc")).expect("the file");
-    let read: Vec<String> = fields(&file)
-        .split_whitespace()
-        .map(str::to_string)
-        .collect();
-    assert_eq!(read, flags());
+    for options in [&["--cflags"][..], &["--libs"], &["--static", "--libs"]] {
+        assert_eq!(installed().read(options), installed().told(options));
+    }
+}
+
+/// The bytes of stack that the header names for each call.
+fn named_stacks() -> BTreeMap<String, usize> {
+    let header = header();
+    let figures = header.split("Stack of ").skip(1).map(|figure| {
+        let (name, bytes) = figure.split_once(": ").expect("a name");
+        let (bytes, _) = bytes.split_once(" bytes").expect("a figure");
+        let bytes = bytes.replace(',', "").parse().expect("a number");
+        (name.to_string(), bytes)
+    });
+    let figures: Vec<(String, usize)> = figures.collect();
+    let named: BTreeMap<String, usize> = figures.iter().cloned().collect();
+    assert_eq!(named.len(), figures.len(), "a figure stands twice");
+    let inline = ["hk_converter_piece", "hk_converter_end"].map(str::to_string);
+    let all: BTreeSet<String> = declared().into_iter().chain(inline).collect();
+    assert_eq!(named.keys().cloned().collect::<BTreeSet<_>>(), all);
+    named
+}
+
+#[test]
+fn the_stack_is_as_small_as_the_header_says() {
+    let program = compile(C, Linked::Static, "rust/harness/tests/c/stack.c");
+    let told = succeeded(&run(&program, &[], b""));
+    eprintln!("bytes of stack: {}", told.trim().replace('\n', ", "));
+    let measured = |line: &str| {
+        let (name, bytes) = line.split_once(' ').expect("a name and a figure");
+        (name.to_string(), bytes.parse().expect("a number"))
+    };
+    let measured: BTreeMap<String, usize> = told.lines().map(measured).collect();
+    let named = named_stacks();
+    assert_eq!(measured.len(), named.len(), "{told}");
+    for (name, bytes) in measured {
+        assert!(bytes <= named[&name], "{name} takes {bytes} bytes");
+        // A figure that is far too large helps nobody.
+        assert!(
+            named[&name] <= bytes + bytes / 8,
+            "{name} takes {bytes} bytes only"
+        );
+    }
+}
+
+#[test]
+fn no_chain_of_calls_takes_more_stack_than_the_header_says() {
+    let frames = Frames::of(&installed().library_folder.join("libhemakuliwi.so"));
+    let named = named_stacks();
+    let converter = size_of::<hemakuliwi::raw::Converter>();
+    let mut told = Vec::new();
+    for function in declared() {
+        let by_value = match function.as_str() {
+            "hk_converter_new" => converter,
+            "hk_piece" | "hk_end" => converter + size_of::<hemakuliwi::raw::PieceAnswer>(),
+            // Eight arguments at most have no register.
+            _ => 64,
+        };
+        let bytes = frames.stack_of(&function) + by_value;
+        told.push(format!("{function} {bytes}"));
+        assert!(
+            bytes <= named[&function],
+            "{function} may take {bytes} bytes"
+        );
+    }
+    eprintln!("bytes of stack by the machine code: {}", told.join(", "));
 }
 
 #[test]
 fn the_header_has_the_version_and_the_limits() {
-    let header = fs::read_to_string(repository().join("include/hemakuliwi.h")).expect("the header");
+    let header = header();
     let version = env!("CARGO_PKG_VERSION");
     let mut parts = version.split('.');
     let mut part = || parts.next().expect("a version has three parts");

@@ -1,8 +1,11 @@
-//! What the proved calls convert and write, read by Python's own json and csv modules.
+//! What the proved calls convert and write, read by Python's own json and csv modules; and the tests of the Python module.
 
 use harness::compare::{proved_converter, proved_writer};
-use harness::python::{is_installed, judge, written, Written};
+use harness::programs::{make, succeeded};
+use harness::python::{is_at_least, is_installed, judge, written, Written};
+use harness::repository;
 use harness::whole::Cell;
+use std::process::Command;
 
 /// Whether the judge is there; if not, it is said.
 fn is_judged() -> bool {
@@ -92,4 +95,27 @@ fn python_notices_wrong_texts() {
     ] {
         assert!(judge(std::slice::from_ref(&wrong)).is_err(), "{wrong:?}");
     }
+}
+
+#[test]
+fn the_python_module_passes_its_tests() {
+    if !is_at_least(9) {
+        eprintln!("no python3 of 3.9 or later is installed, so that python/test_hemakuliwi.py was not run");
+        return;
+    }
+    make(&[]);
+    let mut tests = Command::new("python3");
+    tests
+        .args(["-B", "-m", "unittest", "discover"])
+        .current_dir(repository().join("python"))
+        .env_remove("HEMAKULIWI_LIBRARY");
+    let output = tests.output().expect("python3 starts");
+    succeeded(&output);
+    let said = String::from_utf8_lossy(&output.stderr);
+    let count = said
+        .lines()
+        .find_map(|line| line.strip_prefix("Ran ")?.split(' ').next()?.parse().ok());
+    assert!(count.is_some_and(|count: usize| count >= 50), "{said}");
+    assert!(said.ends_with("\nOK\n"), "{said}");
+    eprintln!("the Python module passed its {} tests", count.unwrap_or(0));
 }

@@ -1,5 +1,6 @@
 /* Prints how many bytes of stack each call takes at most, on files and tables that lead through all of it: wide headers of escaped
-   names, long records, and a name that repeats. A call runs on a stack that was filled before, and what it changed is what it took. */
+   names, long records, and a name that repeats. A call runs on a stack that was filled before, and what it changed is what it took, with
+   the few bytes of the function that makes the call and the converters that it hands over and takes back by value. */
 #define _XOPEN_SOURCE 700
 #include <hemakuliwi.h>
 #include <pthread.h>
@@ -10,9 +11,9 @@
 enum { STACK = 1 << 18, FILL = 0xA5, PLACES = 1024 };
 
 static uint8_t file[1 << 16];
-static size_t file_length, starts[PLACES], ends[PLACES];
+static size_t file_length, header_length, starts[PLACES], ends[PLACES];
 static uint8_t kinds[PLACES], room[HK_RECORD_BYTES], content[1 << 16], text[1 << 20];
-static uint32_t dialect;
+static uint32_t dialect, target;
 static uint8_t *stack;
 static size_t cells, taken;
 
@@ -27,9 +28,7 @@ static void decode_cells(void) {
 }
 
 static void convert_file(void) {
-    for (uint32_t to = HK_CSVJ; to <= HK_CSV_PLUS; to++) {
-        hk_convert(dialect, to, file, file_length, text, sizeof text);
-    }
+    hk_convert(dialect, target, file, file_length, text, sizeof text);
 }
 
 /* The table that is written: texts of two records. */
@@ -38,10 +37,8 @@ static size_t content_length, content_starts[CELLS], content_ends[CELLS];
 static uint8_t content_kinds[CELLS];
 
 static void write_table(void) {
-    for (uint32_t to = HK_CSVJ; to <= HK_CSV_PLUS; to++) {
-        hk_write(to, content, content_length, content_starts, CELLS, content_ends, CELLS, content_kinds, CELLS, HK_COLUMNS, 2, text,
-                 sizeof text);
-    }
+    hk_write(target, content, content_length, content_starts, CELLS, content_ends, CELLS, content_kinds, CELLS, HK_COLUMNS, 2, text,
+             sizeof text);
 }
 
 /* A converter in pieces of this many bytes; the header comes in several, and so does the record. */
@@ -49,32 +46,45 @@ enum { PIECE = 500 };
 static struct hk_converter converter;
 static struct hk_piece_answer answer;
 
+static size_t piece_at(size_t start) {
+    return file_length - start < PIECE ? file_length - start : PIECE;
+}
+
 static void new_converter(void) {
-    converter = hk_converter_new(dialect, HK_CSVJ);
+    converter = hk_converter_new(dialect, target);
 }
 
-static void convert_pieces(void) {
-    for (uint32_t to = HK_CSVJ; to <= HK_CSV_PLUS; to++) {
-        converter.source = dialect;
-        converter.target = to;
-        memset(converter.numbers, 0, sizeof converter.numbers);
-        for (size_t i = 0; i < file_length; i += PIECE) {
-            hk_converter_piece(&converter, file + i, file_length - i < PIECE ? file_length - i : PIECE, text, sizeof text);
-        }
-        hk_converter_end(&converter, text, sizeof text);
+static void pieces(void) {
+    for (size_t i = 0; i < file_length; i += PIECE) {
+        hk_converter_piece(&converter, file + i, piece_at(i), text, sizeof text);
     }
 }
 
-static void convert_pieces_by_value(void) {
-    for (uint32_t to = HK_CSVJ; to <= HK_CSV_PLUS; to++) {
-        answer.next.source = dialect;
-        answer.next.target = to;
-        memset(answer.next.numbers, 0, sizeof answer.next.numbers);
-        for (size_t i = 0; i < file_length; i += PIECE) {
-            answer = hk_piece(answer.next, file + i, file_length - i < PIECE ? file_length - i : PIECE, text, sizeof text);
-        }
-        answer = hk_end(answer.next, text, sizeof text);
+static void end(void) {
+    hk_converter_end(&converter, text, sizeof text);
+}
+
+static void pieces_of_fields(void) {
+    struct hk_converter *c = &converter;
+    for (size_t i = 0; i < file_length; i += PIECE) {
+        hk_piece_lent(c->source, c->target, c->numbers, c->ends, c->name_ends, c->bytes, c->names, file + i, piece_at(i), text, sizeof text);
     }
+}
+
+static void end_of_fields(void) {
+    struct hk_converter *c = &converter;
+    hk_end_lent(c->source, c->target, c->numbers, c->ends, c->name_ends, c->bytes, c->names, text, sizeof text);
+}
+
+static void pieces_by_value(void) {
+    answer.next = converter;
+    for (size_t i = 0; i < file_length; i += PIECE) {
+        answer = hk_piece(answer.next, file + i, piece_at(i), text, sizeof text);
+    }
+}
+
+static void end_by_value(void) {
+    answer = hk_end(converter, text, sizeof text);
 }
 
 static void (*call)(void);
@@ -123,6 +133,7 @@ static void make_file(uint32_t number, int repeats) {
             add(column == 1 ? "" : ",");
             add(name);
         }
+        header_length = record == 1 ? file_length : header_length;
         add(endings[number]);
     }
 }
@@ -144,7 +155,21 @@ static void make_table(uint32_t number, int repeats) {
     }
 }
 
-static size_t most(void (*one)(void)) {
+struct call {
+    const char *name;
+    void (*run)(void);
+    int is_end;
+};
+
+/* An end call has the most to do where it completes the header. */
+static void prepare(int is_end) {
+    new_converter();
+    if (is_end) {
+        hk_converter_piece(&converter, file, header_length, text, sizeof text);
+    }
+}
+
+static size_t most(const struct call *one) {
     taken = 0;
     for (uint32_t number = HK_CSVJ; number <= HK_CSV_PLUS; number++) {
         for (int repeats = 1; repeats >= 0; repeats--) {
@@ -155,21 +180,36 @@ static size_t most(void (*one)(void)) {
                 fprintf(stderr, "stack: a file of dialect %u was not read as it should\n", (unsigned)number);
                 exit(1);
             }
-            on_filled_stack(one);
+            for (target = HK_CSVJ; target <= HK_CSV_PLUS; target++) {
+                prepare(one->is_end);
+                on_filled_stack(one->run);
+            }
         }
     }
     return taken;
 }
 
 int main(void) {
+    static const struct call calls[] = {
+        {"hk_read", read_file, 0},
+        {"hk_decode", decode_cells, 0},
+        {"hk_convert", convert_file, 0},
+        {"hk_write", write_table, 0},
+        {"hk_converter_new", new_converter, 0},
+        {"hk_piece", pieces_by_value, 0},
+        {"hk_end", end_by_value, 1},
+        {"hk_piece_lent", pieces_of_fields, 0},
+        {"hk_end_lent", end_of_fields, 1},
+        {"hk_converter_piece", pieces, 0},
+        {"hk_converter_end", end, 1},
+    };
     stack = aligned_alloc(4096, STACK);
     if (stack == NULL) {
         return 1;
     }
-    size_t reading = most(read_file), decoding = most(decode_cells), converting = most(convert_file), writing = most(write_table);
-    size_t making = most(new_converter), lending = most(convert_pieces), by_value = most(convert_pieces_by_value);
-    printf("hk_read %zu hk_decode %zu hk_convert %zu hk_write %zu ", reading, decoding, converting, writing);
-    printf("hk_converter_new %zu hk_converter_piece %zu hk_piece %zu\n", making, lending, by_value);
+    for (size_t i = 0; i < sizeof calls / sizeof *calls; i++) {
+        printf("%s %zu\n", calls[i].name, most(&calls[i]));
+    }
     free(stack);
     return 0;
 }

@@ -1,0 +1,618 @@
+r"""Tables in CSVJ, TDIF and CSV+, read, written and converted by the proved library.
+
+This file and the shared library, `libhemakuliwi.so`, are all that is needed, with Python 3.9 or later. The library is the file that the
+environment variable HEMAKULIWI_LIBRARY names or, if there is none, one beside this file, the one that `make` builds in the repository, or
+what the system's loader finds.
+
+>>> import hemakuliwi
+>>> hemakuliwi.convert("tdif", "csvj", b'"stop","fare"\n"Old ""Mint"" stop",\\N\n')
+b'"stop","fare"\n"Old \\"Mint\\" stop",null\n'
+
+What can't be carried is refused, with the place:
+
+>>> hemakuliwi.convert("csvj", "csv+", b'"stop","fare"\n"Harbour",2.40\n')
+Traceback (most recent call last):
+    ...
+hemakuliwi.Refused: Fault 9 in record 2, column 2 at byte offset 14: this record cannot be written in the chosen format without loss.
+
+A dialect is a `Dialect`, its name in any case, or its number. Bytes are anything that has a buffer of them: bytes, a bytearray, a
+memoryview. What a file is in each dialect, and what is refused, is told by docs/RULES.md.
+"""
+
+from __future__ import annotations
+
+import ctypes
+import enum
+import io
+import os
+import threading
+from ctypes import POINTER, c_char_p, c_size_t, c_uint8, c_uint32
+from decimal import Decimal
+from pathlib import Path
+from typing import Any, BinaryIO, Iterable, Iterator, List, NamedTuple, Optional, Sequence, Tuple, Type, Union
+
+__all__ = [
+    "COLUMNS",
+    "FALSE",
+    "FILE_BYTES",
+    "NULL",
+    "RECORD_BYTES",
+    "TRUE",
+    "Cell",
+    "Converter",
+    "Dialect",
+    "Fault",
+    "Kind",
+    "Refused",
+    "Report",
+    "Table",
+    "convert",
+    "convert_stream",
+    "decode",
+    "number",
+    "read",
+    "text",
+    "write",
+]
+
+FILE_BYTES = 16_777_215
+"""A file has at most so many bytes, and so has any text that is written."""
+RECORD_BYTES = 4_096
+"""A record has at most so many bytes, its ending not counted."""
+COLUMNS = 64
+"""A record has at most so many cells."""
+
+_PIECE_BYTES = 4_096
+_PIECE_ROOM = 49_152
+
+
+class Dialect(enum.IntEnum):
+    """The dialects, by their numbers."""
+
+    CSVJ = 1
+    TDIF = 2
+    CSV_PLUS = 3
+
+
+class Kind(enum.IntEnum):
+    """The kinds of a cell. CSVJ has all of them, TDIF text and null, CSV+ text alone."""
+
+    TEXT = 1
+    NUMBER = 2
+    TRUE = 3
+    FALSE = 4
+    NULL = 5
+
+
+# Kind(number) takes ten times as long as a place in here.
+_KINDS = (None, *Kind)
+
+
+class Fault(enum.IntEnum):
+    """The number of a report; docs/RULES.md, section 6, says when each is given."""
+
+    NO_RECORD = 1
+    ENCODING = 2
+    SYNTAX = 3
+    CUT_SHORT = 4
+    CELL_COUNT = 5
+    REPEATED_NAME = 6
+    HEADER_KIND = 7
+    LIMIT = 8
+    NOT_CARRIED = 9
+    ROOM = 10
+    WRONG_CALL = 11
+    NO_TABLE = 12
+
+
+_EXPLANATIONS = {
+    Fault.NO_RECORD: "the file ends before any record begins, so there is no header",
+    Fault.ENCODING: "this byte is not valid UTF-8 text",
+    Fault.SYNTAX: "this byte cannot stand here",
+    Fault.CUT_SHORT: "the file ends too early; its last part is cut off",
+    Fault.CELL_COUNT: "this record does not have as many cells as the header",
+    Fault.REPEATED_NAME: "this column name has already been used in the header",
+    Fault.HEADER_KIND: "a column name must be text",
+    Fault.LIMIT: "a limit is exceeded (16,777,215 bytes in a file, 4,096 bytes in a record, 64 columns)",
+    Fault.NOT_CARRIED: "this record cannot be written in the chosen format without loss",
+    Fault.ROOM: "the memory set aside for the answer is too small, or the piece is too long",
+    Fault.WRONG_CALL: "the format is not known, or the file was already finished",
+    Fault.NO_TABLE: "the table to be written does not fit together",
+}
+
+AnyDialect = Union[Dialect, str, int]
+Bytes = Union[bytes, bytearray, memoryview]
+
+
+class Report(NamedTuple):
+    """Which fault, and where. Records and columns count from 1, the header being record 1, and 0 names none; offsets count from 0."""
+
+    number: int
+    record: int
+    column: int
+    offset: int
+
+
+class Refused(ValueError):
+    r"""What the library refuses, with its report, and what a converter had written before the fault.
+
+    >>> try:
+    ...     read("csv+", b"stop,fare\nHarbour\n")
+    ... except Refused as refused:
+    ...     print(refused.report)
+    ...     print(refused)
+    Report(number=5, record=2, column=0, offset=10)
+    Fault 5 in record 2 at byte offset 10: this record does not have as many cells as the header.
+    """
+
+    report: Report
+    written: bytes
+    """The records that a call of a `Converter` completed before the fault: they are sound, and the call gives them nowhere else."""
+
+    def __init__(self, report: Report, written: bytes = b"", has_offset: bool = True) -> None:
+        super().__init__(report, written, has_offset)
+        self.report = report
+        self.written = written
+        self._has_offset = has_offset
+
+    @property
+    def number(self) -> Fault:
+        """Which fault it is."""
+        return Fault(self.report.number)
+
+    @property
+    def record(self) -> int:
+        """The record that has the fault, counted from 1, the header; 0 if none is named."""
+        return self.report.record
+
+    @property
+    def column(self) -> int:
+        """The column that has the fault, counted from 1; 0 if none is named."""
+        return self.report.column
+
+    @property
+    def offset(self) -> int:
+        """Where the fault is, in bytes from the start of the file or, when decoding, of the cell."""
+        return self.report.offset
+
+    def __str__(self) -> str:
+        place = ""
+        if self.record > 0:
+            place += f" in record {self.record}" + (" (the header)" if self.record == 1 else "")
+        if self.column > 0:
+            place += f", column {self.column}"
+        if self._has_offset and self.number <= Fault.NOT_CARRIED:
+            place += f" at byte offset {self.offset}"
+        return f"Fault {int(self.number)}{place}: {_EXPLANATIONS[self.number]}."
+
+
+class Cell(NamedTuple):
+    """A cell: its kind, and its content as bytes. True, false and null have none; a number's content is its spelling.
+
+    >>> Cell(Kind.TEXT, b"Old Mint").text
+    'Old Mint'
+    """
+
+    kind: Kind
+    content: bytes = b""
+
+    @property
+    def text(self) -> str:
+        r"""The content as characters. A lone surrogate, which CSVJ can escape, is one here too.
+
+        >>> decode("csvj", rb'"\ud83d"').text
+        '\ud83d'
+        """
+        return self.content.decode("utf-8", "surrogatepass")
+
+
+TRUE = Cell(Kind.TRUE)
+FALSE = Cell(Kind.FALSE)
+NULL = Cell(Kind.NULL)
+
+
+def text(characters: str) -> Cell:
+    """A cell that is a text.
+
+    >>> text("Old Mint").content
+    b'Old Mint'
+    """
+    return Cell(Kind.TEXT, characters.encode("utf-8", "surrogatepass"))
+
+
+def number(spelling: Union[str, int, Decimal]) -> Cell:
+    """A cell that is a number, spelt as JSON spells it; the spelling is kept.
+
+    >>> number("2.40").content
+    b'2.40'
+    """
+    return Cell(Kind.NUMBER, str(spelling).encode("utf-8", "surrogatepass"))
+
+
+AnyCell = Union[Cell, str, bytes, bool, int, Decimal, None]
+
+
+class Table(NamedTuple):
+    """What was read: the names of the columns, and the data records."""
+
+    names: List[str]
+    rows: List[List[Cell]]
+
+    @property
+    def columns(self) -> int:
+        """The number of columns, which each row has."""
+        return len(self.names)
+
+
+def read(dialect: AnyDialect, data: Bytes) -> Table:
+    r"""The table that a whole file has.
+
+    >>> table = read("csvj", b'"stop","fare"\n"Harbour",2.40\n')
+    >>> table.names
+    ['stop', 'fare']
+    >>> [(cell.kind.name, cell.text) for cell in table.rows[0]]
+    [('TEXT', 'Harbour'), ('NUMBER', '2.40')]
+    """
+    source, file = _dialect_number(dialect), _bytes_of(data)
+    answer, starts, ends, kinds = _stretches(source, file)
+    columns = answer.columns
+    cells = _contents(source, file, zip(starts[: answer.cells], ends[: answer.cells], kinds[: answer.cells]))
+    records = [[next(cells) for _ in range(columns)] for _ in range(answer.records + 1)]
+    return Table([cell.text for cell in records[0]], records[1:])
+
+
+def decode(dialect: AnyDialect, raw: Bytes) -> Cell:
+    r"""The cell that is spelt so: the kind and the content.
+
+    >>> decode("tdif", b'"Old ""Mint"" stop"')
+    Cell(kind=<Kind.TEXT: 1>, content=b'Old "Mint" stop')
+    """
+    source, spelling = _dialect_number(dialect), _bytes_of(raw)
+    # A content is never longer than its spelling.
+    return _decoded(source, spelling, ctypes.create_string_buffer(len(spelling)))
+
+
+def convert(source: AnyDialect, target: AnyDialect, data: Bytes) -> bytes:
+    r"""A whole file to its canonical text in the dialect `target`.
+
+    >>> convert("csv+", "csvj", b"stop,fare\nHarbour,2.40")
+    b'"stop","fare"\n"Harbour","2.40"\n'
+    """
+    numbers, file = (_dialect_number(source), _dialect_number(target)), _bytes_of(data)
+    # Enough for any text: six bytes for each byte of the file, and six for a last record without an ending.
+    room = ctypes.create_string_buffer(min(6 * (len(file) + 1), FILE_BYTES))
+    answer = _library.hk_convert(*numbers, file, len(file), room, len(room))
+    return _accepted(answer, room)
+
+
+def write(dialect: AnyDialect, rows: Union[Table, Iterable[Sequence[AnyCell]]]) -> bytes:
+    r"""The canonical text of a table: of one that was read, or of rows, of which the first is the header.
+
+    A text is a str, or its content as bytes; null is None, true and false are a bool, a number is an int or a Decimal, and any cell may
+    be a `Cell`. A float is none: `number` takes the spelling that is meant. A row that is shorter or longer than the first is a
+    ValueError; all else that is no table is refused.
+
+    >>> write("csvj", [["stop", "fare", "zone"], ["Harbour", number("2.40"), 1], ["Old Mint", None, True]])
+    b'"stop","fare","zone"\n"Harbour",2.40,1\n"Old Mint",null,true\n'
+    """
+    target = _dialect_number(dialect)
+    records = _records_of([rows.names, *rows.rows] if isinstance(rows, Table) else rows)
+    columns = len(records[0]) if records else 0
+    cells = [cell for record in records for cell in record]
+    content = b"".join(cell.content for cell in cells)
+    starts, ends, kinds = (c_size_t * len(cells))(), (c_size_t * len(cells))(), (c_uint8 * len(cells))()
+    end = 0
+    for i, cell in enumerate(cells):
+        starts[i], end = end, end + len(cell.content)
+        ends[i], kinds[i] = end, cell.kind
+    # Enough for any text: six bytes for each byte of a content, six for each cell, one for each record.
+    room = ctypes.create_string_buffer(min(6 * (len(content) + len(cells)) + len(records), FILE_BYTES))
+    lists = (starts, len(cells), ends, len(cells), kinds, len(cells))
+    answer = _library.hk_write(target, content, len(content), *lists, columns, len(records), room, len(room))
+    return _accepted(answer, room, has_offset=False)
+
+
+class Converter:
+    r"""Converts a file that comes in pieces of any size, and gives each record as it completes.
+
+    >>> converter = Converter("csv+", "csvj")
+    >>> converter.feed(b"stop,fare\nHar")
+    b'"stop","fare"\n'
+    >>> converter.feed(b"bour,2.40")
+    b''
+    >>> converter.end()
+    b'"Harbour","2.40"\n'
+
+    The pieces' outputs joined are what `convert` gives for the whole file. A fault is raised as `Refused` where its byte is fed, or at the
+    end; `written` then has the records that the same call completed before it. After that every call raises the same report again, and
+    after an accepted end fault 11. A converter may be copied and pickled between calls, to go on from there once more.
+
+    It is no context manager: what `end` gives would be lost.
+    """
+
+    def __init__(self, source: AnyDialect, target: AnyDialect) -> None:
+        self._state = _library.hk_converter_new(_dialect_number(source), _dialect_number(target))
+        self._prepare()
+
+    def _prepare(self) -> None:
+        self._out = ctypes.create_string_buffer(_PIECE_ROOM)
+        # The library runs without Python's global lock, and two calls may not share what they are lent.
+        self._lock = threading.Lock()
+
+    def feed(self, data: Bytes) -> bytes:
+        """Takes the next bytes of the file, and gives the text of the records that they complete."""
+        piece = _bytes_of(data)
+        with self._lock:
+            texts: List[bytes] = []
+            # An empty piece is handed on too: an earlier fault is reported again.
+            for start in range(0, max(len(piece), 1), _PIECE_BYTES):
+                part = piece[start : start + _PIECE_BYTES]
+                self._call(_library.hk_piece_lent, texts, part, len(part))
+            return b"".join(texts)
+
+    def end(self) -> bytes:
+        """Takes the end of the file, and gives the text of a last record that it completes."""
+        with self._lock:
+            texts: List[bytes] = []
+            self._call(_library.hk_end_lent, texts)
+            return b"".join(texts)
+
+    def _call(self, function: Any, texts: List[bytes], *piece: Any) -> None:
+        answer = function(*self._state.fields(), *piece, self._out, _PIECE_ROOM)
+        texts.append(self._out[: answer.length])
+        if answer.report.number != 0:
+            raise Refused(answer.report.as_tuple(), b"".join(texts))
+
+    @property
+    def records(self) -> int:
+        """How many records are complete, the header too, but not one that only the end completes."""
+        return self._state.numbers[_AT_RECORDS]
+
+    @property
+    def names(self) -> Optional[List[str]]:
+        r"""The names of the columns once the header is complete, after a fault too; None before.
+
+        >>> converter = Converter("csvj", "csv+")
+        >>> try:
+        ...     converter.feed(b'"stop","fare"\n"Harbour",2.40\n')
+        ... except Refused as refused:
+        ...     print(refused.column, converter.names[refused.column - 1])
+        2 fare
+        """
+        with self._lock:
+            if self.records == 0:
+                return None
+            ends = self._state.name_ends[: self._state.numbers[_AT_COLUMNS]]
+            spellings = bytes(self._state.names)
+            source = self._state.source
+        return [decode(source, spellings[start:end]).text for start, end in zip([0, *ends], ends)]
+
+    def __getstate__(self) -> bytes:
+        with self._lock:
+            return bytes(self._state)
+
+    def __setstate__(self, state: bytes) -> None:
+        if len(state) != ctypes.sizeof(_Converter):
+            raise ValueError("these bytes are no state of a converter")
+        self._state = _Converter.from_buffer_copy(state)
+        self._prepare()
+
+
+def convert_stream(reader: BinaryIO, writer: BinaryIO, source: AnyDialect, target: AnyDialect) -> int:
+    r"""Converts what `reader` gives until its end, into `writer`, in constant memory; how many bytes were written.
+
+    Each record is written as soon as the bytes that complete it were read. So when this raises, because the file is refused or the reader
+    fails, the writer has every record that was completed before, and `Refused.written` is empty. Neither is flushed or closed.
+
+    >>> out = io.BytesIO()
+    >>> convert_stream(io.BytesIO(b"stop,fare\nHarbour,2.40\n"), out, "csv+", "tdif")
+    31
+    >>> out.getvalue()
+    b'"stop","fare"\n"Harbour","2.40"\n'
+    """
+    converter = Converter(source, target)
+    # A buffered reader's `read` would wait for all of the bytes that it is asked for, and hold a complete record back.
+    next_bytes = getattr(reader, "read1", None) or reader.read
+    count = 0
+    is_ended = False
+    while not is_ended:
+        piece = next_bytes(_PIECE_BYTES)
+        if piece is None:
+            raise BlockingIOError("the reader has no bytes now; feed a Converter when it has")
+        is_ended = len(piece) == 0
+        try:
+            converted = converter.end() if is_ended else converter.feed(piece)
+        except Refused as refused:
+            _deliver(writer, refused.written)
+            refused.written = b""
+            raise
+        _deliver(writer, converted)
+        count += len(converted)
+    return count
+
+
+def _deliver(writer: BinaryIO, converted: bytes) -> None:
+    """Writes all of it; a raw file may take less at a time."""
+    while converted:
+        taken = writer.write(converted)
+        if taken is None and isinstance(writer, io.RawIOBase):
+            raise BlockingIOError("the writer takes no bytes now")
+        converted = converted[taken:] if taken is not None else b""
+
+
+def _dialect_number(dialect: AnyDialect) -> int:
+    """The number, of which the library says whether it is a dialect's."""
+    if isinstance(dialect, str):
+        named = {"csvj": Dialect.CSVJ, "tdif": Dialect.TDIF, "csv+": Dialect.CSV_PLUS}.get(dialect.lower())
+        if named is None:
+            raise ValueError(f"{dialect!r} is no dialect: there are csvj, tdif and csv+")
+        return named
+    if isinstance(dialect, bool) or not isinstance(dialect, int):
+        raise TypeError(f"a dialect is a Dialect, a name or a number, and no {type(dialect).__name__}")
+    # What no uint32_t holds is as unknown as 0, and may not become a dialect's number on its way.
+    return dialect if 0 <= dialect < 2**32 else 0
+
+
+def _bytes_of(data: Bytes) -> bytes:
+    """Bytes that stay as they are while the library reads them: a buffer that can change is copied."""
+    if isinstance(data, bytes):
+        return data
+    try:
+        return memoryview(data).tobytes()
+    except TypeError:
+        raise TypeError(f"bytes are needed, or another buffer of them, and no {type(data).__name__}") from None
+
+
+def _records_of(rows: Iterable[Sequence[AnyCell]]) -> List[List[Cell]]:
+    """The rows' cells, as many in each as in the first."""
+    records: List[List[Cell]] = []
+    for row in rows:
+        # These are sequences too, and never meant as a row.
+        if isinstance(row, (str, bytes, Cell)):
+            raise TypeError(f"a row is a sequence of cells, and no {type(row).__name__}")
+        records.append([_cell_of(cell) for cell in row])
+        if len(records[-1]) != len(records[0]):
+            raise ValueError(f"row {len(records)} has {len(records[-1])} cells, and the first has {len(records[0])}")
+    return records
+
+
+def _cell_of(cell: AnyCell) -> Cell:
+    if isinstance(cell, Cell):
+        return Cell(Kind(cell.kind), _bytes_of(cell.content))
+    if cell is None:
+        return NULL
+    if isinstance(cell, bool):
+        return TRUE if cell else FALSE
+    if isinstance(cell, int):
+        return number(int(cell))
+    if isinstance(cell, Decimal):
+        return number(cell)
+    if isinstance(cell, str):
+        return text(cell)
+    if isinstance(cell, bytes):
+        return Cell(Kind.TEXT, cell)
+    raise TypeError(f"{cell!r} is no cell: write a number that is not whole as number('2.40')")
+
+
+def _stretches(source: int, file: bytes) -> Tuple[Any, Any, Any, Any]:
+    """The answer of the reader with its starts, ends and kinds, in lists that are doubled until the cells have room."""
+    places = 64 + len(file) // 16
+    while True:
+        starts, ends, kinds = (c_size_t * places)(), (c_size_t * places)(), (c_uint8 * places)()
+        answer = _library.hk_read(source, file, len(file), starts, places, ends, places, kinds, places)
+        if answer.report.number == 0:
+            return answer, starts, ends, kinds
+        if answer.report.number != Fault.ROOM:
+            raise Refused(answer.report.as_tuple())
+        places *= 2
+
+
+def _contents(source: int, file: bytes, stretches: Iterable[Tuple[int, int, int]]) -> Iterator[Cell]:
+    """The cells at these stretches of an accepted file. Cells without content are known by their kinds."""
+    room = ctypes.create_string_buffer(RECORD_BYTES)
+    words = {int(cell.kind): cell for cell in (TRUE, FALSE, NULL)}
+    for start, end, kind in stretches:
+        yield words.get(kind) or _decoded(source, file[start:end], room)
+
+
+def _decoded(source: int, spelling: bytes, room: Any) -> Cell:
+    answer = _library.hk_decode(source, spelling, len(spelling), room, len(room))
+    kind = answer.kind
+    if kind == 0:
+        raise Refused(answer.report.as_tuple())
+    return Cell(_KINDS[kind], room[: answer.length])
+
+
+def _accepted(answer: Any, room: Any, has_offset: bool = True) -> bytes:
+    if answer.report.number != 0:
+        raise Refused(answer.report.as_tuple(), has_offset=has_offset)
+    return room[: answer.length]
+
+
+# The declarations of hemakuliwi.h.
+
+
+class _Report(ctypes.Structure):
+    _fields_ = [("number", c_size_t), ("record_number", c_size_t), ("column", c_size_t), ("offset", c_size_t)]
+
+    def as_tuple(self) -> Report:
+        return Report(self.number, self.record_number, self.column, self.offset)
+
+
+class _ReadAnswer(ctypes.Structure):
+    _fields_ = [("report", _Report), ("columns", c_size_t), ("records", c_size_t), ("cells", c_size_t)]
+
+
+class _DecodeAnswer(ctypes.Structure):
+    _fields_ = [("report", _Report), ("length", c_size_t), ("kind", c_size_t)]
+
+
+class _TextAnswer(ctypes.Structure):
+    _fields_ = [("report", _Report), ("length", c_size_t)]
+
+
+_AT_COLUMNS = 6
+_AT_RECORDS = 7
+
+
+class _Converter(ctypes.Structure):
+    _fields_ = [
+        ("source", c_uint32),
+        ("target", c_uint32),
+        ("numbers", c_size_t * 14),
+        ("ends", c_size_t * COLUMNS),
+        ("name_ends", c_size_t * COLUMNS),
+        ("bytes", c_uint8 * RECORD_BYTES),
+        ("names", c_uint8 * RECORD_BYTES),
+    ]
+
+    def fields(self) -> Tuple[Any, ...]:
+        return (self.source, self.target, self.numbers, self.ends, self.name_ends, self.bytes, self.names)
+
+
+_FILE = (c_char_p, c_size_t)
+_ROOM = (ctypes.c_void_p, c_size_t)
+_LISTS = (POINTER(c_size_t), c_size_t, POINTER(c_size_t), c_size_t, POINTER(c_uint8), c_size_t)
+_STATE = (c_uint32, c_uint32, *[POINTER(c_size_t)] * 3, *[POINTER(c_uint8)] * 2)
+
+_DECLARATIONS: dict[str, Tuple[Type[ctypes.Structure], Tuple[Any, ...]]] = {
+    "hk_read": (_ReadAnswer, (c_uint32, *_FILE, *_LISTS)),
+    "hk_decode": (_DecodeAnswer, (c_uint32, *_FILE, *_ROOM)),
+    "hk_convert": (_TextAnswer, (c_uint32, c_uint32, *_FILE, *_ROOM)),
+    "hk_write": (_TextAnswer, (c_uint32, *_FILE, *_LISTS, c_size_t, c_size_t, *_ROOM)),
+    "hk_converter_new": (_Converter, (c_uint32, c_uint32)),
+    "hk_piece_lent": (_TextAnswer, (*_STATE, *_FILE, *_ROOM)),
+    "hk_end_lent": (_TextAnswer, (*_STATE, *_ROOM)),
+}
+
+_FILE_NAME = "libhemakuliwi.so.0"
+_NOT_FOUND = """Hemakuliwi's shared library can't be loaded. Build it with `make` in the repository, or install it with `make install` and
+run `ldconfig`, or set HEMAKULIWI_LIBRARY to the path of the file. This was tried:
+"""
+
+
+def _candidates() -> List[str]:
+    """Where the library may be, in the order in which it is looked for. A name without a folder is the loader's to find."""
+    named = os.environ.get("HEMAKULIWI_LIBRARY")
+    if named:
+        return [os.path.abspath(named)]
+    folder = Path(__file__).resolve().parent
+    files = [folder / _FILE_NAME, folder / "libhemakuliwi.so", folder.parent / "target" / "staticlib" / _FILE_NAME]
+    return [*[str(file) for file in files if file.exists()], _FILE_NAME]
+
+
+def _load() -> ctypes.CDLL:
+    failures = []
+    for candidate in _candidates():
+        try:
+            library = ctypes.CDLL(candidate)
+            for name, (answer, arguments) in _DECLARATIONS.items():
+                function = getattr(library, name)
+                function.restype, function.argtypes = answer, arguments
+            return library
+        except (OSError, AttributeError) as failure:
+            failures.append(f"  {candidate}: {failure}")
+    raise ImportError(_NOT_FOUND + "\n".join(failures))
+
+
+_library = _load()
