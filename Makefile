@@ -18,15 +18,17 @@ links := target/staticlib/$(loader_name) target/staticlib/$(linker_name)
 .PHONY: all install install-library uninstall uninstall-library program
 all: $(library) $(shared) $(links)
 
-# Four object files, each with a lexer of its own: docs/DECISIONS.md, "Code".
+# Five object files, each with a lexer of its own: docs/DECISIONS.md, "Code".
 $(library): crates.txt $(shell find crates -name '*.rt' -o -name '*.antt')
 	rt staticlib c_files
 	rt staticlib c_convert
 	rt staticlib c_pieces
+	rt staticlib c_ends
 	rt staticlib c_cells
-	cd target/staticlib && ar x libc_files.a && ar x libc_convert.a && ar x libc_pieces.a && ar x libc_cells.a
+	cd target/staticlib && ar x libc_files.a && ar x libc_convert.a && ar x libc_pieces.a && ar x libc_ends.a && ar x libc_cells.a
 	rm -f $@
-	ar rcsD $@ target/staticlib/c_files.o target/staticlib/c_convert.o target/staticlib/c_pieces.o target/staticlib/c_cells.o
+	ar rcsD $@ target/staticlib/c_files.o target/staticlib/c_convert.o target/staticlib/c_pieces.o \
+		target/staticlib/c_ends.o target/staticlib/c_cells.o
 
 # The objects need no relocation in their code, and the linker refuses (-z text) if that changes. Before version 1.0.0 a minor version may
 # change structs while the loader's name stays: the version of the symbols is what keeps a program from a library that it doesn't fit.

@@ -1,8 +1,9 @@
 // The C boundary for conversion in pieces: the calls under their C names, with no logic of their own. `include/hemakuliwi.h` declares
-// them for C. Their contracts are those of the calls. It is a crate of its own, so that it has a scanner for itself.
+// them for C. Their contracts are those of the calls. The end is called in a crate of its own (c_ends), so that what completes a record
+// has one caller here and stands inside the loop of the walk.
 ghost use mathlib.Core.Path.{_≡_};
 ghost use lib.ListN.{length};
-ghost use Rattle.model.specs.Ledger.{piece, finish};
+ghost use Rattle.model.specs.Ledger.{piece};
 ghost use Rattle.pieces.specs.Calling.{converterOf, newConverter, Called};
 use numbers::TextAnswer;
 use pieces::Converter;
@@ -22,14 +23,6 @@ pub extern "C" fn hk_piece(converter: Converter, input: &[u8], out: &mut [u8]) -
     ensures { λ r. ⌜ Called converter (piece (now (input .entry)) (length (now (out .entry)))) (now (out .entry)) (r .answer) (r .next) (now (out .exit)) ⌝ }
 {
     converter.piece(input, out)
-}
-
-// The end of the file, by value.
-#[no_mangle]
-pub extern "C" fn hk_end(converter: Converter, out: &mut [u8]) -> PieceAnswer
-    ensures { λ r. ⌜ Called converter (finish (length (now (out .entry)))) (now (out .entry)) (r .answer) (r .next) (now (out .exit)) ⌝ }
-{
-    converter.end(out)
 }
 
 // The next bytes of the file, over a state that is lent field by field.
@@ -58,21 +51,4 @@ pub extern "C" fn hk_piece_lent(
         input,
         out,
     )
-}
-
-// The end of the file, over a state that is lent field by field.
-#[no_mangle]
-pub extern "C" fn hk_end_lent(
-    source: u32,
-    target: u32,
-    numbers: &mut [usize; 14],
-    ends: &mut [usize; 64],
-    name_ends: &mut [usize; 64],
-    bytes: &mut [u8; 4096],
-    names: &mut [u8; 4096],
-    out: &mut [u8],
-) -> TextAnswer
-    ensures { λ r. ⌜ Called (converterOf source target (now (numbers .entry)) (now (ends .entry)) (now («name_ends» .entry)) (now (bytes .entry)) (now (names .entry))) (finish (length (now (out .entry)))) (now (out .entry)) r (converterOf source target (now (numbers .exit)) (now (ends .exit)) (now («name_ends» .exit)) (now (bytes .exit)) (now (names .exit))) (now (out .exit)) ⌝ }
-{
-    pieces::lent::end(source, target, numbers, ends, name_ends, bytes, names, out)
 }
