@@ -22,7 +22,10 @@ has_memory() {
 }
 if [[ -z ${TMPDIR:-} ]] && has_memory; then export TMPDIR=$memory; fi
 
+# All temporary files are below it, so that none outlives the run. The program is run as nobody, who has to get there.
 scratch=$(mktemp -d)
+chmod 711 "$scratch"
+export TMPDIR=$scratch
 running='' # the process group of what runs in the background
 now='' # the part that is waited for
 ended() {

@@ -1,7 +1,7 @@
 -- The next record of a file. Reading goes from record to record: a byte moves reading as `move` of model's Records says, but a
 -- complete record is handed over before it is validated.
 use Prim.Native.Nat.{ℕ, _+_, _≤_, _<_}
-use mathlib.Core.Bool.{Bool, true, false}
+use mathlib.Core.Bool.{true}
 use mathlib.Core.List.{List, [], _∷_, _++_}
 use lib.ListN.{length}
 use Rattle.model.specs.Base.{if_then_else_, Bytes}

@@ -23,12 +23,13 @@ use Rattle.model.specs.Base.{Bytes, if_then_else_, within, _is_, QUOTE, CR, LF}
 use Rattle.model.specs.Dialect.{quoteOf, delimiterOf}
 use Rattle.model.specs.Cell.{quotedByte, plainByte, cellStep}
 use Rattle.model.specs.File.{fileStep}
-use Rattle.model.proofs.Tests.{split, impossible, within-true}
+use Rattle.model.proofs.Tests.{impossible, within-true}
 use Rattle.model.proofs.Utf8.{ascii-whole}
 use Rattle.runs.specs.declared.RunStop.{RunStop}
 use Rattle.runs.specs.declared.RunStop.the-variants.{At, NoRun}
 use Rattle.runs.specs.declared.CellEnd.the-variants.{Stopped, Refused, Open}
 use Rattle.model.specs.Api.{slice}
+use Rattle.words.proofs.Passing.{passing-short}
 use Rattle.runs.specs.Run.{ordinary, leading, runStop, runLength, cellRun}
 
 pub part-next : (s : Bytes) (i stop : ℕ) → i < stop → stop ≤ length s → slice s i stop ≡ getD s i 0 ∷ slice s (i + 1) stop
@@ -181,16 +182,10 @@ unfolding cellRun
 rest-open d c s i = rw (part-end s i)
 
 -- a run stays before `stop`
-leading-short : (p q : ℕ) (bs : Bytes) → leading p q bs ≤ length bs
-unfolding leading
-leading-short p q [] = omega arith
-leading-short p q (b ∷ bs) =
-    let h : leading p q bs ≤ length bs = leading-short p q bs in
-    split (λ (n : ℕ). n ≤ suc (length bs)) _ (λ _. omega arith) λ _. omega arith
-
 pub part-short : (p q : ℕ) (s : Bytes) (i stop : ℕ) → i ≤ stop → stop ≤ length s → i + leading p q (slice s i stop) ≤ stop
+unfolding leading
 part-short p q s i stop h k =
-    let l : leading p q (slice s i stop) ≤ length (slice s i stop) = leading-short p q (slice s i stop) in
+    let l : leading p q (slice s i stop) ≤ length (slice s i stop) = passing-short (ordinary p q) (slice s i stop) in
     let g : length (drop i s) ≡ length s - i = length-drop i s in
     let m : length (slice s i stop) ≡ stop - i = length-take-le (stop - i) (drop i s) (omega arith) in
     omega arith

@@ -7,10 +7,11 @@ use Rattle.model.specs.declared.Char.the-variants.{Whole, Within}
 use Rattle.model.specs.declared.Cell.{Cell}
 use Rattle.model.specs.declared.Cell.the-variants.{Fresh, Quoted, Closed, Escape, Hex, InNumber, InWord, Plain, Complete}
 use Rattle.model.specs.declared.CellStep.the-variants.{More, Stop, Refuse}
-use Rattle.model.specs.Base.{Bytes, if_then_else_}
+use Rattle.model.specs.Base.{Bytes}
 use Rattle.model.specs.Dialect.{delimiterOf, quoteOf}
 use Rattle.model.specs.Cell.{cellStep}
 unfoldable pub use Rattle.words.specs.Words.{ordinary}
+use Rattle.words.specs.Words.{passing}
 use Rattle.runs.specs.declared.RunStop.{RunStop}
 use Rattle.runs.specs.declared.RunStop.the-variants.{At, NoRun}
 use Rattle.runs.specs.declared.CellEnd.{CellEnd}
@@ -18,8 +19,8 @@ use Rattle.runs.specs.declared.CellEnd.the-variants.{Stopped, Refused, O
 
 -- how many ordinary bytes stand at the beginning: all of these are ordinary, and the next is not or there is none
 unfoldable pub leading : (p q : ℕ) → Bytes → ℕ
-leading p q [] = 0
-leading p q (b ∷ bs) = if ordinary p q b then suc (leading p q bs) else 0
+unfolding passing
+leading p q bs = passing (ordinary p q) bs
 
 -- how many ordinary bytes stand at the beginning of the rest of a comment, which has no stops of its own: no ordinary byte is 0
 abbrev pub commentRun : Bytes → ℕ

@@ -11,7 +11,7 @@ ghost use lib.ListN.{length};
 ghost use Rattle.model.specs.Api.{slice};
 ghost use Rattle.runs.specs.Run.{leading, commentRun, textStop, runStop, runLength, cellRun};
 
-// How far a run of ordinary bytes goes from `at` a byte at a time, where fewer than eight are left before `stop`.
+// How far a run of ordinary bytes goes from `at`, a byte at a time, where fewer than eight are left before `stop`: at most seven steps.
 fn single_steps(s: &[u8], at: usize, stop: usize, p: u8, q: u8) -> usize
     requires { ⌜ (at ≤ stop) × (stop ≤ length (now s)) × (stop < at + 8) ⌝ }
     ensures { λ r. ⌜ r ≡ at + leading p q (slice (now (s .entry)) at stop) ⌝ }
@@ -36,13 +36,14 @@ fn single_steps(s: &[u8], at: usize, stop: usize, p: u8, q: u8) -> usize
     i
 }
 
-// A run of ordinary bytes in steps of eight bytes, and the bytes of it that are left after them.
+// How many steps of eight ordinary bytes a run takes, and how many of its bytes are left after them.
 struct RunSteps {
     words: usize,
     rest: usize,
 }
 
-// The steps of a run from `at`, at most to `stop`. A word with a flag ends it: what stands before the flag is the rest.
+// The steps of a run from `at`, at most to `stop`. A word with a flag is no step: the run ends in it, and the flag's place gives what is
+// left of the run at once.
 fn word_steps(s: &[u8], at: usize, stop: usize, p: u8, q: u8) -> RunSteps
     requires { ⌜ (at ≤ stop) × (stop ≤ length (now s)) ⌝ }
     ensures { λ r. ⌜ (r .words ≡ leading p q (slice (now (s .entry)) at stop) / 8) × (r .rest ≡ leading p q (slice (now (s .entry)) at stop) % 8) ⌝ }

@@ -1,3 +1,4 @@
+pub mod PlainSteps
 pub mod PlainRuns
 pub mod Units
 pub mod Contents

@@ -1,12 +1,11 @@
--- Runs by place, and what the definitions of content and of canonical text make of a run: the run itself.
+-- What the definitions of content and of canonical text make of a run: the run itself.
 -- Assumes nothing.
-use mathlib.Core.Path.{_≡_, refl, ap, ap₂, _∙_}
-use mathlib.Core.Bool.{Bool, true, false, not, _&&_}
+use mathlib.Core.Path.{_≡_, refl, ap, _∙_}
+use mathlib.Core.Bool.{Bool, true, false, not}
 use mathlib.Core.List.{[], _∷_, _++_}
-use Prim.Native.Nat.{ℕ, suc, _+_, _≤_, _<_}
-use native.Mathlib.Omega.{arith}
+use Prim.Native.Nat.{ℕ, _≤_}
 use lib.Dec.{leb}
-use lib.ListN.{length, take, drop, getD, drop-of-length-le}
+use lib.ListN.{length, take, drop}
 use Rattle.model.specs.Base.{Bytes, if_then_else_, _is_, QUOTE, BACKSLASH}
 use Rattle.model.specs.declared.Dialect.{Dialect}
 use Rattle.model.specs.declared.Dialect.the-variants.{Csvj, Tdif, CsvPlus}
@@ -15,46 +14,17 @@ use Rattle.model.specs.Utf8.{holdsLone}
 use Rattle.model.specs.Decode.{undouble, units, textOf}
 use Rattle.model.specs.Text.{escaped, jsonBody, doubled}
 use Rattle.model.proofs.Tests.{split-on, and-true, impossible}
-use Rattle.buffers.proofs.Writing.{drop-next}
+use Rattle.words.proofs.Passing.{passing-short}
 use Rattle.decoder.specs.declared.first.Spelling.{Spelling}
 use Rattle.decoder.specs.declared.first.Spelling.the-variants.{Nothing, AsItStands, Doubled, Escaped}
 use Rattle.units.specs.PlainRuns.{isPlain, plainRun}
 use Rattle.units.specs.Units.{bodyText}
 use Rattle.units.specs.Contents.{contentOn, sourceQuote}
 
-module _ (p q r : ℕ) (s : Bytes) (i : ℕ) where
-  pub run-on : i < length s → isPlain p q r (getD s i 0) ≡ true → i + plainRun p q r (drop i s) ≡ (i + 1) + plainRun p q r (drop (i + 1) s)
-  unfolding plainRun if_then_else_
-  run-on h e = rw (drop-next s i (i + 1) h refl, e) (omega arith)
-
-  pub run-stops : i < length s → isPlain p q r (getD s i 0) ≡ false → i + plainRun p q r (drop i s) ≡ i
-  unfolding plainRun if_then_else_
-  run-stops h e = rw (drop-next s i (i + 1) h refl, e) (omega arith)
-
-  pub run-ends : length s ≤ i → i + plainRun p q r (drop i s) ≡ i
-  unfolding plainRun
-  run-ends h = rw (drop-of-length-le s h) (omega arith)
-
 -- a run lies in its bytes
 pub run-inside : (p q r : ℕ) (bs : Bytes) → plainRun p q r bs ≤ length bs
-unfolding plainRun if_then_else_
-run-inside p q r [] = omega arith
-run-inside p q r (b ∷ bs) =
-    let h : plainRun p q r bs ≤ length bs = run-inside p q r bs in
-    split-on (isPlain p q r b) (λ e. rw e (omega arith)) (λ e. rw e (omega arith))
-
--- two quotes that are the same are asked for once
-and-twice : (x y z : Bool) → (x && y && y && z) ≡ (x && y && z && z)
-and-twice true true true = refl
-and-twice true true false = refl
-and-twice true false z = refl
-and-twice false y z = refl
-
-pub same-run : (p r : ℕ) (bs : Bytes) → plainRun p p r bs ≡ plainRun p r r bs
-unfolding plainRun isPlain if_then_else_
-same-run p r [] = refl
-same-run p r (b ∷ bs) =
-    ap₂ (λ (t : Bool) (n : ℕ). if t then suc n else 0) (and-twice (leb 0x20 b && not (b is BACKSLASH) && not (b is 0xED)) (not (b is p)) (not (b is r))) (same-run p r bs)
+unfolding plainRun
+run-inside p q r bs = passing-short (isPlain p q r) bs
 
 -- ---- a run is its own text
 

@@ -1,9 +1,9 @@
 -- Runs of bytes that stand for themselves.
-use Prim.Native.Nat.{ℕ, suc}
+use Prim.Native.Nat.{ℕ}
 use mathlib.Core.Bool.{Bool, not, _&&_}
-use mathlib.Core.List.{[], _∷_}
 use lib.Dec.{leb}
-use Rattle.model.specs.Base.{Bytes, if_then_else_, _is_, BACKSLASH}
+use Rattle.model.specs.Base.{Bytes, _is_, BACKSLASH}
+use Rattle.words.specs.Words.{passing}
 
 -- a byte that stands for itself, in a source and a target whose quotes are among these three: one from 20 hex on that is no backslash,
 -- not ED hex, which may begin a lone surrogate, and none of the three
@@ -12,5 +12,5 @@ isPlain p q r b = leb 0x20 b && not (b is BACKSLASH) && not (b is 0xED) && not (
 
 -- how many such bytes stand at the beginning: all of these are, and the next is not or there is none
 unfoldable pub plainRun : (p q r : ℕ) → Bytes → ℕ
-plainRun p q r [] = 0
-plainRun p q r (b ∷ bs) = if isPlain p q r b then suc (plainRun p q r bs) else 0
+unfolding passing
+plainRun p q r bs = passing (isPlain p q r) bs

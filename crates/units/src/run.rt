@@ -1,7 +1,8 @@
 // Runs of bytes that stand for themselves in a source and in a target.
 ghost use mathlib.Core.Path.{_≡_};
-ghost use Prim.Native.Nat.{_+_, _≤_};
+ghost use Prim.Native.Nat.{_+_, _≤_, _<_};
 ghost use lib.ListN.{length, drop};
+ghost use Rattle.words.specs.Words.{Flags};
 ghost use Rattle.units.specs.PlainRuns.{isPlain, plainRun};
 
 // Whether a byte stands for itself: one from 20 hex on that is no backslash, not ED hex, which may begin a lone surrogate, and none of p,
@@ -30,9 +31,9 @@ fn is_plain(p: u8, q: u8, r: u8, b: u8) -> bool
     true
 }
 
-// How far such bytes go from `at`.
-fn run(s: &[u8], at: usize, p: u8, q: u8, r: u8) -> usize
-    requires { ⌜ at ≤ length (now s) ⌝ }
+// How far such bytes go from `at` a byte at a time, where fewer than eight are left.
+fn single_steps(s: &[u8], at: usize, p: u8, q: u8, r: u8) -> usize
+    requires { ⌜ (at ≤ length (now s)) × (length (now s) < at + 8) ⌝ }
     ensures { λ x. ⌜ x ≡ at + plainRun p q r (drop at (now (s .entry))) ⌝ }
 {
     let mut i = at;
@@ -46,13 +47,31 @@ fn run(s: &[u8], at: usize, p: u8, q: u8, r: u8) -> usize
     i
 }
 
-// The same. Where the quotes are the same it is asked once for both: a test for each byte of a run counts.
+// The top bit of each byte of a word that does not stand for itself.
+fn unplain(w: u64, p: u8, q: u8, r: u8) -> u64
+    ensures { λ x. ⌜ Flags (isPlain p q r) w x ⌝ }
+{
+    let plain = words::from_20(w)
+        & words::other_than(w, 0x5C)
+        & words::other_than(w, 0xED)
+        & words::other_than(w, p)
+        & words::other_than(w, q)
+        & words::other_than(w, r);
+    plain ^ 0x8080808080808080
+}
+
+// How far such bytes go from `at`, eight to a step. A word with a flag ends them.
 pub fn plain(s: &[u8], at: usize, p: u8, q: u8, r: u8) -> usize
     requires { ⌜ at ≤ length (now s) ⌝ }
     ensures { λ x. ⌜ x ≡ at + plainRun p q r (drop at (now (s .entry))) ⌝ }
 {
-    if p == q {
-        return run(s, at, p, r, r);
+    let mut i = at;
+    while 8 <= s.len() - i {
+        let flags = unplain(words::word(s, i), p, q, r);
+        if flags != 0 {
+            return i + words::before_flag(flags);
+        }
+        i += 8;
     }
-    run(s, at, p, q, r)
+    single_steps(s, i, p, q, r)
 }

@@ -2,12 +2,12 @@
 -- for each operation.
 use Prim.Native.Nat.{ℕ, zero, suc, _+_, _*_, _-_, _/_, _%_, _^_, _≤_, _<_}
 use native.Mathlib.Omega.{arith}
-use mathlib.Core.Path.{_≡_, refl, ap, ap₂, _∙_}
+use mathlib.Core.Path.{_≡_, refl, sym, ap, ap₂, _∙_}
 use mathlib.Core.List.{[], _∷_, map}
 use lib.ListN.{length}
 use lib.Bits.{bitAnd, bitOr, bitXor, and-block, or-block, xor-block, and-lt, or-lt, xor-lt}
 use Rattle.model.specs.Base.{Bytes}
-use Rattle.words.specs.Words.{wordOf, bytesOf}
+use Rattle.words.specs.Words.{ONES, wordOf, bytesOf}
 
 -- ---- bytes and the number that they make
 
@@ -40,6 +40,19 @@ all-bytes (suc n) w = let h : w % 0x100 < 0x100 = omega arith in and-byte h (all
 pub record Bytewise (bs : Bytes) (w : ℕ) (f : ℕ → ℕ) : Type 0 where
   pub word : w ≡ wordOf (map f bs)
   pub byte : (b : ℕ) → b < 0x100 → f b < 0x100
+
+-- the bytes of a word, and a byte eight times
+pub itself : (w : ℕ) → w < 0x100 ^ 8 → Bytewise (bytesOf 8 w) w (λ b. b)
+unfolding bytesOf
+itself w h = record { word = sym (word-back 8 w h); byte = λ b k. k }
+
+pub eight-times : (w c : ℕ) → c < 0x100 → Bytewise (bytesOf 8 w) (c * ONES) (λ b. c)
+unfolding bytesOf wordOf
+eight-times w c k = record { word = omega arith; byte = λ b l. k }
+
+pub same-bytes : (f g : ℕ → ℕ) → ((b : ℕ) → b < 0x100 → f b ≡ g b) → {bs : Bytes} → AllBytes bs → map f bs ≡ map g bs
+same-bytes f g e no-bytes = refl
+same-bytes f g e (and-byte {b} {bs} h hs) = λ i. e b h i ∷ same-bytes f g e hs i
 
 sums : (f g : ℕ → ℕ) (bs : Bytes) → wordOf (map f bs) + wordOf (map g bs) ≡ wordOf (map (λ b. f b + g b) bs)
 unfolding wordOf

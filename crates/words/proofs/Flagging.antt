@@ -5,15 +5,16 @@ use native.Mathlib.Omega.{arith}
 use mathlib.Core.Path.{_≡_, refl, sym, ap, _∙_}
 use mathlib.Core.Bool.{Bool, true, false, not, _&&_}
 use mathlib.Core.Logic.{_⊎_, inl, inr, ⊎-elim}
-use mathlib.Core.List.{[], _∷_, map}
 use lib.Dec.{ltb}
-use lib.Bits.{bitAnd, bitOr, bitXor, and-mask, mask-lt, and-high, and-le-l, and-le-r, or-lt, or-shr, xor-lt, xor-self, xor-add-and}
-use borrow.Author.Tests.{ne-eqb, eq-eqb, ltb-true, ltb-false, eqb-true, eqb-false}
+use lib.Bits.{bitAnd, bitOr, bitXor, and-mask, mask-lt, and-high, and-le-r, xor-lt, xor-self}
+use borrow.Author.Tests.{ne-eqb, ltb-true, ltb-false, eqb-true, eqb-false}
 use Rattle.model.proofs.Tests.{split, split-on, within-true}
-use Rattle.model.specs.Base.{Bytes, if_then_else_, _is_, within}
-use Rattle.words.specs.Words.{ordinary, ONES, wordOf, bytesOf, asciiStop, flagOf, allOrdinary, Flags}
+use Rattle.model.specs.Base.{if_then_else_, _is_, within}
+use Rattle.words.specs.Words.{ordinary, ONES, bytesOf, asciiStop, flagOf, Flags}
 use Rattle.words.proofs.Ordinary.{below, above, first-stop, second-stop, goes-on}
-use Rattle.words.proofs.Bytewise.{AllBytes, no-bytes, and-byte, word-back, all-bytes, Bytewise, and-bytes, or-bytes, xor-bytes, add-bytes, sub-bytes}
+use Rattle.words.proofs.Bytewise.{all-bytes, itself, eight-times, Bytewise, and-bytes, or-bytes, xor-bytes, add-bytes, sub-bytes}
+use Rattle.words.proofs.Tops.{Top, or-top, any-top, digit-small, differ-none}
+use Rattle.words.proofs.Flags.{flags-from}
 
 -- ---- one byte
 
@@ -23,34 +24,6 @@ testOf p q b =
     bitAnd
     (bitOr (bitOr (bitOr (bitOr b (0x80 - bitXor (bitAnd b 0x7F) p)) (0x80 - bitXor (bitAnd b 0x7F) q)) (0x9F - bitAnd b 0x7F)) (bitAnd b 0x7F + 0x01))
     0x80
-
--- the larger of two binary digits
-or-digits : (x y : ℕ) → x ≤ 1 → y ≤ 1 → bitOr x y ≡ max x y
-or-digits zero zero h k = refl
-or-digits zero (suc zero) h k = refl
-or-digits (suc zero) zero h k = refl
-or-digits (suc zero) (suc zero) h k = refl
-or-digits (suc (suc x)) y h k = absurd (omega arith)
-or-digits zero (suc (suc y)) h k = absurd (omega arith)
-or-digits (suc zero) (suc (suc y)) h k = absurd (omega arith)
-
-record Top (n t : ℕ) : Type 0 where
-  byte : n < 0x100
-  digit : n / 0x80 ≡ t
-
-or-top : {m n s t : ℕ} → Top m s → Top n t → Top (bitOr m n) (max s t)
-or-top {m} {n} {s} {t} x y =
-    let a : m < 0x100 = x .byte in
-    let b : n < 0x100 = y .byte in
-    record { byte = or-lt 8 m n a b; digit = or-shr m n 7 ∙ or-digits (m / 0x80) (n / 0x80) (omega arith) (omega arith) ∙ λ i. max (x .digit i) (y .digit i) }
-
--- equal bytes are those that differ in no digit
-differ-none : (x p : ℕ) → bitXor x p ≡ 0 → x ≡ p
-differ-none x p e =
-    let sum : bitXor x p + bitAnd x p * 2 ≡ x + p = xor-add-and x p in
-    let l : bitAnd x p ≤ x = and-le-l x p in
-    let r : bitAnd x p ≤ p = and-le-r x p in
-    omega arith
 
 -- the top digit of each number, in the order of the test
 record Tops (p q b : ℕ) (not-ascii is-first is-second below-20 is-7f : ℕ) : Type 0 where
@@ -76,12 +49,6 @@ stop-missed x p h k n =
     let z : ¬ (bitXor x p ≡ 0) = λ e. n (differ-none x p e) in
     record { byte = omega arith; digit = omega arith }
 
-digit-small : {n t : ℕ} → Top n t → t ≤ 1
-digit-small {n} {t} s =
-    let b : n < 0x100 = s .byte in
-    let d : n / 0x80 ≡ t = s .digit in
-    omega arith
-
 raised : {p q b t u v x y : ℕ} → Tops p q b t u v x y → 1 ≤ t + u + v + x + y → testOf p q b ≡ 0x80
 raised {p} {q} {b} {t} {u} {v} {x} {y} s h =
     let ht : t ≤ 1 = digit-small (s .at-not-ascii) in
@@ -91,9 +58,6 @@ raised {p} {q} {b} {t} {u} {v} {x} {y} s h =
     let hy : y ≤ 1 = digit-small (s .at-7f) in
     let one : max (max (max (max t u) v) x) y ≡ 1 = omega arith in
     test-top s ∙ ap (λ (n : ℕ). n % 2 * 0x80) one
-
-any-top : (n : ℕ) → n < 0x100 → Top n (n / 0x80)
-any-top n h = record { byte = h; digit = refl }
 
 -- an ordinary byte raises nothing; any other has a number with its top digit set
 module _ (p q b : ℕ) (h : b < 0x100) (hp : p < 0x80) (hq : q < 0x80) where
@@ -138,7 +102,7 @@ module _ (p q b : ℕ) (h : b < 0x100) (hp : p < 0x80) (hq : q < 0x80) where
       raised some-tops (omega arith)
 
   -- the test of a byte gives its flag
-  test-flag : testOf p q b ≡ flagOf p q b
+  test-flag : testOf p q b ≡ flagOf (ordinary p q) b
   unfolding flagOf if_then_else_
   test-flag =
       split-on (ltb b 0x20) (λ t. let l = ltb-true b 0x20 t in rw (below p q b l) (test-outside (inl l))) λ t0.
@@ -164,36 +128,28 @@ testWord w first second =
     0x8080808080808080
 
 module _ (w p q : ℕ) (h : w < 0x100 ^ 8) (hp : p < 0x80) (hq : q < 0x80) where
-  itself : Bytewise (bytesOf 8 w) w (λ b. b)
-  unfolding bytesOf
-  itself = record { word = sym (word-back 8 w h); byte = λ b k. k }
-
-  eight-times : (c : ℕ) → c < 0x100 → Bytewise (bytesOf 8 w) (c * ONES) (λ b. c)
-  unfolding bytesOf wordOf
-  eight-times c k = record { word = omega arith; byte = λ b l. k }
-
   low-bits : Bytewise (bytesOf 8 w) (bitAnd w 0x7F7F7F7F7F7F7F7F) (λ b. bitAnd b 0x7F)
-  low-bits = and-bytes (all-bytes 8 w) itself (eight-times 0x7F (omega arith))
+  low-bits = and-bytes (all-bytes 8 w) (itself w h) (eight-times w 0x7F (omega arith))
 
   low-small : (b : ℕ) → bitAnd b 0x7F < 0x80
   low-small b = mask-lt b 7
 
   stop-bits : (c : ℕ) → c < 0x80 → Bytewise (bytesOf 8 w) (0x8080808080808080 - bitXor (bitAnd w 0x7F7F7F7F7F7F7F7F) (c * ONES)) (λ b. 0x80 - bitXor (bitAnd b 0x7F) c)
   stop-bits c k =
-      sub-bytes (all-bytes 8 w) (eight-times 0x80 (omega arith)) (xor-bytes (all-bytes 8 w) low-bits (eight-times c (omega arith)))
+      sub-bytes (all-bytes 8 w) (eight-times w 0x80 (omega arith)) (xor-bytes (all-bytes 8 w) low-bits (eight-times w c (omega arith)))
       λ b l. fits b
     where
       fits : (b : ℕ) → bitXor (bitAnd b 0x7F) c ≤ 0x80
       fits b = let x : bitXor (bitAnd b 0x7F) c < 0x80 = xor-lt 7 (bitAnd b 0x7F) c (low-small b) k in omega arith
 
   below-bits : Bytewise (bytesOf 8 w) (0x9F9F9F9F9F9F9F9F - bitAnd w 0x7F7F7F7F7F7F7F7F) (λ b. 0x9F - bitAnd b 0x7F)
-  below-bits = sub-bytes (all-bytes 8 w) (eight-times 0x9F (omega arith)) low-bits λ b l. fits b
+  below-bits = sub-bytes (all-bytes 8 w) (eight-times w 0x9F (omega arith)) low-bits λ b l. fits b
     where
       fits : (b : ℕ) → bitAnd b 0x7F ≤ 0x9F
       fits b = let x : bitAnd b 0x7F < 0x80 = low-small b in omega arith
 
   last-bits : Bytewise (bytesOf 8 w) (bitAnd w 0x7F7F7F7F7F7F7F7F + 0x0101010101010101) (λ b. bitAnd b 0x7F + 0x01)
-  last-bits = add-bytes low-bits (eight-times 0x01 (omega arith)) λ b l. fits b
+  last-bits = add-bytes low-bits (eight-times w 0x01 (omega arith)) λ b l. fits b
     where
       fits : (b : ℕ) → bitAnd b 0x7F + 0x01 < 0x100
       fits b = let x : bitAnd b 0x7F < 0x80 = low-small b in omega arith
@@ -201,11 +157,7 @@ module _ (w p q : ℕ) (h : w < 0x100 ^ 8) (hp : p < 0x80) (hq : q < 0x80) where
   test-bytes : Bytewise (bytesOf 8 w) (testWord w (p * ONES) (q * ONES)) (testOf p q)
   test-bytes =
       let hs = all-bytes 8 w in
-      and-bytes hs (or-bytes hs (or-bytes hs (or-bytes hs (or-bytes hs itself (stop-bits p hp)) (stop-bits q hq)) below-bits) last-bits) (eight-times 0x80 (omega arith))
-
-same-bytes : (f g : ℕ → ℕ) → ((b : ℕ) → b < 0x100 → f b ≡ g b) → {bs : Bytes} → AllBytes bs → map f bs ≡ map g bs
-same-bytes f g e no-bytes = refl
-same-bytes f g e (and-byte {b} {bs} h hs) = λ i. e b h i ∷ same-bytes f g e hs i
+      and-bytes hs (or-bytes hs (or-bytes hs (or-bytes hs (or-bytes hs (itself w h) (stop-bits p hp)) (stop-bits q hq)) below-bits) last-bits) (eight-times w 0x80 (omega arith))
 
 -- ---- any stops
 
@@ -239,26 +191,11 @@ stop-fits w p first e =
 
 -- ---- what the test answers
 
-none-exact : (p q : ℕ) (bs : Bytes) → (wordOf (map (flagOf p q) bs) is 0) ≡ allOrdinary p q bs
-unfolding wordOf flagOf allOrdinary if_then_else_
-none-exact p q [] = refl
-none-exact p q (b ∷ bs) = go (ordinary p q b) (none-exact p q bs)
-  where
-    scaled : (n : ℕ) → ((0 + 0x100 * n) is 0) ≡ (n is 0)
-    scaled n =
-        split-on (n is 0) (λ t. let e = eqb-true n 0 t in eq-eqb (0 + 0x100 * n) 0 (omega arith) ∙ sym t)
-        λ t. let e = eqb-false n 0 t in ne-eqb (0 + 0x100 * n) 0 (omega arith) ∙ sym t
-
-    go : (t : Bool) → (wordOf (map (flagOf p q) bs) is 0) ≡ allOrdinary p q bs → (((if t then 0 else 0x80) + 0x100 * wordOf (map (flagOf p q) bs)) is 0) ≡ (t && allOrdinary p q bs)
-    go true ih = scaled (wordOf (map (flagOf p q) bs)) ∙ ih
-    go false ih = ne-eqb (0x80 + 0x100 * wordOf (map (flagOf p q) bs)) 0 (omega arith)
-
-pub flags : (w p q first second : ℕ) → w < 0x100 ^ 8 → first ≡ asciiStop p * ONES → second ≡ asciiStop q * ONES → Flags p q w (testWord w first second)
+pub flags : (w p q first second : ℕ) → w < 0x100 ^ 8 → first ≡ asciiStop p * ONES → second ≡ asciiStop q * ONES → Flags (ordinary p q) w (testWord w first second)
 unfolding flagOf
 flags w p q first second h ep eq =
     let ap = ascii-small p in
     let aq = ascii-small q in
-    let tested : testWord w first second ≡ wordOf (map (testOf (asciiStop p) (asciiStop q)) (bytesOf 8 w)) = rw (ep, eq) (test-bytes w (asciiStop p) (asciiStop q) h ap aq .word) in
-    let byte : (b : ℕ) → b < 0x100 → testOf (asciiStop p) (asciiStop q) b ≡ flagOf p q b = λ b k. test-flag (asciiStop p) (asciiStop q) b k ap aq ∙ rw (ordinary-ascii p q b) in
-    let bytewise : testWord w first second ≡ wordOf (map (flagOf p q) (bytesOf 8 w)) = tested ∙ rw (same-bytes (testOf (asciiStop p) (asciiStop q)) (flagOf p q) byte (all-bytes 8 w)) in
-    record { bytewise = bytewise; exact = rw bytewise (none-exact p q (bytesOf 8 w)) }
+    let tested : Bytewise (bytesOf 8 w) (testWord w first second) (testOf (asciiStop p) (asciiStop q)) = rw (ep, eq) (test-bytes w (asciiStop p) (asciiStop q) h ap aq) in
+    let byte : (b : ℕ) → b < 0x100 → testOf (asciiStop p) (asciiStop q) b ≡ flagOf (ordinary p q) b = λ b k. test-flag (asciiStop p) (asciiStop q) b k ap aq ∙ rw (ordinary-ascii p q b) in
+    flags-from tested byte

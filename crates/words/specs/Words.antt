@@ -1,14 +1,10 @@
--- Ordinary bytes, bytes as one number, and the test of eight at once.
+-- Bytes as one number, and tests of eight at once.
 use Prim.Native.Nat.{ℕ, zero, suc, _+_, _*_, _/_, _%_}
 use mathlib.Core.Path.{_≡_}
 use mathlib.Core.Bool.{Bool, true, not, _&&_}
 use mathlib.Core.List.{[], _∷_, map}
 use lib.Dec.{ltb}
 use Rattle.model.specs.Base.{Bytes, if_then_else_, _is_, within}
-
--- an ordinary byte: 20 to 7E hex, and neither of these two
-unfoldable pub ordinary : (p q b : ℕ) → Bool
-ordinary p q b = within 0x20 0x7E b && not (b is p) && not (b is q)
 
 -- bytes as one number, the first lowest
 unfoldable pub wordOf : Bytes → ℕ
@@ -29,24 +25,43 @@ pub record Word (bs : Bytes) (w : ℕ) : Type 0 where
 abbrev pub ONES : ℕ
 ONES = 0x0101010101010101
 
+-- ---- tests of a byte
+
+-- an ordinary byte: 20 to 7E hex, and neither of these two
+unfoldable pub ordinary : (p q b : ℕ) → Bool
+ordinary p q b = within 0x20 0x7E b && not (b is p) && not (b is q)
+
 -- the stop that is tested for: no byte from 80 hex on is ordinary, stop or not, and 0 is not either
 unfoldable pub asciiStop : ℕ → ℕ
 asciiStop p = if ltb p 0x80 then p else 0
 
--- the flag of a byte, its top bit: it is not ordinary
-unfoldable pub flagOf : (p q b : ℕ) → ℕ
-flagOf p q b = if ordinary p q b then 0 else 0x80
+abbrev pub isByte : (c b : ℕ) → Bool
+isByte c b = b is c
 
-unfoldable pub allOrdinary : (p q : ℕ) → Bytes → Bool
-allOrdinary p q [] = true
-allOrdinary p q (b ∷ bs) = ordinary p q b && allOrdinary p q bs
+abbrev pub isBelow : (n b : ℕ) → Bool
+isBelow n b = ltb b n
 
--- what the test of the eight bytes of w answers: each byte's flag, and so none exactly where all eight are ordinary
-pub record Flags (p q w flags : ℕ) : Type 0 where
-  pub bytewise : flags ≡ wordOf (map (flagOf p q) (bytesOf 8 w))
-  pub exact : (flags is 0) ≡ allOrdinary p q (bytesOf 8 w)
+-- ---- what a word answers when each of its bytes is put to a test
+
+-- the flag of a byte, its top bit: it does not pass
+unfoldable pub flagOf : (passes : ℕ → Bool) (b : ℕ) → ℕ
+flagOf passes b = if passes b then 0 else 0x80
+
+unfoldable pub allPass : (passes : ℕ → Bool) → Bytes → Bool
+allPass passes [] = true
+allPass passes (b ∷ bs) = passes b && allPass passes bs
+
+-- each byte's flag, and so none exactly where all eight pass
+pub record Flags (passes : ℕ → Bool) (w flags : ℕ) : Type 0 where
+  pub bytewise : flags ≡ wordOf (map (flagOf passes) (bytesOf 8 w))
+  pub exact : (flags is 0) ≡ allPass passes (bytesOf 8 w)
 
 -- how many bytes of 0 stand at the beginning
 unfoldable pub zeroBytes : Bytes → ℕ
 zeroBytes [] = 0
 zeroBytes (b ∷ bs) = if b is 0 then suc (zeroBytes bs) else 0
+
+-- how many bytes that pass stand at the beginning: all of these do, and the next does not or there is none
+unfoldable pub passing : (passes : ℕ → Bool) → Bytes → ℕ
+passing passes [] = 0
+passing passes (b ∷ bs) = if passes b then suc (passing passes bs) else 0

@@ -1,7 +1,8 @@
-// Eight bytes at a time, as one number with the first byte lowest: whether all are ordinary, and if not, the first that is not.
-// The definitions are those of specs/Words.antt.
+// Eight bytes at a time, as one number with the first byte lowest: each is put to a test, and the top bit of each that does not pass is its
+// flag. So a word tells whether all eight pass, and if not, how many do before the first that does not. The definitions are those of
+// specs/Words.antt.
 //
-// The test is exact because its numbers never carry or borrow from one byte into the next: each byte of a sum is at most FF hex, and
+// The tests are exact because their numbers never carry or borrow from one byte into the next: each byte of a sum is at most FF hex, and
 // each byte of a difference takes away no more than it has. So every operation works on each byte by itself, and the top bit of a byte
 // tells of that byte alone.
 ghost use mathlib.Core.Path.{_≡_};
@@ -9,7 +10,7 @@ ghost use Prim.Native.Nat.{_+_, _*_, _≤_};
 ghost use mathlib.Core.List.{[], _∷_};
 ghost use lib.ListN.{length};
 ghost use Rattle.model.specs.Api.{slice};
-ghost use Rattle.words.specs.Words.{wordOf, Word, ONES, bytesOf, asciiStop, Flags, zeroBytes};
+ghost use Rattle.words.specs.Words.{wordOf, Word, ONES, bytesOf, asciiStop, ordinary, isByte, isBelow, Flags, zeroBytes};
 
 // Eight bytes as one number, the first lowest.
 fn joined(b0: u8, b1: u8, b2: u8, b3: u8, b4: u8, b5: u8, b6: u8, b7: u8) -> u64
@@ -52,9 +53,10 @@ fn eight_stops(p: u8) -> u64
     }
 }
 
-// The top bit of each byte that is not ordinary.
+// The top bit of each byte that is not ordinary. Without its top bit a byte is at most 7F hex, and so then is what it differs in from a
+// stop. 80 less that has the top bit where the two are the same, 9F less the byte where it is below 20, and 1 more than it at 7F.
 pub fn unordinary(w: u64, p: u8, q: u8) -> u64
-    ensures { λ r. ⌜ Flags p q w r ⌝ }
+    ensures { λ r. ⌜ Flags (ordinary p q) w r ⌝ }
 {
     let low = w & 0x7F7F7F7F7F7F7F7F;
     let is_first = 0x8080808080808080 - (low ^ eight_stops(p));
@@ -62,6 +64,21 @@ pub fn unordinary(w: u64, p: u8, q: u8) -> u64
     let below_20 = 0x9F9F9F9F9F9F9F9F - low;
     let is_7f = low + 0x0101010101010101;
     (w | is_first | is_second | below_20 | is_7f) & 0x8080808080808080
+}
+
+// The top bit of each byte that is not `c`: a byte of the difference is not 0, so its low bits reach that bit, or it is set already.
+pub fn other_than(w: u64, c: u8) -> u64
+    ensures { λ r. ⌜ Flags (isByte c) w r ⌝ }
+{
+    let difference = w ^ ((c as u64) * 0x0101010101010101);
+    (((difference & 0x7F7F7F7F7F7F7F7F) + 0x7F7F7F7F7F7F7F7F) | difference) & 0x8080808080808080
+}
+
+// The top bit of each byte from 20 hex on.
+pub fn from_20(w: u64) -> u64
+    ensures { λ r. ⌜ Flags (isBelow 0x20) w r ⌝ }
+{
+    (((w & 0x7F7F7F7F7F7F7F7F) + 0x6060606060606060) | w) & 0x8080808080808080
 }
 
 // How many bytes stand before the first flag.

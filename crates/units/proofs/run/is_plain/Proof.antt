@@ -1,4 +1,4 @@
--- `spell::run::is_plain` meets its contract: it tests as the definition does.
+-- `units::run::is_plain` meets its contract: it tests as the definition does.
 -- Assumes nothing.
 use Rattle.model.proofs.Tests.{tests}
 use Rattle.units.specs.PlainRuns.{isPlain}

@@ -1,4 +1,4 @@
--- `spell::run::run` meets its contract. The invariant: what the run from `at` answers is what a run from here answers.
+-- `units::run::single_steps` meets its contract. The invariant: what the run from `at` answers is what a run from here answers.
 -- Assumes nothing.
 use mathlib.Core.Path.{_≡_, refl, sym, _∙_}
 use Prim.Native.Nat.{_+_, _-_, _≤_}
@@ -6,9 +6,9 @@ use native.Mathlib.Omega.{arith}
 use lib.ListN.{length, drop}
 use borrow.Author.Needs.{needs}
 use Rattle.units.specs.PlainRuns.{plainRun}
-use Rattle.units.proofs.PlainRuns.{run-on, run-stops, run-ends}
-use Rattle.units.proofs.run.run.Statement.{statement}
-use Rattle.units.proofs.run.run.Tie as tie
+use Rattle.units.proofs.PlainSteps.{run-on, run-stops, run-ends}
+use Rattle.units.proofs.run.single_steps.Statement.{statement}
+use Rattle.units.proofs.run.single_steps.Tie as tie
 
 abbrev Inv-loop : tie.InvT-loop
 Inv-loop s at p q r i₀ i = (i ≤ length s) × (at + plainRun p q r (drop at s) ≡ i + plainRun p q r (drop i s))
@@ -34,13 +34,13 @@ returns-2 c =
     let a = u .before .before .args in
     sym (u .loop .inv .1 ∙ run-ends (a .p) (a .q) (a .r) (a .s .now) (u .loop .i) (c .loop-test .left))
 
-pub run-spec : {M : Type 1} → statement M
-run-spec =
+pub single-steps-spec : {M : Type 1} → statement M
+single-steps-spec =
     tie.close
     (tie.spec
     Inv-loop
     μ-loop
-    (λ c. (c .before .pre, refl))
+    (λ c. (c .before .pre .0, refl))
     (λ c. omega arith)
     (λ c κs. search needs)
     (λ c. omega arith)

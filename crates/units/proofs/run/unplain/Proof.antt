@@ -1,0 +1,28 @@
+-- `units::run::unplain` meets its contract.
+-- Assumes nothing.
+use borrow.Author.Needs.{needs}
+use Rattle.units.proofs.PlainSteps.{plain-flags}
+use Rattle.units.proofs.run.unplain.Statement.{statement}
+use Rattle.units.proofs.run.unplain.Tie as tie
+
+returns : tie.Need-returns
+returns c =
+    let second = c .before in
+    let first = second .before in
+    let ed = first .before in
+    let backslash = ed .before in
+    let below = backslash .before in
+    let a = below .before .args in
+    plain-flags (a .p) (a .q) (a .r) (below .from-20 .ensures) (backslash .other-than .ensures) (ed .other-than2 .ensures) (first .other-than3 .ensures) (second .other-than4 .ensures) (c .other-than5 .ensures)
+
+pub unplain-spec : {M : Type 1} → statement M
+unplain-spec =
+    tie.close
+    (tie.spec
+    (λ c κs. search needs)
+    (λ c κs. search needs)
+    (λ c κs. search needs)
+    (λ c κs. search needs)
+    (λ c κs. search needs)
+    (λ c κs. search needs)
+    returns)
