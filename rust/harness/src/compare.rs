@@ -5,6 +5,7 @@ mod decode;
 mod made_up;
 mod pieces;
 mod read;
+mod rounds;
 mod write;
 
 pub use convert::{convert_agrees, convert_in_rooms, convert_random, proved_converter};
@@ -15,6 +16,7 @@ pub use pieces::{
     PieceConverter, Trial, PROVED_PIECES,
 };
 pub use read::{proved_reader, read_agrees, read_in_rooms, read_random};
+pub use rounds::{Calls, Totals, PROVED, ROUND};
 pub use write::{proved_writer, write_agrees, write_in_rooms, write_random};
 
 use crate::rooms::Room;

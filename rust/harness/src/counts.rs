@@ -1,6 +1,8 @@
 //! Which reports a test met, so that one that never met a case is no test of it.
 
 use crate::DIALECTS;
+use std::fmt::{Display, Formatter, Result as Printed};
+use std::ops::AddAssign;
 
 /// How often each report number came up in each dialect.
 #[derive(Clone, Debug, Default, PartialEq, Eq)]
@@ -38,6 +40,29 @@ impl Counts {
                     return Err(format!("dialect {dialect} has too few reports {number}"));
                 }
             }
+        }
+        Ok(())
+    }
+}
+
+impl AddAssign<&Self> for Counts {
+    fn add_assign(&mut self, other: &Self) {
+        let places = self.0.iter_mut().zip(&other.0);
+        for (count, more) in places.flat_map(|(counts, more)| counts.iter_mut().zip(more)) {
+            *count += more;
+        }
+    }
+}
+
+/// A line for each dialect, with the numbers that came up.
+impl Display for Counts {
+    fn fmt(&self, out: &mut Formatter) -> Printed {
+        for ((_, dialect), counts) in DIALECTS.iter().zip(&self.0) {
+            write!(out, "    {:<7}", format!("{dialect:?}"))?;
+            for (number, count) in counts.iter().enumerate().filter(|(_, count)| **count > 0) {
+                write!(out, "  {number}: {count}")?;
+            }
+            writeln!(out)?;
         }
         Ok(())
     }

@@ -1,45 +1,63 @@
-//! Compares the proved calls with the reference on random inputs until they differ or it is stopped: `compare SEED`.
+//! Compares the proved calls with the second program on random inputs: `compare --seed S [--count N] [--seconds T]`.
+//!
+//! Round k of a run has the seed S + k, so that a seed and a count give the same inputs each time, and a round in which the two differ can
+//! be run alone.
 
-use harness::compare::{
-    convert_random, decode_random, made_up_random, pieces_random, proved_converter, proved_reader,
-    proved_writer, read_random, write_random, PROVED_PIECES,
-};
-use harness::DIALECTS;
+use harness::compare::{Totals, PROVED, ROUND};
 use std::process::ExitCode;
+use std::time::{Duration, Instant};
 
-/// How many cells, files, tables, lists of calls and states are compared with each seed.
-const COUNT: usize = 200_000;
+const USAGE: &str = "usage: compare --seed S [--count N] [--seconds T]
+compares rounds of random inputs until there are N of them, until T seconds are over, or until there is a difference";
 
-fn main() -> ExitCode {
-    let Some(Ok(first)) = std::env::args().nth(1).map(|seed| seed.parse::<u64>()) else {
-        eprintln!("usage: compare SEED");
-        return ExitCode::from(2);
-    };
-    for seed in first.. {
-        if let Err(difference) = compare(seed) {
-            eprintln!("seed {seed}: {difference}");
-            return ExitCode::FAILURE;
-        }
-    }
-    ExitCode::SUCCESS
+/// How often a long run tells how far it is.
+const PULSE: Duration = Duration::from_secs(60);
+
+/// What the command line asks for.
+struct Run {
+    seed: u64,
+    rounds: usize,
+    time: Duration,
 }
 
-fn compare(seed: u64) -> Result<(), String> {
-    let cells = decode_random(seed, COUNT)?;
-    cells.print(&format!("seed {seed}: {COUNT} raw cells agree"));
-    let files = read_random(proved_reader, seed, COUNT)?;
-    files.print(&format!("seed {seed}: {COUNT} files agree"));
-    let by_target = convert_random(proved_converter, seed, COUNT)?;
-    for ((target, _), counts) in DIALECTS.iter().zip(by_target) {
-        counts.print(&format!(
-            "seed {seed}: {COUNT} files to dialect {target} agree"
-        ));
+impl Run {
+    fn asked(mut words: impl Iterator<Item = String>) -> Option<Self> {
+        let (mut seed, mut rounds, mut time) = (None, usize::MAX, Duration::MAX);
+        while let Some(word) = words.next() {
+            let number: u64 = words.next()?.parse().ok()?;
+            match word.as_str() {
+                "--seed" => seed = Some(number),
+                "--count" => rounds = usize::try_from(number).ok()?.div_ceil(ROUND),
+                "--seconds" => time = Duration::from_secs(number),
+                _ => return None,
+            }
+        }
+        let seed = seed?;
+        Some(Self { seed, rounds, time })
     }
-    let tables = write_random(proved_writer, seed, COUNT)?;
-    tables.print(&format!("seed {seed}: {COUNT} tables agree"));
-    let calls = pieces_random(&PROVED_PIECES, seed, COUNT)?;
-    calls.print(&format!("seed {seed}: {COUNT} lists of calls agree"));
-    let states = made_up_random(&PROVED_PIECES, seed, COUNT)?;
-    eprintln!("seed {seed}: {COUNT} states that no calls made agree: {states:?}");
-    Ok(())
+}
+
+fn main() -> ExitCode {
+    let Some(run) = Run::asked(std::env::args().skip(1)) else {
+        eprintln!("{USAGE}");
+        return ExitCode::from(2);
+    };
+    let began = Instant::now();
+    let mut next_pulse = PULSE;
+    let mut totals = Totals::default();
+    let seeds = (run.seed..).take(run.rounds);
+    for seed in seeds.take_while(|_| began.elapsed() < run.time) {
+        if let Err(difference) = totals.round(&PROVED, seed) {
+            println!("{difference}\nagain: compare --seed {seed} --count {ROUND}");
+            return ExitCode::FAILURE;
+        }
+        if began.elapsed() >= next_pulse {
+            next_pulse += PULSE;
+            eprintln!("{} inputs agree so far", totals.inputs());
+        }
+    }
+    print!("{totals}");
+    println!("{} inputs agree, seed {}", totals.inputs(), run.seed);
+    eprintln!("in {} s", began.elapsed().as_secs());
+    ExitCode::SUCCESS
 }

@@ -12,9 +12,10 @@ use crate::DIALECTS;
 use hemakuliwi::raw::Converter;
 use reference::limits::{COLUMNS, FILE_BYTES, PIECE_BYTES, PIECE_ROOM, RECORD_BYTES};
 use reference::{Converted, Dialect, Report};
+use std::ops::AddAssign;
 
 /// How calls over states that no calls made have ended.
-#[derive(Clone, Copy, Debug, Default)]
+#[derive(Clone, Copy, Debug, Default, PartialEq, Eq)]
 pub struct MadeUpCounts {
     /// Refused by one of the four checks.
     pub checked: usize,
@@ -24,6 +25,15 @@ pub struct MadeUpCounts {
     pub faults: usize,
     /// Refused as no state of a conversion.
     pub nowhere: usize,
+}
+
+impl AddAssign for MadeUpCounts {
+    fn add_assign(&mut self, other: Self) {
+        self.checked += other.checked;
+        self.accepted += other.accepted;
+        self.faults += other.faults;
+        self.nowhere += other.nowhere;
+    }
 }
 
 /// Makes calls over so many states that no calls made: each call has to end, to stay inside what it was lent and to make the four checks,
@@ -50,18 +60,32 @@ pub fn made_up_random(
         for trial in &mut trials {
             trial.restart(&state);
         }
+        let mut calls = Vec::new();
         for _ in 0..rng.between(1, 3) {
             let call = any_call(&mut rng, after);
+            calls.push(call.clone());
             any_call_agrees(&mut trials, &mut output, &call, &mut counts).map_err(
                 |difference| {
-                    let shown = show(state.source, state.target, &[call]);
-                    format!("{shown}\nafter {}: {difference}", hex(before))
+                    let calls = show(state.source, state.target, &calls);
+                    format!("{calls}\nfrom {}\n{difference}", show_state(&state))
                 },
             )?;
         }
     }
     output.is_left()?;
     Ok(counts)
+}
+
+/// A state as a person reads it, with all that it takes to make it again.
+fn show_state(state: &Converter) -> String {
+    format!(
+        "numbers {:?}\nends {:?}\nname_ends {:?}\nbytes {}\nnames {}",
+        state.numbers,
+        state.ends,
+        state.name_ends,
+        hex(&state.bytes),
+        hex(&state.names)
+    )
 }
 
 /// One call over one state that no calls made.
