@@ -66,3 +66,26 @@ uninstall: uninstall-library
 uninstall-library:
 	rm -f $(patsubst %,'$(DESTDIR)$(libdir)/%',libhemakuliwi.a $(shared_name) $(loader_name) $(linker_name)) \
 		'$(DESTDIR)$(includedir)/hemakuliwi.h' '$(DESTDIR)$(pkgconfigdir)/hemakuliwi.pc'
+
+# The command: `./hemakuliwi`, which is installed with its man page and what shells complete it by.
+command := target/release/hemakuliwi
+texts := rust/command/share
+.PHONY: command install-command uninstall-command
+command: $(command)
+$(command): $(library) Cargo.toml Cargo.lock $(shell find rust/command/src rust/command/Cargo.toml rust/hemakuliwi -name '*.rs' -o -name Cargo.toml)
+	cargo build --release --offline --quiet --target-dir target --package hemakuliwi-command
+	touch $@
+
+install: install-command
+install-command: $(command)
+	$(INSTALL) -d $(patsubst %,'$(DESTDIR)$(PREFIX)/%',bin share/man/man1 share/bash-completion/completions share/zsh/site-functions share/fish/vendor_completions.d)
+	$(INSTALL) -m 755 $(command) '$(DESTDIR)$(PREFIX)/bin'
+	$(INSTALL) -m 644 $(texts)/hemakuliwi.1 '$(DESTDIR)$(PREFIX)/share/man/man1'
+	$(INSTALL) -m 644 $(texts)/hemakuliwi.bash '$(DESTDIR)$(PREFIX)/share/bash-completion/completions/hemakuliwi'
+	$(INSTALL) -m 644 $(texts)/_hemakuliwi '$(DESTDIR)$(PREFIX)/share/zsh/site-functions'
+	$(INSTALL) -m 644 $(texts)/hemakuliwi.fish '$(DESTDIR)$(PREFIX)/share/fish/vendor_completions.d'
+
+uninstall: uninstall-command
+uninstall-command:
+	rm -f $(patsubst %,'$(DESTDIR)$(PREFIX)/%',bin/hemakuliwi share/man/man1/hemakuliwi.1 share/bash-completion/completions/hemakuliwi \
+		share/zsh/site-functions/_hemakuliwi share/fish/vendor_completions.d/hemakuliwi.fish)

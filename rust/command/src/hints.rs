@@ -1,0 +1,479 @@
+//! What people usually get wrong, told where the bytes show it. The first hint of the table that applies is given.
+
+use crate::explain;
+use crate::scene::{Scene, Standing};
+use hemakuliwi::{Dialect, Fault, Kind};
+
+pub struct Hint {
+    pub name: &'static str,
+    applies: fn(&Scene) -> bool,
+    text: fn(&Scene) -> String,
+}
+
+/// The hint for a fault: its name and its text.
+pub fn hint(scene: &Scene) -> Option<(&'static str, String)> {
+    let hint = HINTS.iter().find(|hint| (hint.applies)(scene))?;
+    Some((hint.name, (hint.text)(scene)))
+}
+
+/// In an order in which what is told of the whole file comes before what is told of a place.
+pub const HINTS: [Hint; 31] = [
+    Hint {
+        name: "utf_16",
+        applies: |scene| utf_16(scene).is_some(),
+        text: |scene| {
+            let encoding = utf_16(scene).unwrap_or_default();
+            format!("the file is {encoding}, as spreadsheets save \"Unicode text\"; `iconv -f {encoding} -t UTF-8` makes it UTF-8")
+        },
+    },
+    Hint {
+        name: "byte_order_mark",
+        applies: |scene| scene.standing == Standing::Mark,
+        text: |scene| {
+            let dialect = title(scene.dialect());
+            format!("the file begins with a byte order mark (EF BB BF), as spreadsheets write it, and {dialect} has none; `tail -c +4 FILE` leaves it out")
+        },
+    },
+    Hint {
+        name: "latin_1",
+        applies: |scene| latin_1(scene).is_some(),
+        text: |scene| {
+            let (byte, character) = latin_1(scene).unwrap_or_default();
+            format!("byte {byte:02X} is `{character}` in Windows-1252 (Latin-1); `iconv -f WINDOWS-1252 -t UTF-8` makes the file UTF-8")
+        },
+    },
+    Hint {
+        name: "typographic_quotes",
+        applies: |scene| {
+            needs_quotes(scene)
+                && ["“", "”", "„", "‘", "’", "«", "»"]
+                    .iter()
+                    .any(|quote| follows(scene, quote))
+        },
+        text: |_| {
+            "these are typographic quotes, as word processors put them; the quote of a table is `\"`".into()
+        },
+    },
+    Hint {
+        name: "single_quotes",
+        applies: |scene| needs_quotes(scene) && scene.byte == Some(b'\''),
+        text: |scene| {
+            format!(
+                "{} has no single quotes: text stands between double ones, `\"`",
+                title(scene.dialect())
+            )
+        },
+    },
+    Hint {
+        name: "other_delimiter",
+        applies: |scene| other_delimiter(scene).is_some(),
+        text: |scene| {
+            format!(
+                "the cells seem to be divided by {}; a table has commas",
+                other_delimiter(scene).unwrap_or_default()
+            )
+        },
+    },
+    Hint {
+        name: "space_beside_quote",
+        applies: space_beside_quote,
+        text: |scene| {
+            match scene.standing {
+            Standing::AfterQuote => "a space stands after the closing quote; the comma or the line break comes directly after it".into(),
+            _ => "a space stands before the opening quote; the quote comes directly after the comma".into(),
+        }
+        },
+    },
+    Hint {
+        name: "empty_line",
+        applies: is_empty_line,
+        text: |scene| match scene.dialect() {
+            Dialect::Csvj => "an empty line is a record without cells; leave it out".into(),
+            Dialect::Tdif => {
+                "TDIF has no empty lines; leave it out, or write `#` for an empty comment".into()
+            }
+            Dialect::CsvPlus => {
+                "an empty line is a record with one empty cell; leave it out".into()
+            }
+        },
+    },
+    Hint {
+        name: "comma_at_line_end",
+        applies: comma_at_line_end,
+        text: |_| {
+            "a comma stands at the end of the line, where it begins one more cell; leave it out"
+                .into()
+        },
+    },
+    Hint {
+        name: "empty_cell",
+        applies: |scene| needs_quotes(scene) && scene.byte == Some(b','),
+        text: |scene| match scene.dialect() {
+            Dialect::Tdif => {
+                "an empty cell is written `\"\"`, and one without a value `\\N`".into()
+            }
+            _ => "an empty cell is written `\"\"`, and one without a value `null`".into(),
+        },
+    },
+    Hint {
+        name: "bare_cr",
+        applies: |scene| scene.standing == Standing::AfterCr,
+        text: |scene| {
+            let dialect = title(scene.dialect());
+            format!("the line ends in CR alone, and {dialect} asks for LF or CRLF; if all lines do, `tr '\\r' '\\n'` makes them LF")
+        },
+    },
+    Hint {
+        name: "doubled_quote",
+        applies: |scene| {
+            scene.dialect() == Dialect::Csvj
+                && after_closing_quote(scene)
+                && scene.byte == Some(b'"')
+        },
+        text: |_| {
+            "CSVJ writes a quote inside of a string as `\\\"`; to write it twice is the way of CSV+ and TDIF".into()
+        },
+    },
+    Hint {
+        name: "backslash_before_quote",
+        applies: |scene| {
+            scene.dialect() != Dialect::Csvj
+                && after_closing_quote(scene)
+                && scene.before.ends_with(b"\\\"")
+        },
+        text: |scene| {
+            format!("a backslash escapes nothing in {}: a quote inside of quotes is written twice, `\"\"`", title(scene.dialect()))
+        },
+    },
+    Hint {
+        name: "unescaped_quote",
+        applies: |scene| after_closing_quote(scene) && has_quote_in_rest(scene),
+        text: |scene| {
+            match scene.dialect() {
+            Dialect::Csvj => "the quote before it closes the string; a quote inside of one is written `\\\"`".into(),
+            _ => "the quote before it closes the cell; a quote inside of one is written twice, `\"\"`".into(),
+        }
+        },
+    },
+    Hint {
+        name: "quote_in_plain_cell",
+        applies: |scene| {
+            scene.dialect() == Dialect::CsvPlus
+                && at_syntax(scene, Standing::Bare)
+                && scene.byte == Some(b'"')
+        },
+        text: |_| {
+            "a cell with a quote in it stands in quotes as a whole, with each quote inside of it written twice".into()
+        },
+    },
+    Hint {
+        name: "comment",
+        applies: |scene| {
+            needs_quotes(scene) && scene.byte == Some(b'#') && scene.walk.cell_number() == 1
+        },
+        text: |_| "only TDIF has comments; leave the line out".into(),
+    },
+    Hint {
+        name: "brackets",
+        applies: |scene| needs_quotes(scene) && matches!(scene.byte, Some(b'[' | b'{')),
+        text: |_| {
+            "records have no brackets: each line is the cells with commas between them".into()
+        },
+    },
+    Hint {
+        name: "number_form",
+        applies: is_number_form,
+        text: |_| {
+            "a number has no plus and no 0 in front, and a digit on each side of its point; in quotes it may be spelt in any way".into()
+        },
+    },
+    Hint {
+        name: "text_without_quotes",
+        applies: text_without_quotes,
+        text: |scene| {
+            match scene.dialect() {
+            Dialect::Csvj => "text stands in double quotes; without them stand numbers, and true, false and null in small letters".into(),
+            _ => "each cell stands in double quotes, numbers too; only `\\N`, which is null, stands without".into(),
+        }
+        },
+    },
+    Hint {
+        name: "line_break_in_string",
+        applies: |scene| {
+            at_syntax(scene, Standing::Quoted) && matches!(scene.byte, Some(b'\n' | b'\r'))
+        },
+        text: |_| {
+            "the string is not closed on its line, or has a line break in it, which is written `\\n`".into()
+        },
+    },
+    Hint {
+        name: "control_in_string",
+        applies: |scene| at_syntax(scene, Standing::Quoted),
+        text: |_| {
+            "control characters in a string are written as escapes: a tab as `\\t`, others as `\\u0007`".into()
+        },
+    },
+    Hint {
+        name: "backslash_in_string",
+        applies: |scene| at_syntax(scene, Standing::Escape),
+        text: |_| {
+            "a backslash begins an escape; one that stands for itself, as in a path of Windows, is written `\\\\`".into()
+        },
+    },
+    Hint {
+        name: "unclosed_quote",
+        applies: |scene| scene.opened().is_some(),
+        text: |scene| {
+            let cell = scene.walk.cell();
+            format!("the quote of the cell that begins at line {}, column {} is not closed before this place", cell.line, cell.column)
+        },
+    },
+    Hint {
+        name: "missing_line_end",
+        applies: |scene| {
+            scene.fault() == Fault::CutShort
+                && (scene.standing == Standing::Comment || scene.lacks_line_end())
+        },
+        text: |scene| {
+            let dialect = title(scene.dialect());
+            format!("the last line has no line break after it, and {dialect} asks for one; `echo >>FILE` adds it")
+        },
+    },
+    Hint {
+        name: "letter_case",
+        applies: |scene| scene.fault() == Fault::RepeatedName && differs_in_case(scene),
+        text: |_| "TDIF takes A to Z as a to z in names".into(),
+    },
+    Hint {
+        name: "header_missing",
+        applies: |scene| {
+            scene.fault() == Fault::HeaderKind
+                && scene.cell().is_some_and(|cell| cell.kind == Kind::Number)
+        },
+        text: |_| "the first record has to be a header; this one has a number, as data have".into(),
+    },
+    Hint {
+        name: "more_cells",
+        applies: |scene| {
+            scene.fault() == Fault::CellCount && scene.cells.len() > scene.case.names.len()
+        },
+        text: |_| "a comma inside of a cell divides it in two unless it stands in quotes".into(),
+    },
+    Hint {
+        name: "fewer_cells",
+        applies: |scene| scene.fault() == Fault::CellCount,
+        text: |scene| {
+            match scene.dialect() {
+            Dialect::Csvj => "a cell without a value is written `null`, so that the number of cells stays the same".into(),
+            Dialect::Tdif => "a cell without a value is written `\\N`, so that the number of cells stays the same".into(),
+            Dialect::CsvPlus => "an empty cell still has its comma; and a line break inside of a cell ends the record unless it stands in quotes".into(),
+        }
+        },
+    },
+    Hint {
+        name: "value_as_text",
+        applies: |scene| scene.reason() == Some(&explain::KIND),
+        text: |scene| match scene.cell().map(|cell| cell.kind) {
+            Some(Kind::Null) => {
+                "write it as empty text, `\"\"`, in the source, or convert to another dialect"
+                    .into()
+            }
+            _ => "write it as text, in quotes, in the source, or convert to CSVJ".into(),
+        },
+    },
+    Hint {
+        name: "surrogate_as_character",
+        applies: |scene| scene.reason() == Some(&explain::LONE_SURROGATE),
+        text: |_| {
+            "characters above FFFF are two escapes, as `\\ud83d\\ude00`; here the other one is missing".into()
+        },
+    },
+    Hint {
+        name: "name_in_other_letters",
+        applies: |scene| scene.reason() == Some(&explain::REPEATED_NAME),
+        text: |_| {
+            "the names differ in capital and small letters alone; rename one in the source".into()
+        },
+    },
+];
+
+/// A dialect as the rules write it.
+pub fn title(dialect: Dialect) -> &'static str {
+    match dialect {
+        Dialect::Csvj => "CSVJ",
+        Dialect::Tdif => "TDIF",
+        Dialect::CsvPlus => "CSV+",
+    }
+}
+
+fn at_syntax(scene: &Scene, standing: Standing) -> bool {
+    scene.fault() == Fault::Syntax && scene.standing == standing
+}
+
+/// A byte with which no cell begins, in a dialect whose text stands in quotes.
+fn needs_quotes(scene: &Scene) -> bool {
+    scene.dialect() != Dialect::CsvPlus && at_syntax(scene, Standing::CellStart)
+}
+
+fn after_closing_quote(scene: &Scene) -> bool {
+    at_syntax(scene, Standing::AfterQuote) && scene.before.ends_with(b"\"")
+}
+
+/// Whether another quote stands before the next comma or line break, as if the cell went on.
+fn has_quote_in_rest(scene: &Scene) -> bool {
+    let rest = scene.case.text.from(scene.case.refusal.offset);
+    let end = rest
+        .iter()
+        .find(|byte| matches!(byte, b',' | b'\n' | b'\r' | b'"'));
+    end == Some(&b'"')
+}
+
+fn follows(scene: &Scene, text: &str) -> bool {
+    scene
+        .case
+        .text
+        .from(scene.case.refusal.offset)
+        .starts_with(text.as_bytes())
+}
+
+/// The encoding, if the first bytes are a mark of UTF-16, or ASCII in it.
+fn utf_16(scene: &Scene) -> Option<&'static str> {
+    match *scene.case.text.head() {
+        [0xFF, 0xFE, ..] | [0xFE, 0xFF, ..] => Some("UTF-16"),
+        [1..=0x7F, 0, 1..=0x7F, 0, ..] => Some("UTF-16LE"),
+        [0, 1..=0x7F, 0, 1..=0x7F, ..] => Some("UTF-16BE"),
+        _ => None,
+    }
+}
+
+/// The characters of Windows-1252 from 80 to 9F; a space stands where it has none.
+const WINDOWS_1252: &str = "€ ‚ƒ„…†‡ˆ‰Š‹Œ Ž  ‘’“”•–—˜™š›œ žŸ";
+
+/// The byte and its character in Windows-1252, if one byte above 7F is alone in a record of ASCII.
+fn latin_1(scene: &Scene) -> Option<(u8, char)> {
+    if scene.fault() != Fault::Encoding {
+        return None;
+    }
+    let byte = match scene.unfinished() {
+        [] => scene.byte?,
+        [byte] => *byte,
+        _ => return None,
+    };
+    let record = scene
+        .case
+        .text
+        .between(scene.walk.record_start(), scene.marked().start);
+    let character = match byte {
+        0x80..=0x9F => WINDOWS_1252
+            .chars()
+            .nth(usize::from(byte - 0x80))
+            .filter(|&character| character != ' '),
+        0xA0.. => Some(char::from(byte)),
+        _ => None,
+    };
+    character
+        .filter(|_| record.is_ascii())
+        .map(|character| (byte, character))
+}
+
+fn other_delimiter(scene: &Scene) -> Option<&'static str> {
+    let last_before = scene.before.last().copied();
+    let byte = match (scene.fault(), scene.standing, scene.byte) {
+        (
+            Fault::Syntax,
+            Standing::AfterQuote | Standing::Bare,
+            Some(byte @ (b';' | b'|' | b'\t')),
+        ) => byte,
+        (Fault::Syntax, Standing::AfterQuote | Standing::Bare, Some(b'"')) => last_before?,
+        (Fault::CellCount, ..) if scene.dialect() == Dialect::CsvPlus => *scene
+            .case
+            .names
+            .first()
+            .filter(|_| scene.case.names.len() == 1)?
+            .iter()
+            .find(|byte| b";|\t".contains(byte))?,
+        _ => return None,
+    };
+    match byte {
+        b';' => Some("semicolons"),
+        b'|' => Some("bars"),
+        b'\t' => Some("tabs"),
+        _ => None,
+    }
+}
+
+fn space_beside_quote(scene: &Scene) -> bool {
+    let is_space = |byte: &u8| matches!(byte, b' ' | b'\t');
+    let at_space = scene.byte.as_ref().is_some_and(is_space) && scene.dialect() != Dialect::Csvj;
+    let before_quote = scene.byte == Some(b'"')
+        && at_syntax(scene, Standing::Bare)
+        && scene.before.iter().all(is_space);
+    let before_cell = scene.dialect() == Dialect::Tdif && at_syntax(scene, Standing::CellStart);
+    before_quote || at_space && (at_syntax(scene, Standing::AfterQuote) || before_cell)
+}
+
+fn is_empty_line(scene: &Scene) -> bool {
+    let has_no_bytes = scene
+        .record
+        .iter()
+        .all(|byte| matches!(byte, b'\r' | b'\n'));
+    match scene.fault() {
+        Fault::CellCount => has_no_bytes || scene.cells.is_empty(),
+        Fault::Syntax => {
+            scene.dialect() == Dialect::Tdif && at_line_end(scene) && scene.walk.cell_number() == 1
+        }
+        _ => false,
+    }
+}
+
+fn at_line_end(scene: &Scene) -> bool {
+    scene.standing == Standing::CellStart && matches!(scene.byte, Some(b'\r' | b'\n'))
+}
+
+fn comma_at_line_end(scene: &Scene) -> bool {
+    match scene.fault() {
+        Fault::Syntax => at_line_end(scene) && scene.walk.cell_number() > 1,
+        Fault::CellCount => {
+            let is_one_more = scene.cells.len() == scene.case.names.len() + 1;
+            is_one_more && scene.cells.last().is_some_and(|cell| cell.range.is_empty())
+        }
+        _ => false,
+    }
+}
+
+fn is_number_form(scene: &Scene) -> bool {
+    let starts = at_syntax(scene, Standing::CellStart) && matches!(scene.byte, Some(b'+' | b'.'));
+    let is_number = scene.before.iter().any(u8::is_ascii_digit) || scene.before.contains(&b'-');
+    let goes_on = at_syntax(scene, Standing::Bare)
+        && is_number
+        && matches!(
+            scene.byte,
+            Some(b'0'..=b'9' | b'.' | b',' | b'\n' | b'\r' | b'-' | b'+')
+        );
+    scene.dialect() == Dialect::Csvj && (starts || goes_on)
+}
+
+fn text_without_quotes(scene: &Scene) -> bool {
+    let is_letter =
+        |byte: u8| byte.is_ascii_alphanumeric() || byte >= 0x80 || byte == b'_' || byte == b'-';
+    let at_letter = scene.byte.is_some_and(is_letter);
+    let starts = needs_quotes(scene)
+        && (at_letter
+            || scene.dialect() == Dialect::Tdif && matches!(scene.byte, Some(b'+' | b'.')));
+    // A word that begins as true, false, null or a number does and goes on in another way, or ends before they do.
+    let goes_on = scene.dialect() != Dialect::CsvPlus && at_syntax(scene, Standing::Bare);
+    starts || goes_on
+}
+
+fn differs_in_case(scene: &Scene) -> bool {
+    let [Some(cell), Some(column)] = [
+        scene.cell().map(|cell| &cell.content),
+        scene
+            .repeated_column()
+            .and_then(|column| scene.cells.get(column - 1))
+            .map(|cell| &cell.content),
+    ] else {
+        return false;
+    };
+    cell != column
+}
