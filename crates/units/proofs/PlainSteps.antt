@@ -2,7 +2,7 @@
 -- Assumes nothing.
 use mathlib.Core.Path.{_≡_, refl, sym, ap, _∙_}
 use mathlib.Core.Bool.{Bool, true, false, not, _&&_, _||_}
-use mathlib.Core.List.{_++_}
+use mathlib.Core.List.{[], _∷_, _++_}
 use Prim.Native.Nat.{ℕ, _+_, _-_, _≤_, _<_}
 use native.Mathlib.Omega.{arith}
 use lib.Bits.{bitAnd, bitXor}
@@ -28,16 +28,34 @@ not-either false y = refl
 not-below : (n b : ℕ) → not (isBelow n b) ≡ leb n b
 not-below n b = split-on (ltb b n) (λ t. rw (t, lt-leb n b (ltb-true b n t))) λ t. rw (t, le-leb n b (ltb-false b n t))
 
-module _ (p q r : ℕ) where
-  plain-none : (b : ℕ) → not (isBelow 0x20 b || isByte BACKSLASH b || isByte 0xED b || isByte p b || isByte q b || isByte r b) ≡ isPlain p q r b
+and-again : (x y : Bool) → (x && y) ≡ (x && y && y)
+and-again true true = refl
+and-again true false = refl
+and-again false y = refl
+
+module _ (p q : ℕ) where
+  plain-none : (b : ℕ) → not (isBelow 0x20 b || isByte BACKSLASH b || isByte 0xED b || isByte p b || isByte q b) ≡ isPlain p q q b
   unfolding isPlain
-  plain-none b = simp (not-either, not-below)
+  plain-none b = simp (not-either, not-below) (and-again (leb 0x20 b && not (b is BACKSLASH) && not (b is 0xED) && not (b is p)) (not (b is q)))
 
   -- a byte that is flagged by each of these is plain
-  pub plain-flags : {w from-20 no-backslash no-ed no-first no-second no-third : ℕ} → Flags (isBelow 0x20) w from-20 → Flags (isByte BACKSLASH) w no-backslash → Flags (isByte 0xED) w no-ed
-      → Flags (isByte p) w no-first → Flags (isByte q) w no-second → Flags (isByte r) w no-third
-      → Flags (isPlain p q r) w (bitXor (bitAnd (bitAnd (bitAnd (bitAnd (bitAnd from-20 no-backslash) no-ed) no-first) no-second) no-third) 0x8080808080808080)
-  plain-flags a b c d e f = flags-same (flags-other (flags-both (flags-both (flags-both (flags-both (flags-both a b) c) d) e) f)) plain-none
+  pub plain-flags : {w from-20 no-backslash no-ed no-first no-second : ℕ} → Flags (isBelow 0x20) w from-20 → Flags (isByte BACKSLASH) w no-backslash → Flags (isByte 0xED) w no-ed
+      → Flags (isByte p) w no-first → Flags (isByte q) w no-second
+      → Flags (isPlain p q q) w (bitXor (bitAnd (bitAnd (bitAnd (bitAnd from-20 no-backslash) no-ed) no-first) no-second) 0x8080808080808080)
+  plain-flags a b c d e = flags-same (flags-other (flags-both (flags-both (flags-both (flags-both a b) c) d) e)) plain-none
+
+-- ---- two quotes that are the same
+
+plain-same : (p r b : ℕ) → isPlain p p r b ≡ isPlain p r r b
+unfolding isPlain
+plain-same p r b =
+    let x : Bool = leb 0x20 b && not (b is BACKSLASH) && not (b is 0xED) in
+    ap (λ (t : Bool). t && not (b is r)) (sym (and-again x (not (b is p)))) ∙ and-again (x && not (b is p)) (not (b is r))
+
+pub same-run : (p r : ℕ) (bs : Bytes) → plainRun p p r bs ≡ plainRun p r r bs
+unfolding plainRun
+same-run p r [] = refl
+same-run p r (b ∷ bs) = rw (plain-same p r b, same-run p r bs)
 
 -- ---- a step
 

@@ -1,6 +1,6 @@
 // Runs of bytes that stand for themselves in a source and in a target.
 ghost use mathlib.Core.Path.{_≡_};
-ghost use Prim.Native.Nat.{_+_, _≤_, _<_};
+ghost use Prim.Native.Nat.{_+_, _≤_};
 ghost use lib.ListN.{length, drop};
 ghost use Rattle.words.specs.Words.{Flags};
 ghost use Rattle.units.specs.PlainRuns.{isPlain, plainRun};
@@ -31,9 +31,9 @@ fn is_plain(p: u8, q: u8, r: u8, b: u8) -> bool
     true
 }
 
-// How far such bytes go from `at` a byte at a time, where fewer than eight are left.
+// How far such bytes go from `at`, a byte at a time.
 fn single_steps(s: &[u8], at: usize, p: u8, q: u8, r: u8) -> usize
-    requires { ⌜ (at ≤ length (now s)) × (length (now s) < at + 8) ⌝ }
+    requires { ⌜ at ≤ length (now s) ⌝ }
     ensures { λ x. ⌜ x ≡ at + plainRun p q r (drop at (now (s .entry))) ⌝ }
 {
     let mut i = at;
@@ -47,31 +47,42 @@ fn single_steps(s: &[u8], at: usize, p: u8, q: u8, r: u8) -> usize
     i
 }
 
-// The top bit of each byte of a word that does not stand for itself.
-fn unplain(w: u64, p: u8, q: u8, r: u8) -> u64
-    ensures { λ x. ⌜ Flags (isPlain p q r) w x ⌝ }
+// The top bit of each byte of a word that does not stand for itself, where q and r are the same.
+fn unplain(w: u64, p: u8, q: u8) -> u64
+    ensures { λ x. ⌜ Flags (isPlain p q q) w x ⌝ }
 {
     let plain = words::from_20(w)
         & words::other_than(w, 0x5C)
         & words::other_than(w, 0xED)
         & words::other_than(w, p)
-        & words::other_than(w, q)
-        & words::other_than(w, r);
+        & words::other_than(w, q);
     plain ^ 0x8080808080808080
 }
 
-// How far such bytes go from `at`, eight to a step. A word with a flag ends them.
-pub fn plain(s: &[u8], at: usize, p: u8, q: u8, r: u8) -> usize
+// How far such bytes go from `at`, eight to a step, where q and r are the same. A word with a flag ends them.
+fn word_steps(s: &[u8], at: usize, p: u8, q: u8) -> usize
     requires { ⌜ at ≤ length (now s) ⌝ }
-    ensures { λ x. ⌜ x ≡ at + plainRun p q r (drop at (now (s .entry))) ⌝ }
+    ensures { λ x. ⌜ x ≡ at + plainRun p q q (drop at (now (s .entry))) ⌝ }
 {
     let mut i = at;
     while 8 <= s.len() - i {
-        let flags = unplain(words::word(s, i), p, q, r);
+        let flags = unplain(words::word(s, i), p, q);
         if flags != 0 {
             return i + words::before_flag(flags);
         }
         i += 8;
     }
-    single_steps(s, i, p, q, r)
+    single_steps(s, i, p, q, q)
+}
+
+// How far such bytes go from `at`. It goes by words where the quotes are the same, as they mostly are: a third test of each word took a
+// tenth more time in long cells.
+pub fn plain(s: &[u8], at: usize, p: u8, q: u8, r: u8) -> usize
+    requires { ⌜ at ≤ length (now s) ⌝ }
+    ensures { λ x. ⌜ x ≡ at + plainRun p q r (drop at (now (s .entry))) ⌝ }
+{
+    if p == q {
+        return word_steps(s, at, p, r);
+    }
+    single_steps(s, at, p, q, r)
 }

@@ -6,7 +6,7 @@ use mathlib.Core.Path.{_≡_, refl, sym, ap, _∙_}
 use mathlib.Core.List.{[], _∷_}
 use lib.ListN.{length, drop, getD}
 use lib.Seq.{drop-cons}
-use lib.Bits.{shifted-even, shifted-half}
+use lib.Bits.{bitOr, or-shifted-r, shifted-even, shifted-half}
 use lib.Count.{trailingZeros, under}
 use borrow.Author.Tests.{eqb-true, eqb-false}
 use Rattle.model.specs.Base.{Bytes, if_then_else_, _is_}
@@ -43,6 +43,21 @@ word-read s i w h byte e =
     and-byte (byte i) (and-byte (byte (i + 1)) (and-byte (byte (i + 2)) (and-byte (byte (i + 3)) (and-byte (byte (i + 4)) (and-byte (byte (i + 5)) (and-byte (byte (i + 6)) (and-byte (byte (i + 7)) no-bytes)))))))
     in
     record { value = e ∙ ap wordOf (sym same); bytes = ap (bytesOf 8) e ∙ bytes-back all ∙ sym same }
+
+-- eight bytes joined: each is put above those before it
+pub joined-word : (b0 b1 b2 b3 b4 b5 b6 b7 : ℕ) → b0 < 0x100 → b1 < 0x100 → b2 < 0x100 → b3 < 0x100 → b4 < 0x100 → b5 < 0x100 → b6 < 0x100
+    → bitOr (bitOr (bitOr (bitOr (bitOr (bitOr (bitOr b0 (b1 * 0x100)) (b2 * 0x10000)) (b3 * 0x1000000)) (b4 * 0x100000000)) (b5 * 0x10000000000)) (b6 * 0x1000000000000)) (b7 * 0x100000000000000)
+    ≡ wordOf (b0 ∷ b1 ∷ b2 ∷ b3 ∷ b4 ∷ b5 ∷ b6 ∷ b7 ∷ [])
+unfolding wordOf
+joined-word b0 b1 b2 b3 b4 b5 b6 b7 h0 h1 h2 h3 h4 h5 h6 =
+    let e1 = or-shifted-r b1 8 b0 h0 in
+    let e2 = or-shifted-r b2 16 (bitOr b0 (b1 * 0x100)) (omega arith) in
+    let e3 = or-shifted-r b3 24 (bitOr (bitOr b0 (b1 * 0x100)) (b2 * 0x10000)) (omega arith) in
+    let e4 = or-shifted-r b4 32 (bitOr (bitOr (bitOr b0 (b1 * 0x100)) (b2 * 0x10000)) (b3 * 0x1000000)) (omega arith) in
+    let e5 = or-shifted-r b5 40 (bitOr (bitOr (bitOr (bitOr b0 (b1 * 0x100)) (b2 * 0x10000)) (b3 * 0x1000000)) (b4 * 0x100000000)) (omega arith) in
+    let e6 = or-shifted-r b6 48 (bitOr (bitOr (bitOr (bitOr (bitOr b0 (b1 * 0x100)) (b2 * 0x10000)) (b3 * 0x1000000)) (b4 * 0x100000000)) (b5 * 0x10000000000)) (omega arith) in
+    let e7 = or-shifted-r b7 56 (bitOr (bitOr (bitOr (bitOr (bitOr (bitOr b0 (b1 * 0x100)) (b2 * 0x10000)) (b3 * 0x1000000)) (b4 * 0x100000000)) (b5 * 0x10000000000)) (b6 * 0x1000000000000)) (omega arith) in
+    omega arith
 
 -- ---- trailing zeros
 

@@ -1,23 +1,17 @@
 use native.Mathlib.Omega.{arith}
-use Rattle.words.specs.Words.{wordOf}
+use Rattle.words.proofs.Reading.{joined-word}
 use Rattle.words.proofs.joined.Statement.{statement}
 use Rattle.words.proofs.joined.Tie as tie
 
 returns : tie.Need-returns
-unfolding wordOf
-returns c = omega arith
+returns c =
+    let a = c .args in
+    joined-word (a .b0) (a .b1) (a .b2) (a .b3) (a .b4) (a .b5) (a .b6) (a .b7) (omega arith) (omega arith) (omega arith) (omega arith) (omega arith) (omega arith) (omega arith)
 
 pub joined-spec : {M : Type 1} → statement M
 joined-spec =
     tie.close
     (tie.spec
-    (λ c. omega arith)
-    (λ c. omega arith)
-    (λ c. omega arith)
-    (λ c. omega arith)
-    (λ c. omega arith)
-    (λ c. omega arith)
-    (λ c. omega arith)
     (λ c. omega arith)
     (λ c. omega arith)
     (λ c. omega arith)

@@ -40,7 +40,7 @@ single-steps-spec =
     (tie.spec
     Inv-loop
     μ-loop
-    (λ c. (c .before .pre .0, refl))
+    (λ c. (c .before .pre, refl))
     (λ c. omega arith)
     (λ c κs. search needs)
     (λ c. omega arith)

@@ -7,19 +7,17 @@ use Rattle.units.proofs.run.unplain.Tie as tie
 
 returns : tie.Need-returns
 returns c =
-    let second = c .before in
-    let first = second .before in
+    let first = c .before in
     let ed = first .before in
     let backslash = ed .before in
     let below = backslash .before in
     let a = below .before .args in
-    plain-flags (a .p) (a .q) (a .r) (below .from-20 .ensures) (backslash .other-than .ensures) (ed .other-than2 .ensures) (first .other-than3 .ensures) (second .other-than4 .ensures) (c .other-than5 .ensures)
+    plain-flags (a .p) (a .q) (below .from-20 .ensures) (backslash .other-than .ensures) (ed .other-than2 .ensures) (first .other-than3 .ensures) (c .other-than4 .ensures)
 
 pub unplain-spec : {M : Type 1} → statement M
 unplain-spec =
     tie.close
     (tie.spec
-    (λ c κs. search needs)
     (λ c κs. search needs)
     (λ c κs. search needs)
     (λ c κs. search needs)
