@@ -69,10 +69,11 @@ uninstall-library:
 
 # The command: `./hemakuliwi`, which is installed with its man page and what shells complete it by.
 command := target/release/hemakuliwi
-texts := rust/command/share
+command_texts := rust/command/share
+command_sources := $(shell find rust/command/src rust/hemakuliwi/src -name '*.rs') rust/hemakuliwi/build.rs $(wildcard rust/*/Cargo.toml)
 .PHONY: command install-command uninstall-command
 command: $(command)
-$(command): $(library) Cargo.toml Cargo.lock $(shell find rust/command/src rust/command/Cargo.toml rust/hemakuliwi -name '*.rs' -o -name Cargo.toml)
+$(command): $(library) Cargo.toml Cargo.lock $(command_sources)
 	cargo build --release --offline --quiet --target-dir target --package hemakuliwi-command
 	touch $@
 
@@ -80,10 +81,10 @@ install: install-command
 install-command: $(command)
 	$(INSTALL) -d $(patsubst %,'$(DESTDIR)$(PREFIX)/%',bin share/man/man1 share/bash-completion/completions share/zsh/site-functions share/fish/vendor_completions.d)
 	$(INSTALL) -m 755 $(command) '$(DESTDIR)$(PREFIX)/bin'
-	$(INSTALL) -m 644 $(texts)/hemakuliwi.1 '$(DESTDIR)$(PREFIX)/share/man/man1'
-	$(INSTALL) -m 644 $(texts)/hemakuliwi.bash '$(DESTDIR)$(PREFIX)/share/bash-completion/completions/hemakuliwi'
-	$(INSTALL) -m 644 $(texts)/_hemakuliwi '$(DESTDIR)$(PREFIX)/share/zsh/site-functions'
-	$(INSTALL) -m 644 $(texts)/hemakuliwi.fish '$(DESTDIR)$(PREFIX)/share/fish/vendor_completions.d'
+	$(INSTALL) -m 644 $(command_texts)/hemakuliwi.1 '$(DESTDIR)$(PREFIX)/share/man/man1'
+	$(INSTALL) -m 644 $(command_texts)/hemakuliwi.bash '$(DESTDIR)$(PREFIX)/share/bash-completion/completions/hemakuliwi'
+	$(INSTALL) -m 644 $(command_texts)/_hemakuliwi '$(DESTDIR)$(PREFIX)/share/zsh/site-functions'
+	$(INSTALL) -m 644 $(command_texts)/hemakuliwi.fish '$(DESTDIR)$(PREFIX)/share/fish/vendor_completions.d'
 
 uninstall: uninstall-command
 uninstall-command:

@@ -31,7 +31,7 @@ _hemakuliwi() {
       :-*) words='--help --version --color' ;;
       :*) words='convert check show explain help' ;;
       convert:-*) words='--from --to --output --json --color --help' ;;
-      check:-*) words='--in --json --color --help' ;;
+      check:-*) words='--in --quiet --json --color --help' ;;
       show:-*) words='--in --width --json --color --help' ;;
       explain:-*) words='--help' ;;
       explain:*) words='1 2 3 4 5 6 7 8 9 10 11 12' ;;

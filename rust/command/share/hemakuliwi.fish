@@ -16,6 +16,7 @@ complete -c hemakuliwi -n '__fish_seen_subcommand_from convert' -l from -x -a "$
 complete -c hemakuliwi -n '__fish_seen_subcommand_from convert' -l to -x -a "$dialects" -d 'The dialect that is written'
 complete -c hemakuliwi -n '__fish_seen_subcommand_from convert' -s o -l output -r -F -d 'The file that is written'
 complete -c hemakuliwi -n '__fish_seen_subcommand_from check show' -l in -x -a "$dialects" -d 'The dialect'
+complete -c hemakuliwi -n '__fish_seen_subcommand_from check' -s q -l quiet -d 'Say nothing of what is accepted'
 complete -c hemakuliwi -n '__fish_seen_subcommand_from show' -l width -x -d 'How wide it may be'
 complete -c hemakuliwi -n '__fish_seen_subcommand_from convert check show' -l json -d 'Tell the outcome as one line of JSON'
 complete -c hemakuliwi -n '__fish_seen_subcommand_from explain' -f -a '1 2 3 4 5 6 7 8 9 10 11 12'

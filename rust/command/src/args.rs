@@ -28,6 +28,8 @@ pub enum Action {
     Check {
         dialect: Dialect,
         inputs: Vec<OsString>,
+        /// Whether nothing is to be said on standard output.
+        is_quiet: bool,
     },
     Show {
         dialect: Dialect,
@@ -80,6 +82,11 @@ const JSON: Flag = Flag {
     short: None,
     value: None,
 };
+const QUIET: Flag = Flag {
+    long: "quiet",
+    short: Some(b'q'),
+    value: None,
+};
 const IN: Flag = with_value("in", None, "DIALECT");
 
 const COMMANDS: [Command; 5] = [
@@ -96,7 +103,7 @@ const COMMANDS: [Command; 5] = [
     },
     Command {
         name: "check",
-        options: &[IN, JSON, COLOR, HELP],
+        options: &[IN, QUIET, JSON, COLOR, HELP],
     },
     Command {
         name: "show",
@@ -338,6 +345,7 @@ fn request(command: &'static str, mut given: Given) -> Result<Request, String> {
         },
         "check" => Action::Check {
             dialect: given.dialect("in")?,
+            is_quiet: given.has("quiet"),
             inputs: given.operands,
         },
         "show" => Action::Show {
@@ -448,7 +456,11 @@ mod tests {
             "there is no dialect `csv`: csvj, tdif, csv+ or 1, 2, 3; did you mean `csv+`?"
         );
         assert_eq!(message("check --xyzzy"), "there is no option `--xyzzy`");
-        assert_eq!(message("explain syntx"), "there is no fault `syntx`: 1 to 12, which `hemakuliwi explain` lists; did you mean `syntax`?");
+        assert_eq!(
+            message("explain syntx"),
+            "there is no fault `syntx`: 1 to 12, which \
+            `hemakuliwi explain` lists; did you mean `syntax`?"
+        );
     }
 
     #[test]

@@ -27,8 +27,6 @@ const FAILED: u8 = 3;
 
 /// How wide a screen is taken to be where nothing tells.
 const SCREEN: usize = 80;
-/// What stands beside the excerpt of a line, with a line number of up to five digits.
-const MARGIN: usize = 9;
 
 #[derive(Clone, Copy, Debug, PartialEq, Eq, PartialOrd, Ord)]
 pub enum Status {
@@ -68,7 +66,11 @@ pub fn run(request: Request) -> Status {
             input,
             output,
         } => convert(from, to, input.as_deref(), output.as_deref(), &voice),
-        Action::Check { dialect, inputs } => check(dialect, inputs, &voice),
+        Action::Check {
+            dialect,
+            inputs,
+            is_quiet,
+        } => check(dialect, inputs, is_quiet, &voice),
         Action::Show {
             dialect,
             input,
@@ -93,24 +95,33 @@ impl Voice {
         Status::Failed
     }
 
-    /// As `failed`, of one of several files, which has its line of JSON among those of the others.
+    /// As `failed`, of one of several files.
     fn failed_on(
         &self,
         file: &OsStr,
         failure: &Failure,
-        output: &mut Output,
+        output: Option<&mut Output>,
     ) -> Result<Status, Failure> {
         match failure {
             Failure::System(message) if self.json => {
-                output.write(failure_json(Some(file.as_bytes()), message).as_bytes())?;
+                self.tell(&failure_json(Some(file.as_bytes()), message), output)?;
                 Ok(Status::Failed)
             }
             _ => Ok(self.failed(failure)),
         }
     }
 
+    /// Tells of one of several files: a line of JSON stands among those of the others.
+    fn tell(&self, text: &str, output: Option<&mut Output>) -> Result<(), Failure> {
+        match output {
+            Some(output) if self.json => output.write(text.as_bytes())?,
+            _ => self.say(text),
+        }
+        Ok(())
+    }
+
     fn refusal(&self, name: &[u8], case: &Case) -> String {
-        let diagnosis = Diagnosis::new(case, screen().saturating_sub(MARGIN).max(2 * MARGIN));
+        let diagnosis = Diagnosis::new(case, screen());
         if self.json {
             diagnosis.json(name)
         } else {
@@ -183,13 +194,21 @@ fn refused<'a>(dialect: Dialect, bytes: &'a [u8], refusal: Refusal) -> Case<'a> 
 }
 
 /// Each file is told of, whatever becomes of another; the worst decides the status.
-fn check(dialect: Dialect, inputs: Vec<OsString>, voice: &Voice) -> Result<Status, Failure> {
-    let mut output = Output::standard()?;
+fn check(
+    dialect: Dialect,
+    inputs: Vec<OsString>,
+    is_quiet: bool,
+    voice: &Voice,
+) -> Result<Status, Failure> {
+    let mut output = match is_quiet {
+        true => None,
+        false => Some(Output::standard()?),
+    };
     let mut worst = Status::Accepted;
     for input in input::names(inputs) {
         let status = match whole(Some(&input)) {
-            Ok((name, bytes)) => check_one(dialect, &name, &bytes, voice, &mut output)?,
-            Err(failure) => voice.failed_on(&input, &failure, &mut output)?,
+            Ok((name, bytes)) => check_one(dialect, &name, &bytes, voice, output.as_mut())?,
+            Err(failure) => voice.failed_on(&input, &failure, output.as_mut())?,
         };
         worst = worst.max(status);
     }
@@ -201,34 +220,30 @@ fn check_one(
     name: &[u8],
     bytes: &[u8],
     voice: &Voice,
-    output: &mut Output,
+    output: Option<&mut Output>,
 ) -> Result<Status, Failure> {
-    match read(dialect, bytes) {
-        Ok(table) => {
-            let counts = Counts {
-                columns: table.columns(),
-                records: table.rows().len(),
-                bytes: bytes.len(),
-                written: None,
-            };
-            let text = if voice.json {
-                counts.json(name, dialect, None)
-            } else {
-                counts.text(name)
-            };
-            output.write(text.as_bytes())?;
-            Ok(Status::Accepted)
-        }
+    let table = match read(dialect, bytes) {
+        Ok(table) => table,
         Err(refusal) => {
             let text = voice.refusal(name, &refused(dialect, bytes, refusal));
-            if voice.json {
-                output.write(text.as_bytes())?;
-            } else {
-                voice.say(&text);
-            }
-            Ok(Status::Refused)
+            voice.tell(&text, output)?;
+            return Ok(Status::Refused);
         }
+    };
+    if let Some(output) = output {
+        let counts = Counts {
+            columns: table.columns(),
+            records: table.rows().len(),
+            bytes: bytes.len(),
+            written: None,
+        };
+        let text = match voice.json {
+            true => counts.json(name, dialect, None),
+            false => counts.text(name),
+        };
+        output.write(text.as_bytes())?;
     }
+    Ok(Status::Accepted)
 }
 
 fn show_table(

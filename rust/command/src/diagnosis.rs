@@ -1,12 +1,12 @@
 //! A refusal in words: what is wrong, where, by which rule, and what usually helps.
 
 use crate::excerpt::{excerpt, Excerpt};
-use crate::explain::{explanation, Reason};
+use crate::explain::{self, explanation, Reason};
 use crate::hints::{hint, title};
 use crate::lines::{Place, MARK};
 use crate::printable::printable;
 use crate::scene::{Case, Scene, Standing};
-use hemakuliwi::{Dialect, Fault, Refusal};
+use hemakuliwi::{Dialect, Fault, Kind, Refusal};
 use std::str::from_utf8;
 
 pub struct Diagnosis {
@@ -23,14 +23,23 @@ pub struct Diagnosis {
     pub rule: String,
     pub hint: Option<(&'static str, String)>,
     pub excerpt: Excerpt,
+    /// How many columns the line numbers beside the excerpt take.
+    pub margin: usize,
 }
 
+/// The frame between a line number and its line, and a caret after the line.
+const BESIDE: usize = 4;
+/// What is shown of a line on the narrowest screen.
+const LEAST: usize = 16;
+
 impl Diagnosis {
-    /// The excerpt is at most this wide.
-    pub fn new(case: &Case, width: usize) -> Self {
+    /// The excerpt, with the line numbers beside it, is as wide as the screen at most.
+    pub fn new(case: &Case, screen: usize) -> Self {
         let scene = Scene::new(case);
         let place = scene.place();
         let reason = scene.reason();
+        let margin = 1 + place.line.to_string().len();
+        let width = screen.saturating_sub(margin + BESIDE).max(LEAST);
         Self {
             from: case.from,
             to: case.to,
@@ -44,6 +53,7 @@ impl Diagnosis {
             rule: rule(&scene, reason).into(),
             hint: hint(&scene),
             excerpt: excerpt(&case.text, place, scene.opened(), &scene.marked(), width),
+            margin,
         }
     }
 }
@@ -141,18 +151,18 @@ fn where_it_ends(scene: &Scene) -> &'static str {
 }
 
 fn kind(scene: &Scene) -> &'static str {
-    match scene.cell().map(|cell| cell.kind.name()) {
-        Some("number") => "a number",
-        Some(word) => word,
+    match scene.cell().map(|cell| cell.kind) {
+        Some(Kind::Number) => "a number",
+        Some(kind) => kind.name(),
         None => "none",
     }
 }
 
 fn limit(scene: &Scene) -> String {
     let record = scene.case.refusal.record;
-    match scene.reason().map(|reason| reason.name) {
-        Some("file_bytes") => "the file has more than 16,777,215 bytes".into(),
-        Some("columns") => format!("record {record} has more than 64 columns"),
+    match scene.reason() {
+        Some(&explain::FILE_BYTES) => "the file has more than 16,777,215 bytes".into(),
+        Some(&explain::COLUMNS) => format!("record {record} has more than 64 columns"),
         _ => format!("record {record} has more than 4,096 bytes"),
     }
 }
@@ -160,17 +170,17 @@ fn limit(scene: &Scene) -> String {
 fn not_carried(scene: &Scene) -> String {
     let Refusal { record, column, .. } = scene.case.refusal;
     let target = title(scene.case.to.unwrap_or(scene.case.from));
-    match scene.reason().map(|reason| reason.name) {
-        Some("no_cells") => format!("{target} can't carry a header without cells"),
-        Some("kind") => format!("{target} can't carry {} in column {column}", kind(scene)),
-        Some("lone_surrogate") => {
+    match scene.reason() {
+        Some(&explain::NO_CELLS) => format!("{target} can't carry a header without cells"),
+        Some(&explain::KIND) => format!("{target} can't carry {} in column {column}", kind(scene)),
+        Some(&explain::LONE_SURROGATE) => {
             format!("{target} can't carry half of a surrogate pair in column {column}")
         }
-        Some("repeated_name") => {
+        Some(&explain::REPEATED_NAME) => {
             let earlier = scene.repeated_column().unwrap_or_default();
             format!("{target} takes the name of column {column} for that of column {earlier}")
         }
-        Some("record_text") => {
+        Some(&explain::RECORD_TEXT) => {
             format!("record {record} has more than 4,096 bytes as {target} writes it")
         }
         _ => {
@@ -195,17 +205,47 @@ fn rule(scene: &Scene, reason: Option<&'static Reason>) -> &'static str {
 
 fn syntax_rule(dialect: Dialect, standing: Standing) -> &'static str {
     match (dialect, standing) {
-        (Dialect::CsvPlus, Standing::Mark) => "CSV+ has no byte order mark: EF BB BF may not be the first three bytes of a file",
-        (Dialect::Tdif, Standing::Mark) => "TDIF has no byte order mark: a file begins with a cell or a comment",
-        (Dialect::Csvj, Standing::CellStart | Standing::Mark) => "a value of CSVJ is text in quotes, a number, true, false or null",
-        (Dialect::Csvj, Standing::Bare) => "a number or word of CSVJ is spelt as in JSON, and then come a comma or the end of the line",
-        (Dialect::Csvj, Standing::AfterQuote) => "after a value of CSVJ comes a comma or the end of the line",
-        (Dialect::Csvj, Standing::Quoted) => "a byte below 20 stands in a string of CSVJ only as an escape",
-        (Dialect::Csvj, Standing::Escape) => "after a backslash comes one of \" \\ / b f n r t, or u and four hexadecimal digits",
-        (Dialect::Tdif, Standing::CellStart | Standing::Bare) => "a cell of TDIF is text in quotes or \\N, and no line is empty",
+        (Dialect::CsvPlus, Standing::Mark) => {
+            "CSV+ has no byte order mark: EF BB BF may not be \
+            the first three bytes of a file"
+        }
+        (Dialect::Tdif, Standing::Mark) => {
+            "TDIF has no byte order mark: a file begins with a cell \
+            or a comment"
+        }
+        (Dialect::Csvj, Standing::CellStart | Standing::Mark) => {
+            "a value of CSVJ is text in \
+            quotes, a number, true, false or null"
+        }
+        (Dialect::Csvj, Standing::Bare) => {
+            "a number or word of CSVJ is spelt as in JSON, and then \
+            come a comma or the end of the line"
+        }
+        (Dialect::Csvj, Standing::AfterQuote) => {
+            "after a value of CSVJ comes a comma or the end \
+            of the line"
+        }
+        (Dialect::Csvj, Standing::Quoted) => {
+            "a byte below 20 stands in a string of CSVJ only as \
+            an escape"
+        }
+        (Dialect::Csvj, Standing::Escape) => {
+            "after a backslash comes one of \" \\ / b f n r t, or \
+            u and four hexadecimal digits"
+        }
+        (Dialect::Tdif, Standing::CellStart | Standing::Bare) => {
+            "a cell of TDIF is text in quotes \
+            or \\N, and no line is empty"
+        }
         (Dialect::Tdif, _) => "after a cell of TDIF comes a comma or the end of the line",
-        (Dialect::CsvPlus, Standing::AfterQuote) => "after a closing quote comes a comma or the end of the line",
-        (Dialect::CsvPlus, Standing::Bare) => "a quote stands only around a whole cell, or twice inside of a quoted one",
+        (Dialect::CsvPlus, Standing::AfterQuote) => {
+            "after a closing quote comes a comma or the \
+            end of the line"
+        }
+        (Dialect::CsvPlus, Standing::Bare) => {
+            "a quote stands only around a whole cell, or twice \
+            inside of a quoted one"
+        }
         (_, Standing::AfterCr) => "a CR outside of quotes has an LF directly after it",
         _ => explanation(Fault::Syntax).rule,
     }
@@ -215,6 +255,7 @@ fn syntax_rule(dialect: Dialect, standing: Standing) -> &'static str {
 mod tests {
     use super::*;
     use crate::convert::names_of;
+    use crate::paint::{Paint, When};
     use crate::printable::{glyphs, Glyph};
     use crate::trail::{Text, Trail};
     use harness::generate::{mutate, sample};
@@ -222,7 +263,7 @@ mod tests {
     use hemakuliwi::{Converter, Fault};
     use std::collections::BTreeMap;
 
-    const WIDTH: usize = 60;
+    const SCREEN: usize = 60;
 
     /// What is told of a file that is converted, by its text as a whole and by what is kept of it when it comes in pieces.
     fn diagnoses(from: Dialect, to: Dialect, file: &[u8], piece: usize) -> Option<[Diagnosis; 2]> {
@@ -246,7 +287,7 @@ mod tests {
                 text,
                 names: names.clone(),
             };
-            Diagnosis::new(&case, WIDTH)
+            Diagnosis::new(&case, SCREEN)
         }))
     }
 
@@ -273,15 +314,15 @@ mod tests {
                     .map_or(0, |line| line.chars().count())
             );
         }
-        let (_, shown) = diagnosis.excerpt.lines.last().expect("a line");
-        assert!(
-            glyphs(shown.as_bytes()).map(Glyph::width).sum::<usize>() <= WIDTH,
-            "{shown}"
-        );
-        assert!(shown.chars().all(|character| !character.is_control()));
-        assert!(
-            diagnosis.excerpt.carets.contains('^') && diagnosis.excerpt.carets.len() <= WIDTH + 1
-        );
+        let plain = Paint::new(When::Never, &std::io::stdout());
+        for line in diagnosis.excerpt_text(plain).lines() {
+            assert!(
+                glyphs(line.as_bytes()).map(Glyph::width).sum::<usize>() <= SCREEN,
+                "{line}"
+            );
+            assert!(line.chars().all(|character| !character.is_control()));
+        }
+        assert!(diagnosis.excerpt.carets.contains('^'));
         let is_of_cell = matches!(
             diagnosis.refusal.fault,
             Fault::RepeatedName | Fault::HeaderKind

@@ -71,7 +71,8 @@ pub const FAULTS: [Explanation; 12] = [
         title: "the file ends before any record begins",
         rule: "a file has a header, and may have nothing else",
         place: "the end of the file",
-        remedy: "Look whether the program that wrote the file, or the one before a pipe, has failed.",
+        remedy: "Look whether the program that wrote the file, or the one before a pipe, has \
+            failed.",
         reasons: &[],
     },
     Explanation {
@@ -89,14 +90,18 @@ pub const FAULTS: [Explanation; 12] = [
         title: "a byte can't stand where it stands",
         rule: "each byte goes on with a record, a comment or a mark by the grammar of the dialect",
         place: "that byte",
-        remedy: "Most often it is a quote inside of quotes, a space beside a quote, another delimiter than the comma, or a comma at the end of a line.",
+        remedy: "Most often it is a quote inside of quotes, a space beside a quote, another \
+            delimiter than the comma, or a comma at the \
+                 end of a line.",
         reasons: &[],
     },
     Explanation {
         fault: Fault::CutShort,
         name: "cut_short",
         title: "the file ends too early",
-        rule: "a quoted cell is closed, a character is whole, and each record of CSVJ and TDIF has a line break after it, the last one too",
+        rule:
+            "a quoted cell is closed, a character is whole, and each record of CSVJ and TDIF has \
+            a line break after it, the last one too",
         place: "the end of the file",
         remedy: "Look for a quote that is not closed, or add the line break.",
         reasons: &[],
@@ -107,7 +112,8 @@ pub const FAULTS: [Explanation; 12] = [
         title: "a record has more or fewer cells than the header",
         rule: "each record has as many cells as the header",
         place: "the first byte of the record",
-        remedy: "Put cells with commas in quotes, and look for empty lines and for commas at the end of a line.",
+        remedy: "Put cells with commas in quotes, and look for empty lines and for commas at the \
+            end of a line.",
         reasons: &[],
     },
     Explanation {
@@ -134,7 +140,8 @@ pub const FAULTS: [Explanation; 12] = [
         title: "the file or a record is larger than its limit",
         rule: "a file has at most 16,777,215 bytes, a record at most 4,096 bytes and 64 columns",
         place: "the first byte too many; for columns the first byte of the record",
-        remedy: "Look for a quote that is not closed, which takes all that follows into one cell. Divide a file that is too long.",
+        remedy: "Look for a quote that is not closed, which takes all that follows into one cell. \
+            Divide a file that is too long.",
         reasons: &[FILE_BYTES, RECORD_BYTES, COLUMNS],
     },
     Explanation {
@@ -144,7 +151,14 @@ pub const FAULTS: [Explanation; 12] = [
         rule: "what is written, read again, is the same table",
         place: "the first byte of the record; the column is that of the cell, if it is a cell",
         remedy: "CSVJ carries all that the others do, but has the same limits.",
-        reasons: &[NO_CELLS, KIND, LONE_SURROGATE, REPEATED_NAME, RECORD_TEXT, FILE_TEXT],
+        reasons: &[
+            NO_CELLS,
+            KIND,
+            LONE_SURROGATE,
+            REPEATED_NAME,
+            RECORD_TEXT,
+            FILE_TEXT,
+        ],
     },
     Explanation {
         fault: Fault::Room,

@@ -23,7 +23,10 @@ pub const HINTS: [Hint; 31] = [
         applies: |scene| utf_16(scene).is_some(),
         text: |scene| {
             let encoding = utf_16(scene).unwrap_or_default();
-            format!("the file is {encoding}, as spreadsheets save \"Unicode text\"; `iconv -f {encoding} -t UTF-8` makes it UTF-8")
+            format!(
+                "the file is {encoding}, as spreadsheets save \"Unicode text\"; `iconv -f \
+                {encoding} -t UTF-8` makes it UTF-8"
+            )
         },
     },
     Hint {
@@ -31,7 +34,10 @@ pub const HINTS: [Hint; 31] = [
         applies: |scene| scene.standing == Standing::Mark,
         text: |scene| {
             let dialect = title(scene.dialect());
-            format!("the file begins with a byte order mark (EF BB BF), as spreadsheets write it, and {dialect} has none; `tail -c +4 FILE` leaves it out")
+            format!(
+                "the file begins with a byte order mark (EF BB BF), as spreadsheets write it, \
+                and {dialect} has none; `tail -c +4 FILE` leaves it out"
+            )
         },
     },
     Hint {
@@ -39,7 +45,10 @@ pub const HINTS: [Hint; 31] = [
         applies: |scene| latin_1(scene).is_some(),
         text: |scene| {
             let (byte, character) = latin_1(scene).unwrap_or_default();
-            format!("byte {byte:02X} is `{character}` in Windows-1252 (Latin-1); `iconv -f WINDOWS-1252 -t UTF-8` makes the file UTF-8")
+            format!(
+                "byte {byte:02X} is `{character}` in Windows-1252 (Latin-1); `iconv -f \
+                WINDOWS-1252 -t UTF-8` makes the file UTF-8"
+            )
         },
     },
     Hint {
@@ -51,7 +60,9 @@ pub const HINTS: [Hint; 31] = [
                     .any(|quote| follows(scene, quote))
         },
         text: |_| {
-            "these are typographic quotes, as word processors put them; the quote of a table is `\"`".into()
+            "these are typographic quotes, as word processors put them; the quote of a table is \
+                `\"`"
+                .into()
         },
     },
     Hint {
@@ -77,11 +88,15 @@ pub const HINTS: [Hint; 31] = [
     Hint {
         name: "space_beside_quote",
         applies: space_beside_quote,
-        text: |scene| {
-            match scene.standing {
-            Standing::AfterQuote => "a space stands after the closing quote; the comma or the line break comes directly after it".into(),
-            _ => "a space stands before the opening quote; the quote comes directly after the comma".into(),
-        }
+        text: |scene| match scene.standing {
+            Standing::AfterQuote => {
+                "a space stands after the closing quote; the comma or the line \
+                break comes directly after it"
+                    .into()
+            }
+            _ => "a space stands before the opening quote; the quote comes directly after the \
+                comma"
+                .into(),
         },
     },
     Hint {
@@ -120,7 +135,10 @@ pub const HINTS: [Hint; 31] = [
         applies: |scene| scene.standing == Standing::AfterCr,
         text: |scene| {
             let dialect = title(scene.dialect());
-            format!("the line ends in CR alone, and {dialect} asks for LF or CRLF; if all lines do, `tr '\\r' '\\n'` makes them LF")
+            format!(
+                "the line ends in CR alone, and {dialect} asks for LF or CRLF; if all lines \
+                do, `tr '\\r' '\\n'` makes them LF"
+            )
         },
     },
     Hint {
@@ -131,7 +149,9 @@ pub const HINTS: [Hint; 31] = [
                 && scene.byte == Some(b'"')
         },
         text: |_| {
-            "CSVJ writes a quote inside of a string as `\\\"`; to write it twice is the way of CSV+ and TDIF".into()
+            "CSVJ writes a quote inside of a string as `\\\"`; to write it twice is the way of \
+                CSV+ and TDIF"
+                .into()
         },
     },
     Hint {
@@ -142,17 +162,23 @@ pub const HINTS: [Hint; 31] = [
                 && scene.before.ends_with(b"\\\"")
         },
         text: |scene| {
-            format!("a backslash escapes nothing in {}: a quote inside of quotes is written twice, `\"\"`", title(scene.dialect()))
+            format!(
+                "a backslash escapes nothing in {}: a quote inside of quotes is written twice, \
+                `\"\"`",
+                title(scene.dialect())
+            )
         },
     },
     Hint {
         name: "unescaped_quote",
         applies: |scene| after_closing_quote(scene) && has_quote_in_rest(scene),
-        text: |scene| {
-            match scene.dialect() {
-            Dialect::Csvj => "the quote before it closes the string; a quote inside of one is written `\\\"`".into(),
-            _ => "the quote before it closes the cell; a quote inside of one is written twice, `\"\"`".into(),
-        }
+        text: |scene| match scene.dialect() {
+            Dialect::Csvj => "the quote before it closes the string; a quote inside of one is \
+                written `\\\"`"
+                .into(),
+            _ => "the quote before it closes the cell; a quote inside of one is written twice, \
+                `\"\"`"
+                .into(),
         },
     },
     Hint {
@@ -163,7 +189,9 @@ pub const HINTS: [Hint; 31] = [
                 && scene.byte == Some(b'"')
         },
         text: |_| {
-            "a cell with a quote in it stands in quotes as a whole, with each quote inside of it written twice".into()
+            "a cell with a quote in it stands in quotes as a whole, with each quote inside of it \
+                written twice"
+                .into()
         },
     },
     Hint {
@@ -184,17 +212,21 @@ pub const HINTS: [Hint; 31] = [
         name: "number_form",
         applies: is_number_form,
         text: |_| {
-            "a number has no plus and no 0 in front, and a digit on each side of its point; in quotes it may be spelt in any way".into()
+            "a number has no plus and no 0 in front, and a digit on each side of its point; in \
+                quotes it may be spelt in any way"
+                .into()
         },
     },
     Hint {
         name: "text_without_quotes",
         applies: text_without_quotes,
-        text: |scene| {
-            match scene.dialect() {
-            Dialect::Csvj => "text stands in double quotes; without them stand numbers, and true, false and null in small letters".into(),
-            _ => "each cell stands in double quotes, numbers too; only `\\N`, which is null, stands without".into(),
-        }
+        text: |scene| match scene.dialect() {
+            Dialect::Csvj => "text stands in double quotes; without them stand numbers, and true, \
+                false and null in small letters"
+                .into(),
+            _ => "each cell stands in double quotes, numbers too; only `\\N`, which is null, \
+                stands without"
+                .into(),
         },
     },
     Hint {
@@ -203,21 +235,27 @@ pub const HINTS: [Hint; 31] = [
             at_syntax(scene, Standing::Quoted) && matches!(scene.byte, Some(b'\n' | b'\r'))
         },
         text: |_| {
-            "the string is not closed on its line, or has a line break in it, which is written `\\n`".into()
+            "the string is not closed on its line, or has a line break in it, which is written \
+                `\\n`"
+                .into()
         },
     },
     Hint {
         name: "control_in_string",
         applies: |scene| at_syntax(scene, Standing::Quoted),
         text: |_| {
-            "control characters in a string are written as escapes: a tab as `\\t`, others as `\\u0007`".into()
+            "control characters in a string are written as escapes: a tab as `\\t`, others as \
+                `\\u0007`"
+                .into()
         },
     },
     Hint {
         name: "backslash_in_string",
         applies: |scene| at_syntax(scene, Standing::Escape),
         text: |_| {
-            "a backslash begins an escape; one that stands for itself, as in a path of Windows, is written `\\\\`".into()
+            "a backslash begins an escape; one that stands for itself, as in a path of Windows, is \
+                written `\\\\`"
+                .into()
         },
     },
     Hint {
@@ -225,7 +263,11 @@ pub const HINTS: [Hint; 31] = [
         applies: |scene| scene.opened().is_some(),
         text: |scene| {
             let cell = scene.walk.cell();
-            format!("the quote of the cell that begins at line {}, column {} is not closed before this place", cell.line, cell.column)
+            format!(
+                "the quote of the cell that begins at line {}, column {} is not closed before \
+                this place",
+                cell.line, cell.column
+            )
         },
     },
     Hint {
@@ -236,7 +278,10 @@ pub const HINTS: [Hint; 31] = [
         },
         text: |scene| {
             let dialect = title(scene.dialect());
-            format!("the last line has no line break after it, and {dialect} asks for one; `echo >>FILE` adds it")
+            format!(
+                "the last line has no line break after it, and {dialect} asks for one; `echo \
+                >>FILE` adds it"
+            )
         },
     },
     Hint {
@@ -262,12 +307,18 @@ pub const HINTS: [Hint; 31] = [
     Hint {
         name: "fewer_cells",
         applies: |scene| scene.fault() == Fault::CellCount,
-        text: |scene| {
-            match scene.dialect() {
-            Dialect::Csvj => "a cell without a value is written `null`, so that the number of cells stays the same".into(),
-            Dialect::Tdif => "a cell without a value is written `\\N`, so that the number of cells stays the same".into(),
-            Dialect::CsvPlus => "an empty cell still has its comma; and a line break inside of a cell ends the record unless it stands in quotes".into(),
-        }
+        text: |scene| match scene.dialect() {
+            Dialect::Csvj => "a cell without a value is written `null`, so that the number of \
+                cells stays the same"
+                .into(),
+            Dialect::Tdif => {
+                "a cell without a value is written `\\N`, so that the number of cells \
+                stays the same"
+                    .into()
+            }
+            Dialect::CsvPlus => "an empty cell still has its comma; and a line break inside of a \
+                cell ends the record unless it stands in quotes"
+                .into(),
         },
     },
     Hint {
@@ -285,7 +336,9 @@ pub const HINTS: [Hint; 31] = [
         name: "surrogate_as_character",
         applies: |scene| scene.reason() == Some(&explain::LONE_SURROGATE),
         text: |_| {
-            "characters above FFFF are two escapes, as `\\ud83d\\ude00`; here the other one is missing".into()
+            "characters above FFFF are two escapes, as `\\ud83d\\ude00`; here the other one is \
+                missing"
+                .into()
         },
     },
     Hint {
@@ -466,14 +519,8 @@ fn text_without_quotes(scene: &Scene) -> bool {
 }
 
 fn differs_in_case(scene: &Scene) -> bool {
-    let [Some(cell), Some(column)] = [
-        scene.cell().map(|cell| &cell.content),
-        scene
-            .repeated_column()
-            .and_then(|column| scene.cells.get(column - 1))
-            .map(|cell| &cell.content),
-    ] else {
-        return false;
-    };
-    cell != column
+    let column = scene.repeated_column();
+    let earlier = column.and_then(|column| scene.cells.get(column - 1));
+    let [name, earlier] = [scene.cell(), earlier].map(|cell| cell.map(|cell| &cell.content));
+    name != earlier
 }

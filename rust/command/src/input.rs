@@ -7,7 +7,7 @@ use hemakuliwi::raw::FILE_BYTES;
 use std::ffi::{OsStr, OsString};
 use std::fs::File;
 use std::io::{ErrorKind, IsTerminal, Read};
-use std::os::unix::ffi::{OsStrExt, OsStringExt};
+use std::os::unix::ffi::OsStrExt;
 
 pub struct Input {
     /// What it is called in reports.
@@ -74,7 +74,7 @@ impl Input {
 /// The names of files as they are given, or standard input.
 pub fn names(inputs: Vec<OsString>) -> Vec<OsString> {
     if inputs.is_empty() {
-        vec![OsString::from_vec(b"-".to_vec())]
+        vec!["-".into()]
     } else {
         inputs
     }

@@ -49,7 +49,8 @@ impl Output {
         Ok(Self { name, file, target })
     }
 
-    /// A terminal, a pipe or a device is written to as it is. A file that may not be written is not replaced, though its folder may allow it.
+    /// A terminal, a pipe or a device is written to as it is. A file that may not be written is not replaced, though its folder may allow
+    /// it.
     fn opened(path: &Path) -> io::Result<(File, Option<Target>)> {
         let old = match fs::metadata(path) {
             Ok(metadata) => Some(metadata),

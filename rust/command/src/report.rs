@@ -98,19 +98,14 @@ impl Diagnosis {
             } else {
                 head.into()
             };
-            let margin = paint.frame(&format!("{} =", " ".repeat(self.margin())));
+            let margin = paint.frame(&format!("{} =", " ".repeat(self.margin)));
             writeln!(text, "{margin} {head}: {note}").expect("a string takes all");
         }
         text
     }
 
-    /// As many columns as the line numbers of the excerpt take.
-    fn margin(&self) -> usize {
-        1 + self.place.line.to_string().len()
-    }
-
-    fn excerpt_text(&self, paint: Paint) -> String {
-        let margin = self.margin();
+    pub fn excerpt_text(&self, paint: Paint) -> String {
+        let margin = self.margin;
         let mut text = String::new();
         for (number, line) in &self.excerpt.lines {
             let frame = paint.frame(&format!("{number:margin$} |"));

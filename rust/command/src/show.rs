@@ -199,7 +199,8 @@ mod tests {
         let file = b"a,b\nshort,a text that is far too long for it\n";
         let expected = "   a      b\n   -----  ----------\n2  short  a text th…\n";
         assert_eq!(lines(Dialect::CsvPlus, file, 20), expected);
-        let narrow = "   a\n   -----\n2  short\nand 1 column to the right: --width sets how wide this is, and 0 no bound\n";
+        let narrow = "   a\n   -----\n2  short\nand 1 column to the right: --width sets how wide \
+            this is, and 0 no bound\n";
         assert_eq!(lines(Dialect::CsvPlus, file, 12), narrow);
         assert!(lines(Dialect::CsvPlus, file, 0).contains("for it\n"));
     }

@@ -48,6 +48,7 @@ fn bash_completes_commands_options_dialects_and_faults() {
         ("hemakuliwi convert --from = t|", "tdif"),
         ("hemakuliwi convert --to cs|", "csvj csv+"),
         ("hemakuliwi check --in t|", "tdif"),
+        ("hemakuliwi check --q|", "--quiet"),
         ("hemakuliwi check --o|", ""),
         ("hemakuliwi show --w|", "--width"),
         ("hemakuliwi show --color a|", "auto always"),

@@ -22,7 +22,7 @@ const CRATES: &str =
     "# Three of them are needed.\nmodel:\ngrammar: model\nc_files: model\nc_cells: model\n";
 const RT: &str = "#!/usr/bin/env bash
 cat >/dev/null
-printf 'rt: model proved (1 s)\\nrt: %s proved (2 s)\\n' \"$2\"
+printf 'rt: model proved (1 s)\\nrt: target/staticlib/lib%s.a has the functions of it\\n' \"$2\"
 ";
 
 /// A repository with the script, and programs of the names that it needs.

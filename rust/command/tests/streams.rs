@@ -56,6 +56,23 @@ fn an_output_that_is_closed_is_no_success() {
 }
 
 #[test]
+fn a_quiet_check_needs_no_output() {
+    let check = "\"$command\" check --quiet --in csv+";
+    // The third is /dev/null, open both ways, which would be taken for closed.
+    for redirection in ["", ">&-", "<>/dev/null >&0 <<<a", "--json >/dev/full"] {
+        let told = shell(&format!("{check} {redirection}"), b"a\nb\n");
+        assert_eq!(told, Run::new(0, "", ""), "{redirection}");
+    }
+    let refused = shell(&format!("{check} -"), b"a\n\"");
+    assert!(refused.said.contains("refused (4, cut_short)") && refused.status == Some(1));
+    let json = shell(&format!("{check} --json - none"), b"a\n\"");
+    assert_eq!(
+        (json.status, json.told.as_str(), json.said.lines().count()),
+        (Some(3), "", 2)
+    );
+}
+
+#[test]
 fn an_output_that_is_full_is_no_success() {
     let full = "hemakuliwi: standard output: No space left on device (os error 28)\n";
     for command in [

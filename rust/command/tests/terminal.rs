@@ -21,8 +21,9 @@ fn shell_word(text: &str) -> String {
     format!("'{}'", text.replace('\'', "'\\''"))
 }
 
-fn refused() -> String {
-    let path = folder("terminal").join("refused.csv");
+/// A file that is refused, in a folder for the test alone.
+fn refused(test: &str) -> String {
+    let path = folder(test).join("refused.csv");
     fs::write(&path, "stop\n\"Old \"Mint\"\n").expect("a file");
     text(path)
 }
@@ -32,7 +33,7 @@ fn colour_is_for_terminals_and_for_who_asks() {
     if !has("script") {
         return;
     }
-    let file = refused();
+    let file = refused("colour_on_a_terminal");
     let check = |options: &str, before: &str| {
         on_terminal(&format!(
             "{before} $command check --in csv+ {options} {file}"
@@ -60,7 +61,7 @@ fn colour_is_for_terminals_and_for_who_asks() {
 
 #[test]
 fn elsewhere_there_is_colour_only_on_demand() {
-    let file = refused();
+    let file = refused("colour_elsewhere");
     assert!(!run(&["check", "--in", "csv+", &file], b"")
         .said
         .contains(COLOUR));

@@ -47,6 +47,8 @@ impl Run {
 fn run_program(program: &str, words: &[&str], input: &[u8]) -> Run {
     let mut child = Command::new(program)
         .args(words)
+        .env_remove("COLUMNS")
+        .env_remove("NO_COLOR")
         .stdin(Stdio::piped())
         .stdout(Stdio::piped())
         .stderr(Stdio::piped())
