@@ -1,5 +1,6 @@
-# The library for C: `make` builds the archive and the shared library from the same objects, `make install PREFIX=..` installs both with
-# the header and the pkg-config file, and `make uninstall` takes them away again. Nothing is built whose proof does not pass.
+# `make` builds the library, as an archive and as a shared library of the same objects. `make install PREFIX=..` installs both with the
+# header and the pkg-config file, and the command with its texts; `make uninstall` takes all of it away again. No library is built whose
+# proof does not pass.
 PREFIX ?= /usr/local
 libdir ?= $(PREFIX)/lib
 includedir ?= $(PREFIX)/include

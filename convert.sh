@@ -4,7 +4,7 @@
 set -euo pipefail
 root=$(cd "$(dirname "$0")" && pwd)
 if ! make --silent --question --directory "$root" program; then
-  printf 'convert.sh: the converter is proved and built first; this takes about 6 minutes, and is not done again.\n' >&2
+  printf 'convert.sh: the converter is proved and built first; this takes some minutes, and is not done again.\n' >&2
   make --silent --directory "$root" program >&2
 fi
 exec "$root/target/bin/program" "$@"

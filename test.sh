@@ -1,6 +1,6 @@
 #!/usr/bin/env bash
 # Passes the tests: the layout of the Rattle files, the proofs, the vectors computed by the definitions, the library that the proofs
-# allow, and the tests of the program and of Rust and C callers, whose texts python3 reads where it is installed. Stops at the first
+# allow, and the tests of the program, of the command and of callers in Rust, C, C++ and, where it is installed, Python. Stops at the first
 # failure and says where. The last line is the verdict of `rt ci`, and stands there only if everything passed.
 set -euo pipefail
 cd "$(dirname "$0")"
@@ -94,6 +94,6 @@ start_vectors
 part 'proofs' proofs
 part 'vectors computed by the definitions' end_vectors
 part 'library' library
-part 'Rust and C tests' callers
+part 'tests of the program, the command and the callers' callers
 printf '== all: %d s\n' "$SECONDS"
 tail -n 1 "$scratch/verdict"

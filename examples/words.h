@@ -19,38 +19,56 @@ static inline uint32_t dialect_of(const char *word) {
     return dialect;
 }
 
-static inline const char *explanation(size_t number) {
-    switch (number) {
-    case HK_NO_RECORD:
-        return "the file ends before any record begins, so there is no header";
-    case HK_ENCODING:
-        return "this byte is not valid UTF-8 text";
-    case HK_SYNTAX:
-        return "this byte cannot stand here";
-    case HK_CUT_SHORT:
-        return "the file ends too early; its last part is cut off";
-    case HK_CELL_COUNT:
-        return "this record does not have as many cells as the header";
-    case HK_REPEATED_NAME:
-        return "this column name has already been used in the header";
-    case HK_HEADER_KIND:
-        return "a column name must be text";
-    case HK_LIMIT:
-        return "a limit is exceeded (16,777,215 bytes in a file, 4,096 bytes in a record, 64 columns)";
-    case HK_NOT_CARRIED:
-        return "this record cannot be written in the chosen format without loss";
-    default:
-        return "the program called the library in a way that it refuses";
+/* What fault 9 says of its reason: of a cell or a name, or of the record as a whole. */
+static inline void explain_not_carried(struct hk_report report) {
+    if (report.column == 0) {
+        fprintf(stderr, "record %zu can't be written in the target dialect, which asks for a column", report.record_number);
+        fprintf(stderr, " or in which the record or the file gets too long; it begins at byte %zu\n", report.offset);
+    } else {
+        fprintf(stderr, "column %zu of record %zu can't be written in the target dialect,", report.column, report.record_number);
+        fprintf(stderr, " which lacks such a cell or character or takes the name for an earlier one;");
+        fprintf(stderr, " the record begins at byte %zu\n", report.offset);
     }
 }
 
 /* One sentence for the person who handed in the file. */
 static inline void explain(struct hk_report report) {
-    fprintf(stderr, "Fault %zu in record %zu%s", report.number, report.record_number, report.record_number == 1 ? " (the header)" : "");
-    if (report.column > 0) {
-        fprintf(stderr, ", column %zu", report.column);
+    size_t record = report.record_number, column = report.column, byte = report.offset;
+    fprintf(stderr, "refused (%zu): ", report.number);
+    switch (report.number) {
+    case HK_NO_RECORD:
+        fprintf(stderr, "the file ends at byte %zu before record %zu, the header, begins\n", byte, record);
+        break;
+    case HK_ENCODING:
+        fprintf(stderr, "at record %zu, byte %zu is not UTF-8 text\n", record, byte);
+        break;
+    case HK_SYNTAX:
+        fprintf(stderr, "at record %zu, byte %zu can't stand there in a file of the source dialect\n", record, byte);
+        break;
+    case HK_CUT_SHORT:
+        fprintf(stderr, "the file ends at byte %zu before record %zu is complete\n", byte, record);
+        break;
+    case HK_CELL_COUNT:
+        fprintf(stderr, "record %zu has another number of cells than the header; it begins at byte %zu\n", record, byte);
+        break;
+    case HK_REPEATED_NAME:
+        fprintf(stderr, "record %zu, the header, has in column %zu the name of an earlier column;", record, column);
+        fprintf(stderr, " it begins at byte %zu\n", byte);
+        break;
+    case HK_HEADER_KIND:
+        fprintf(stderr, "record %zu, the header, has no name in column %zu, where the cell is not text;", record, column);
+        fprintf(stderr, " it begins at byte %zu\n", byte);
+        break;
+    case HK_LIMIT:
+        fprintf(stderr, "at record %zu, a limit is passed (16,777,215 bytes in a file, 4,096 bytes or 64 columns in a record);", record);
+        fprintf(stderr, " byte %zu is the first too many or, for columns, the record's first\n", byte);
+        break;
+    case HK_NOT_CARRIED:
+        explain_not_carried(report);
+        break;
+    default:
+        fprintf(stderr, "the converter was not called as it has to be\n");
     }
-    fprintf(stderr, " at byte offset %zu: %s.\n", report.offset, explanation(report.number));
 }
 
 /* Says what the machine did not do. */

@@ -329,7 +329,7 @@ static void check_read_back(uint32_t dialect, const uint8_t *text, size_t length
     }
 }
 
-/* A number from two bytes of the input, and at their end some that are far outside. */
+/* A number from two bytes of the input; the last four stand for numbers that are far outside. */
 static size_t any_number(const uint8_t *bytes) {
     size_t number = bytes[0] + 256u * bytes[1];
     static const size_t far[] = {SIZE_MAX, (size_t)1 << 63, (size_t)1 << 32, (size_t)1 << 31};
@@ -632,7 +632,7 @@ static void change_state(const uint8_t *change) {
     }
 }
 
-/* Any bytes; or the converter that a part of the input leads to, with some of it changed. The first byte where they begin in the input. */
+/* Any bytes; or the converter that a part of the input leads to, with some of it changed. Answers how many bytes of the input it took. */
 static size_t make_up_state(void) {
     enum { CHANGE = 3 };
     state = hk_converter_new(source, target);

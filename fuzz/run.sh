@@ -1,13 +1,14 @@
 #!/usr/bin/env bash
 # Fuzzes the calls of the library at their boundary, guided by the branches that are taken: fuzz/run.sh [SECONDS [FOLDER]].
 # Then the inputs that were kept are handed once more to the library alone, as it is and under valgrind. It needs the library (`make`),
-# clang with libFuzzer (Debian: clang, libclang-rt-dev) and, for the last part, valgrind. A finding stays in FOLDER, and the exit status is not 0.
+# clang with libFuzzer (Debian: clang, libclang-rt-dev) and, for the last part, valgrind. A finding stays in FOLDER, and the exit status
+# is not 0.
 set -euo pipefail
 seconds=${1:-60}
 folder=$(realpath -m "${2:-target/fuzz}")
 cd "$(dirname "$0")/.."
 archive=$PWD/target/staticlib/libhemakuliwi.a
-crates=(c_files c_convert c_pieces c_cells)
+crates=(c_files c_convert c_pieces c_ends c_cells)
 mkdir -p "$folder"/{kit,covered,corpus,findings}
 [[ -f $archive ]] || { echo "fuzz: no $archive: run make"; exit 2; }
 

@@ -10,10 +10,11 @@ b'"stop","fare"\n"Old \\"Mint\\" stop",null\n'
 
 What can't be carried is refused, with the place:
 
->>> hemakuliwi.convert("csvj", "csv+", b'"stop","fare"\n"Harbour",2.40\n')
+>>> hemakuliwi.convert("csvj", "csv+", b'"stop","fare"\n"Harbour",2.40\n')  # doctest: +NORMALIZE_WHITESPACE
 Traceback (most recent call last):
     ...
-hemakuliwi.Refused: Fault 9 in record 2, column 2 at byte offset 14: this record cannot be written in the chosen format without loss.
+hemakuliwi.Refused: refused (9): column 2 of record 2 can't be written in the target dialect, which lacks such a cell or character or
+takes the name for an earlier one; the record begins at byte 14
 
 A dialect is a `Dialect`, its name in any case, or its number. Bytes are anything that has a buffer of them: bytes, a bytearray, a
 memoryview. What a file is in each dialect, and what is refused, is told by docs/RULES.md.
@@ -105,19 +106,32 @@ class Fault(enum.IntEnum):
     NO_TABLE = 12
 
 
-_EXPLANATIONS = {
-    Fault.NO_RECORD: "the file ends before any record begins, so there is no header",
-    Fault.ENCODING: "this byte is not valid UTF-8 text",
-    Fault.SYNTAX: "this byte cannot stand here",
-    Fault.CUT_SHORT: "the file ends too early; its last part is cut off",
-    Fault.CELL_COUNT: "this record does not have as many cells as the header",
-    Fault.REPEATED_NAME: "this column name has already been used in the header",
-    Fault.HEADER_KIND: "a column name must be text",
-    Fault.LIMIT: "a limit is exceeded (16,777,215 bytes in a file, 4,096 bytes in a record, 64 columns)",
-    Fault.NOT_CARRIED: "this record cannot be written in the chosen format without loss",
-    Fault.ROOM: "the memory set aside for the answer is too small, or the piece is too long",
-    Fault.WRONG_CALL: "the format is not known, or the file was already finished",
-    Fault.NO_TABLE: "the table to be written does not fit together",
+# For a file they are the sentences of the proved program. What stands behind a semicolon is left out where there is no file.
+_SENTENCES = {
+    Fault.NO_RECORD: "the file ends at byte {offset} before record {record}, the header, begins",
+    Fault.ENCODING: "at record {record}, byte {offset} is not UTF-8 text",
+    Fault.SYNTAX: "at record {record}, byte {offset} can't stand there in a file of the source dialect",
+    Fault.CUT_SHORT: "the file ends at byte {offset} before record {record} is complete",
+    Fault.CELL_COUNT: "record {record} has another number of cells than the header; it begins at byte {offset}",
+    Fault.REPEATED_NAME: "record {record}, the header, has in column {column} the name of an earlier column; it begins at byte {offset}",
+    Fault.HEADER_KIND: "record {record}, the header, has no name in column {column}, where the cell is not text; "
+    "it begins at byte {offset}",
+    Fault.LIMIT: "at record {record}, a limit is passed (16,777,215 bytes in a file, 4,096 bytes or 64 columns in a record); "
+    "byte {offset} is the first too many or, for columns, the record's first",
+    Fault.NOT_CARRIED: "column {column} of record {record} can't be written in the target dialect, which lacks such a cell or character "
+    "or takes the name for an earlier one; the record begins at byte {offset}",
+    Fault.ROOM: "what was lent is too short, or a piece too long",
+    Fault.WRONG_CALL: "there is no such dialect, or the file was ended before",
+    Fault.NO_TABLE: "what is to be written is no table: it has no header, a number is not spelt as one, or a text is not UTF-8",
+}
+_NOT_CARRIED_AS_A_WHOLE = (
+    "record {record} can't be written in the target dialect, which asks for a column or in which the record or the file gets too long; "
+    "it begins at byte {offset}"
+)
+_SENTENCES_OF_A_CELL = {
+    Fault.ENCODING: "byte {offset} of the cell is not UTF-8 text",
+    Fault.SYNTAX: "byte {offset} of the cell can't stand there in this dialect",
+    Fault.CUT_SHORT: "the cell ends at byte {offset} before it is complete",
 }
 
 AnyDialect = Union[Dialect, str, int]
@@ -142,7 +156,7 @@ class Refused(ValueError):
     ...     print(refused.report)
     ...     print(refused)
     Report(number=5, record=2, column=0, offset=10)
-    Fault 5 in record 2 at byte offset 10: this record does not have as many cells as the header.
+    refused (5): record 2 has another number of cells than the header; it begins at byte 10
     """
 
     report: Report
@@ -176,14 +190,14 @@ class Refused(ValueError):
         return self.report.offset
 
     def __str__(self) -> str:
-        place = ""
-        if self.record > 0:
-            place += f" in record {self.record}" + (" (the header)" if self.record == 1 else "")
-        if self.column > 0:
-            place += f", column {self.column}"
-        if self._has_offset and self.number <= Fault.NOT_CARRIED:
-            place += f" at byte offset {self.offset}"
-        return f"Fault {int(self.number)}{place}: {_EXPLANATIONS[self.number]}."
+        number, sentence = self.number, _SENTENCES[self.number]
+        if number == Fault.NOT_CARRIED and self.column == 0:
+            sentence = _NOT_CARRIED_AS_A_WHOLE
+        if self.record == 0:
+            sentence = _SENTENCES_OF_A_CELL.get(number, sentence)
+        if not self._has_offset:
+            sentence = sentence.partition("; ")[0]
+        return f"refused ({int(number)}): " + sentence.format(**self.report._asdict())
 
 
 class Cell(NamedTuple):

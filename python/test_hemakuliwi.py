@@ -20,7 +20,9 @@ from pathlib import Path
 import hemakuliwi
 from hemakuliwi import FALSE, NULL, TRUE, Cell, Converter, Dialect, Fault, Kind, Refused, Report, number, text
 
-VECTORS = Path(__file__).resolve().parent.parent / "vectors"
+REPOSITORY = Path(__file__).resolve().parent.parent
+VECTORS = REPOSITORY / "vectors"
+RUNS = REPOSITORY / "rust" / "harness" / "tests" / "program_runs" / "runs"
 DIALECTS = (1, 2, 3)
 PAIRS = [(source, target) for source in DIALECTS for target in DIALECTS]
 
@@ -201,63 +203,74 @@ class Faults(unittest.TestCase):
         finished = Converter(3, 3)
         finished.feed(b"a\n")
         finished.end()
-        for call, arguments, report, place, explanation in [
-            (
-                read, ("csvj", b""), (1, 1, 0, 0),
-                " in record 1 (the header) at byte offset 0",
-                "the file ends before any record begins, so there is no header",
-            ),
-            (read, ("csv+", b"a\n\xff\n"), (2, 2, 0, 2), " in record 2 at byte offset 2", "this byte is not valid UTF-8 text"),
+        limit = "at record 1, a limit is passed (16,777,215 bytes in a file, 4,096 bytes or 64 columns in a record)"
+        unwritable = "can't be written in the target dialect"
+        lacking = f"{unwritable}, which lacks such a cell or character or takes the name for an earlier one"
+        too_long = f"{unwritable}, which asks for a column or in which the record or the file gets too long"
+        for call, arguments, report, sentence in [
+            (read, ("csvj", b""), (1, 1, 0, 0), "the file ends at byte 0 before record 1, the header, begins"),
+            (read, ("csv+", b"a\n\xff\n"), (2, 2, 0, 2), "at record 2, byte 2 is not UTF-8 text"),
             (
                 read, ("tdif", b'"a" \n'), (3, 1, 0, 3),
-                " in record 1 (the header) at byte offset 3",
-                "this byte cannot stand here",
+                "at record 1, byte 3 can't stand there in a file of the source dialect",
             ),
-            (
-                read, ("csvj", b'"a'), (4, 1, 0, 2),
-                " in record 1 (the header) at byte offset 2",
-                "the file ends too early; its last part is cut off",
-            ),
+            (read, ("csvj", b'"a'), (4, 1, 0, 2), "the file ends at byte 2 before record 1 is complete"),
             (
                 read, ("csv+", b"a,b\n1\n"), (5, 2, 0, 4),
-                " in record 2 at byte offset 4",
-                "this record does not have as many cells as the header",
+                "record 2 has another number of cells than the header; it begins at byte 4",
             ),
             (
                 read, ("csvj", b'"a","\\u0061"\n'), (6, 1, 2, 0),
-                " in record 1 (the header), column 2 at byte offset 0",
-                "this column name has already been used in the header",
+                "record 1, the header, has in column 2 the name of an earlier column; it begins at byte 0",
+            ),
+            (
+                write, ("csvj", [["a", "a"]]), (6, 1, 2, 0),
+                "record 1, the header, has in column 2 the name of an earlier column",
             ),
             (
                 read, ("tdif", b"\\N\n"), (7, 1, 1, 0),
-                " in record 1 (the header), column 1 at byte offset 0",
-                "a column name must be text",
+                "record 1, the header, has no name in column 1, where the cell is not text; it begins at byte 0",
             ),
             (
                 read, ("csv+", b"a" * 4_097), (8, 1, 0, 4_096),
-                " in record 1 (the header) at byte offset 4096",
-                "a limit is exceeded (16,777,215 bytes in a file, 4,096 bytes in a record, 64 columns)",
+                f"{limit}; byte 4096 is the first too many or, for columns, the record's first",
             ),
+            (write, ("csvj", [["a"] * 65]), (8, 1, 0, 0), limit),
+            (convert, ("csvj", "tdif", b'"a"\n1\n'), (9, 2, 1, 4), f"column 1 of record 2 {lacking}; the record begins at byte 4"),
+            (write, ("csv+", [["a"], [1]]), (9, 2, 1, 0), f"column 1 of record 2 {lacking}"),
+            (convert, ("csvj", "tdif", b"\n\n"), (9, 1, 0, 0), f"record 1 {too_long}; it begins at byte 0"),
+            (decode, ("csvj", b'"\xff'), (2, 0, 0, 1), "byte 1 of the cell is not UTF-8 text"),
+            (decode, ("csvj", b"tru "), (3, 0, 0, 3), "byte 3 of the cell can't stand there in this dialect"),
+            (decode, ("csvj", b"tru"), (4, 0, 0, 3), "the cell ends at byte 3 before it is complete"),
+            (read, (4, b"a\n"), (11, 0, 0, 0), "there is no such dialect, or the file was ended before"),
+            (finished.end, (), (11, 0, 0, 0), "there is no such dialect, or the file was ended before"),
             (
-                convert, ("csvj", "tdif", b'"a"\n1\n'), (9, 2, 1, 4),
-                " in record 2, column 1 at byte offset 4",
-                "this record cannot be written in the chosen format without loss",
+                write, ("csvj", []), (12, 0, 0, 0),
+                "what is to be written is no table: it has no header, a number is not spelt as one, or a text is not UTF-8",
             ),
-            (
-                write, ("csv+", [["a"], [1]]), (9, 2, 1, 0),
-                " in record 2, column 1",
-                "this record cannot be written in the chosen format without loss",
-            ),
-            (decode, ("csvj", b"tru "), (3, 0, 0, 3), " at byte offset 3", "this byte cannot stand here"),
-            (read, (4, b"a\n"), (11, 0, 0, 0), "", "the format is not known, or the file was already finished"),
-            (finished.end, (), (11, 0, 0, 0), "", "the format is not known, or the file was already finished"),
-            (write, ("csvj", []), (12, 0, 0, 0), "", "the table to be written does not fit together"),
         ]:
             with self.assertRaises(Refused, msg=arguments) as caught:
                 call(*arguments)
             self.assertEqual(caught.exception.report, report)
-            self.assertEqual(str(caught.exception), f"Fault {report[0]}{place}: {explanation}.")
+            self.assertEqual(str(caught.exception), f"refused ({report[0]}): {sentence}")
             self.assertEqual(caught.exception.written, b"")
+
+    def test_a_stored_run_of_the_proved_program_has_the_same_text_and_sentence(self):
+        count = 0
+        for arguments in sorted(RUNS.glob("*.args")):
+            said = arguments.with_suffix(".err").read_text()
+            if said.startswith("usage: "):
+                continue
+            converted, sentence = io.BytesIO(), ""
+            dialects = [int(word) if word.isdigit() else word for word in arguments.read_text().split()]
+            try:
+                hemakuliwi.convert_stream(io.BytesIO(arguments.with_suffix(".in").read_bytes()), converted, *dialects)
+            except Refused as refused:
+                sentence = f"{refused}\n"
+            self.assertEqual(sentence, said, arguments)
+            self.assertEqual(converted.getvalue(), arguments.with_suffix(".out").read_bytes(), arguments)
+            count += 1
+        self.assertGreaterEqual(count, 19)
 
     def test_a_refusal_has_the_parts_of_its_report(self):
         refused = Refused(Report(9, 3, 2, 36), b"written")

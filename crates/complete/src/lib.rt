@@ -1,7 +1,8 @@
 // A complete record, from the kept bytes of its cells: validated, and written if it is sound and there is room.
 //
-// The cells that calls keep are whole and have room, as the laws of proofs/ show. A record may also be of a state that no calls made, and its
-// cells any bytes: of them is asked what their spelling needs, so that the call stays in bounds, and a record without it is lost.
+// The cells that calls keep may be spelt and have room, as the laws of turn and walk show. A record may also be of a state that no calls
+// made, and its cells any bytes: of them is asked what their spelling needs (decoder's specs/Followed.antt), so that the call stays in
+// bounds, and a record without it is lost.
 ghost use mathlib.Core.Path.{_≡_};
 ghost use mathlib.Core.Bool.{true, false};
 ghost use mathlib.Core.List.{_++_};
@@ -121,7 +122,7 @@ fn put(
     record::put_ending(t, out, x.end, true)
 }
 
-// A record of whole cells.
+// A record whose cells may be spelt.
 fn finished(
     d: Dialect,
     t: Dialect,
@@ -152,8 +153,8 @@ fn finished(
 
 // ---- bytes that no calls kept
 
-// Whether ED hex stands among these bytes. All are asked, with no way out before the last: so the machine asks sixteen at once, and a record
-// in which none stands, as nearly all are, costs next to nothing.
+// Whether ED hex stands among these bytes. All are asked, with no way out before the last: so the machine asks sixteen at once, and a
+// record in which none stands, as nearly all are, costs next to nothing.
 fn holds_ed(s: &[u8]) -> bool
     ensures { λ r. ⌜ (r ≡ false → HoldsNoEd (now (s .entry))) ⌝ }
 {

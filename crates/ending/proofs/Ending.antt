@@ -6,7 +6,7 @@ use mathlib.Core.Bool.{true}
 use mathlib.Core.Option.{some}
 use mathlib.Core.List.{List, [], _∷_, _++_, map}
 use lib.ListN.{length}
-use Rattle.model.specs.Base.{_is_, isEmpty}
+use Rattle.model.specs.Base.{isEmpty}
 use Rattle.model.specs.Cell.{isWhole}
 use Rattle.model.specs.File.{fileEnd}
 use Rattle.model.specs.Decode.{validateCell}

@@ -1,28 +1,26 @@
 -- What the end of the file comes to, case by case.
-use Prim.Native.Nat.{ℕ, suc, _+_, _-_, _≤_, _<_}
+use Prim.Native.Nat.{ℕ, suc, _+_, _≤_, _<_}
 use native.Mathlib.Omega.{arith}
 use native.Mathlib.Numerals.{add-one}
 use mathlib.Core.Path.{_≡_, refl, sym, ap, ap₂, subst, _∙_}
-use mathlib.Core.Bool.{true}
 use mathlib.Core.List.{List, [], _∷_, _++_, append-assoc, append-nil}
 use lib.ListN.{length, take, set, length-append, length-map}
-use lib.Seq.{take-suc-set, drop-length}
-use Rattle.model.specs.Base.{if_then_else_, Bytes, isEmpty}
+use lib.Seq.{take-suc-set}
+use Rattle.model.specs.Base.{Bytes, isEmpty}
 use Rattle.model.specs.File.{fileEnd}
 use Rattle.model.specs.Text.{Value, recordText, tableText, ending}
 use Rattle.model.specs.Report.{accepted, report, numberOf, columnOf, LEASTOUTPUT, MAXCOLUMNS}
 use Rattle.model.specs.Records.{Rec, rows, Progress, going, stopped, between-records, faultReport, reportOf, recordsOf}
 use Rattle.model.specs.Trips.{SameCells}
-use Rattle.model.specs.Scans.{RawCell, Kept, valueOf, inRecord}
+use Rattle.model.specs.Scans.{RawCell, Kept, valueOf}
 use Rattle.model.specs.Places.{keptBytes, keptEnds}
 use Rattle.model.specs.Machine.{newText}
-use Rattle.model.proofs.Tests.{impossible}
 use Rattle.buffers.specs.Wrote.{written}
 use Rattle.buffers.proofs.Writing.{written-first}
 use Rattle.carried.specs.Sound.{InOrder, order-end, order-next}
 use Rattle.carried.specs.Hand.{InHand}
 use Rattle.carried.specs.declared.place.Place.{Place}
-use Rattle.turn.specs.Types.{Dialect, Target, FileState, Top, Begin, Ended, Mark1, Mark2, PlainMark1, PlainMark2, Comment, Blanks, Wanting, Inside, After, Cr, Final, Fault, TooManyColumns, Sound, Faulty}
+use Rattle.turn.specs.Types.{Dialect, Target, Begin, Final, Fault, TooManyColumns, Sound, Faulty}
 use Rattle.complete.specs.declared.Done.{Done}
 use Rattle.complete.specs.declared.Done.the-variants.{Written, Refused, Lost}
 use Rattle.turn.specs.declared.Taken.{Taken}

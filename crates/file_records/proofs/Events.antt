@@ -1,4 +1,4 @@
--- What an event of the scanner says of reading.
+-- What the event of the next record says of reading.
 use Prim.Native.Nat.{ℕ}
 use native.Mathlib.Omega.{arith}
 use mathlib.Core.Path.{_≡_, refl, sym, ap}

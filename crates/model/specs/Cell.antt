@@ -1,5 +1,5 @@
 -- One cell, a byte at a time: what a single cell can be, in each dialect. A record is cells with delimiters between them
--- (Form), and the decoder is a run of this alone (Decode).
+-- (File), and the decoder is a run of this alone (Decode).
 use Prim.Native.Nat.{ℕ}
 use mathlib.Core.Bool.{Bool, true, false, _||_}
 use lib.Dec.{ltb}

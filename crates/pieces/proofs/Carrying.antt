@@ -16,7 +16,7 @@ use Rattle.model.specs.declared.FileState.{FileState}
 use Rattle.model.specs.Base.{if_then_else_, Bytes}
 use Rattle.model.specs.Dialect.{dialectOf, into}
 use Rattle.model.specs.Text.{tableText}
-use Rattle.model.specs.Report.{accepted, numberOf, MAXRECORD, MAXCOLUMNS, MAXPIECE, LEASTOUTPUT}
+use Rattle.model.specs.Report.{numberOf, MAXRECORD, MAXCOLUMNS, MAXPIECE, LEASTOUTPUT}
 use Rattle.model.specs.Records.{Rec, rows, Read, Progress, going, stopped, nothingRead, readBytes, readFrom, readEnd, reportOf, faultReport}
 use Rattle.model.specs.Api.{Written}
 use Rattle.model.specs.Ledger.{piece, finish, tooSmall, taken, callLeaves}

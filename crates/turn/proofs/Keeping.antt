@@ -32,10 +32,6 @@ written-behind l at w new h e =
 
 -- ---- in order
 
-pub order-over : {at upto : ℕ} {ends : List ℕ} → InOrder at ends upto → at ≤ upto
-order-over (order-end h) = h
-order-over (order-next h hs) = let k = order-over hs in omega arith
-
 pub order-more : {at b c : ℕ} {ends : List ℕ} → InOrder at ends b → b ≤ c → InOrder at ends c
 order-more {at} {c = c} (order-end h) l = let g : at ≤ c = omega arith in order-end g
 order-more (order-next h hs) l = order-next h (order-more hs l)

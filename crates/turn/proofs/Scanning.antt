@@ -1,5 +1,5 @@
 -- What a scan keeps, from wherever it begins: the cell in hand goes by the cell automaton and every complete cell is whole; something
--- is in hand only in a record (`scan-keeps`). From a state that no bytes led to all cells but the first are whole (`scan-later`). How far it goes, and how many cells it finds (`scan-within`). Its faults are at a byte
+-- is in hand only in a record (`scan-keeps`). How far it goes, and how many cells it finds (`scan-within`). Its faults are at a byte
 -- (`scan-faults`).
 use Prim.Native.Nat.{ℕ, suc, _+_, _≤_}
 use native.Mathlib.Omega.{arith}
@@ -9,13 +9,11 @@ use mathlib.Core.List.{List, [], _∷_, _++_}
 use lib.ListN.{length, length-append}
 use borrow.Author.Tests.{leb-false}
 use Rattle.model.specs.Base.{Bytes}
-use Rattle.model.specs.Cell.{cellStep, isWhole}
 use Rattle.model.specs.File.{fileStep}
 use Rattle.model.specs.Decode.{validateCell}
 use Rattle.model.specs.Report.{isAtByte}
 use Rattle.model.specs.Laws.{All, all-none}
-use Rattle.model.specs.Scans.{RawCell, Scan, ScanResult, pends, fails, completes, closingRaw, scanStep, scan, Kept, Holds, in-hand, nothing-in-hand, fresh}
-use Rattle.model.specs.declared.CellStep.the-variants.{More}
+use Rattle.model.specs.Scans.{RawCell, Scan, ScanResult, pends, fails, completes, closingRaw, scanStep, scan, Kept, Holds, in-hand, nothing-in-hand}
 use Rattle.model.proofs.Tests.{split}
 use Rattle.model.proofs.CellRuns.{Runs, here, snoc, runs-sound, all-snoc}
 use Rattle.model.proofs.Cells as cell

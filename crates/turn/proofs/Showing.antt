@@ -6,17 +6,15 @@ use mathlib.Core.Path.{_≡_, refl, sym, ap, ap₂, subst, _∙_}
 use mathlib.Core.Bool.{true, false}
 use mathlib.Core.List.{List, [], _∷_, _++_, map, append-assoc, append-nil}
 use lib.ListN.{length, take, drop, set, length-set, length-append, length-map, take-append-drop}
-use lib.Seq.{take-suc-set, drop-set-lt, take-append-seam, length-take-le}
+use lib.Seq.{take-suc-set, drop-set-lt, take-append-seam}
 use borrow.Author.Tests.{lt-ltb, eq-eqb, ne-eqb}
 use Rattle.model.specs.Base.{if_then_else_, _is_, Bytes}
 use Rattle.model.specs.Report.{MAXRECORD, MAXCOLUMNS}
-use Rattle.model.specs.Api.{slice}
 use Rattle.model.specs.Laws.{All, all-none, all-cons}
 use Rattle.model.specs.Trips.{SameCells}
 use Rattle.model.specs.Scans.{RawCell, Scan, ScanResult, pends, fails, completes, scan, valueOf, inRecord, Kept, Holds, in-hand, nothing-in-hand, movedCell, joinedRaw, joinedCells, fresh, bytesIn, Sized, SizedTo, sized-pends, sized-completes}
 use Rattle.model.specs.Places.{StretchIn, keptBytes, keptStarts, keptEnds}
 use Rattle.model.proofs.Tests.{split, split-on, impossible}
-use Rattle.model.proofs.Stretches.{part-is}
 use Rattle.model.proofs.ScanSize.{scan-size}
 use Rattle.buffers.specs.Wrote.{written}
 use Rattle.decoder.specs.Followed.{EdFollowed}
@@ -34,7 +32,7 @@ use Rattle.turn.specs.Types.{Dialect, Fresh, FileState, Top, Begin, Ende
 use Rattle.turn.specs.Holding.{Open, in-cell, no-bytes, IsWhole, Shown}
 use Rattle.complete.specs.Completing.{startsBy, endOf, keptValues}
 use Rattle.turn.specs.Walking.{InBounds}
-use Rattle.turn.proofs.Scanning.{keptOf, Keeps, KeepsTo, keeps-pends, keeps-completes, scan-keeps}
+use Rattle.turn.proofs.Scanning.{keptOf, Keeps, KeepsTo, keeps-pends, scan-keeps}
 use Rattle.turn.proofs.Opening.{ClosedFirst, closed-first, First, still-open, then-closed, FirstIn, first-pends, first-completes, first-closes, Grew, grew-pends, grew-completes, grows}
 
 -- ---- the answer

@@ -180,9 +180,6 @@ module _ (u : Turn) where
     -- ---- the part ends
 
     module _ (s : Scan) (e : scanned ≡ pends s) where
-      pub pend-in : PendsIn piece s
-      pend-in = pended-in (subst (ScanResultIn piece) e stands-on)
-
       pub pend-keeps : Keeps d (inFile s)
       pend-keeps = pended (subst (λ x. KeepsTo d (joinedTo k (n + i) (movedTo n x))) e keeps-on)
 

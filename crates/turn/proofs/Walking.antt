@@ -3,7 +3,7 @@
 use Prim.Native.Nat.{ℕ, suc, _+_, _-_, _≤_, _<_}
 use native.Mathlib.Omega.{arith}
 use mathlib.Core.Path.{_≡_, refl, sym, ap, ap₂, subst, _∙_}
-use mathlib.Core.Bool.{true, false}
+use mathlib.Core.Bool.{false}
 use mathlib.Core.Option.{some}
 use mathlib.Core.List.{List, [], _∷_, map}
 use lib.ListN.{length, take, drop, length-append, length-map, length-drop}
@@ -18,7 +18,7 @@ use Rattle.model.specs.Laws.{all-none}
 use Rattle.model.specs.Trips.{SameCells, no-cells, and-cell}
 use Rattle.model.specs.Scans.{RawCell, Scan, ScanResult, pends, fails, completes, scanStep, scan, valueOf, readOf, inRecord, Kept, movedCell, joinedCell, fresh}
 use Rattle.model.specs.Places.{ScanResultIn, keptBytes, keptEnds}
-use Rattle.model.proofs.Tests.{split, impossible}
+use Rattle.model.proofs.Tests.{split}
 use Rattle.model.proofs.Verdicts.{else-sound, target-sound}
 use Rattle.model.proofs.Meanings.{same-length}
 use Rattle.model.proofs.PlaceLaws.{stretches}
@@ -165,7 +165,6 @@ module _ (d : Dialect) (piece : Bytes) (n i : ℕ) (p : Place) (bytes ends out :
             long-bytes = ready .long-bytes;
             long-ends = ready .long-ends;
             few = (omega (arith, ready .bounds .cells, ready .bounds .offset), m);
-            between = ready .bounds .between;
           }
 
     -- the turn
@@ -372,7 +371,6 @@ module _ (d : Dialect) (piece : Bytes) (n i : ℕ) (p : Place) (bytes ends out :
             long-bytes = ready .long-bytes;
             long-ends = ready .long-ends;
             few = (omega (arith, ready .bounds .cells, ready .bounds .offset), omega (arith, cells-are, within-all .few, within-all .under));
-            between = ready .bounds .between;
           }
 
       pub room-open : p .cells + h .cells ≤ MAXCOLUMNS → p .fill + length (keptBytes (rawCellsAt piece starts′ stops′ 0 (h .cells))) + length piece ≤ length bytes + h .opened

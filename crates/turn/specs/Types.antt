@@ -2,7 +2,6 @@
 pub use Rattle.model.specs.declared.Report.{Report}
 pub use Rattle.model.specs.declared.Dialect.{Dialect}
 pub use Rattle.model.specs.declared.Target.{Target}
-pub use Rattle.model.specs.declared.Cell.{Cell}
 pub use Rattle.model.specs.declared.Cell.the-variants.{Fresh}
 pub use Rattle.model.specs.declared.FileState.{FileState}
 pub use Rattle.model.specs.declared.FileState.the-variants.{Top, Begin, Ended, Mark1, Mark2, PlainMark1, PlainMark2, Comment, Blanks, Wanting, Inside, After, Cr}
@@ -13,8 +12,7 @@ pub use Rattle.model.specs.declared.Ending.{Ending}
 pub use Rattle.model.specs.declared.Ending.the-variants.{Clean, Final, Cut}
 pub use Rattle.model.specs.declared.ByteFault.{ByteFault}
 pub use Rattle.model.specs.declared.Fault.{Fault}
-pub use Rattle.model.specs.declared.Fault.the-variants.{NoRecord, Byte, CutShort, CellCount, RepeatedName, HeaderKind, FileTooLong, RecordTooLong, TooManyColumns, NoCells, LacksKind, LoneSurrogate, Clash, TextTooLong, OutputTooLong}
+pub use Rattle.model.specs.declared.Fault.the-variants.{NoRecord, CutShort, CellCount, RepeatedName, HeaderKind, TooManyColumns, NoCells, LacksKind, LoneSurrogate, Clash, TextTooLong, OutputTooLong}
 pub use Rattle.model.specs.declared.Verdict.{Verdict}
 pub use Rattle.model.specs.declared.Verdict.the-variants.{Sound, Faulty}
-pub use Rattle.model.specs.declared.CellCheck.{CellCheck}
 pub use Rattle.model.specs.declared.CellCheck.the-variants.{WholeCell}

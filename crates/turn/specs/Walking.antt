@@ -1,7 +1,7 @@
 -- The walk over a piece, a turn at a time: what a turn may rely on, and what it comes to.
 use Prim.Native.Nat.{ℕ, _+_, _-_, _≤_, _<_}
 use mathlib.Core.Path.{_≡_}
-use mathlib.Core.Bool.{true, false}
+use mathlib.Core.Bool.{false}
 use mathlib.Core.Option.{some}
 use mathlib.Core.List.{List, [], _∷_, _++_}
 use lib.ListN.{length, take, drop}
@@ -9,7 +9,6 @@ use Rattle.model.specs.Base.{if_then_else_, _is_, Bytes, isEmpty}
 use Rattle.model.specs.Text.{recordText, ending}
 use Rattle.model.specs.Report.{report, numberOf, columnOf, MAXFILE, MAXRECORD, MAXCOLUMNS}
 use Rattle.model.specs.Records.{Rec, Read, going, stopped, readFrom, faultReport}
-use Rattle.model.specs.Laws.{All}
 use Rattle.model.specs.Scans.{RawCell, inRecord, Kept}
 use Rattle.model.specs.Places.{keptBytes, keptEnds}
 use Rattle.buffers.specs.Wrote.{written}
@@ -21,7 +20,7 @@ use Rattle.complete.specs.declared.Done.{Done}
 use Rattle.complete.specs.declared.Done.the-variants.{Written, Refused, Lost}
 use Rattle.turn.specs.declared.Turn.{Turn}
 use Rattle.turn.specs.declared.Turn.the-variants.{Next, Pended, Stopped, Nowhere}
-use Rattle.turn.specs.Holding.{IsWhole, readAt, Holding, startFrom, placeAfter}
+use Rattle.turn.specs.Holding.{readAt, Holding, startFrom, placeAfter}
 use Rattle.carried.specs.Sound.{InOrder}
 use Rattle.complete.specs.Completing.{SpellsRecord, Ruled}
 
@@ -56,7 +55,6 @@ pub record Lists (piece starts stops : List ℕ) (cells : ℕ) (p : Place) (byte
   pub long-bytes : length bytes ≡ MAXRECORD
   pub long-ends : length ends ≡ MAXCOLUMNS
   pub few : (p .cells ≤ MAXFILE) × (cells ≤ MAXFILE)
-  pub between : inRecord (p .state) ≡ false → (p .fill ≡ 0) × (p .cells ≡ 0)
 
 -- ---- a complete record
 

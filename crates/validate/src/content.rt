@@ -1,4 +1,4 @@
-// The content of a cell that is known to be sound, in a room of the caller's.
+// The content of a raw cell, in a room of the caller's.
 ghost use mathlib.Core.Path.{_≡_};
 ghost use Prim.Native.Nat.{_≤_};
 ghost use lib.ListN.{length};

@@ -1,4 +1,4 @@
--- What each event of the scanner comes to, as a visit.
+-- What each event of the next record comes to, as a visit.
 use Prim.Native.Nat.{ℕ, suc, _+_, _-_, _≤_, _<_}
 use native.Mathlib.Omega.{arith}
 use mathlib.Core.Path.{_≡_, refl, sym, ap, subst, _∙_}

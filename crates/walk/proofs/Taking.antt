@@ -1,6 +1,6 @@
 -- The walk over a piece: what holds at each turn, and how each way through a turn keeps it. The room law of model's Room says that a
 -- call never runs out of its output.
-use Prim.Native.Nat.{ℕ, _+_, _-_, _≤_, _<_}
+use Prim.Native.Nat.{ℕ, _+_, _≤_, _<_}
 use native.Mathlib.Omega.{arith}
 use mathlib.Core.Path.{_≡_, refl, sym, ap, ap₂, subst, _∙_}
 use mathlib.Core.List.{List, [], _∷_, _++_, append-assoc}

@@ -2,7 +2,7 @@
 
 use std::fmt::Write as _;
 
-use crate::vectors::{Bytes, Call, Case, Fault, PieceCall, TableShape};
+use crate::vectors::{Bytes, Call, Case, Fault, PieceCall, TableArguments, TableShape};
 
 /// Cases that name more bytes than this are left to the programs: the prover holds a list cell for each byte.
 const MOST_BYTES: usize = 100_000;
@@ -125,26 +125,7 @@ fn equations(call: &Call) -> Vec<String> {
             raw,
             room,
             expected,
-        } => {
-            let raw = bytes(raw);
-            let (fault, kind, content) = match expected {
-                Ok((kind, content)) => (None, *kind, content.clone()),
-                Err(fault) => (Some(fault), 0, Bytes::default()),
-            };
-            let room = room.unwrap_or(content.len() + 2);
-            vec![
-                format!(
-                    "(decoder {dialect} {raw} {room} ≡ decoded {} {kind} {})",
-                    report(fault),
-                    bytes(&content)
-                ),
-                format!(
-                    "(decoderLeaves {dialect} {raw} {} ≡ {})",
-                    lent(room),
-                    left(&bytes(&content), room - content.len())
-                ),
-            ]
-        }
+        } => decode(*dialect, raw, *room, expected),
         Call::Convert {
             source,
             target,
@@ -166,15 +147,7 @@ fn equations(call: &Call) -> Vec<String> {
             room,
             expected,
         } => {
-            let table = format!(
-                "(table {} {} {} {} {} {})",
-                bytes(&table.content),
-                numbers(&table.starts),
-                numbers(&table.ends),
-                numbers(&table.kinds),
-                table.columns,
-                table.records
-            );
+            let table = written_table(table);
             text_call(
                 &format!("writer {target} {table}"),
                 &format!("writerLeaves {target} {table}"),
@@ -196,6 +169,45 @@ fn equations(call: &Call) -> Vec<String> {
             )
         )],
     }
+}
+
+fn decode(
+    dialect: u32,
+    raw: &Bytes,
+    room: Option<usize>,
+    expected: &Result<(u8, Bytes), Fault>,
+) -> Vec<String> {
+    let raw = bytes(raw);
+    let (fault, kind, content) = match expected {
+        Ok((kind, content)) => (None, *kind, content.clone()),
+        Err(fault) => (Some(fault), 0, Bytes::default()),
+    };
+    let room = room.unwrap_or(content.len() + 2);
+    vec![
+        format!(
+            "(decoder {dialect} {raw} {room} ≡ decoded {} {kind} {})",
+            report(fault),
+            bytes(&content)
+        ),
+        format!(
+            "(decoderLeaves {dialect} {raw} {} ≡ {})",
+            lent(room),
+            left(&bytes(&content), room - content.len())
+        ),
+    ]
+}
+
+/// The writer's arguments.
+fn written_table(table: &TableArguments) -> String {
+    format!(
+        "(table {} {} {} {} {} {})",
+        bytes(&table.content),
+        numbers(&table.starts),
+        numbers(&table.ends),
+        numbers(&table.kinds),
+        table.columns,
+        table.records
+    )
 }
 
 fn read(

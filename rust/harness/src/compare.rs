@@ -20,6 +20,8 @@ pub use rounds::{Calls, Totals, PROVED, ROUND};
 pub use write::{proved_writer, write_agrees, write_in_rooms, write_random};
 
 use crate::rooms::Room;
+use crate::vectors::{load_folder, Case};
+use crate::vectors_folder;
 use reference::{Converted, Report};
 use std::fmt::Debug;
 
@@ -39,6 +41,33 @@ fn converted(answer: hemakuliwi::raw::TextAnswer) -> Converted {
         report: report(answer.report),
         written: answer.length,
     }
+}
+
+/// What a comparison found, where it may not differ: a test that panics otherwise tells the difference.
+pub fn agreed<T>(outcome: Result<T, String>) -> T {
+    outcome.unwrap_or_else(|difference| panic!("{difference}"))
+}
+
+/// Holds a proved call to its vectors, of which there have to be at least so many. `answer` tells how a case is answered, and nothing of
+/// another call's case. It panics where a case is not answered as it says.
+pub fn vectors_agree(
+    call: &str,
+    least: usize,
+    mut answer: impl FnMut(&Case) -> Option<Result<(), String>>,
+) {
+    let cases = load_folder(&vectors_folder()).expect("the vectors are of their format");
+    let mut ran = 0;
+    for case in &cases {
+        let Some(outcome) = answer(case) else {
+            continue;
+        };
+        agreed(
+            outcome.map_err(|difference| format!("{} ({}): {difference}", case.place, case.name)),
+        );
+        ran += 1;
+    }
+    eprintln!("{call}: {ran} vectors agree");
+    assert!(ran >= least);
 }
 
 /// Makes a call and the reference's, each with a room of this length, and compares the answers, the whole rooms, and what stands on

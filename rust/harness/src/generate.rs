@@ -5,7 +5,7 @@ use crate::json::surrogate_bytes;
 use crate::rng::Rng;
 use crate::whole::{Cell, TableLists};
 use crate::DIALECTS;
-use reference::limits::{COLUMNS, RECORD_BYTES};
+use reference::limits::{COLUMNS, FILE_BYTES, RECORD_BYTES};
 use reference::Dialect;
 use std::iter::repeat_n;
 
@@ -118,6 +118,27 @@ pub fn file_of(header: &str, record: &str, last: (&str, &str), length: usize) ->
     file.extend(last.1.bytes());
     assert_eq!(file.len(), length);
     (file, times + 2)
+}
+
+/// How many bytes stand beside the content in the canonical text of a record of one cell: CR and LF in CSV+, else two quotes and LF.
+pub const fn beside_content(target: u32) -> usize {
+    if target == 3 {
+        2
+    } else {
+        3
+    }
+}
+
+/// A CSV+ file whose canonical text in the dialect `to` is as long as a file may be, and `more` bytes longer.
+pub fn file_of_long_text(to: u32, more: usize) -> Vec<u8> {
+    const CONTENT: &str = "Harbour Street";
+    let written = CONTENT.len() + beside_content(to);
+    let records = FILE_BYTES / written;
+    let missing = FILE_BYTES - records * written;
+    let mut file = format!("{CONTENT}\n").repeat(records - 1).into_bytes();
+    file.extend(CONTENT.bytes());
+    file.extend("x".repeat(missing + more).bytes());
+    file
 }
 
 fn no_records(rng: &mut Rng, dialect: Dialect) -> Sample {

@@ -8,7 +8,9 @@ use harness::ledger::completed_text;
 use harness::programs::{make, run, succeeded};
 use harness::repository;
 use harness::whole::{convert_room, convert_whole};
+use hemakuliwi::{Fault, Refusal};
 use reference::limits::{COLUMNS, FILE_BYTES, PIECE_BYTES, PIECE_ROOM, RECORD_BYTES};
+use reference::Report;
 use std::collections::{BTreeMap, BTreeSet};
 use std::fs;
 use std::mem::{offset_of, size_of};
@@ -99,7 +101,7 @@ fn the_example_reads_a_table() {
         assert_eq!(refused.stdout, b"");
         assert_eq!(
             String::from_utf8_lossy(&refused.stderr),
-            "Fault 5 in record 2 at byte offset 4: this record does not have as many cells as the header.\n"
+            "refused (5): record 2 has another number of cells than the header; it begins at byte 4\n"
         );
         let too_long = run(program, &["csv+"], &vec![b'\n'; FILE_BYTES + 1]);
         assert_eq!(too_long.status.code(), Some(1));
@@ -111,6 +113,17 @@ fn the_example_reads_a_table() {
 }
 
 const NAMES: [&str; 4] = ["", "csvj", "tdif", "csv+"];
+
+/// What the proved program says of a fault of a file.
+fn sentence_of(report: Report) -> String {
+    let refusal = Refusal {
+        fault: Fault::from_number(report.number).expect("a fault"),
+        record: report.record,
+        column: report.column,
+        offset: report.offset,
+    };
+    format!("refused ({}): {refusal}\n", report.number)
+}
 
 /// Converts as the example does, and as the reference does.
 fn convert_agrees(program: &Path, from: u32, to: u32, file: &[u8]) {
@@ -124,7 +137,7 @@ fn convert_agrees(program: &Path, from: u32, to: u32, file: &[u8]) {
         }
         Err(report) => {
             let sentence = String::from_utf8_lossy(&told.stderr);
-            assert_eq!(sentence, format!("{}\n", report.sentence()), "{shown}");
+            assert_eq!(sentence, sentence_of(report), "{shown}");
             assert_eq!((told.status.code(), &told.stdout[..]), (Some(1), &b""[..]));
         }
     }
@@ -172,7 +185,7 @@ fn pieces_agree(program: &Path, from: u32, to: u32, file: &[u8], column: &str) {
         Err(report) => (
             1,
             completed_text(from, to, &file[..report.offset]),
-            format!("{}\n{column}", report.sentence()),
+            format!("{}{column}", sentence_of(report)),
         ),
     };
     let shown = file.escape_ascii();
@@ -275,7 +288,7 @@ fn the_cpp_example_counts_a_table() {
     assert_eq!(refused.status.code(), Some(1));
     assert_eq!(
         String::from_utf8_lossy(&refused.stderr),
-        "Fault 4 in record 2 at byte offset 3: the file ends too early; its last part is cut off.\n"
+        "refused (4): the file ends at byte 3 before record 2 is complete\n"
     );
     fails_as_a_machine_does(&program, &[]);
 }

@@ -1,39 +1,38 @@
 //! The proved converter against every vector and against the reference. Wrong converters are tried in `wrong_texts`.
 
-use harness::compare::{convert_agrees, convert_in_rooms, convert_random, proved_converter};
-use harness::generate::file_of;
+use harness::compare::{
+    agreed, convert_agrees, convert_in_rooms, convert_random, proved_converter, vectors_agree,
+};
+use harness::generate::{file_of, file_of_long_text};
 use harness::runner::{check_convert, LEAST_CONVERT};
-use harness::vectors::{load_folder, short_files, Call};
+use harness::vectors::{short_files, Call};
 use harness::whole::convert_room;
 use harness::{vectors_folder, DIALECTS, UNKNOWN};
 use reference::limits::FILE_BYTES;
 
-fn agreed<T>(outcome: Result<T, String>) -> T {
-    outcome.unwrap_or_else(|difference| panic!("{difference}"))
-}
-
 #[test]
 fn every_vector_is_converted_as_it_says() {
-    let cases = load_folder(&vectors_folder()).expect("the vectors are of their format");
-    let mut ran = 0;
-    for case in cases {
+    vectors_agree("the proved converter", LEAST_CONVERT, |case| {
         let Call::Convert {
             source,
             target,
             file,
             room,
             expected,
-        } = case.call
+        } = &case.call
         else {
-            continue;
+            return None;
         };
         let file = file.to_vec();
-        check_convert(proved_converter, source, target, &file, room, &expected)
-            .unwrap_or_else(|difference| panic!("{} ({}): {difference}", case.place, case.name));
-        ran += 1;
-    }
-    eprintln!("the proved converter: {ran} vectors agree");
-    assert!(ran >= LEAST_CONVERT);
+        Some(check_convert(
+            proved_converter,
+            *source,
+            *target,
+            &file,
+            *room,
+            expected,
+        ))
+    });
 }
 
 #[test]
@@ -108,16 +107,9 @@ fn files_about_the_limit_are_converted_as_the_reference_does() {
 
 #[test]
 fn texts_about_the_limit_are_written_as_the_reference_does() {
-    // A record of a CSV+ file has an LF after its content; written, it has what the target puts around and after it.
-    const CONTENT: &str = "Harbour Street";
-    for (to, beside) in [(1, 3), (2, 3), (3, 2)] {
-        let written = CONTENT.len() + beside;
-        let records = FILE_BYTES / written;
-        let missing = FILE_BYTES - records * written;
+    for (to, _) in DIALECTS {
         for more in 0..2 {
-            let mut file = format!("{CONTENT}\n").repeat(records - 1).into_bytes();
-            file.extend(CONTENT.bytes());
-            file.extend("x".repeat(missing + more).bytes());
+            let file = file_of_long_text(to, more);
             for room in FILE_BYTES - 1..=FILE_BYTES {
                 let answer = agreed(convert_agrees(proved_converter, 3, to, &file, room));
                 let number = match (more, room < FILE_BYTES) {

@@ -2,43 +2,34 @@
 //! ones are tried in `wrong_pieces`.
 
 use harness::compare::{
-    made_up_random, output, pieces_random, proved_lent, PieceComparison, Trial, PROVED_PIECES,
+    agreed, made_up_random, output, pieces_random, proved_lent, vectors_agree, PieceComparison,
+    Trial, PROVED_PIECES,
 };
-use harness::generate::file_of;
+use harness::generate::{file_of, file_of_long_text};
 use harness::ledger::Call;
 use harness::runner::{check_pieces, LEAST_PIECES};
-use harness::vectors::{self, load_folder, short_files};
+use harness::vectors::{self, short_files};
 use harness::{vectors_folder, DIALECTS};
 use reference::limits::{FILE_BYTES, PIECE_BYTES, PIECE_ROOM};
 use std::collections::BTreeSet;
 
-fn agreed<T>(outcome: Result<T, String>) -> T {
-    outcome.unwrap_or_else(|difference| panic!("{difference}"))
-}
-
 #[test]
 fn every_vector_is_answered_as_it_says() {
-    let cases = load_folder(&vectors_folder()).expect("the vectors are of their format");
-    let (mut output, mut ran) = (output(), 0);
-    for case in cases {
+    let mut output = output();
+    vectors_agree("the proved piece converter", LEAST_PIECES, |case| {
         let vectors::Call::Pieces {
             source,
             target,
             calls,
-        } = case.call
+        } = &case.call
         else {
-            continue;
+            return None;
         };
-        for converter in PROVED_PIECES {
-            let mut trial = Trial::new(converter, source, target);
-            check_pieces(&calls, |call| trial.make(call, &mut output)).unwrap_or_else(
-                |difference| panic!("{} ({}): {difference}", case.place, case.name),
-            );
-        }
-        ran += 1;
-    }
-    eprintln!("the proved piece converter: {ran} vectors agree");
-    assert!(ran >= LEAST_PIECES);
+        Some(PROVED_PIECES.into_iter().try_for_each(|converter| {
+            let mut trial = Trial::new(converter, *source, *target);
+            check_pieces(calls, |call| trial.make(call, &mut output))
+        }))
+    });
 }
 
 /// Longer files are not cut in the middle of a part that repeats a few bytes.
@@ -48,26 +39,33 @@ const NEAR: usize = 10;
 /// How many bytes are few.
 const FEW: usize = 6;
 
-/// The places at which a file is cut.
-fn cuts(file: &[u8]) -> impl Iterator<Item = usize> + '_ {
-    (0..=file.len()).filter(|&cut| {
+/// The places at which a file is cut, but for those at which a cut has nothing new to show.
+fn telling_cuts(file: &[u8]) -> Vec<usize> {
+    let is_telling = |&cut: &usize| {
         let (start, end) = (cut.saturating_sub(NEAR), file.len().min(cut + NEAR));
         let near = &file[start..end];
         let repeats = |count: usize| near[count..] == near[..near.len() - count];
         let is_inside = near.len() == 2 * NEAR && (1..=FEW).any(repeats);
         file.len() <= CUT_EVERYWHERE || !is_inside || cut % 1_024 == 0
-    })
+    };
+    all_cuts(file).into_iter().filter(is_telling).collect()
 }
 
-#[test]
-fn files_of_all_vectors_may_be_cut_anywhere() {
+fn all_cuts(file: &[u8]) -> Vec<usize> {
+    (0..=file.len()).collect()
+}
+
+/// Cuts each file of the vectors at these places, in all nine pairs of dialects.
+fn cut_files_agree(cuts: fn(&[u8]) -> Vec<usize>) {
     let files: BTreeSet<Vec<u8>> = agreed(short_files(&vectors_folder())).into_iter().collect();
     let mut comparison = PieceComparison::new(&PROVED_PIECES);
     let mut count = 0;
     for file in &files {
+        let places = cuts(file);
         let pairs = DIALECTS.map(|(source, _)| DIALECTS.map(|(target, _)| (source, target)));
         for (source, target) in pairs.concat() {
-            count += agreed(comparison.cuts_agree(source, target, file, cuts(file)));
+            let places = places.iter().copied();
+            count += agreed(comparison.cuts_agree(source, target, file, places));
         }
     }
     eprintln!(
@@ -75,6 +73,17 @@ fn files_of_all_vectors_may_be_cut_anywhere() {
         files.len()
     );
     assert!(files.len() >= 1_000 && count >= 250_000);
+}
+
+#[test]
+fn files_of_all_vectors_may_be_cut_anywhere() {
+    cut_files_agree(telling_cuts);
+}
+
+#[test]
+#[ignore = "it takes minutes; `files_of_all_vectors_may_be_cut_anywhere` leaves out cuts in the middle of repeated bytes"]
+fn files_of_all_vectors_may_be_cut_at_every_place() {
+    cut_files_agree(all_cuts);
 }
 
 /// Random lists of calls, with two seeds, so that two processors may share them.
@@ -166,17 +175,10 @@ fn files_about_the_limit_are_converted_as_the_reference_does() {
 
 #[test]
 fn texts_about_the_limit_are_written_as_the_reference_does() {
-    // A record of a CSV+ file has an LF after its content; written, it has what the target puts around and after it.
-    const CONTENT: &str = "Harbour Street";
     let mut comparison = PieceComparison::new(&[proved_lent]);
-    for (to, beside) in [(1, 3), (2, 3), (3, 2)] {
-        let written = CONTENT.len() + beside;
-        let records = FILE_BYTES / written;
-        let missing = FILE_BYTES - records * written;
+    for (to, _) in DIALECTS {
         for more in 0..2 {
-            let mut file = format!("{CONTENT}\n").repeat(records - 1).into_bytes();
-            file.extend(CONTENT.bytes());
-            file.extend("x".repeat(missing + more).bytes());
+            let file = file_of_long_text(to, more);
             let answers = agreed(comparison.calls_agree(3, to, &in_pieces(&file)));
             let number = answers.last().map(|answer| answer.report.number);
             assert_eq!(number, Some(9 * more), "to {to}");

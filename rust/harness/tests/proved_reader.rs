@@ -1,40 +1,32 @@
 //! The proved reader against every vector and against the reference, and wrong readers against the same comparison.
 
-use harness::compare::{proved_reader, read_agrees, read_in_rooms, read_random};
+use harness::compare::{
+    agreed, proved_reader, read_agrees, read_in_rooms, read_random, vectors_agree,
+};
 use harness::generate::file_of;
 use harness::lists::Reader;
 use harness::runner::{check_read, LEAST_READ};
-use harness::vectors::{load_folder, short_files, Call};
+use harness::vectors::{short_files, Call};
 use harness::whole::read_whole;
 use harness::{vectors_folder, UNKNOWN};
 use reference::limits::FILE_BYTES;
 use reference::{read, ReadAnswer, Report};
 use std::iter::zip;
 
-fn agreed<T>(outcome: Result<T, String>) -> T {
-    outcome.unwrap_or_else(|difference| panic!("{difference}"))
-}
-
 #[test]
 fn every_vector_is_read_as_it_says() {
-    let cases = load_folder(&vectors_folder()).expect("the vectors are of their format");
-    let mut ran = 0;
-    for case in cases {
-        let Call::Read {
+    vectors_agree("the proved reader", LEAST_READ, |case| match &case.call {
+        Call::Read {
             dialect,
             file,
             room,
             expected,
-        } = case.call
-        else {
-            continue;
-        };
-        check_read(proved_reader, dialect, &file.to_vec(), room, &expected)
-            .unwrap_or_else(|difference| panic!("{} ({}): {difference}", case.place, case.name));
-        ran += 1;
-    }
-    eprintln!("the proved reader: {ran} vectors agree");
-    assert!(ran >= LEAST_READ);
+        } => {
+            let file = file.to_vec();
+            Some(check_read(proved_reader, *dialect, &file, *room, expected))
+        }
+        _ => None,
+    });
 }
 
 #[test]
@@ -106,116 +98,115 @@ fn shorter<T>(list: &mut [T]) -> &mut [T] {
     &mut list[..length]
 }
 
-#[test]
-fn wrong_readers_are_noticed() {
-    let wrong_readers: [(&str, Reader); 11] = [
-        (
-            "a stretch of CSVJ takes in a blank",
-            |dialect, file, starts, ends, kinds| {
-                let answer = read(dialect, file, starts, ends, kinds);
-                for end in &mut ends[..answer.cells] {
-                    *end += usize::from(dialect == 1 && file.get(*end) == Some(&b' '));
-                }
-                answer
-            },
-        ),
-        (
-            "as many places as cells are too few",
-            |dialect, file, starts, ends, kinds| {
-                read(
+const WRONG_READERS: [(&str, Reader); 11] = [
+    (
+        "a stretch of CSVJ takes in a blank",
+        |dialect, file, starts, ends, kinds| {
+            let answer = read(dialect, file, starts, ends, kinds);
+            for end in &mut ends[..answer.cells] {
+                *end += usize::from(dialect == 1 && file.get(*end) == Some(&b' '));
+            }
+            answer
+        },
+    ),
+    (
+        "as many places as cells are too few",
+        |dialect, file, starts, ends, kinds| {
+            read(
+                dialect,
+                file,
+                shorter(starts),
+                shorter(ends),
+                shorter(kinds),
+            )
+        },
+    ),
+    (
+        "only the starts can be too few",
+        |dialect, file, starts, ends, kinds| {
+            let room = starts.len();
+            match read(dialect, file, starts, ends, kinds).report.number {
+                10 => read(
                     dialect,
                     file,
-                    shorter(starts),
-                    shorter(ends),
-                    shorter(kinds),
-                )
-            },
-        ),
-        (
-            "only the starts can be too few",
-            |dialect, file, starts, ends, kinds| {
-                let room = starts.len();
-                match read(dialect, file, starts, ends, kinds).report.number {
-                    10 => read(
-                        dialect,
-                        file,
-                        starts,
-                        &mut vec![0; room],
-                        &mut vec![0; room],
-                    ),
-                    _ => read(dialect, file, starts, ends, kinds),
-                }
-            },
-        ),
-        (
-            "a refusal writes to a list",
-            |dialect, file, starts, ends, kinds| {
-                let answer = read(dialect, file, starts, ends, kinds);
-                if let (5, Some(kind)) = (answer.report.number, kinds.first_mut()) {
-                    *kind = 1;
-                }
-                answer
-            },
-        ),
-        (
-            "the place after the last cell is written",
-            |dialect, file, starts, ends, kinds| {
-                let answer = read(dialect, file, starts, ends, kinds);
-                if let (0, Some(start)) = (answer.report.number, starts.get_mut(answer.cells)) {
-                    *start = file.len();
-                }
-                answer
-            },
-        ),
-        ("null is text", |dialect, file, starts, ends, kinds| {
-            let answer = read(dialect, file, starts, ends, kinds);
-            let nulls = kinds.iter_mut().filter(|kind| **kind == 5);
-            nulls.for_each(|kind| *kind = 1);
-            answer
-        }),
-        (
-            "the header is a data record",
-            |dialect, file, starts, ends, kinds| {
-                let mut answer = read(dialect, file, starts, ends, kinds);
-                answer.records += usize::from(answer.report.is_accepted());
-                answer
-            },
-        ),
-        (
-            "too few places come before a fault",
-            |dialect, file, starts, ends, kinds| {
-                let answer = read(dialect, file, starts, ends, kinds);
-                match answer.report.number {
-                    1..=8 if starts.is_empty() => refusal(10),
-                    _ => answer,
-                }
-            },
-        ),
-        (
-            "the low byte of the number tells the dialect",
-            |dialect, file, starts, ends, kinds| read(dialect & 0xFF, file, starts, ends, kinds),
-        ),
-        (
-            "a record of 4,096 bytes is too long",
-            |dialect, file, starts, ends, kinds| match read_whole(dialect, file) {
-                Ok(table) if zip(&table.starts, &table.ends).any(|(s, e)| e - s == 4_096) => {
-                    refusal(8)
-                }
+                    starts,
+                    &mut vec![0; room],
+                    &mut vec![0; room],
+                ),
                 _ => read(dialect, file, starts, ends, kinds),
-            },
-        ),
-        (
-            "a comment is no longer than a record",
-            |dialect, file, starts, ends, kinds| {
-                let mut lines = file.split(|byte| matches!(byte, b'\r' | b'\n'));
-                match lines.any(|line| line.starts_with(b"#") && line.len() > 4_096) {
-                    true if dialect == 2 => refusal(8),
-                    _ => read(dialect, file, starts, ends, kinds),
-                }
-            },
-        ),
-    ];
-    for (wrong, reader) in wrong_readers {
+            }
+        },
+    ),
+    (
+        "a refusal writes to a list",
+        |dialect, file, starts, ends, kinds| {
+            let answer = read(dialect, file, starts, ends, kinds);
+            if let (5, Some(kind)) = (answer.report.number, kinds.first_mut()) {
+                *kind = 1;
+            }
+            answer
+        },
+    ),
+    (
+        "the place after the last cell is written",
+        |dialect, file, starts, ends, kinds| {
+            let answer = read(dialect, file, starts, ends, kinds);
+            if let (0, Some(start)) = (answer.report.number, starts.get_mut(answer.cells)) {
+                *start = file.len();
+            }
+            answer
+        },
+    ),
+    ("null is text", |dialect, file, starts, ends, kinds| {
+        let answer = read(dialect, file, starts, ends, kinds);
+        let nulls = kinds.iter_mut().filter(|kind| **kind == 5);
+        nulls.for_each(|kind| *kind = 1);
+        answer
+    }),
+    (
+        "the header is a data record",
+        |dialect, file, starts, ends, kinds| {
+            let mut answer = read(dialect, file, starts, ends, kinds);
+            answer.records += usize::from(answer.report.is_accepted());
+            answer
+        },
+    ),
+    (
+        "too few places come before a fault",
+        |dialect, file, starts, ends, kinds| {
+            let answer = read(dialect, file, starts, ends, kinds);
+            match answer.report.number {
+                1..=8 if starts.is_empty() => refusal(10),
+                _ => answer,
+            }
+        },
+    ),
+    (
+        "the low byte of the number tells the dialect",
+        |dialect, file, starts, ends, kinds| read(dialect & 0xFF, file, starts, ends, kinds),
+    ),
+    (
+        "a record of 4,096 bytes is too long",
+        |dialect, file, starts, ends, kinds| match read_whole(dialect, file) {
+            Ok(table) if zip(&table.starts, &table.ends).any(|(s, e)| e - s == 4_096) => refusal(8),
+            _ => read(dialect, file, starts, ends, kinds),
+        },
+    ),
+    (
+        "a comment is no longer than a record",
+        |dialect, file, starts, ends, kinds| {
+            let mut lines = file.split(|byte| matches!(byte, b'\r' | b'\n'));
+            match lines.any(|line| line.starts_with(b"#") && line.len() > 4_096) {
+                true if dialect == 2 => refusal(8),
+                _ => read(dialect, file, starts, ends, kinds),
+            }
+        },
+    ),
+];
+
+#[test]
+fn wrong_readers_are_noticed() {
+    for (wrong, reader) in WRONG_READERS {
         assert!(read_random(reader, 1, 20_000).is_err(), "{wrong}");
     }
     assert!(read_random(read, 1, 20_000).is_ok());

@@ -1,40 +1,41 @@
 //! The proved writer against every vector and against the reference. Wrong writers are tried in `wrong_texts`.
 
-use harness::compare::{proved_writer, write_agrees, write_in_rooms, write_random};
+use harness::compare::{
+    agreed, proved_writer, vectors_agree, write_agrees, write_in_rooms, write_random,
+};
+use harness::generate::beside_content;
 use harness::runner::{check_write, LEAST_WRITE};
-use harness::vectors::{load_folder, Call};
-use harness::vectors_folder;
+use harness::vectors::Call;
 use harness::whole::TableLists;
 use harness::UNKNOWN;
 use reference::limits::FILE_BYTES;
 
-fn agreed<T>(outcome: Result<T, String>) -> T {
-    outcome.unwrap_or_else(|difference| panic!("{difference}"))
-}
-
 #[test]
 fn every_vector_is_written_as_it_says() {
-    let cases = load_folder(&vectors_folder()).expect("the vectors are of their format");
-    let mut ran = 0;
-    for case in cases {
-        let Call::Write {
+    vectors_agree("the proved writer", LEAST_WRITE, |case| match &case.call {
+        Call::Write {
             target,
             table,
             room,
             expected,
-        } = case.call
-        else {
-            continue;
+        } => Some(check_write(proved_writer, *target, table, *room, expected)),
+        _ => None,
+    });
+}
+
+#[test]
+fn tables_of_all_vectors_are_written_as_the_reference_does() {
+    vectors_agree("the proved writer in every dialect", LEAST_WRITE, |case| {
+        let Call::Write { table, .. } = &case.call else {
+            return None;
         };
-        check_write(proved_writer, target, &table, room, &expected)
-            .unwrap_or_else(|difference| panic!("{} ({}): {difference}", case.place, case.name));
-        for target in [1, 2, 3].into_iter().chain(UNKNOWN) {
-            agreed(write_in_rooms(proved_writer, target, &table.to_lists()));
-        }
-        ran += 1;
-    }
-    eprintln!("the proved writer: {ran} vectors agree, and in every dialect with the reference");
-    assert!(ran >= LEAST_WRITE);
+        let lists = table.to_lists();
+        let mut targets = [1, 2, 3].into_iter().chain(UNKNOWN);
+        Some(
+            targets
+                .try_for_each(|target| write_in_rooms(proved_writer, target, &lists).map(|_| ())),
+        )
+    });
 }
 
 #[test]
@@ -48,7 +49,7 @@ fn random_tables_are_written_as_the_reference_does() {
 
 /// Records of one cell, all but the last of which share a content of a thousand bytes, whose text has so many bytes.
 fn table_of_length(target: u32, length: usize) -> TableLists {
-    let beside = if target == 3 { 2 } else { 3 };
+    let beside = beside_content(target);
     let record = 1_000 + beside;
     // The header has a name of one byte.
     let records = (length - 1 - beside) / record;

@@ -320,13 +320,21 @@ const WRONG_CONVERTERS: [(&str, PieceConverter); 30] = [
     ),
 ];
 
+/// Each wrong one differs in this comparison on so many samples, and the proved one does not.
+fn are_noticed<T>(
+    wrong_ones: &[(&str, PieceConverter)],
+    compare: fn(&[PieceConverter], u64, usize) -> Result<T, String>,
+    samples: usize,
+) {
+    for (wrong, converter) in wrong_ones {
+        assert!(compare(&[*converter], 1, samples).is_err(), "{wrong}");
+    }
+    assert!(compare(&[proved_lent], 1, samples).is_ok());
+}
+
 #[test]
 fn wrong_converters_are_noticed() {
-    const LISTS: usize = 3_000;
-    for (wrong, converter) in WRONG_CONVERTERS {
-        assert!(pieces_random(&[converter], 1, LISTS).is_err(), "{wrong}");
-    }
-    assert!(pieces_random(&[proved_lent], 1, LISTS).is_ok());
+    are_noticed(&WRONG_CONVERTERS, pieces_random, 3_000);
 }
 
 /// Wrong ones that show over states which no calls made.
@@ -379,9 +387,5 @@ const WRONG_CHECKS: [(&str, PieceConverter); 5] = [
 
 #[test]
 fn wrong_checks_are_noticed() {
-    const STATES: usize = 5_000;
-    for (wrong, converter) in WRONG_CHECKS {
-        assert!(made_up_random(&[converter], 1, STATES).is_err(), "{wrong}");
-    }
-    assert!(made_up_random(&[proved_lent], 1, STATES).is_ok());
+    are_noticed(&WRONG_CHECKS, made_up_random, 5_000);
 }

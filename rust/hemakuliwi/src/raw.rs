@@ -377,6 +377,22 @@ pub fn write(dialect: u32, table: Table, room: &mut [u8]) -> TextAnswer {
     }
 }
 
+/// A call that is lent the fields of a converter, and then has arguments of its own.
+macro_rules! over_fields {
+    ($call:ident, $converter:expr, $($argument:expr),*) => {
+        $call(
+            $converter.source,
+            $converter.target,
+            $converter.numbers.as_mut_ptr(),
+            $converter.ends.as_mut_ptr(),
+            $converter.name_ends.as_mut_ptr(),
+            $converter.bytes.as_mut_ptr(),
+            $converter.names.as_mut_ptr(),
+            $($argument),*
+        )
+    };
+}
+
 impl Converter {
     /// A converter before its first call. The numbers may be any: with one of no dialect every call is refused.
     pub fn new(from: u32, to: u32) -> Self {
@@ -388,18 +404,13 @@ impl Converter {
     pub fn piece(&mut self, piece: &[u8], out: &mut [u8]) -> TextAnswer {
         // SAFETY: the slices and the fields are alive for the call and do not overlap, and the call is proved to stay inside them.
         unsafe {
-            hk_piece_lent(
-                self.source,
-                self.target,
-                self.numbers.as_mut_ptr(),
-                self.ends.as_mut_ptr(),
-                self.name_ends.as_mut_ptr(),
-                self.bytes.as_mut_ptr(),
-                self.names.as_mut_ptr(),
+            over_fields!(
+                hk_piece_lent,
+                self,
                 piece.as_ptr(),
                 piece.len(),
                 out.as_mut_ptr(),
-                out.len(),
+                out.len()
             )
         }
     }
@@ -407,19 +418,7 @@ impl Converter {
     /// The end of the file. Past the length, and on refusal, the output is left as it was.
     pub fn end(&mut self, out: &mut [u8]) -> TextAnswer {
         // SAFETY: the slice and the fields are alive for the call and do not overlap, and the call is proved to stay inside them.
-        unsafe {
-            hk_end_lent(
-                self.source,
-                self.target,
-                self.numbers.as_mut_ptr(),
-                self.ends.as_mut_ptr(),
-                self.name_ends.as_mut_ptr(),
-                self.bytes.as_mut_ptr(),
-                self.names.as_mut_ptr(),
-                out.as_mut_ptr(),
-                out.len(),
-            )
-        }
+        unsafe { over_fields!(hk_end_lent, self, out.as_mut_ptr(), out.len()) }
     }
 
     /// As `piece`, with the converter by value.

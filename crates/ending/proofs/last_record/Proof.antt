@@ -1,5 +1,5 @@
 -- The end of the cell in hand joins the kept ones, and the record is ruled on from there.
-use Prim.Native.Nat.{_+_, _-_, _<_}
+use Prim.Native.Nat.{_+_, _<_}
 use native.Mathlib.Omega.{arith}
 use mathlib.Core.Path.{_≡_, refl, ap, subst}
 use lib.ListN.{length, take, set, length-set, length-take}

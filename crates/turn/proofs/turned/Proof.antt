@@ -1,5 +1,5 @@
 -- The scanner's answer is a scan of the piece, and each way is a law of proofs/Walking.antt.
-use Prim.Native.Nat.{_-_, _≤_}
+use Prim.Native.Nat.{_≤_}
 use native.Mathlib.Omega.{arith}
 use mathlib.Core.Path.{sym, subst, _∙_}
 use lib.ListN.{length}

@@ -1,4 +1,4 @@
--- `visitor::visit` meets its contract: what the scanner found is a visit, whichever event it is.
+-- `visitor::visit` meets its contract: what the next record came to is a visit, whichever event it is.
 use native.Mathlib.Omega.{arith}
 use Prim.Native.Nat.{_≤_}
 use borrow.Author.Needs.{needs}

@@ -1,4 +1,4 @@
--- `spell::body::content_stop` meets its contract: a lone surrogate of a string, or a byte.
+-- `units::body::content_stop` meets its contract: a lone surrogate of a string, or a byte.
 -- Assumes nothing.
 use mathlib.Core.Logic.{⊎-elim}
 use mathlib.Core.Bool.{true, false}

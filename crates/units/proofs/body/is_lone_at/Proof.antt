@@ -1,4 +1,4 @@
--- `spell::body::is_lone_at` meets its contract: three bytes, of which the first two tell.
+-- `units::body::is_lone_at` meets its contract: three bytes, of which the first two tell.
 -- Assumes nothing.
 use mathlib.Core.Path.{sym, _∙_}
 use borrow.Author.Needs.{needs}

@@ -1,4 +1,4 @@
--- `spell::body::is_paired_at` meets its contract, by its tests.
+-- `units::body::is_paired_at` meets its contract, by its tests.
 -- Assumes nothing.
 use mathlib.Core.Path.{sym}
 use borrow.Author.Needs.{needs}

@@ -1,4 +1,4 @@
--- `spell::body::put` meets its contract. The invariant: what is still to be put is the text of the rest of the content, and a lone
+-- `units::body::put` meets its contract. The invariant: what is still to be put is the text of the rest of the content, and a lone
 -- surrogate was found or stands in that rest where the content holds one.
 -- Assumes nothing.
 use mathlib.Core.Path.{_≡_, ap, _∙_}

@@ -1,4 +1,4 @@
--- `spell::body::put_stop` meets its contract: the text that stands there is put.
+-- `units::body::put_stop` meets its contract: the text that stands there is put.
 -- Assumes nothing.
 use mathlib.Core.Path.{sym}
 use lib.ListN.{take}

@@ -1,4 +1,4 @@
--- `spell::body::stop_text` meets its contract, spelling by spelling.
+-- `units::body::stop_text` meets its contract, spelling by spelling.
 -- Assumes nothing.
 use borrow.Author.Needs.{needs}
 use Rattle.units.proofs.Contents.{legible-doubled, legible-string}

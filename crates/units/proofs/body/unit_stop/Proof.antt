@@ -1,4 +1,4 @@
--- `spell::body::unit_stop` meets its contract: the text of the unit that stands there.
+-- `units::body::unit_stop` meets its contract: the text of the unit that stands there.
 -- Assumes nothing.
 use native.Mathlib.Omega.{arith}
 use borrow.Author.Needs.{needs}

@@ -1,4 +1,4 @@
--- `spell::escape::byte_text` meets its contract: a string or doubled text, by the target.
+-- `units::escape::byte_text` meets its contract: a string or doubled text, by the target.
 -- Assumes nothing.
 use borrow.Author.Needs.{needs}
 use Rattle.model.specs.Text.{jsonBody}

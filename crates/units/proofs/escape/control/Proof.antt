@@ -1,4 +1,4 @@
--- `spell::escape::control` meets its contract: a letter for each of five bytes, and digits for the others.
+-- `units::escape::control` meets its contract: a letter for each of five bytes, and digits for the others.
 -- Assumes nothing.
 use mathlib.Core.Path.{_≡_}
 use mathlib.Core.List.{[], _∷_}

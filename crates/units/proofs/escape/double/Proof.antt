@@ -1,4 +1,4 @@
--- `spell::escape::double` meets its contract: a quote is written twice.
+-- `units::escape::double` meets its contract: a quote is written twice.
 -- Assumes nothing.
 use mathlib.Core.Path.{refl}
 use borrow.Author.Needs.{needs}

@@ -1,4 +1,4 @@
--- `spell::escape::escape` meets its contract, by its tests.
+-- `units::escape::escape` meets its contract, by its tests.
 -- Assumes nothing.
 use borrow.Author.Needs.{needs}
 use Rattle.units.proofs.Units.{spells-as, escaped-quote, escaped-backslash, escaped-itself}

@@ -1,4 +1,4 @@
--- `spell::escape::hex_digit` meets its contract, by its test.
+-- `units::escape::hex_digit` meets its contract, by its test.
 -- Assumes nothing.
 use borrow.Author.Needs.{needs}
 use Rattle.model.specs.Base.{if_then_else_}

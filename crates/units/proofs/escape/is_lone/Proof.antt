@@ -1,4 +1,4 @@
--- `spell::escape::is_lone` meets its contract, by its tests.
+-- `units::escape::is_lone` meets its contract, by its tests.
 -- Assumes nothing.
 use mathlib.Core.Path.{sym}
 use native.Mathlib.Omega.{arith}

@@ -1,4 +1,4 @@
--- `spell::escape::lone` meets its contract: three digits, from the bits that the definition takes.
+-- `units::escape::lone` meets its contract: three digits, from the bits that the definition takes.
 -- Assumes nothing.
 use mathlib.Core.Path.{ap, _∙_}
 use Prim.Native.Nat.{ℕ, _+_, _-_, _*_, _/_, _%_}

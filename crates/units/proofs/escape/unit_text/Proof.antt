@@ -1,4 +1,4 @@
--- `spell::escape::unit_text` meets its contract: a byte, a lone surrogate of a string, and all else as it stands.
+-- `units::escape::unit_text` meets its contract: a byte, a lone surrogate of a string, and all else as it stands.
 -- Assumes nothing.
 use mathlib.Core.Logic.{⊎-elim}
 use mathlib.Core.Bool.{true, false}

@@ -1,4 +1,4 @@
--- `spell::unit::at` meets its contract, spelling by spelling.
+-- `units::unit::at` meets its contract, spelling by spelling.
 -- Assumes nothing.
 use borrow.Author.Needs.{needs}
 use Rattle.units.proofs.Contents.{nothing-part}

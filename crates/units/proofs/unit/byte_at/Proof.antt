@@ -1,4 +1,4 @@
--- `spell::unit::byte_at` meets its contract.
+-- `units::unit::byte_at` meets its contract.
 -- Assumes nothing.
 use borrow.Author.Needs.{needs}
 use Rattle.units.proofs.Contents.{itself-part}

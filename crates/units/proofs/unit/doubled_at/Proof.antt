@@ -1,4 +1,4 @@
--- `spell::unit::doubled_at` meets its contract, by the bytes that stand there.
+-- `units::unit::doubled_at` meets its contract, by the bytes that stand there.
 -- Assumes nothing.
 use native.Mathlib.Omega.{arith}
 use mathlib.Core.List.{[]}

@@ -1,4 +1,4 @@
--- `spell::unit::first_place` meets its contract.
+-- `units::unit::first_place` meets its contract.
 -- Assumes nothing.
 use borrow.Author.Needs.{needs}
 use Rattle.units.proofs.Contents.{nothing-end}

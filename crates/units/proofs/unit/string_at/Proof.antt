@@ -1,4 +1,4 @@
--- `spell::unit::string_at` meets its contract, by the byte that stands there.
+-- `units::unit::string_at` meets its contract, by the byte that stands there.
 -- Assumes nothing.
 use mathlib.Core.List.{[]}
 use borrow.Author.Needs.{needs}
