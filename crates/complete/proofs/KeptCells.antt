@@ -22,6 +22,7 @@ use Rattle.decoder.specs.declared.source.Source.{Source}
 use Rattle.decoder.specs.declared.source.Source.the-variants.{File}
 use Rattle.decoder.specs.Followed.{EdFollows, EdFollowed}
 use Rattle.decoder.specs.Sources.{kindFrom, cellsIn, Spelt, in-file, Cells}
+use Rattle.decoder.proofs.CellsIn.{cells-length}
 use Rattle.carried.specs.Hand.{Stand, kindsAt}
 use Rattle.model.specs.declared.Dialect.{Dialect}
 use Rattle.carried.specs.Sound.{InOrder, order-end, order-next}
@@ -195,15 +196,8 @@ module _ {out : Bytes} {o : ℕ} (w v : Bytes) (h : o + length (w ++ v) ≤ leng
 
 -- ---- how many cells lists show
 
-cells-long : (src : Source) (s : Bytes) (starts ends kinds : List ℕ) → length starts ≡ length ends → length starts ≡ length kinds → length (cellsIn src s starts ends kinds) ≡ length starts
-unfolding cellsIn
-cells-long src s [] ends kinds e f = refl
-cells-long src s (i ∷ starts) [] kinds e f = absurd (omega arith)
-cells-long src s (i ∷ starts) (j ∷ ends) [] e f = absurd (omega arith)
-cells-long src s (i ∷ starts) (j ∷ ends) (k ∷ kinds) e f = ap suc (cells-long src s starts ends kinds (omega arith) (omega arith))
-
 pub cells-count : {src : Source} {s : Bytes} {starts ends kinds : List ℕ} → Cells src s starts ends kinds → length (cellsIn src s starts ends kinds) ≡ length starts
-cells-count {src} {s} {starts} {ends} {kinds} h = cells-long src s starts ends kinds (h .with-ends) (h .with-kinds)
+cells-count {src} {s} {starts} {ends} {kinds} h = cells-length src s starts ends kinds (h .with-ends) (h .with-kinds)
 
 -- ---- the lists that the code makes
 

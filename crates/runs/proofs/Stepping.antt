@@ -3,7 +3,7 @@ use Prim.Native.Nat.{ℕ, _+_, _-_, _≤_, _<_}
 use native.Mathlib.Omega.{arith}
 use mathlib.Core.Path.{_≡_, _∙_}
 use mathlib.Core.List.{_++_}
-use lib.ListN.{length, drop}
+use lib.ListN.{drop}
 use lib.Seq.{take-add, drop-drop}
 use Rattle.model.specs.Base.{Bytes}
 use Rattle.model.specs.Api.{slice}

@@ -17,7 +17,7 @@ use Rattle.model.specs.Report.{MAXRECORD}
 use Rattle.model.specs.Cell.{isDigit}
 use Rattle.model.specs.Decode.{kindOf, contentOf}
 use Rattle.model.specs.Text.{Value, isText, special, beginsMark, doubled, jsonCell, quotedText, cellText, hasQuotes}
-use Rattle.model.proofs.Tests.{split, split-on, impossible, is→eq}
+use Rattle.model.proofs.Tests.{split, split-on, impossible}
 use Rattle.model.proofs.Utf8.{quote-ascii}
 use Rattle.model.proofs.Lengths.{content-length}
 use Rattle.buffers.specs.Wrote.{Room, Put}
@@ -175,13 +175,6 @@ no-null e = let z : _≡_ {A = ℕ} 0 1 = cc in absurd (omega arith)
 
 pub word-no-text : {A : Type 0} → AsWord ≡ AsText → A
 word-no-text e = let z : _≡_ {A = ℕ} 0 1 = cc in absurd (omega arith)
-
--- the text of a cell is told by its kind and its content
-pub cell-text-same : (t : Dialect) (only first : Bool) (v w : Value) → v .kind ≡ w .kind → v .content ≡ w .content → cellText t only first v ≡ cellText t only first w
-unfolding cellText
-cell-text-same Csvj only first v w e f = rw (e, f)
-cell-text-same Tdif only first v w e f = rw (e, f)
-cell-text-same (CsvPlus s) only first v w e f = rw f
 
 -- ---- a cell of a file
 

@@ -1,8 +1,7 @@
 // The text of a record, whose cells stand in stretches of s, and the first cell that the target can't carry.
 ghost use mathlib.Core.Path.{_≡_};
-ghost use mathlib.Core.Bool.{Bool, true, false};
+ghost use mathlib.Core.Bool.{true, false};
 ghost use Prim.Native.Nat.{_+_, _<_};
-ghost use lib.ListN.{length};
 ghost use Rattle.model.specs.Base.{Bytes};
 ghost use Rattle.model.specs.declared.Dialect.the-variants.{Tdif};
 ghost use Rattle.model.specs.Dialect.{isCsvj, into};

@@ -5,9 +5,9 @@ use native.Mathlib.Nat.{add-zero}
 use mathlib.Core.Path.{_≡_, refl, sym, ap, ap₂, subst, _∙_}
 use mathlib.Core.Bool.{true, false}
 use mathlib.Core.List.{List, [], _∷_, _++_, map, append-assoc, append-nil}
-use lib.ListN.{length, take, drop, set, length-set, length-append, length-map, take-append-drop}
-use lib.Seq.{take-suc-set, drop-set-lt, take-append-seam}
-use borrow.Author.Tests.{lt-ltb, eq-eqb, ne-eqb}
+use lib.ListN.{length, take, drop, length-append, length-map, take-append-drop}
+use lib.Seq.{take-append-seam}
+use borrow.Author.Tests.{eq-eqb, ne-eqb}
 use Rattle.model.specs.Base.{if_then_else_, _is_, Bytes}
 use Rattle.model.specs.Report.{MAXRECORD, MAXCOLUMNS}
 use Rattle.model.specs.Laws.{All, all-none, all-cons}
@@ -21,8 +21,9 @@ use Rattle.decoder.specs.Followed.{EdFollowed}
 use Rattle.decoder.proofs.Followed.{EdClosed, closed-none, sound-closed, closed-append, closed-followed}
 use Rattle.carried.specs.Hand.{Shows, InHand, GoesOn, nothing-open, first-goes-on}
 use Rattle.carried.proofs.InHand.{hand-values, kept-open, kept-more}
-use Rattle.tokens.specs.Stored.{putAt, storedFrom}
+use Rattle.tokens.specs.Stored.{storedFrom}
 use Rattle.tokens.specs.Parts.{foundOf, handOf, rawStarts, rawEnds}
+use Rattle.tokens.proofs.Filling.{stored-from-all}
 use Rattle.tokens.specs.declared.record_state.RecordState.{RecordState}
 use Rattle.tokens.specs.declared.Reached.the-variants as reached
 use Rattle.carried.specs.declared.place.Place.{Place}
@@ -73,22 +74,10 @@ failed-as (completes s cs g q left) y o e = let z : _≡_ {A = ℕ} 0 1 = cc in 
 
 -- ---- the lists
 
-stored-all : (room k : ℕ) (xs old : List ℕ) → k + length xs ≤ room → room ≤ length old → storedFrom room k xs old ≡ take k old ++ (xs ++ drop (k + length xs) old)
-unfolding storedFrom putAt if_then_else_
-stored-all room k [] old h l = let e : k + 0 ≡ k = omega arith in rw e (sym (take-append-drop k old))
-stored-all room k (x ∷ xs) old h l =
-    let e : suc k + length xs ≡ k + suc (length xs) = omega arith in
-    let m : length (set old k x) ≡ length old = length-set old k x in
-    let t : take (suc k) (set old k x) ≡ take k old ++ (x ∷ []) = take-suc-set old k x (omega arith) in
-    let d : drop (suc k + length xs) (set old k x) ≡ drop (suc k + length xs) old = drop-set-lt (suc k + length xs) old k x (omega arith) in
-    rw (lt-ltb k room (omega arith))
-    (stored-all room (suc k) xs (set old k x) (omega arith) (omega arith)
-    ∙ rw (t, d, e) (append-assoc (take k old) (x ∷ []) (xs ++ drop (k + suc (length xs)) old)))
-
 shown-first : (room m : ℕ) (xs old new : List ℕ) → new ≡ storedFrom room 0 xs old → length xs ≡ m → m ≤ room → room ≤ length old → take (m - 0) (drop 0 new) ≡ xs
 shown-first room m xs old new e n h l =
     let z : m - 0 ≡ length xs = omega arith in
-    ap₂ (λ (k : ℕ) (x : List ℕ). take k x) z (e ∙ stored-all room 0 xs old (omega arith) l) ∙ take-append-seam xs (drop (0 + length xs) old)
+    ap₂ (λ (k : ℕ) (x : List ℕ). take k x) z (e ∙ stored-from-all room 0 xs old (omega arith) l) ∙ take-append-seam xs (drop (0 + length xs) old)
 
 pub lists-show :
     {piece : Bytes} {cs : List RawCell} (m : ℕ) (starts stops starts′ stops′ : List ℕ) → starts′ ≡ storedFrom MAXCOLUMNS 0 (rawStarts cs) starts → stops′ ≡ storedFrom MAXCOLUMNS 0 (rawEnds cs) stops →

@@ -1,6 +1,6 @@
 -- The test of a word. With the laws of Bytewise.antt it is the test of each of its bytes, and there the top digits of five numbers tell:
 -- each is 1 exactly where the byte is not ASCII, is a stop, is below 20 hex or is 7F hex.
-use Prim.Native.Nat.{ℕ, zero, suc, _+_, _*_, _-_, _/_, _%_, _^_, _≤_, _<_, max}
+use Prim.Native.Nat.{ℕ, _+_, _*_, _-_, _/_, _%_, _^_, _≤_, _<_, max}
 use native.Mathlib.Omega.{arith}
 use mathlib.Core.Path.{_≡_, refl, sym, ap, _∙_}
 use mathlib.Core.Bool.{Bool, true, false, not, _&&_}

@@ -2,13 +2,12 @@
 -- and the byte itself has it from 80 hex on. So the flag tells whether the byte is at least 80 - k.
 use Prim.Native.Nat.{ℕ, _+_, _*_, _-_, _/_, _%_, _^_, _≤_, _<_, max}
 use native.Mathlib.Omega.{arith}
-use mathlib.Core.Path.{_≡_, sym, ap, _∙_}
-use mathlib.Core.Bool.{Bool, true, false}
+use mathlib.Core.Path.{_≡_, ap, _∙_}
 use lib.Dec.{ltb}
-use lib.Bits.{bitAnd, bitOr, bitXor, and-mask, mask-lt, and-high, and-le-r, xor-lt, xor-self}
+use lib.Bits.{bitAnd, bitOr, bitXor, and-mask, mask-lt, and-high, xor-lt, xor-self}
 use borrow.Author.Tests.{eqb-true, eqb-false, ltb-true, ltb-false}
 use Rattle.model.proofs.Tests.{split-on}
-use Rattle.model.specs.Base.{Bytes, if_then_else_, _is_}
+use Rattle.model.specs.Base.{if_then_else_, _is_}
 use Rattle.words.specs.Words.{ONES, bytesOf, flagOf, Flags, isByte, isBelow}
 use Rattle.words.proofs.Bytewise.{all-bytes, itself, eight-times, Bytewise, and-bytes, or-bytes, xor-bytes, add-bytes}
 use Rattle.words.proofs.Tops.{or-top, any-top, differ-none}

@@ -1,7 +1,6 @@
 -- `spell::record::verdict_of` meets its contract.
 -- Assumes nothing.
 use mathlib.Core.Path.{sym, ap, _∙_}
-use borrow.Author.Needs.{needs}
 use Rattle.spell.specs.Columns.{verdictOf}
 use Rattle.spell.proofs.Columns.{said-nothing, says-lone, says-lacks}
 use Rattle.spell.proofs.record.verdict_of.Statement.{statement}
