@@ -3,3 +3,4 @@ pub mod Reading
 pub mod Events
 pub mod Complete
 pub mod Stretches
+pub mod Quick

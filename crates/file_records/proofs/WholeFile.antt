@@ -92,7 +92,7 @@ last-unclean (CsvPlus s) c e = go (isWhole (CsvPlus s) c) e
 cut-unclean : {A : Type 0} → Cut ≡ Clean → A
 cut-unclean e = let z : _≡_ {A = ℕ} 0 1 = cc in absurd (omega arith)
 
-clean-between : (d : Dialect) (f : FileState) → fileEnd d f ≡ Clean → inRecord f ≡ false
+pub clean-between : (d : Dialect) (f : FileState) → fileEnd d f ≡ Clean → inRecord f ≡ false
 unfolding fileEnd
 clean-between d Top e = refl
 clean-between d Begin e = refl

@@ -1,4 +1,4 @@
-// The data records of a file, each validated when it is complete.
+// The data records of a file, each validated when it is complete. A record is told quickly, or else by the scanner from its start.
 ghost use Prim.Native.Nat.{_≤_};
 ghost use lib.ListN.{length};
 ghost use Rattle.model.specs.Report.{MAXFILE};
@@ -8,6 +8,8 @@ use model::Dialect;
 use model::FileState;
 use model::Report;
 use model::Verdict;
+use numbers::MAX_FILE;
+use quick_records::Quick;
 
 // What the data records come to.
 pub enum Pass {
@@ -37,12 +39,24 @@ pub fn data_records(
     let mut cells: usize = 0;
     let mut records: usize = 0;
     loop {
-        match file_records::next_record(d, file, i, state, room, cells, starts, ends, kinds) {
-            Event::Completed {
+        match quick_records::record(
+            d,
+            file,
+            i,
+            state,
+            MAX_FILE,
+            room,
+            cells,
+            starts,
+            ends,
+            kinds,
+        ) {
+            Quick::Record {
                 start,
                 cells: n,
                 state: f,
                 next,
+                clean: _,
             } => match validate::data(columns, n) {
                 Verdict::Sound => {
                     state = f;
@@ -54,22 +68,50 @@ pub fn data_records(
                     return Pass::Refused(numbers::on_record(e, records + 2, start));
                 }
             },
-            Event::LastRecord { start, cells: n } => match validate::data(columns, n) {
-                Verdict::Sound => {
-                    return Pass::Accepted {
-                        records: records + 1,
-                        cells: cells + n,
-                    };
+            Quick::Odd => match file_records::next_record(
+                d,
+                file,
+                i,
+                state,
+                room,
+                cells,
+                starts,
+                ends,
+                kinds,
+            ) {
+                Event::Completed {
+                    start,
+                    cells: n,
+                    state: f,
+                    next,
+                } => match validate::data(columns, n) {
+                    Verdict::Sound => {
+                        state = f;
+                        i = next;
+                        cells += n;
+                        records += 1;
+                    }
+                    Verdict::Faulty(e) => {
+                        return Pass::Refused(numbers::on_record(e, records + 2, start));
+                    }
+                },
+                Event::LastRecord { start, cells: n } => match validate::data(columns, n) {
+                    Verdict::Sound => {
+                        return Pass::Accepted {
+                            records: records + 1,
+                            cells: cells + n,
+                        };
+                    }
+                    Verdict::Faulty(e) => {
+                        return Pass::Refused(numbers::on_record(e, records + 2, start));
+                    }
+                },
+                Event::Failed { fault, offset } => {
+                    return Pass::Refused(numbers::on_record(fault, records + 2, offset));
                 }
-                Verdict::Faulty(e) => {
-                    return Pass::Refused(numbers::on_record(e, records + 2, start));
+                Event::Finished { offset: _ } => {
+                    return Pass::Accepted { records, cells };
                 }
-            },
-            Event::Failed { fault, offset } => {
-                return Pass::Refused(numbers::on_record(fault, records + 2, offset));
-            }
-            Event::Finished { offset: _ } => {
-                return Pass::Accepted { records, cells };
             }
         }
     }

@@ -75,7 +75,7 @@ one-more-few true a n i h = omega arith
 one-more-few false a n i h = omega arith
 
 -- where no record is in hand, no cell is
-between-outer : (f : FileState) → inRecord f ≡ false → outer f ≡ true
+pub between-outer : (f : FileState) → inRecord f ≡ false → outer f ≡ true
 between-outer Top e = refl
 between-outer Begin e = refl
 between-outer Ended e = refl

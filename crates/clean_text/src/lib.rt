@@ -1,0 +1,50 @@
+// The text of a data record of a file in a target. Where each of its cells is a text that stands in it as it is, none is looked at byte by
+// byte; every other record goes to `spell`.
+ghost use mathlib.Core.Path.{_≡_};
+ghost use mathlib.Core.Bool.{true, false};
+ghost use Rattle.model.specs.Dialect.{into};
+ghost use Rattle.model.specs.Text.{recordText};
+ghost use Rattle.model.specs.Records.{uncarriedFrom};
+ghost use Rattle.cell_ends.specs.Ends.{CleanIn};
+ghost use Rattle.buffers.specs.Wrote.{Room, Put};
+ghost use Rattle.decoder.specs.declared.source.Source.the-variants.{File};
+ghost use Rattle.decoder.specs.Sources.{cellsIn, Cells};
+use decoder::source::Source;
+use model::Dialect;
+use spell::record;
+use spell::record::RecordText;
+
+// The record at a place of the buffer, or only measured from there, as `record::put` has it.
+pub fn put(
+    d: Dialect,
+    t: Dialect,
+    s: &[u8],
+    starts: &[usize],
+    ends: &[usize],
+    kinds: &[u8],
+    clean: bool,
+    out: &mut [u8],
+    at: usize,
+    write: bool,
+) -> RecordText
+    requires { ⌜ Cells (File d) (now s) (now starts) (now ends) (now kinds) ⌝ }
+    requires { ⌜ (clean ≡ true → CleanIn d (now s) (now starts) (now ends)) ⌝ }
+    requires { ⌜ Room write at (recordText (into t) false (cellsIn (File d) (now s) (now starts) (now ends) (now kinds))) (now out) ⌝ }
+    ensures { λ r. ⌜ Put write (now (out .entry)) at
+        (recordText (into t) false (cellsIn (File d) (now (s .entry)) (now (starts .entry)) (now (ends .entry)) (now (kinds .entry))))
+        (now (out .exit)) (r .end) ⌝ }
+    ensures { λ r. ⌜ r .carries ≡ uncarriedFrom t 1 (cellsIn (File d) (now (s .entry)) (now (starts .entry)) (now (ends .entry)) (now (kinds .entry))) ⌝ }
+{
+    record::put(
+        Source::File(d),
+        t,
+        s,
+        starts,
+        ends,
+        kinds,
+        false,
+        out,
+        at,
+        write,
+    )
+}

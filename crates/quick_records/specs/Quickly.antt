@@ -1,0 +1,70 @@
+-- A record told quickly: what scanning comes to, or nothing; and what stands in the lists then.
+use Prim.Native.Nat.{ℕ, _+_, _<_}
+use mathlib.Core.Path.{_≡_}
+use mathlib.Core.Bool.{Bool, true, false}
+use mathlib.Core.List.{List, _++_}
+use lib.ListN.{length, drop, getD}
+use Rattle.model.specs.declared.Dialect.{Dialect}
+use Rattle.model.specs.declared.FileState.{FileState}
+use Rattle.model.specs.declared.FileState.the-variants.{Begin, Ended}
+use Rattle.model.specs.Base.{Bytes, _is_, QUOTE, LF}
+use Rattle.model.specs.Dialect.{quoteOf}
+use Rattle.model.specs.File.{afterCell}
+use Rattle.model.specs.declared.FileState.the-variants.{Cr}
+use Rattle.model.specs.declared.ByteRole.the-variants.{Tail, Ends}
+use Rattle.model.specs.declared.Step.the-variants.{To}
+use Rattle.model.specs.Api.{slice}
+use Rattle.model.specs.Scans.{RawCell, fresh}
+use Rattle.cell_ends.specs.Ends.{CleanCell}
+use Rattle.tokens.specs.Parts.{Found, foundIn, rawStarts, rawEnds, rawKinds, ReachedInBounds}
+use Rattle.tokens.specs.Stored.{storedFrom}
+use Rattle.tokens.specs.declared.Reached.the-variants as reached
+use Rattle.quick_records.specs.declared.Closing.{Closing}
+use Rattle.quick_records.specs.declared.Closing.the-variants as closing
+use Rattle.quick_records.specs.declared.Quick.{Quick}
+use Rattle.quick_records.specs.declared.Quick.the-variants.{Record, Odd}
+
+-- ---- the start of a record
+
+-- where the first cell of a record starts, if one may be told: here, or after the LF of a CRLF whose CR ended the record before
+pub data Begins (first : FileState) (part : Bytes) (from : ℕ) : ℕ → Type 0 where
+  here : first ≡ Begin → Begins first part from from
+  after-cr : first ≡ Ended → (getD part from 0 is LF) ≡ false → Begins first part from from
+  after-pair : first ≡ Ended → from < length part → getD part from 0 ≡ LF → Begins first part from (from + 1)
+  unknown : Begins first part from (length part)
+
+-- ---- the end of a record
+
+-- what ends a record after its last cell, where it is told: one byte, or CR and LF
+pub data Closes (d : Dialect) (part : Bytes) (e stop : ℕ) : Closing → Type 0 where
+  at-once : {f : FileState} → afterCell d true (getD part e 0) ≡ To f (Ends true) → Closes d part e stop (closing.After f (e + 1))
+  by-pair : e + 1 < stop → afterCell d true (getD part e 0) ≡ To Cr (Tail true) → getD part (e + 1) 0 ≡ LF → Closes d part e stop (closing.After Begin (e + 2))
+  nowhere : Closes d part e stop closing.Nowhere
+
+-- ---- records
+
+-- what scanning of this part comes to, from a place between records on
+abbrev pub nextFound : Dialect → (limit : ℕ) → (part : Bytes) → (from : ℕ) → FileState → Found
+nextFound d limit part from f = foundIn d limit (fresh f 0 from) (drop from part)
+
+-- these cells stand in the lists, from place base on, as far as there is room
+pub record Stores (d : Dialect) (room base : ℕ) (cs : List RawCell) (starts₀ ends₀ kinds₀ starts ends kinds : List ℕ) : Type 0 where
+  pub at-starts : starts ≡ storedFrom room base (rawStarts cs) starts₀
+  pub at-ends : ends ≡ storedFrom room base (rawEnds cs) ends₀
+  pub at-kinds : kinds ≡ storedFrom room base (rawKinds d cs) kinds₀
+
+-- the first n cells that stand in the lists from place base on are clean, and the quote is the quotation mark
+pub record Clean (d : Dialect) (part : Bytes) (room base n : ℕ) (starts ends : List ℕ) : Type 0 where
+  pub quotes : quoteOf d ≡ QUOTE
+  pub each : (k : ℕ) → k < n → base + k < room → CleanCell d (slice part (getD starts (base + k) 0) (getD ends (base + k) 0))
+
+-- what is told of the record from there on. Where nothing is told, its first cells may stand in the lists
+pub data Quickly (d : Dialect) (limit : ℕ) (part : Bytes) (from : ℕ) (f : FileState) (room base : ℕ) (starts₀ ends₀ kinds₀ starts ends kinds : List ℕ) : Quick → Type 0 where
+  is-found :
+      {start cells next : ℕ} {g : FileState} {clean : Bool} (cs : List RawCell) →
+      nextFound d limit part from f ≡ record { answer = reached.Completed start cells g next; cells = cs } →
+      ReachedInBounds (length part) from limit base (reached.Completed start cells g next) → Stores d room base cs starts₀ ends₀ kinds₀ starts ends kinds →
+      (clean ≡ true → Clean d part room base cells starts ends) → Quickly d limit part from f room base starts₀ ends₀ kinds₀ starts ends kinds (Record start cells g next clean)
+  is-odd :
+      (cs more : List RawCell) → nextFound d limit part from f .cells ≡ cs ++ more → Stores d room base cs starts₀ ends₀ kinds₀ starts ends kinds →
+      Quickly d limit part from f room base starts₀ ends₀ kinds₀ starts ends kinds Odd
