@@ -165,11 +165,13 @@ module _ (d : Dialect) (file : Bytes) (first : FileState) (from room base : ℕ)
       where
         go : Quickly d MAXFILE file from first room base s₀ e₀ k₀ s e k (Record start cells g next clean) → Out d file first from room base s₀ e₀ k₀ (Completed start cells g next) s e k
         go (is-found cs f b y c) =
-            at-record d file first from room base s₀ e₀ k₀ l (reached.Completed start cells g next) s e k
-            (ap (λ (x : Found). x .answer) (sym f), (
-              y .at-starts ∙ ap (λ (x : Found). storedFrom room base (rawStarts (x .cells)) s₀) (sym f),
-              (y .at-ends ∙ ap (λ (x : Found). storedFrom room base (rawEnds (x .cells)) e₀) (sym f), (y .at-kinds ∙ ap (λ (x : Found). storedFrom room base (rawKinds d (x .cells)) k₀) (sym f), b)),
-            ))
+            at-record d file first from room base s₀ e₀ k₀ l (reached.Completed start cells g next) s e k (
+              ap (λ (x : Found). x .answer) (sym f),
+              (
+                y .at-starts ∙ ap (λ (x : Found). storedFrom room base (rawStarts (x .cells)) s₀) (sym f),
+                (y .at-ends ∙ ap (λ (x : Found). storedFrom room base (rawEnds (x .cells)) e₀) (sym f), (y .at-kinds ∙ ap (λ (x : Found). storedFrom room base (rawKinds d (x .cells)) k₀) (sym f), b)),
+              ),
+            )
             start cells g next refl
 
     -- its cells are clean where that was told

@@ -13,7 +13,10 @@ ghost use Rattle.model.specs.Dialect.{isCsvj, into};
 ghost use Rattle.model.specs.Text.{Value, recordText, ending};
 ghost use Rattle.model.specs.Records.{uncarriedFrom, clashFault, targetFault};
 ghost use Rattle.model.specs.Report.{MAXFILE, MAXRECORD};
+ghost use mathlib.Core.Bool.{true, false};
 ghost use Rattle.buffers.specs.Wrote.{measure};
+ghost use Rattle.cell_ends.specs.Ends.{CleanIn};
+ghost use Rattle.decoder.specs.declared.source.Source.the-variants.{File};
 ghost use Rattle.decoder.specs.Sources.{cellsIn, Cells};
 ghost use Rattle.validate.specs.Keys.{NamesIn};
 ghost use Rattle.target.specs.Sized.{Sized};
@@ -170,6 +173,54 @@ pub fn judged(
         return refused(e);
     }
     if let Verdict::Faulty(e) = clash(src, t, s, starts, ends, header) {
+        return refused(e);
+    }
+    sized(t, x.end, written)
+}
+
+// ---- data records of a file
+
+// How long the record's text is, and the first cell that the target can't carry. `clean`: each cell is a text whose content stands in it
+// as it is.
+fn measured_data(
+    d: Dialect,
+    t: Dialect,
+    s: &[u8],
+    starts: &[usize],
+    ends: &[usize],
+    kinds: &[u8],
+    clean: bool,
+) -> RecordText
+    requires { ⌜ Cells (File d) (now s) (now starts) (now ends) (now kinds) ⌝ }
+    requires { ⌜ (clean ≡ true → CleanIn d (now s) (now starts) (now ends)) ⌝ }
+    ensures { λ r. ⌜ r .end ≡ measure (length (recordText (into t) false (cellsIn (File d) (now (s .entry)) (now (starts .entry)) (now (ends .entry)) (now (kinds .entry))))) ⌝ }
+    ensures { λ r. ⌜ r .carries ≡ uncarriedFrom t 1 (cellsIn (File d) (now (s .entry)) (now (starts .entry)) (now (ends .entry)) (now (kinds .entry))) ⌝ }
+{
+    let mut nothing = [0u8; 1];
+    clean_text::put(d, t, s, starts, ends, kinds, clean, &mut nothing, 0, false)
+}
+
+// What the target says of a data record, as `judged` does.
+pub fn judged_data(
+    d: Dialect,
+    t: Dialect,
+    s: &[u8],
+    starts: &[usize],
+    ends: &[usize],
+    kinds: &[u8],
+    clean: bool,
+    written: usize,
+) -> Ruling
+    requires { ⌜ Cells (File d) (now s) (now starts) (now ends) (now kinds) ⌝ }
+    requires { ⌜ (clean ≡ true → CleanIn d (now s) (now starts) (now ends)) ⌝ }
+    requires { ⌜ written ≤ MAXFILE ⌝ }
+    ensures { λ r. ⌜ r .verdict ≡ targetFault (into t) false written (cellsIn (File d) (now (s .entry)) (now (starts .entry)) (now (ends .entry)) (now (kinds .entry))) ⌝ }
+    ensures { λ r. ⌜ (r .verdict ≡ Sound
+        → r .length ≡ length (recordText (into t) false (cellsIn (File d) (now (s .entry)) (now (starts .entry)) (now (ends .entry)) (now (kinds .entry))) ++ ending t)) ⌝ }
+{
+    let x = measured_data(d, t, s, starts, ends, kinds, clean);
+    let carries = x.carries;
+    if let Verdict::Faulty(e) = carries {
         return refused(e);
     }
     sized(t, x.end, written)

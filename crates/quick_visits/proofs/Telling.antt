@@ -1,0 +1,70 @@
+-- A data record that was told is what a visit comes to.
+use Prim.Native.Nat.{ℕ, _+_, _≤_, _<_}
+use native.Mathlib.Omega.{arith}
+use mathlib.Core.Path.{_≡_, refl, sym, ap, subst, _∙_}
+use mathlib.Core.Bool.{Bool, true, false}
+use mathlib.Core.List.{List, []}
+use lib.ListN.{length, take, drop, getD, length-take}
+use lib.Seq.{getD-take}
+use lib.Dec.{eqb}
+use borrow.Author.Tests.{ne-eqb}
+use Rattle.model.specs.declared.Dialect.{Dialect}
+use Rattle.model.specs.declared.FileState.{FileState}
+use Rattle.model.specs.Base.{Bytes}
+use Rattle.model.specs.Report.{MAXFILE, MAXCOLUMNS}
+use Rattle.model.specs.Records.{Rec, between-records}
+use Rattle.model.specs.Api.{slice}
+use Rattle.tokens.specs.Tokens.{outer}
+use Rattle.cell_ends.specs.Ends.{CleanCell, CleanIn}
+use Rattle.quick_records.specs.declared.Quick.{Quick}
+use Rattle.quick_records.specs.declared.Quick.the-variants as quick
+use Rattle.quick_records.specs.Quickly.{Clean, Quickly}
+use Rattle.file_records.specs.Next.{nextRecord}
+use Rattle.file_records.specs.declared.Event.the-variants.{Completed}
+use Rattle.file_records.proofs.Quick.{told-record, told-clean, told-long}
+use Rattle.visitor.specs.declared.Aim.{Aim}
+use Rattle.visitor.specs.Visits as visits
+use Rattle.visitor.specs.Visits.{Long, Kept}
+use Rattle.visitor.proofs.Visiting.{Met, record-counts, record-visited}
+use Rattle.visitor.proofs.Walking.{came}
+use Rattle.quick_visits.specs.declared.Told.{Told}
+use Rattle.quick_visits.specs.declared.Told.the-variants as told
+use Rattle.quick_visits.specs.Tells.{Finds, sound, unsure, Tells, a-record, nothing}
+
+-- after some records the next is no header
+pub no-header : (done : ℕ) → (done ≡ 0 → ⊥) → false ≡ eqb done 0
+no-header done n = sym (ne-eqb done 0 n)
+
+-- the cells that stand in the lists are clean
+pub clean-in : {d : Dialect} {file : Bytes} {n : ℕ} {s e : List ℕ} → n ≤ MAXCOLUMNS → Clean d file MAXCOLUMNS 0 n s e → CleanIn d file (take n s) (take n e)
+clean-in {d} {file} {n} {s} {e} few c =
+    record {
+      quotes = c .quotes;
+      each =
+          λ k l.
+          let m : length (take n s) ≤ n = simp length-take (omega arith) in
+          let h : k < n = omega arith in
+          let z : 0 + k ≡ k = omega arith in
+          let x : CleanCell d (slice file (getD s (0 + k) 0) (getD e (0 + k) 0)) = c .each k h (omega arith) in
+          rw (getD-take n s k 0 h, getD-take n e k 0 h) (subst (λ (j : ℕ). CleanCell d (slice file (getD s j 0) (getD e j 0))) z x);
+    }
+
+module _ {d : Dialect} {file : Bytes} {f : FileState} {i : ℕ} {s₀ e₀ k₀ s e k : List ℕ} {q : Quick} (t : Quickly d MAXFILE file i f MAXCOLUMNS 0 s₀ e₀ k₀ s e k q) (between : outer f ≡ true) (inside : i ≤ length file) (long : Long s₀ e₀ k₀) where
+  pub met : {start cells next : ℕ} {g : FileState} {clean : Bool} → q ≡ quick.Record start cells g next clean → Met d file f i s₀ e₀ k₀ s e k (Completed start cells g next)
+  met z =
+      let o = told-record d file f i MAXCOLUMNS 0 t z inside in
+      record { between = between; inside = inside; long = long; event = o .event; at-starts = o .at-starts; at-ends = o .at-ends; at-kinds = o .at-kinds; bounds = o .bounds }
+
+  pub kept : Kept s₀ e₀ k₀ s e k
+  kept = let l = told-long d file f i MAXCOLUMNS 0 t in record { at-starts = l .0; at-ends = l .1; at-kinds = l .2 }
+
+  pub clean-cells : {start cells next : ℕ} {g : FileState} {clean : Bool} → q ≡ quick.Record start cells g next clean → cells ≤ MAXCOLUMNS → clean ≡ true → CleanIn d file (take cells s) (take cells e)
+  clean-cells z few c = clean-in few (told-clean d file f i MAXCOLUMNS 0 t z c)
+
+  pub tells : (aim : Aim) (rs : List Rec) {start cells next : ℕ} {g : FileState} {clean : Bool} → q ≡ quick.Record start cells g next clean → {r : Told} → Finds d aim rs (nextRecord d (between-records [] f i) (drop i file) .cells) start g next clean r → Tells d aim file rs f i s e k r
+  tells aim rs z unsure = nothing
+  tells aim rs {start} {cells} {next} {g} {clean} z (sound (visits.sound {n = n} {w = w} fault l few text short)) =
+      let m = met z in
+      let same : cells ≡ n = sym (record-counts m refl) ∙ l in
+      a-record (came (record-visited m aim rs refl (visits.sound fault l few text short)) refl)
+      (λ c. subst (λ (j : ℕ). CleanIn d file (take j s) (take j e)) same (clean-cells z (omega arith) c))
