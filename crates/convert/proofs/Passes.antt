@@ -2,7 +2,7 @@
 use Prim.Native.Nat.{ℕ, _+_, _≤_}
 use native.Mathlib.Omega.{arith}
 use mathlib.Core.Path.{_≡_, refl, sym, ap, subst, _∙_}
-use mathlib.Core.Bool.{Bool, true}
+use mathlib.Core.Bool.{Bool, true, false}
 use mathlib.Core.Option.{none}
 use mathlib.Core.List.{List, [], _∷_, _++_, append-nil}
 use lib.ListN.{length, take, length-append}
@@ -12,7 +12,7 @@ use Rattle.model.specs.declared.Dialect.{Dialect}
 use Rattle.model.specs.declared.FileState.{FileState}
 use Rattle.model.specs.declared.FileState.the-variants.{Top}
 use Rattle.model.specs.declared.Report.{Report}
-use Rattle.model.specs.Base.{Bytes, over, if_then_else_}
+use Rattle.model.specs.Base.{Bytes, isEmpty, over, if_then_else_}
 use Rattle.model.specs.Dialect.{into}
 use Rattle.model.specs.Laws.{Grows}
 use Rattle.model.specs.Text.{Value, recordText, tableText, ending}
@@ -153,6 +153,17 @@ module _ {d t : Dialect} {file old out : Bytes} {f : FileState} {i done columns 
           puts = rw (walks-rs (y .walk) n none-written, snoc) (put-whole q);
           long = same-long q;
         }
+
+    -- the same of a data record
+    module _ (later : isEmpty (y .walk .rs) ≡ false) where
+      no-header : eqb done 0 ≡ false
+      no-header = empty-none (y .walk .rs) done (y .walk .after .count) ∙ later
+
+      pub room-data : Room true at (recordText (into t) false Cells-of ++ ending t) out
+      room-data = subst (λ (b : Bool). Room true at (recordText (into t) b Cells-of ++ ending t) out) no-header room-there
+
+      pub fills-data : {new : Bytes} {o : ℕ} → Put true out at (recordText (into t) false Cells-of ++ ending t) new o → Filling d t file old new (v .state) (v .next) (done + 1) (v .cells) o
+      fills-data {new} {o} p = fills-on (subst (λ (b : Bool). Put true out at (recordText (into t) b Cells-of ++ ending t) new o) (sym no-header) p)
 
   module _ {s e k : List ℕ} {o : Outcome} (v : Visits d Reading file (y .walk .rs) f i s e k o) where
     pub filled-all : o ≡ outcomes.End → out ≡ over (answerIn d t file (length old) .text) old

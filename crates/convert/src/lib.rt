@@ -5,7 +5,8 @@
 // whole file is known to be accepted and to have room. The second pass asks the target nothing more. The definition is `converter` of
 // model's specs/Api.antt.
 ghost use mathlib.Core.Path.{_≡_};
-ghost use mathlib.Core.Bool.{true};
+ghost use mathlib.Core.Bool.{true, false};
+ghost use Rattle.cell_ends.specs.Ends.{CleanIn};
 ghost use mathlib.Core.List.{_++_};
 ghost use lib.ListN.{length};
 ghost use Rattle.model.specs.Base.{over};
@@ -24,6 +25,7 @@ use model::Report;
 use numbers::MAX_COLUMNS;
 use numbers::NamedDialect;
 use numbers::TextAnswer;
+use quick_visits::Told;
 use spell::record;
 use visitor::Aim;
 use visitor::Outcome;
@@ -48,7 +50,7 @@ fn measured(d: Dialect, t: Dialect, file: &[u8]) -> Sum
     let mut columns: usize = 0;
     let mut length: usize = 0;
     loop {
-        match visitor::visit(
+        match quick_visits::data_record(
             d,
             Aim::Into(t),
             file,
@@ -61,19 +63,40 @@ fn measured(d: Dialect, t: Dialect, file: &[u8]) -> Sum
             &mut ends,
             &mut kinds,
         ) {
-            Outcome::Record(v) => {
+            Told::Record(v, _) => {
                 state = v.state;
                 i = v.next;
                 columns = v.cells;
                 length = v.written;
                 done += 1;
             }
-            Outcome::End => {
-                return Sum::Accepted { length };
-            }
-            Outcome::Refused(e) => {
-                return Sum::Refused(e);
-            }
+            Told::Nothing => match visitor::visit(
+                d,
+                Aim::Into(t),
+                file,
+                i,
+                state,
+                done,
+                columns,
+                length,
+                &mut starts,
+                &mut ends,
+                &mut kinds,
+            ) {
+                Outcome::Record(v) => {
+                    state = v.state;
+                    i = v.next;
+                    columns = v.cells;
+                    length = v.written;
+                    done += 1;
+                }
+                Outcome::End => {
+                    return Sum::Accepted { length };
+                }
+                Outcome::Refused(e) => {
+                    return Sum::Refused(e);
+                }
+            },
         }
     }
 }
@@ -109,6 +132,27 @@ fn put_record(
     record::put_ending(t, room, text.end, true)
 }
 
+// The same of a data record. `clean`: each of its cells is a text whose content stands in it as it is.
+fn put_data(
+    d: Dialect,
+    t: Dialect,
+    file: &[u8],
+    starts: &[usize],
+    ends: &[usize],
+    kinds: &[u8],
+    clean: bool,
+    room: &mut [u8],
+    at: usize,
+) -> usize
+    requires { ⌜ Cells (File d) (now file) (now starts) (now ends) (now kinds) ⌝ }
+    requires { ⌜ (clean ≡ true → CleanIn d (now file) (now starts) (now ends)) ⌝ }
+    requires { ⌜ Room true at (recordText (into t) false (cellsIn (File d) (now file) (now starts) (now ends) (now kinds)) ++ ending t) (now room) ⌝ }
+    ensures { λ r. ⌜ Put true (now (room .entry)) at (recordText (into t) false (cellsIn (File d) (now (file .entry)) (now (starts .entry)) (now (ends .entry)) (now (kinds .entry))) ++ ending t) (now (room .exit)) r ⌝ }
+{
+    let text = clean_text::put(d, t, file, starts, ends, kinds, clean, room, at, true);
+    record::put_ending(t, room, text.end, true)
+}
+
 // All records of a file that was accepted and has room.
 fn put_records(d: Dialect, t: Dialect, file: &[u8], room: &mut [u8])
     requires { ⌜ Accepts d t (now file) (length (now room)) ⌝ }
@@ -123,7 +167,7 @@ fn put_records(d: Dialect, t: Dialect, file: &[u8], room: &mut [u8])
     let mut columns: usize = 0;
     let mut at: usize = 0;
     loop {
-        match visitor::visit(
+        match quick_visits::data_record(
             d,
             Aim::Reading,
             file,
@@ -136,16 +180,16 @@ fn put_records(d: Dialect, t: Dialect, file: &[u8], room: &mut [u8])
             &mut ends,
             &mut kinds,
         ) {
-            Outcome::Record(v) => {
+            Told::Record(v, clean) => {
                 let cells = v.cells;
-                at = put_record(
+                at = put_data(
                     d,
                     t,
                     file,
                     &starts[..cells],
                     &ends[..cells],
                     &kinds[..cells],
-                    done == 0,
+                    clean,
                     room,
                     at,
                 );
@@ -154,12 +198,44 @@ fn put_records(d: Dialect, t: Dialect, file: &[u8], room: &mut [u8])
                 columns = cells;
                 done += 1;
             }
-            Outcome::End => {
-                return;
-            }
-            Outcome::Refused(_) => {
-                return;
-            }
+            Told::Nothing => match visitor::visit(
+                d,
+                Aim::Reading,
+                file,
+                i,
+                state,
+                done,
+                columns,
+                0,
+                &mut starts,
+                &mut ends,
+                &mut kinds,
+            ) {
+                Outcome::Record(v) => {
+                    let cells = v.cells;
+                    at = put_record(
+                        d,
+                        t,
+                        file,
+                        &starts[..cells],
+                        &ends[..cells],
+                        &kinds[..cells],
+                        done == 0,
+                        room,
+                        at,
+                    );
+                    state = v.state;
+                    i = v.next;
+                    columns = cells;
+                    done += 1;
+                }
+                Outcome::End => {
+                    return;
+                }
+                Outcome::Refused(_) => {
+                    return;
+                }
+            },
         }
     }
 }

@@ -3,14 +3,14 @@ use Prim.Native.Nat.{ℕ, _+_, _≤_, _<_}
 use native.Mathlib.Omega.{arith}
 use mathlib.Core.Path.{_≡_, refl, sym, ap, subst, _∙_}
 use mathlib.Core.Bool.{Bool, true, false}
-use mathlib.Core.List.{List, []}
+use mathlib.Core.List.{List, [], _∷_}
 use lib.ListN.{length, take, drop, getD, length-take}
 use lib.Seq.{getD-take}
 use lib.Dec.{eqb}
 use borrow.Author.Tests.{ne-eqb}
 use Rattle.model.specs.declared.Dialect.{Dialect}
 use Rattle.model.specs.declared.FileState.{FileState}
-use Rattle.model.specs.Base.{Bytes}
+use Rattle.model.specs.Base.{Bytes, isEmpty}
 use Rattle.model.specs.Report.{MAXFILE, MAXCOLUMNS}
 use Rattle.model.specs.Records.{Rec, between-records}
 use Rattle.model.specs.Api.{slice}
@@ -23,6 +23,7 @@ use Rattle.file_records.specs.Next.{nextRecord}
 use Rattle.file_records.specs.declared.Event.the-variants.{Completed}
 use Rattle.file_records.proofs.Quick.{told-record, told-clean, told-long}
 use Rattle.visitor.specs.declared.Aim.{Aim}
+use Rattle.visitor.specs.declared.Visited.{Visited}
 use Rattle.visitor.specs.Visits as visits
 use Rattle.visitor.specs.Visits.{Long, Kept}
 use Rattle.visitor.proofs.Visiting.{Met, record-counts, record-visited}
@@ -34,6 +35,10 @@ use Rattle.quick_visits.specs.Tells.{Finds, sound, unsure, Tells, a-reco
 -- after some records the next is no header
 pub no-header : (done : ℕ) → (done ≡ 0 → ⊥) → false ≡ eqb done 0
 no-header done n = sym (ne-eqb done 0 n)
+
+pub some-read : (rs : List Rec) (done : ℕ) → length rs ≡ done → (done ≡ 0 → ⊥) → isEmpty rs ≡ false
+some-read [] done l n = absurd (n (sym l))
+some-read (r ∷ rs) done l n = refl
 
 -- the cells that stand in the lists are clean
 pub clean-in : {d : Dialect} {file : Bytes} {n : ℕ} {s e : List ℕ} → n ≤ MAXCOLUMNS → Clean d file MAXCOLUMNS 0 n s e → CleanIn d file (take n s) (take n e)
@@ -61,10 +66,28 @@ module _ {d : Dialect} {file : Bytes} {f : FileState} {i : ℕ} {s₀ e₀ k₀ 
   pub clean-cells : {start cells next : ℕ} {g : FileState} {clean : Bool} → q ≡ quick.Record start cells g next clean → cells ≤ MAXCOLUMNS → clean ≡ true → CleanIn d file (take cells s) (take cells e)
   clean-cells z few c = clean-in few (told-clean d file f i MAXCOLUMNS 0 t z c)
 
-  pub tells : (aim : Aim) (rs : List Rec) {start cells next : ℕ} {g : FileState} {clean : Bool} → q ≡ quick.Record start cells g next clean → {r : Told} → Finds d aim rs (nextRecord d (between-records [] f i) (drop i file) .cells) start g next clean r → Tells d aim file rs f i s e k r
-  tells aim rs z unsure = nothing
-  tells aim rs {start} {cells} {next} {g} {clean} z (sound (visits.sound {n = n} {w = w} fault l few text short)) =
+  pub tells : (aim : Aim) (rs : List Rec) (done : ℕ) → length rs ≡ done → (done ≡ 0 → ⊥) → {start cells next : ℕ} {g : FileState} {clean : Bool} → q ≡ quick.Record start cells g next clean → {r : Told} → Finds d aim rs (nextRecord d (between-records [] f i) (drop i file) .cells) start g next clean r → Tells d aim file rs f i s e k r
+  tells aim rs done l n z unsure = nothing
+  tells aim rs done c₀ n₀ {start} {cells} {next} {g} {clean} z (sound (visits.sound {n = n} {w = w} fault l few text short)) =
       let m = met z in
       let same : cells ≡ n = sym (record-counts m refl) ∙ l in
-      a-record (came (record-visited m aim rs refl (visits.sound fault l few text short)) refl)
+      a-record (some-read rs done c₀ n₀) (came (record-visited m aim rs refl (visits.sound fault l few text short)) refl)
       (λ c. subst (λ (j : ℕ). CleanIn d file (take j s) (take j e)) same (clean-cells z (omega arith) c))
+
+-- ---- what was told, by what it is
+
+other : {A : Type 0} → _≡_ {A = ℕ} 0 1 → A
+other z = absurd (omega arith)
+
+-- a data record that a visit comes to, and its cells where they are clean
+pub record DataRecord (d : Dialect) (aim : Aim) (file : Bytes) (rs : List Rec) (f : FileState) (i : ℕ) (s e k : List ℕ) (v : Visited) (clean : Bool) : Type 0 where
+  pub later : isEmpty rs ≡ false
+  pub next : visits.Next d aim file rs f i s e k v
+  pub cleans : clean ≡ true → CleanIn d file (take (v .cells) s) (take (v .cells) e)
+
+pub data-came : {d : Dialect} {aim : Aim} {file : Bytes} {rs : List Rec} {f : FileState} {i : ℕ} {s e k : List ℕ} {r : Told} {v : Visited} {clean : Bool} → Tells d aim file rs f i s e k r → r ≡ told.Record v clean → DataRecord d aim file rs f i s e k v clean
+data-came {d} {aim} {file} {rs} {f} {i} {s} {e} {k} {v = v} {clean = clean} (a-record {v = w} {clean = b} l n c) q =
+    let y : w ≡ v = cc in
+    let z : b ≡ clean = cc in
+    subst (λ (x : Visited). DataRecord d aim file rs f i s e k x clean) y (subst (λ (x : Bool). DataRecord d aim file rs f i s e k w x) z (record { later = l; next = n; cleans = c }))
+data-came nothing q = other cc

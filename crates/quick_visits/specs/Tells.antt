@@ -1,12 +1,12 @@
 -- What is told of the next data record: what a visit comes to, or nothing.
 use Prim.Native.Nat.{ℕ}
 use mathlib.Core.Path.{_≡_}
-use mathlib.Core.Bool.{Bool, true}
+use mathlib.Core.Bool.{Bool, true, false}
 use mathlib.Core.List.{List}
 use lib.ListN.{take}
 use Rattle.model.specs.declared.Dialect.{Dialect}
 use Rattle.model.specs.declared.FileState.{FileState}
-use Rattle.model.specs.Base.{Bytes}
+use Rattle.model.specs.Base.{Bytes, isEmpty}
 use Rattle.model.specs.Text.{Value}
 use Rattle.model.specs.Records.{Rec}
 use Rattle.cell_ends.specs.Ends.{CleanIn}
@@ -25,6 +25,6 @@ pub data Finds (d : Dialect) (aim : Aim) (rs : List Rec) (vs : List Value) (star
 -- what is told of the record from i on, after the records rs
 pub data Tells (d : Dialect) (aim : Aim) (file : Bytes) (rs : List Rec) (f : FileState) (i : ℕ) (starts ends kinds : List ℕ) : Told → Type 0 where
   a-record :
-      {v : Visited} {clean : Bool} → Next d aim file rs f i starts ends kinds v →
+      {v : Visited} {clean : Bool} → isEmpty rs ≡ false → Next d aim file rs f i starts ends kinds v →
       (clean ≡ true → CleanIn d file (take (v .cells) starts) (take (v .cells) ends)) → Tells d aim file rs f i starts ends kinds (Record v clean)
   nothing : Tells d aim file rs f i starts ends kinds Nothing

@@ -6,6 +6,7 @@ use native.Mathlib.Omega.{arith}
 use borrow.Author.Needs.{needs}
 use Rattle.visitor.specs.declared.Aim.the-variants.{Into}
 use Rattle.visitor.proofs.Walking.{Walking, sets-out, walks-on, walk-bounds, walk-less, came, Full, full-long, full-kept}
+use Rattle.quick_visits.proofs.Telling.{data-came}
 use Rattle.convert.proofs.Passes.{measured-all, measured-refused}
 use Rattle.convert.proofs.measured.Statement.{statement}
 use Rattle.convert.proofs.measured.Tie as tie
@@ -21,37 +22,57 @@ abbrev μ-loop : tie.MeasureT-loop
 loop-holds : tie.Need-loop-holds Inv-loop μ-loop
 loop-holds c = (sets-out _ _ _, record { at-starts = refl; at-ends = refl; at-kinds = refl })
 
-visit-requires : tie.Need-visit-requires Inv-loop μ-loop
-visit-requires c κs =
+data-record-requires : tie.Need-data-record-requires Inv-loop μ-loop
+data-record-requires c κs =
     let inv = c .before .before .before .loop .inv in
     let b = walk-bounds (inv .0) in
     (b .0, (b .1, full-long (inv .1)))
+
+visit-requires : tie.Need-visit-requires Inv-loop μ-loop
+visit-requires c κs =
+    let inv = c .before .before .before .before .before .before .before .before .before .before .before .before .loop .inv in
+    let b = walk-bounds (inv .0) in
+    (b .0, (b .1, full-long (full-kept (inv .1) (c .before .before .before .before .before .before .before .before .data-record .ensures .1))))
 
 add-done : tie.Need-add-done Inv-loop μ-loop
 add-done c =
     let y = c .before .before .before .before .before .before .before .before .before .before .loop .inv .0 in
     omega (arith, y .many, y .under)
 
+add-done-2 : tie.Need-add-done-2 Inv-loop μ-loop
+add-done-2 c =
+    let y = c .before .before .before .before .before .before .before .before .before .before .before .before .before .before .before .before .before .before .before .loop .inv .0 in
+    omega (arith, y .many, y .under)
+
 loop-less : tie.Need-loop-less Inv-loop μ-loop
 loop-less c =
-    let y = c .before .before .before .before .before .before .before .before .before .before .loop .inv .0 in
-    walk-less y (came (c .before .before .before .before .before .before .visit .ensures .0 _ (y .after)) (c .before .v .given .1))
+    let inv = c .before .before .before .before .before .before .before .before .before .before .loop .inv in
+    walk-less (inv .0) (data-came (c .before .before .before .before .before .before .data-record .ensures .0 _ (inv .0 .after)) (c .before .v .given .1) .next)
+
+loop-less-2 : tie.Need-loop-less-2 Inv-loop μ-loop
+loop-less-2 c =
+    let inv = c .before .before .before .before .before .before .before .before .before .before .before .before .before .before .before .before .before .before .before .loop .inv in
+    walk-less (inv .0) (came (c .before .before .before .before .before .before .visit .ensures .0 _ (inv .0 .after)) (c .before .v2 .given .1))
 
 loop-again : tie.Need-loop-again Inv-loop μ-loop
 loop-again c =
     let inv = c .before .before .before .before .before .before .before .before .before .before .loop .inv in
-    let n = c .before .before .before .before .before .before .visit .ensures in
-    (walks-on (inv .0) (came (n .0 _ (inv .0 .after)) (c .before .v .given .1)) refl, full-kept (inv .1) (n .1))
+    (walks-on (inv .0) (data-came (c .before .before .before .before .before .before .data-record .ensures .0 _ (inv .0 .after)) (c .before .v .given .1) .next) refl, full-kept (inv .1) (c .before .before .before .before .before .before .data-record .ensures .1))
+
+loop-again-2 : tie.Need-loop-again-2 Inv-loop μ-loop
+loop-again-2 c =
+    let inv = c .before .before .before .before .before .before .before .before .before .before .before .before .before .before .before .before .before .before .before .loop .inv in
+    (walks-on (inv .0) (came (c .before .before .before .before .before .before .visit .ensures .0 _ (inv .0 .after)) (c .before .v2 .given .1)) refl, full-kept (full-kept (inv .1) (c .before .before .before .before .before .before .before .before .before .before .before .before .before .before .before .data-record .ensures .1)) (c .before .before .before .before .before .before .visit .ensures .1))
 
 returns : tie.Need-returns Inv-loop μ-loop
 returns c =
-    let y = c .before .before .before .before .before .before .before .before .before .loop .inv .0 in
-    measured-all y (c .before .before .before .before .before .visit .ensures .0 _ (y .after)) (c .enum-told .given .1)
+    let inv = c .before .before .before .before .before .before .before .before .before .before .before .before .before .before .before .before .before .before .loop .inv in
+    measured-all (inv .0) (c .before .before .before .before .before .visit .ensures .0 _ (inv .0 .after)) (c .enum-told2 .given .1)
 
 returns-2 : tie.Need-returns-2 Inv-loop μ-loop
 returns-2 c =
-    let y = c .before .before .before .before .before .before .before .before .before .before .loop .inv .0 in
-    measured-refused y (c .before .before .before .before .before .before .visit .ensures .0 _ (y .after)) (c .before .e .given .1)
+    let inv = c .before .before .before .before .before .before .before .before .before .before .before .before .before .before .before .before .before .before .before .loop .inv in
+    measured-refused (inv .0) (c .before .before .before .before .before .before .visit .ensures .0 _ (inv .0 .after)) (c .before .e .given .1)
 
 pub measured-spec : {M : Type 1} → statement M
 measured-spec =
@@ -63,11 +84,20 @@ measured-spec =
     (λ c. c .before .loop .inv .1 .at-starts)
     (λ c. c .before .before .loop .inv .1 .at-ends)
     (λ c. c .before .before .before .loop .inv .1 .at-kinds)
-    visit-requires
+    data-record-requires
     (λ c. search needs)
     add-done
     loop-less
     loop-again
+    (λ c. search needs)
+    (λ c. let inv = c .before .before .before .before .before .before .before .before .before .before .loop .inv in full-kept (inv .1) (c .before .before .before .before .before .before .data-record .ensures .1) .at-starts)
+    (λ c. let inv = c .before .before .before .before .before .before .before .before .before .before .before .loop .inv in full-kept (inv .1) (c .before .before .before .before .before .before .before .data-record .ensures .1) .at-ends)
+    (λ c. let inv = c .before .before .before .before .before .before .before .before .before .before .before .before .loop .inv in full-kept (inv .1) (c .before .before .before .before .before .before .before .before .data-record .ensures .1) .at-kinds)
+    visit-requires
+    (λ c. search needs)
+    add-done-2
+    loop-less-2
+    loop-again-2
     (λ c. search needs)
     returns
     (λ c. search needs)

@@ -6,7 +6,8 @@ use mathlib.Core.Path.{refl, sym}
 use native.Mathlib.Omega.{arith}
 use borrow.Author.Needs.{needs}
 use Rattle.visitor.proofs.Walking.{walk-bounds, walk-less, came, Full, full-long, full-kept}
-use Rattle.convert.proofs.Passes.{lie-in, Filling, fills, room-there, fills-on, filled-all, never-refused}
+use Rattle.quick_visits.proofs.Telling.{data-came}
+use Rattle.convert.proofs.Passes.{lie-in, Filling, fills, room-there, fills-on, room-data, fills-data, filled-all, never-refused}
 use Rattle.convert.proofs.put_records.Statement.{statement}
 use Rattle.convert.proofs.put_records.Tie as tie
 
@@ -21,98 +22,156 @@ abbrev μ-loop : tie.MeasureT-loop
 loop-holds : tie.Need-loop-holds Inv-loop μ-loop
 loop-holds c = (fills _ _ _ _, record { at-starts = refl; at-ends = refl; at-kinds = refl })
 
-visit-requires : tie.Need-visit-requires Inv-loop μ-loop
-visit-requires c κs =
+data-record-requires : tie.Need-data-record-requires Inv-loop μ-loop
+data-record-requires c κs =
     let inv = c .before .before .before .loop .inv in
     let b = walk-bounds (inv .0 .walk) in
     (b .0, (b .1, full-long (inv .1)))
 
-array-share-prefix-starts : tie.Need-array-share-prefix-starts Inv-loop μ-loop
-array-share-prefix-starts c =
-    let u = c .before .before .before .before .before .before in
-    let inv = u .before .before .before .before .loop .inv in
-    let n = came (u .visit .ensures .0 _ (inv .0 .walk .after)) (c .before .v .given .1) in
-    lie-in (n .few) (full-kept (inv .1) (u .visit .ensures .1) .at-starts)
-
-slice-aggregate-put-record : tie.Need-slice-aggregate-put-record Inv-loop μ-loop
-slice-aggregate-put-record c =
-    let u = c .before .before .before .before .before .before .before in
-    let inv = u .before .before .before .before .loop .inv in
-    let n = came (u .visit .ensures .0 _ (inv .0 .walk .after)) (c .before .before .v .given .1) in
-    let l = full-kept (inv .1) (u .visit .ensures .1) in
-    sym (length-take-le _ _ (omega (arith, n .few, l .at-starts)))
-
-array-share-prefix-ends : tie.Need-array-share-prefix-ends Inv-loop μ-loop
-array-share-prefix-ends c =
-    let u = c .before .before .before .before .before .before .before in
-    let inv = u .before .before .before .before .loop .inv in
-    let n = came (u .visit .ensures .0 _ (inv .0 .walk .after)) (c .before .before .v .given .1) in
-    lie-in (n .few) (full-kept (inv .1) (u .visit .ensures .1) .at-ends)
-
-slice-aggregate-put-record-2 : tie.Need-slice-aggregate-put-record-2 Inv-loop μ-loop
-slice-aggregate-put-record-2 c =
-    let u = c .before .before .before .before .before .before .before .before in
-    let inv = u .before .before .before .before .loop .inv in
-    let n = came (u .visit .ensures .0 _ (inv .0 .walk .after)) (c .before .before .before .v .given .1) in
-    let l = full-kept (inv .1) (u .visit .ensures .1) in
-    sym (length-take-le _ _ (omega (arith, n .few, l .at-ends)))
-
-array-share-prefix-kinds : tie.Need-array-share-prefix-kinds Inv-loop μ-loop
-array-share-prefix-kinds c =
-    let u = c .before .before .before .before .before .before .before .before in
-    let inv = u .before .before .before .before .loop .inv in
-    let n = came (u .visit .ensures .0 _ (inv .0 .walk .after)) (c .before .before .before .v .given .1) in
-    lie-in (n .few) (full-kept (inv .1) (u .visit .ensures .1) .at-kinds)
-
-slice-aggregate-put-record-3 : tie.Need-slice-aggregate-put-record-3 Inv-loop μ-loop
-slice-aggregate-put-record-3 c =
-    let u = c .before .before .before .before .before .before .before .before .before in
-    let inv = u .before .before .before .before .loop .inv in
-    let n = came (u .visit .ensures .0 _ (inv .0 .walk .after)) (c .before .before .before .before .v .given .1) in
-    let l = full-kept (inv .1) (u .visit .ensures .1) in
-    sym (length-take-le _ _ (omega (arith, n .few, l .at-kinds)))
-
-put-record-requires : tie.Need-put-record-requires Inv-loop μ-loop
-put-record-requires c κs =
-    let u = c .before .before .before .before .before .before .before .before .before .before in
-    let inv = u .before .before .before .before .loop .inv in
-    let n = came (u .visit .ensures .0 _ (inv .0 .walk .after)) (c .before .before .before .before .before .v .given .1) in
-    (n .stand, room-there (inv .0) (c .before .before .before .before .before .before .before .before .before .before .before .before .before .before .before .before .before .pre) n)
+visit-requires : tie.Need-visit-requires Inv-loop μ-loop
+visit-requires c κs =
+    let inv = c .before .before .before .before .before .before .before .before .before .before .before .before .loop .inv in
+    let b = walk-bounds (inv .0 .walk) in
+    (b .0, (b .1, full-long (full-kept (inv .1) (c .before .before .before .before .before .before .before .before .data-record .ensures .1))))
 
 add-done : tie.Need-add-done Inv-loop μ-loop
 add-done c =
     let y = c .before .before .before .before .before .before .before .before .before .before .before .before .before .before .before .before .before .loop .inv .0 .walk in
     omega (arith, y .many, y .under)
 
+add-done-2 : tie.Need-add-done-2 Inv-loop μ-loop
+add-done-2 c =
+    let y = c .before .before .before .before .before .before .before .before .before .before .before .before .before .before .before .before .before .before .before .before .before .before .before .before .before .before .loop .inv .0 .walk in
+    omega (arith, y .many, y .under)
+
 loop-less : tie.Need-loop-less Inv-loop μ-loop
 loop-less c =
-    let u = c .before .before .before .before .before .before .before .before .before .before .before .before .before in
-    let inv = u .before .before .before .before .loop .inv in
-    let n = came (u .visit .ensures .0 _ (inv .0 .walk .after)) (c .before .before .before .before .before .before .before .before .v .given .1) in
-    walk-less (inv .0 .walk) n
+    let inv = c .before .before .before .before .before .before .before .before .before .before .before .before .before .before .before .before .before .loop .inv in
+    walk-less (inv .0 .walk) (data-came (c .before .before .before .before .before .before .before .before .before .before .before .before .before .data-record .ensures .0 _ (inv .0 .walk .after)) (c .before .before .before .before .before .before .before .before .v .given .1) .next)
+
+loop-less-2 : tie.Need-loop-less-2 Inv-loop μ-loop
+loop-less-2 c =
+    let inv = c .before .before .before .before .before .before .before .before .before .before .before .before .before .before .before .before .before .before .before .before .before .before .before .before .before .before .loop .inv in
+    walk-less (inv .0 .walk) (came (c .before .before .before .before .before .before .before .before .before .before .before .before .before .visit .ensures .0 _ (inv .0 .walk .after)) (c .before .before .before .before .before .before .before .before .v2 .given .1))
+
+array-share-prefix-starts : tie.Need-array-share-prefix-starts Inv-loop μ-loop
+array-share-prefix-starts c =
+    let inv = c .before .before .before .before .before .before .before .before .before .before .loop .inv in
+    let n = data-came (c .before .before .before .before .before .before .data-record .ensures .0 _ (inv .0 .walk .after)) (c .before .v .given .1) .next in
+    lie-in (n .few) (full-kept (inv .1) (c .before .before .before .before .before .before .data-record .ensures .1) .at-starts)
+
+array-share-prefix-ends : tie.Need-array-share-prefix-ends Inv-loop μ-loop
+array-share-prefix-ends c =
+    let inv = c .before .before .before .before .before .before .before .before .before .before .before .loop .inv in
+    let n = data-came (c .before .before .before .before .before .before .before .data-record .ensures .0 _ (inv .0 .walk .after)) (c .before .before .v .given .1) .next in
+    lie-in (n .few) (full-kept (inv .1) (c .before .before .before .before .before .before .before .data-record .ensures .1) .at-ends)
+
+array-share-prefix-kinds : tie.Need-array-share-prefix-kinds Inv-loop μ-loop
+array-share-prefix-kinds c =
+    let inv = c .before .before .before .before .before .before .before .before .before .before .before .before .loop .inv in
+    let n = data-came (c .before .before .before .before .before .before .before .before .data-record .ensures .0 _ (inv .0 .walk .after)) (c .before .before .before .v .given .1) .next in
+    lie-in (n .few) (full-kept (inv .1) (c .before .before .before .before .before .before .before .before .data-record .ensures .1) .at-kinds)
+
+slice-aggregate-put-data : tie.Need-slice-aggregate-put-data Inv-loop μ-loop
+slice-aggregate-put-data c =
+    let inv = c .before .before .before .before .before .before .before .before .before .before .before .loop .inv in
+    let n = data-came (c .before .before .before .before .before .before .before .data-record .ensures .0 _ (inv .0 .walk .after)) (c .before .before .v .given .1) .next in
+    let l = full-kept (inv .1) (c .before .before .before .before .before .before .before .data-record .ensures .1) in
+    sym (length-take-le _ _ (omega (arith, n .few, l .at-starts)))
+
+slice-aggregate-put-data-2 : tie.Need-slice-aggregate-put-data-2 Inv-loop μ-loop
+slice-aggregate-put-data-2 c =
+    let inv = c .before .before .before .before .before .before .before .before .before .before .before .before .loop .inv in
+    let n = data-came (c .before .before .before .before .before .before .before .before .data-record .ensures .0 _ (inv .0 .walk .after)) (c .before .before .before .v .given .1) .next in
+    let l = full-kept (inv .1) (c .before .before .before .before .before .before .before .before .data-record .ensures .1) in
+    sym (length-take-le _ _ (omega (arith, n .few, l .at-ends)))
+
+slice-aggregate-put-data-3 : tie.Need-slice-aggregate-put-data-3 Inv-loop μ-loop
+slice-aggregate-put-data-3 c =
+    let inv = c .before .before .before .before .before .before .before .before .before .before .before .before .before .loop .inv in
+    let n = data-came (c .before .before .before .before .before .before .before .before .before .data-record .ensures .0 _ (inv .0 .walk .after)) (c .before .before .before .before .v .given .1) .next in
+    let l = full-kept (inv .1) (c .before .before .before .before .before .before .before .before .before .data-record .ensures .1) in
+    sym (length-take-le _ _ (omega (arith, n .few, l .at-kinds)))
+
+array-share-prefix-starts-2 : tie.Need-array-share-prefix-starts-2 Inv-loop μ-loop
+array-share-prefix-starts-2 c =
+    let inv = c .before .before .before .before .before .before .before .before .before .before .before .before .before .before .before .before .before .before .before .loop .inv in
+    let n = came (c .before .before .before .before .before .before .visit .ensures .0 _ (inv .0 .walk .after)) (c .before .v2 .given .1) in
+    lie-in (n .few) (full-kept (full-kept (inv .1) (c .before .before .before .before .before .before .before .before .before .before .before .before .before .before .before .data-record .ensures .1)) (c .before .before .before .before .before .before .visit .ensures .1) .at-starts)
+
+array-share-prefix-ends-2 : tie.Need-array-share-prefix-ends-2 Inv-loop μ-loop
+array-share-prefix-ends-2 c =
+    let inv = c .before .before .before .before .before .before .before .before .before .before .before .before .before .before .before .before .before .before .before .before .loop .inv in
+    let n = came (c .before .before .before .before .before .before .before .visit .ensures .0 _ (inv .0 .walk .after)) (c .before .before .v2 .given .1) in
+    lie-in (n .few) (full-kept (full-kept (inv .1) (c .before .before .before .before .before .before .before .before .before .before .before .before .before .before .before .before .data-record .ensures .1)) (c .before .before .before .before .before .before .before .visit .ensures .1) .at-ends)
+
+array-share-prefix-kinds-2 : tie.Need-array-share-prefix-kinds-2 Inv-loop μ-loop
+array-share-prefix-kinds-2 c =
+    let inv = c .before .before .before .before .before .before .before .before .before .before .before .before .before .before .before .before .before .before .before .before .before .loop .inv in
+    let n = came (c .before .before .before .before .before .before .before .before .visit .ensures .0 _ (inv .0 .walk .after)) (c .before .before .before .v2 .given .1) in
+    lie-in (n .few) (full-kept (full-kept (inv .1) (c .before .before .before .before .before .before .before .before .before .before .before .before .before .before .before .before .before .data-record .ensures .1)) (c .before .before .before .before .before .before .before .before .visit .ensures .1) .at-kinds)
+
+slice-aggregate-put-record : tie.Need-slice-aggregate-put-record Inv-loop μ-loop
+slice-aggregate-put-record c =
+    let inv = c .before .before .before .before .before .before .before .before .before .before .before .before .before .before .before .before .before .before .before .before .loop .inv in
+    let n = came (c .before .before .before .before .before .before .before .visit .ensures .0 _ (inv .0 .walk .after)) (c .before .before .v2 .given .1) in
+    let l = full-kept (full-kept (inv .1) (c .before .before .before .before .before .before .before .before .before .before .before .before .before .before .before .before .data-record .ensures .1)) (c .before .before .before .before .before .before .before .visit .ensures .1) in
+    sym (length-take-le _ _ (omega (arith, n .few, l .at-starts)))
+
+slice-aggregate-put-record-2 : tie.Need-slice-aggregate-put-record-2 Inv-loop μ-loop
+slice-aggregate-put-record-2 c =
+    let inv = c .before .before .before .before .before .before .before .before .before .before .before .before .before .before .before .before .before .before .before .before .before .loop .inv in
+    let n = came (c .before .before .before .before .before .before .before .before .visit .ensures .0 _ (inv .0 .walk .after)) (c .before .before .before .v2 .given .1) in
+    let l = full-kept (full-kept (inv .1) (c .before .before .before .before .before .before .before .before .before .before .before .before .before .before .before .before .before .data-record .ensures .1)) (c .before .before .before .before .before .before .before .before .visit .ensures .1) in
+    sym (length-take-le _ _ (omega (arith, n .few, l .at-ends)))
+
+slice-aggregate-put-record-3 : tie.Need-slice-aggregate-put-record-3 Inv-loop μ-loop
+slice-aggregate-put-record-3 c =
+    let inv = c .before .before .before .before .before .before .before .before .before .before .before .before .before .before .before .before .before .before .before .before .before .before .loop .inv in
+    let n = came (c .before .before .before .before .before .before .before .before .before .visit .ensures .0 _ (inv .0 .walk .after)) (c .before .before .before .before .v2 .given .1) in
+    let l = full-kept (full-kept (inv .1) (c .before .before .before .before .before .before .before .before .before .before .before .before .before .before .before .before .before .before .data-record .ensures .1)) (c .before .before .before .before .before .before .before .before .before .visit .ensures .1) in
+    sym (length-take-le _ _ (omega (arith, n .few, l .at-kinds)))
+
+put-data-requires : tie.Need-put-data-requires Inv-loop μ-loop
+put-data-requires c κs =
+    let inv = c .before .before .before .before .before .before .before .before .before .before .before .before .before .before .loop .inv in
+    let r = data-came (c .before .before .before .before .before .before .before .before .before .before .data-record .ensures .0 _ (inv .0 .walk .after)) (c .before .before .before .before .before .v .given .1) in
+    (r .next .stand, (r .cleans, room-data (inv .0) (c .before .before .before .before .before .before .before .before .before .before .before .before .before .before .before .before .before .pre) (r .next) (r .later)))
+
+put-record-requires : tie.Need-put-record-requires Inv-loop μ-loop
+put-record-requires c κs =
+    let inv = c .before .before .before .before .before .before .before .before .before .before .before .before .before .before .before .before .before .before .before .before .before .before .before .loop .inv in
+    let n = came (c .before .before .before .before .before .before .before .before .before .before .visit .ensures .0 _ (inv .0 .walk .after)) (c .before .before .before .before .before .v2 .given .1) in
+    (n .stand, room-there (inv .0) (c .before .before .before .before .before .before .before .before .before .before .before .before .before .before .before .before .before .before .before .before .before .before .before .before .before .before .pre) n)
 
 loop-again : tie.Need-loop-again Inv-loop μ-loop
 loop-again c =
-    let u = c .before .before .before .before .before .before .before .before .before .before .before .before .before in
-    let inv = u .before .before .before .before .loop .inv in
-    let n = came (u .visit .ensures .0 _ (inv .0 .walk .after)) (c .before .before .before .before .before .before .before .before .v .given .1) in
-    (fills-on (inv .0) (c .before .before .before .before .before .before .before .before .before .before .before .before .before .before .before .before .before .before .before .before .pre) n (c .before .before .put-record .ensures), full-kept (inv .1) (u .visit .ensures .1))
+    let inv = c .before .before .before .before .before .before .before .before .before .before .before .before .before .before .before .before .before .loop .inv in
+    let r = data-came (c .before .before .before .before .before .before .before .before .before .before .before .before .before .data-record .ensures .0 _ (inv .0 .walk .after)) (c .before .before .before .before .before .before .before .before .v .given .1) in
+    (fills-data (inv .0) (c .before .before .before .before .before .before .before .before .before .before .before .before .before .before .before .before .before .before .before .before .pre) (r .next) (r .later) (c .before .before .put-data .ensures), full-kept (inv .1) (c .before .before .before .before .before .before .before .before .before .before .before .before .before .data-record .ensures .1))
+
+loop-again-2 : tie.Need-loop-again-2 Inv-loop μ-loop
+loop-again-2 c =
+    let inv = c .before .before .before .before .before .before .before .before .before .before .before .before .before .before .before .before .before .before .before .before .before .before .before .before .before .before .loop .inv in
+    (fills-on (inv .0) (c .before .before .before .before .before .before .before .before .before .before .before .before .before .before .before .before .before .before .before .before .before .before .before .before .before .before .before .before .before .pre) (came (c .before .before .before .before .before .before .before .before .before .before .before .before .before .visit .ensures .0 _ (inv .0 .walk .after)) (c .before .before .before .before .before .before .before .before .v2 .given .1)) (c .before .before .put-record .ensures), full-kept (full-kept (inv .1) (c .before .before .before .before .before .before .before .before .before .before .before .before .before .before .before .before .before .before .before .before .before .before .data-record .ensures .1)) (c .before .before .before .before .before .before .before .before .before .before .before .before .before .visit .ensures .1))
 
 same-length : tie.Need-same-length Inv-loop μ-loop
-same-length c = c .before .before .before .before .before .before .before .before .before .loop .inv .0 .long
+same-length c =
+    c .before .before .before .before .before .before .before .before .before .before .before .before .before .before .before .before .before .before .loop .inv .0 .long
+
+same-length-2 : tie.Need-same-length-2 Inv-loop μ-loop
+same-length-2 c =
+    c .before .before .before .before .before .before .before .before .before .before .before .before .before .before .before .before .before .before .loop .inv .0 .long
 
 returns : tie.Need-returns Inv-loop μ-loop
 returns c =
-    let y = c .before .before .before .before .before .before .before .before .before .loop .inv .0 in
-    filled-all y (c .before .before .before .before .before .before .before .before .before .before .before .before .pre) (c .before .before .before .before .before .visit .ensures .0 _ (y .walk .after)) (c .enum-told .given .1)
-
-same-length-2 : tie.Need-same-length-2 Inv-loop μ-loop
-same-length-2 c = c .before .before .before .before .before .before .before .before .before .loop .inv .0 .long
+    let inv = c .before .before .before .before .before .before .before .before .before .before .before .before .before .before .before .before .before .before .loop .inv in
+    filled-all (inv .0) (c .before .before .before .before .before .before .before .before .before .before .before .before .before .before .before .before .before .before .before .before .before .pre) (c .before .before .before .before .before .visit .ensures .0 _ (inv .0 .walk .after)) (c .enum-told2 .given .1)
 
 returns-2 : tie.Need-returns-2 Inv-loop μ-loop
 returns-2 c =
-    let y = c .before .before .before .before .before .before .before .before .before .loop .inv .0 in
-    never-refused y (c .before .before .before .before .before .before .before .before .before .before .before .before .pre) (c .before .before .before .before .before .visit .ensures .0 _ (y .walk .after)) (c .enum-told2 .given .1)
+    let inv = c .before .before .before .before .before .before .before .before .before .before .before .before .before .before .before .before .before .before .loop .inv in
+    never-refused (inv .0) (c .before .before .before .before .before .before .before .before .before .before .before .before .before .before .before .before .before .before .before .before .before .pre) (c .before .before .before .before .before .visit .ensures .0 _ (inv .0 .walk .after)) (c .enum-told3 .given .1)
 
 pub put-records-spec : {M : Type 1} → statement M
 put-records-spec =
@@ -124,18 +183,34 @@ put-records-spec =
     (λ c. c .before .loop .inv .1 .at-starts)
     (λ c. c .before .before .loop .inv .1 .at-ends)
     (λ c. c .before .before .before .loop .inv .1 .at-kinds)
-    visit-requires
+    data-record-requires
     (λ c. search needs)
     array-share-prefix-starts
-    slice-aggregate-put-record
+    slice-aggregate-put-data
     array-share-prefix-ends
-    slice-aggregate-put-record-2
+    slice-aggregate-put-data-2
     array-share-prefix-kinds
-    slice-aggregate-put-record-3
-    put-record-requires
+    slice-aggregate-put-data-3
+    put-data-requires
     add-done
     loop-less
     loop-again
+    (λ c. search needs)
+    (λ c. let inv = c .before .before .before .before .before .before .before .before .before .before .loop .inv in full-kept (inv .1) (c .before .before .before .before .before .before .data-record .ensures .1) .at-starts)
+    (λ c. let inv = c .before .before .before .before .before .before .before .before .before .before .before .loop .inv in full-kept (inv .1) (c .before .before .before .before .before .before .before .data-record .ensures .1) .at-ends)
+    (λ c. let inv = c .before .before .before .before .before .before .before .before .before .before .before .before .loop .inv in full-kept (inv .1) (c .before .before .before .before .before .before .before .before .data-record .ensures .1) .at-kinds)
+    visit-requires
+    (λ c. search needs)
+    array-share-prefix-starts-2
+    slice-aggregate-put-record
+    array-share-prefix-ends-2
+    slice-aggregate-put-record-2
+    array-share-prefix-kinds-2
+    slice-aggregate-put-record-3
+    put-record-requires
+    add-done-2
+    loop-less-2
+    loop-again-2
     (λ c. search needs)
     same-length
     returns

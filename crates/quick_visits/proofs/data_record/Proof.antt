@@ -28,7 +28,7 @@ returns-3 c =
     let t = c .before .before .before .before .before .before .before .before .before .before .before .before .before .«record» .ensures in
     let z = c .before .before .before .before .before .cells .given .1 in
     let m = met t (q .0 .2) (q .0 .0) (q .1 .1) z in
-    (λ rs y. tells t (q .0 .2) (q .0 .0) (q .1 .1) (a .aim) rs z (c .completed .ensures (a .done) rs _ _ (c .before .before .before .before .before .before .before .before .before .before .before .before .before .before .before .before .before .if1 .left) y (now-shown m _ (record-counts m refl))), kept t (q .0 .2) (q .0 .0) (q .1 .1))
+    (λ rs y. tells t (q .0 .2) (q .0 .0) (q .1 .1) (a .aim) rs (a .done) (y .count) (c .before .before .before .before .before .before .before .before .before .before .before .before .before .before .before .before .before .if1 .left) z (c .completed .ensures (a .done) rs _ _ (c .before .before .before .before .before .before .before .before .before .before .before .before .before .before .before .before .before .if1 .left) y (now-shown m _ (record-counts m refl))), kept t (q .0 .2) (q .0 .0) (q .1 .1))
 
 pub data-record-spec : {M : Type 1} → statement M
 data-record-spec =
