@@ -5,8 +5,7 @@
 // whole file is known to be accepted and to have room. The second pass asks the target nothing more. The definition is `converter` of
 // model's specs/Api.antt.
 ghost use mathlib.Core.Path.{_≡_};
-ghost use mathlib.Core.Bool.{true, false};
-ghost use Rattle.cell_ends.specs.Ends.{CleanIn};
+ghost use mathlib.Core.Bool.{true};
 ghost use mathlib.Core.List.{_++_};
 ghost use lib.ListN.{length};
 ghost use Rattle.model.specs.Base.{over};
@@ -132,27 +131,6 @@ fn put_record(
     record::put_ending(t, room, text.end, true)
 }
 
-// The same of a data record. `clean`: each of its cells is a text whose content stands in it as it is.
-fn put_data(
-    d: Dialect,
-    t: Dialect,
-    file: &[u8],
-    starts: &[usize],
-    ends: &[usize],
-    kinds: &[u8],
-    clean: bool,
-    room: &mut [u8],
-    at: usize,
-) -> usize
-    requires { ⌜ Cells (File d) (now file) (now starts) (now ends) (now kinds) ⌝ }
-    requires { ⌜ (clean ≡ true → CleanIn d (now file) (now starts) (now ends)) ⌝ }
-    requires { ⌜ Room true at (recordText (into t) false (cellsIn (File d) (now file) (now starts) (now ends) (now kinds)) ++ ending t) (now room) ⌝ }
-    ensures { λ r. ⌜ Put true (now (room .entry)) at (recordText (into t) false (cellsIn (File d) (now (file .entry)) (now (starts .entry)) (now (ends .entry)) (now (kinds .entry))) ++ ending t) (now (room .exit)) r ⌝ }
-{
-    let text = clean_text::put(d, t, file, starts, ends, kinds, clean, room, at, true);
-    record::put_ending(t, room, text.end, true)
-}
-
 // All records of a file that was accepted and has room.
 fn put_records(d: Dialect, t: Dialect, file: &[u8], room: &mut [u8])
     requires { ⌜ Accepts d t (now file) (length (now room)) ⌝ }
@@ -182,7 +160,7 @@ fn put_records(d: Dialect, t: Dialect, file: &[u8], room: &mut [u8])
         ) {
             Told::Record(v, clean) => {
                 let cells = v.cells;
-                at = put_data(
+                at = target::put_data(
                     d,
                     t,
                     file,

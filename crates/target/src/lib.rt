@@ -14,7 +14,7 @@ ghost use Rattle.model.specs.Text.{Value, recordText, ending};
 ghost use Rattle.model.specs.Records.{uncarriedFrom, clashFault, targetFault};
 ghost use Rattle.model.specs.Report.{MAXFILE, MAXRECORD};
 ghost use mathlib.Core.Bool.{true, false};
-ghost use Rattle.buffers.specs.Wrote.{measure};
+ghost use Rattle.buffers.specs.Wrote.{measure, Room, Put};
 ghost use Rattle.cell_ends.specs.Ends.{CleanIn};
 ghost use Rattle.decoder.specs.declared.source.Source.the-variants.{File};
 ghost use Rattle.decoder.specs.Sources.{cellsIn, Cells};
@@ -224,4 +224,25 @@ pub fn judged_data(
         return refused(e);
     }
     sized(t, x.end, written)
+}
+
+// The text of a data record with its ending, at a place of the buffer.
+pub fn put_data(
+    d: Dialect,
+    t: Dialect,
+    s: &[u8],
+    starts: &[usize],
+    ends: &[usize],
+    kinds: &[u8],
+    clean: bool,
+    out: &mut [u8],
+    at: usize,
+) -> usize
+    requires { ⌜ Cells (File d) (now s) (now starts) (now ends) (now kinds) ⌝ }
+    requires { ⌜ (clean ≡ true → CleanIn d (now s) (now starts) (now ends)) ⌝ }
+    requires { ⌜ Room true at (recordText (into t) false (cellsIn (File d) (now s) (now starts) (now ends) (now kinds)) ++ ending t) (now out) ⌝ }
+    ensures { λ r. ⌜ Put true (now (out .entry)) at (recordText (into t) false (cellsIn (File d) (now (s .entry)) (now (starts .entry)) (now (ends .entry)) (now (kinds .entry))) ++ ending t) (now (out .exit)) r ⌝ }
+{
+    let text = clean_text::put(d, t, s, starts, ends, kinds, clean, out, at, true);
+    record::put_ending(t, out, text.end, true)
 }

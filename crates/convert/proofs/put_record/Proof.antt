@@ -1,4 +1,4 @@
-use Rattle.convert.proofs.Passes.{room-first, room-second, put-both, long-both}
+use Rattle.target.proofs.Both.{room-first, room-second, put-both, long-both}
 use Rattle.convert.proofs.put_record.Statement.{statement}
 use Rattle.convert.proofs.put_record.Tie as tie
 

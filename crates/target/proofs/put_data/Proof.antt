@@ -1,6 +1,6 @@
-use Rattle.convert.proofs.Passes.{room-first, room-second, put-both, long-both}
-use Rattle.convert.proofs.put_data.Statement.{statement}
-use Rattle.convert.proofs.put_data.Tie as tie
+use Rattle.target.proofs.Both.{room-first, room-second, put-both, long-both}
+use Rattle.target.proofs.put_data.Statement.{statement}
+use Rattle.target.proofs.put_data.Tie as tie
 
 put-requires : tie.Need-put-requires
 put-requires c κs = let q = c .before .before .before .before .before .before .pre in (q .0, (q .1 .0, room-first _ _ (q .1 .1)))
