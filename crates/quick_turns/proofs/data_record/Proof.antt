@@ -1,0 +1,67 @@
+use Prim.Native.Nat.{_+_, _-_, _≤_}
+use native.Mathlib.Omega.{arith}
+use mathlib.Core.Path.{_≡_, refl, _∙_}
+use lib.ListN.{length}
+use borrow.Author.Needs.{needs}
+use borrow.Author.Tests.{not-false}
+use Rattle.model.specs.Report.{MAXFILE, MAXCOLUMNS}
+use Rattle.turn.specs.Walking.{Scratch}
+use Rattle.quick_turns.specs.QuickTurns.{nothing-in-bounds, nothing}
+use Rattle.quick_turns.proofs.Finding.{cells-there, clean-there}
+use Rattle.quick_turns.proofs.Turning.{next-file, writes-bounds, writes-turns}
+use Rattle.quick_turns.proofs.data_record.Statement.{statement}
+use Rattle.quick_turns.proofs.data_record.Tie as tie
+
+returns : tie.Need-returns
+returns c = (nothing-in-bounds, λ bytes ends done k hold. nothing refl)
+
+record-requires : tie.Need-record-requires
+record-requires c κs =
+    let u = c .before .before .before .before .before .before .before .before .before .before in
+    let r = u .pre .0 in
+    let l = u .pre .1 in
+    let at = r .at in
+    let offset = r .offset in
+    ((r .inside, omega arith, omega arith, omega arith), (omega (arith, l .long-starts), omega (arith, l .long-stops), omega (arith, l .long-kinds)))
+
+completed-requires : tie.Need-completed-requires
+completed-requires c κs =
+    let u = c .before .before .before .before .before .before .before .before .before .before .before .before .before .before .before .before .before .before .before .before .before .before .before .before in
+    let r = u .pre .0 in
+    let l = u .pre .1 in
+    let b = c .before .before .before .before .before .before .before .before .before .before .before .before .before .before .before .before .before .before .is-between .ensures (not-false _ (c .before .before .before .before .before .before .before .before .before .before .before .before .before .before .before .before .before .if1 .left)) in
+    let records : u .args .p .records ≤ u .args .p .offset = r .records in
+    let offset : u .args .p .offset ≤ MAXFILE = r .offset in (
+      record { long-starts = c .before .before .before .before .before .before .before .before .before .before .before .before .starts .given ∙ l .long-starts; long-stops = c .before .before .before .before .before .before .before .before .before .before .stops .given ∙ l .long-stops; long-kinds = c .before .before .before .before .before .before .before .before .kinds .given ∙ l .long-kinds },
+      (cells-there _ _ _ _ _ (b .state) (u .pre .0 .inside) (c .before .before .before .before .before .before .before .before .before .before .before .before .before .«record» .ensures) (u .pre .1) (c .before .before .before .before .before .cells .given .1), (clean-there _ _ _ _ _ (b .state) (u .pre .0 .inside) (c .before .before .before .before .before .before .before .before .before .before .before .before .before .«record» .ensures) (u .pre .1) (c .before .before .before .before .before .cells .given .1), ((r .before, omega arith, next-file (u .args .t) (u .pre .0) (c .before .before .before .before .before .before .before .before .before .before .before .before .before .before .before .before .before .before .is-between .ensures (not-false _ (c .before .before .before .before .before .before .before .before .before .before .before .before .before .before .before .before .before .if1 .left))) (c .before .before .before .before .before .before .before .before .before .before .before .before .before .«record» .ensures) (u .pre .1) (c .before .before .before .before .before .cells .given .1), r .room), b .later))),
+    )
+
+returns-2 : tie.Need-returns-2
+returns-2 c = (nothing-in-bounds, λ bytes ends done k hold. nothing refl)
+
+returns-3 : tie.Need-returns-3
+returns-3 c =
+    let u = c .before .before .before .before .before .before .before .before .before .before .before .before .before .before .before .before .before .before .before .before .before .before .before .before .before .before .before in
+    let w = c .before .before .completed .ensures in
+    (writes-bounds (u .args .t) (u .pre .0) (c .before .before .before .before .before .before .before .before .before .before .before .before .before .before .before .before .before .before .before .before .before .is-between .ensures (not-false _ (c .before .before .before .before .before .before .before .before .before .before .before .before .before .before .before .before .before .before .before .before .if1 .left))) (c .before .before .before .before .before .before .before .before .before .before .before .before .before .before .before .before .«record» .ensures) (u .pre .1) (c .before .before .before .before .before .before .before .before .cells .given .1) w, λ bytes ends done k hold. writes-turns (u .args .t) (u .pre .0) (c .before .before .before .before .before .before .before .before .before .before .before .before .before .before .before .before .before .before .before .before .before .is-between .ensures (not-false _ (c .before .before .before .before .before .before .before .before .before .before .before .before .before .before .before .before .before .before .before .before .if1 .left))) (c .before .before .before .before .before .before .before .before .before .before .before .before .before .before .before .before .«record» .ensures) (u .pre .1) (c .before .before .before .before .before .before .before .before .cells .given .1) hold w)
+
+pub data-record-spec : {M : Type 1} → statement M
+data-record-spec =
+    tie.close
+    (tie.spec
+    (λ c κs. search needs)
+    returns
+    (λ c. let r = c .before .before .before .before .before .before .before .pre .0 in let at = r .at in let offset = r .offset in omega arith)
+    record-requires
+    (λ c. search needs)
+    (λ c. search needs)
+    completed-requires
+    (λ c. search needs)
+    (λ c. search needs)
+    (λ c. search needs)
+    returns-2
+    (λ c. search needs)
+    (λ c. search needs)
+    (λ c. search needs)
+    (λ c. search needs)
+    returns-3)
