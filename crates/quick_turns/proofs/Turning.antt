@@ -81,8 +81,8 @@ module _ (t : Dialect) {d : Dialect} {piece : Bytes} {n i : ℕ} {p : Place} {ou
   abbrev Cells-of : List Value
   Cells-of = cellsIn (File d) piece (take cells s) (take cells e) (take cells kk)
 
-  pub writes-bounds : {out′ : List ℕ} {r : QuickTurn} → Writes t p n next g cells Cells-of o out out′ r → QuickBounds piece n i out r
-  writes-bounds (not-told w) = nothing-in-bounds
+  pub writes-bounds : {out′ : List ℕ} {r : QuickTurn} → Writes t p n next g cells Cells-of o out out′ r → QuickBounds piece n i out out′ r
+  writes-bounds (not-told w) = nothing-in-bounds w
   writes-bounds (at-next {end = end} few a b room w y) =
       let f = target-sound (into t) false (p .written) Cells-of b in
       let fits : p .written + length (recordText (into t) false Cells-of ++ ending t) ≤ MAXFILE = f .fits in
@@ -119,7 +119,7 @@ module _ (t : Dialect) {d : Dialect} {piece : Bytes} {n i : ℕ} {p : Place} {ou
         (same-moved d k n (n + i) (kept .0) (at-end .found .cs))
 
     pub writes-turns : {out′ : List ℕ} {r : QuickTurn} → Writes t p n next g cells Cells-of o out out′ r → QuickTurns d (into t) piece i p bytes ends′ done k o out out′ r
-    writes-turns (not-told w) = nothing w
+    writes-turns (not-told w) = nothing
     writes-turns (at-next {end = end} few a b room w y) =
         let sound : faultAt d (into t) p Cells-of ≡ Sound = sound-at d t p Cells-of (between .later) a b in
         let spelt : textAt (into t) p Cells-of ≡ recordText (into t) false Cells-of ++ ending t = text-at t p Cells-of (between .later) in

@@ -64,12 +64,12 @@ pub data Writes (t : Dialect) (p : Place) (n next : ℕ) (f : FileState) (cells 
       Writes t p n next f cells vs o out out′ (Next (placeAfter p (length vs) (end - o) f (n + next)) next end)
   not-told : out′ ≡ out → Writes t p n next f cells vs o out out′ Nothing
 
--- it stays in bounds, whatever state it began with
-pub data QuickBounds (piece : Bytes) (n i : ℕ) (out : List ℕ) : QuickTurn → Type 0 where
+-- it stays in bounds, whatever state it began with; and where nothing is told, nothing was written
+pub data QuickBounds (piece : Bytes) (n i : ℕ) (out out′ : List ℕ) : QuickTurn → Type 0 where
   next-in-bounds :
       {q : Place} {at end : ℕ} → ((ends : List ℕ) → InBounds q ends) → q .offset ≡ n + at → i < at → at ≤ length piece → end ≤ length out →
-      QuickBounds piece n i out (Next q at end)
-  nothing-in-bounds : QuickBounds piece n i out Nothing
+      QuickBounds piece n i out out′ (Next q at end)
+  nothing-in-bounds : out′ ≡ out → QuickBounds piece n i out out′ Nothing
 
 -- what it comes to, where reading stands at its place after the records `done`
 pub data QuickTurns (d : Dialect) (t : Target) (piece : Bytes) (i : ℕ) (p : Place) (bytes ends : List ℕ) (done : List Rec) (k : Kept) (o : ℕ) (out out′ : List ℕ) : QuickTurn → Type 0 where
@@ -78,4 +78,4 @@ pub data QuickTurns (d : Dialect) (t : Target) (piece : Bytes) (i : ℕ) (p : Pl
       readFrom d (some t) (going (readAt d p done k)) (drop i piece) ≡ readFrom d (some t) (going (readAt d q (done ++ (x ∷ [])) k′)) (drop at piece) →
       Holding d t q bytes ends (done ++ (x ∷ [])) k′ → out′ ≡ written out o (recordText t (isEmpty done) (x .cells) ++ ending (t .dialect)) →
       end ≡ o + length (recordText t (isEmpty done) (x .cells) ++ ending (t .dialect)) → QuickTurns d t piece i p bytes ends done k o out out′ (Next q at end)
-  nothing : out′ ≡ out → QuickTurns d t piece i p bytes ends done k o out out′ Nothing
+  nothing : QuickTurns d t piece i p bytes ends done k o out out′ Nothing

@@ -167,7 +167,7 @@ pub fn data_record(
 ) -> QuickTurn
     requires { ⌜ QuickReady (now piece) n i p (now out) o ⌝ }
     requires { ⌜ Scratch (now starts) (now stops) (now kinds) ⌝ }
-    ensures { λ r. ⌜ QuickBounds (now (piece .entry)) n i (now (out .entry)) r ⌝ }
+    ensures { λ r. ⌜ QuickBounds (now (piece .entry)) n i (now (out .entry)) (now (out .exit)) r ⌝ }
     ensures { λ r. ⌜ ((bytes ends : List ℕ) (done : List Rec) (k : Kept) → Holding d (into t) p bytes ends done k → QuickTurns d (into t) (now (piece .entry)) i p bytes ends done k o (now (out .entry)) (now (out .exit)) r) ⌝ }
 {
     if !is_between(p) {

@@ -13,6 +13,7 @@ use carried::place::Place;
 use model::Dialect;
 use model::Report;
 use numbers::MAX_COLUMNS;
+use quick_turns::QuickTurn;
 use turn::Taken;
 use turn::Turn;
 
@@ -50,35 +51,42 @@ fn walked(
     let mut i = from;
     let mut o = at;
     loop {
-        match turn::turned(
-            d,
-            t,
-            piece,
-            n,
-            i,
-            p,
-            bytes,
-            ends,
-            out,
-            o,
-            starts,
-            stops,
-            kinds,
-        ) {
-            Turn::Next { place: q, at, end } => {
+        match quick_turns::data_record(d, t, piece, n, i, p, out, o, starts, stops, kinds) {
+            QuickTurn::Next { place: q, at, end } => {
                 p = q;
                 i = at;
                 o = end;
             }
-            Turn::Pended(q) => {
-                return told(q, numbers::on_call(numbers::ACCEPTED), o);
-            }
-            Turn::Stopped(e) => {
-                return told(p, e, o);
-            }
-            Turn::Nowhere => {
-                return told(p, numbers::on_call(numbers::UNKNOWN_DIALECT), o);
-            }
+            QuickTurn::Nothing => match turn::turned(
+                d,
+                t,
+                piece,
+                n,
+                i,
+                p,
+                bytes,
+                ends,
+                out,
+                o,
+                starts,
+                stops,
+                kinds,
+            ) {
+                Turn::Next { place: q, at, end } => {
+                    p = q;
+                    i = at;
+                    o = end;
+                }
+                Turn::Pended(q) => {
+                    return told(q, numbers::on_call(numbers::ACCEPTED), o);
+                }
+                Turn::Stopped(e) => {
+                    return told(p, e, o);
+                }
+                Turn::Nowhere => {
+                    return told(p, numbers::on_call(numbers::UNKNOWN_DIALECT), o);
+                }
+            },
         }
     }
 }

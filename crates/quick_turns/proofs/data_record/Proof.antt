@@ -13,7 +13,7 @@ use Rattle.quick_turns.proofs.data_record.Statement.{statement}
 use Rattle.quick_turns.proofs.data_record.Tie as tie
 
 returns : tie.Need-returns
-returns c = (nothing-in-bounds, λ bytes ends done k hold. nothing refl)
+returns c = (nothing-in-bounds refl, λ bytes ends done k hold. nothing)
 
 record-requires : tie.Need-record-requires
 record-requires c κs =
@@ -37,7 +37,7 @@ completed-requires c κs =
     )
 
 returns-2 : tie.Need-returns-2
-returns-2 c = (nothing-in-bounds, λ bytes ends done k hold. nothing refl)
+returns-2 c = (nothing-in-bounds refl, λ bytes ends done k hold. nothing)
 
 returns-3 : tie.Need-returns-3
 returns-3 c =

@@ -11,7 +11,7 @@ use Rattle.model.specs.Scans.{Kept}
 use Rattle.carried.specs.declared.place.Place.{Place}
 use Rattle.turn.specs.Walking.{Ready, TurnBounds, Turns}
 use Rattle.walk.specs.Taking.{Walked, Goes}
-use Rattle.walk.proofs.Taking.{Since, since-begins, walk-on, walk-pends, walk-stops, walk-nowhere, ready-on, goes-forward, pended-in-bounds}
+use Rattle.walk.proofs.Taking.{Since, since-begins, walk-on, walk-pends, walk-stops, walk-nowhere, walk-quickly, quick-behind, quick-nothing, quick-ready, ready-quickly, ready-still, since-still, ready-on, goes-forward, pended-in-bounds}
 use Rattle.walk.proofs.piece.walked.Statement.{statement}
 use Rattle.walk.proofs.piece.walked.Tie as tie
 
@@ -27,31 +27,28 @@ abbrev μ-loop : tie.MeasureT-loop
 loop-holds : tie.Need-loop-holds Inv-loop μ-loop
 loop-holds c = (c .before .before .before .before .before .before .before .pre .0, refl, refl, refl, refl, refl, refl, λ began done k first w. since-begins w)
 
-turned-requires : tie.Need-turned-requires Inv-loop μ-loop
-turned-requires c κs =
-    let l = c .before .before .before .before .before .before .loop .inv in
-    let s = c .before .before .before .before .before .before .before .before .before .before .before .before .before .before .pre .1 in
-    (l .0, record { long-starts = l .4 ∙ s .long-starts; long-stops = l .5 ∙ s .long-stops; long-kinds = l .6 ∙ s .long-kinds })
+data-record-requires : tie.Need-data-record-requires Inv-loop μ-loop
+data-record-requires c κs =
+    let l = c .before .before .before .before .loop .inv in
+    let s = c .before .before .before .before .before .before .before .before .before .before .before .before .pre .1 in
+    (quick-ready (l .0), record { long-starts = l .4 ∙ s .long-starts; long-stops = l .5 ∙ s .long-stops; long-kinds = l .6 ∙ s .long-kinds })
 
 loop-less : tie.Need-loop-less Inv-loop μ-loop
 loop-less c =
-    let l = c .before .before .before .before .before .before .before .before .before .before .before .before .before .before .before .before .before .before .before .before .before .before .loop in
-    let a = c .before .before .before .before .before .before .before .before .before .before .before .before .before .before .before .before .before .before .before .before .before .before .before .before .before .before .before .before .before .before .args in
-    let t = c .before .before .before .before .before .before .before .before .before .before .before .before .before .before .before .turned in
-    let g = goes-forward (subst (TurnBounds (a .piece .now) (a .n) (l .i) _ (l .out)) (c .before .q .given .1) (t .ensures .0)) in
-    let g0 = g .0 in let g1 = g .1 in omega arith
+    let l = c .before .before .before .before .before .before .before .before .before .before .before .before .before .before .before .before .loop in
+    let b = quick-behind (c .before .before .before .before .before .before .before .before .before .before .before .data-record .ensures .0) (c .before .q .given .1) in
+    let g0 = b .onward in let g1 = b .inside in omega arith
 
 loop-again : tie.Need-loop-again Inv-loop μ-loop
 loop-again c =
-    let l = c .before .before .before .before .before .before .before .before .before .before .before .before .before .before .before .before .before .before .before .before .before .before .loop in
-    let a = c .before .before .before .before .before .before .before .before .before .before .before .before .before .before .before .before .before .before .before .before .before .before .before .before .before .before .before .before .before .before .args in
-    let t = c .before .before .before .before .before .before .before .before .before .before .before .before .before .before .before .turned in
-    let b = c .before .before .before .before .before .before .before .before .before .before .before .before .before .before .bytes .given in
-    let e = c .before .before .before .before .before .before .before .before .before .before .before .before .ends .given in
+    let l = c .before .before .before .before .before .before .before .before .before .before .before .before .before .before .before .before .loop in
+    let r = c .before .before .before .before .before .before .before .before .before .before .before .data-record .ensures in
+    let e = c .before .q .given .1 in
+    let b = quick-behind (r .0) e in
     let o = c .before .before .before .before .before .before .before .before .before .before .out .given in (
-      ready-on _ _ _ (subst (TurnBounds (a .piece .now) (a .n) (l .i) _ (l .out)) (c .before .q .given .1) (t .ensures .0)) b e o (l .inv .0),
-      b ∙ l .inv .1,
-      e ∙ l .inv .2,
+      ready-quickly b o (l .inv .0),
+      l .inv .1,
+      l .inv .2,
       o ∙ l .inv .3,
       c .before .before .before .before .before .before .before .before .starts .given ∙ l .inv .4,
       c .before .before .before .before .before .before .stops .given ∙ l .inv .5,
@@ -59,39 +56,78 @@ loop-again c =
       λ began done k first z.
           let s = l .inv .7 began done k first z in
           let w = s .now in
-          walk-on w (s .grows) (subst (Turns (a .d) (into (a .t)) (a .piece .now) (l .i) (l .p) (w .done′) (w .k′) (l .o) (l .out) _ _ _) (c .before .q .given .1) (t .ensures .1 (w .done′) (w .k′) (w .hold))),
+          walk-quickly w (s .grows) (r .1 _ _ (w .done′) (w .k′) (w .hold)) e,
+    )
+
+turned-requires : tie.Need-turned-requires Inv-loop μ-loop
+turned-requires c κs =
+    let l = c .before .before .before .before .before .before .before .before .before .before .before .before .before .before .before .before .before .before .before .before .before .loop .inv in
+    let s = c .before .before .before .before .before .before .before .before .before .before .before .before .before .before .before .before .before .before .before .before .before .before .before .before .before .before .before .before .before .pre .1 in
+    (ready-still (quick-nothing (c .before .before .before .before .before .before .before .before .before .before .before .before .before .before .before .before .data-record .ensures .0) (c .before .before .before .before .before .before .enum-told .given .1)) (l .0), record { long-starts = c .before .before .before .before .before .before .before .before .before .before .before .before .before .starts .given ∙ l .4 ∙ s .long-starts; long-stops = c .before .before .before .before .before .before .before .before .before .before .before .stops .given ∙ l .5 ∙ s .long-stops; long-kinds = c .before .before .before .before .before .before .before .before .before .kinds .given ∙ l .6 ∙ s .long-kinds })
+
+loop-less-2 : tie.Need-loop-less-2 Inv-loop μ-loop
+loop-less-2 c =
+    let l = c .before .before .before .before .before .before .before .before .before .before .before .before .before .before .before .before .before .before .before .before .before .before .before .before .before .before .before .before .before .before .before .before .before .before .before .before .before .loop in
+    let a = c .before .before .before .before .before .before .before .before .before .before .before .before .before .before .before .before .before .before .before .before .before .before .before .before .before .before .before .before .before .before .before .before .before .before .before .before .before .before .before .before .before .before .before .before .before .args in
+    let t = c .before .before .before .before .before .before .before .before .before .before .before .before .before .before .before .turned in
+    let g = goes-forward (subst (TurnBounds (a .piece .now) (a .n) (l .i) _ _) (c .before .q2 .given .1) (t .ensures .0)) in
+    let g0 = g .0 in let g1 = g .1 in omega arith
+
+loop-again-2 : tie.Need-loop-again-2 Inv-loop μ-loop
+loop-again-2 c =
+    let l = c .before .before .before .before .before .before .before .before .before .before .before .before .before .before .before .before .before .before .before .before .before .before .before .before .before .before .before .before .before .before .before .before .before .before .before .before .before .loop in
+    let a = c .before .before .before .before .before .before .before .before .before .before .before .before .before .before .before .before .before .before .before .before .before .before .before .before .before .before .before .before .before .before .before .before .before .before .before .before .before .before .before .before .before .before .before .before .before .args in
+    let t = c .before .before .before .before .before .before .before .before .before .before .before .before .before .before .before .turned in
+    let same = quick-nothing (c .before .before .before .before .before .before .before .before .before .before .before .before .before .before .before .before .before .before .before .before .before .before .before .before .before .before .before .before .before .before .before .before .data-record .ensures .0) (c .before .before .before .before .before .before .before .before .before .before .before .before .before .before .before .before .before .before .before .before .before .before .enum-told .given .1) in
+    let b = c .before .before .before .before .before .before .before .before .before .before .before .before .before .before .bytes .given in
+    let e = c .before .before .before .before .before .before .before .before .before .before .before .before .ends .given in
+    let o = c .before .before .before .before .before .before .before .before .before .before .out2 .given in (
+      ready-on _ _ _ (subst (TurnBounds (a .piece .now) (a .n) (l .i) _ _) (c .before .q2 .given .1) (t .ensures .0)) b e o (ready-still same (l .inv .0)),
+      b ∙ l .inv .1,
+      e ∙ l .inv .2,
+      o ∙ c .before .before .before .before .before .before .before .before .before .before .before .before .before .before .before .before .before .before .before .before .before .before .before .before .before .before .before .before .before .before .before .out .given ∙ l .inv .3,
+      c .before .before .before .before .before .before .before .before .starts2 .given ∙ c .before .before .before .before .before .before .before .before .before .before .before .before .before .before .before .before .before .before .before .before .before .before .before .before .before .before .before .before .before .starts .given ∙ l .inv .4,
+      c .before .before .before .before .before .before .stops2 .given ∙ c .before .before .before .before .before .before .before .before .before .before .before .before .before .before .before .before .before .before .before .before .before .before .before .before .before .before .before .stops .given ∙ l .inv .5,
+      c .before .before .before .before .kinds2 .given ∙ c .before .before .before .before .before .before .before .before .before .before .before .before .before .before .before .before .before .before .before .before .before .before .before .before .before .kinds .given ∙ l .inv .6,
+      λ began done k first z.
+          let s = since-still same (l .inv .7 began done k first z) in
+          let w = s .now in
+          walk-on w (s .grows) (subst (Turns (a .d) (into (a .t)) (a .piece .now) (l .i) (l .p) (w .done′) (w .k′) (l .o) _ _ _ _) (c .before .q2 .given .1) (t .ensures .1 (w .done′) (w .k′) (w .hold))),
     )
 
 returns : tie.Need-returns Inv-loop μ-loop
 returns c =
-    let l = c .before .before .before .before .before .before .before .before .before .before .before .before .before .before .before .before .before .before .before .before .before .before .before .before .loop in
-    let a = c .before .before .before .before .before .before .before .before .before .before .before .before .before .before .before .before .before .before .before .before .before .before .before .before .before .before .before .before .before .before .before .before .args in
+    let l = c .before .before .before .before .before .before .before .before .before .before .before .before .before .before .before .before .before .before .before .before .before .before .before .before .before .before .before .before .before .before .before .before .before .before .before .before .before .before .before .loop in
+    let a = c .before .before .before .before .before .before .before .before .before .before .before .before .before .before .before .before .before .before .before .before .before .before .before .before .before .before .before .before .before .before .before .before .before .before .before .before .before .before .before .before .before .before .before .before .before .before .before .args in
     let t = c .before .before .before .before .before .before .before .before .before .before .before .before .before .before .before .before .before .turned in
-    let b = pended-in-bounds (subst (TurnBounds (a .piece .now) (a .n) (l .i) _ (l .out)) (c .before .before .before .q2 .given .1) (t .ensures .0)) in
+    let same = quick-nothing (c .before .before .before .before .before .before .before .before .before .before .before .before .before .before .before .before .before .before .before .before .before .before .before .before .before .before .before .before .before .before .before .before .before .before .data-record .ensures .0) (c .before .before .before .before .before .before .before .before .before .before .before .before .before .before .before .before .before .before .before .before .before .before .before .before .enum-told .given .1) in
+    let b = pended-in-bounds (subst (TurnBounds (a .piece .now) (a .n) (l .i) _ _) (c .before .before .before .q3 .given .1) (t .ensures .0)) in
     λ began done k first entered long z.
-    let s = l .inv .7 began done k first z in
+    let s = since-still same (l .inv .7 began done k first z) in
     let w = s .now in
     subst (Goes (a .d) (into (a .t)) (a .piece .now) began done k (z .done′) first _ _ _) (sym (c .told .ensures))
-    (walk-pends w (subst (Turns (a .d) (into (a .t)) (a .piece .now) (l .i) (l .p) (w .done′) (w .k′) (l .o) (l .out) _ _ _) (c .before .before .before .q2 .given .1) (t .ensures .1 (w .done′) (w .k′) (w .hold))) b (c .before .on-call .ensures) (z .done′) (s .grows))
+    (walk-pends w (subst (Turns (a .d) (into (a .t)) (a .piece .now) (l .i) (l .p) (w .done′) (w .k′) (l .o) _ _ _ _) (c .before .before .before .q3 .given .1) (t .ensures .1 (w .done′) (w .k′) (w .hold))) b (c .before .on-call .ensures) (z .done′) (s .grows))
 
 returns-2 : tie.Need-returns-2 Inv-loop μ-loop
 returns-2 c =
-    let l = c .before .before .before .before .before .before .before .before .before .before .before .before .before .before .before .before .before .before .before .before .before .before .before .loop in
-    let a = c .before .before .before .before .before .before .before .before .before .before .before .before .before .before .before .before .before .before .before .before .before .before .before .before .before .before .before .before .before .before .before .args in
+    let l = c .before .before .before .before .before .before .before .before .before .before .before .before .before .before .before .before .before .before .before .before .before .before .before .before .before .before .before .before .before .before .before .before .before .before .before .before .before .before .loop in
+    let a = c .before .before .before .before .before .before .before .before .before .before .before .before .before .before .before .before .before .before .before .before .before .before .before .before .before .before .before .before .before .before .before .before .before .before .before .before .before .before .before .before .before .before .before .before .before .before .args in
     let t = c .before .before .before .before .before .before .before .before .before .before .before .before .before .before .before .before .turned in
+    let same = quick-nothing (c .before .before .before .before .before .before .before .before .before .before .before .before .before .before .before .before .before .before .before .before .before .before .before .before .before .before .before .before .before .before .before .before .before .data-record .ensures .0) (c .before .before .before .before .before .before .before .before .before .before .before .before .before .before .before .before .before .before .before .before .before .before .before .enum-told .given .1) in
     λ began done k first entered long z.
-    let w = l .inv .7 began done k first z .now in
+    let w = since-still same (l .inv .7 began done k first z) .now in
     subst (Goes (a .d) (into (a .t)) (a .piece .now) began done k (z .done′) first _ _ _) (sym (c .told2 .ensures))
-    (walk-stops w (subst (Turns (a .d) (into (a .t)) (a .piece .now) (l .i) (l .p) (w .done′) (w .k′) (l .o) (l .out) _ _ _) (c .before .before .e .given .1) (t .ensures .1 (w .done′) (w .k′) (w .hold))) (z .done′))
+    (walk-stops w (subst (Turns (a .d) (into (a .t)) (a .piece .now) (l .i) (l .p) (w .done′) (w .k′) (l .o) _ _ _ _) (c .before .before .e .given .1) (t .ensures .1 (w .done′) (w .k′) (w .hold))) (z .done′))
 
 returns-3 : tie.Need-returns-3 Inv-loop μ-loop
 returns-3 c =
-    let l = c .before .before .before .before .before .before .before .before .before .before .before .before .before .before .before .before .before .before .before .before .before .before .before .loop in
-    let a = c .before .before .before .before .before .before .before .before .before .before .before .before .before .before .before .before .before .before .before .before .before .before .before .before .before .before .before .before .before .before .before .args in
+    let l = c .before .before .before .before .before .before .before .before .before .before .before .before .before .before .before .before .before .before .before .before .before .before .before .before .before .before .before .before .before .before .before .before .before .before .before .before .before .before .loop in
+    let a = c .before .before .before .before .before .before .before .before .before .before .before .before .before .before .before .before .before .before .before .before .before .before .before .before .before .before .before .before .before .before .before .before .before .before .before .before .before .before .before .before .before .before .before .before .before .before .args in
     let t = c .before .before .before .before .before .before .before .before .before .before .before .before .before .before .before .before .turned in
+    let same = quick-nothing (c .before .before .before .before .before .before .before .before .before .before .before .before .before .before .before .before .before .before .before .before .before .before .before .before .before .before .before .before .before .before .before .before .before .data-record .ensures .0) (c .before .before .before .before .before .before .before .before .before .before .before .before .before .before .before .before .before .before .before .before .before .before .before .enum-told .given .1) in
     λ began done k first entered long z.
-    let w = l .inv .7 began done k first z .now in
-    walk-nowhere w entered (l .inv .3 ∙ long) (subst (Turns (a .d) (into (a .t)) (a .piece .now) (l .i) (l .p) (w .done′) (w .k′) (l .o) (l .out) _ _ _) (c .before .before .enum-told .given .1) (t .ensures .1 (w .done′) (w .k′) (w .hold)))
+    let w = since-still same (l .inv .7 began done k first z) .now in
+    walk-nowhere w entered (c .before .before .before .before .before .before .before .before .before .before .before .before .before .before .before .before .before .before .before .before .before .before .before .before .before .before .before .before .before .before .before .before .out .given ∙ l .inv .3 ∙ long) (subst (Turns (a .d) (into (a .t)) (a .piece .now) (l .i) (l .p) (w .done′) (w .k′) (l .o) _ _ _ _) (c .before .before .enum-told2 .given .1) (t .ensures .1 (w .done′) (w .k′) (w .hold)))
 
 pub walked-spec : {M : Type 1} → statement M
 walked-spec =
@@ -100,36 +136,41 @@ walked-spec =
     Inv-loop
     μ-loop
     loop-holds
-    turned-requires
+    data-record-requires
     (λ c. search needs)
     loop-less
     loop-again
     (λ c. search needs)
+    turned-requires
+    (λ c. search needs)
+    loop-less-2
+    loop-again-2
+    (λ c. search needs)
     (λ c κs. search needs)
     (λ c κs. search needs)
-    (λ c. c .before .before .before .before .before .before .before .before .before .before .before .before .before .before .before .before .bytes .given ∙ c .before .before .before .before .before .before .before .before .before .before .before .before .before .before .before .before .before .before .before .before .before .before .before .before .loop .inv .1)
-    (λ c. c .before .before .before .before .before .before .before .before .before .before .before .before .before .before .ends .given ∙ c .before .before .before .before .before .before .before .before .before .before .before .before .before .before .before .before .before .before .before .before .before .before .before .before .loop .inv .2)
-    (λ c. c .before .before .before .before .before .before .before .before .before .before .before .before .out .given ∙ c .before .before .before .before .before .before .before .before .before .before .before .before .before .before .before .before .before .before .before .before .before .before .before .before .loop .inv .3)
-    (λ c. c .before .before .before .before .before .before .before .before .before .before .starts .given ∙ c .before .before .before .before .before .before .before .before .before .before .before .before .before .before .before .before .before .before .before .before .before .before .before .before .loop .inv .4)
-    (λ c. c .before .before .before .before .before .before .before .before .stops .given ∙ c .before .before .before .before .before .before .before .before .before .before .before .before .before .before .before .before .before .before .before .before .before .before .before .before .loop .inv .5)
-    (λ c. c .before .before .before .before .before .before .kinds .given ∙ c .before .before .before .before .before .before .before .before .before .before .before .before .before .before .before .before .before .before .before .before .before .before .before .before .loop .inv .6)
+    (λ c. c .before .before .before .before .before .before .before .before .before .before .before .before .before .before .before .before .bytes .given ∙ c .before .before .before .before .before .before .before .before .before .before .before .before .before .before .before .before .before .before .before .before .before .before .before .before .before .before .before .before .before .before .before .before .before .before .before .before .before .before .before .loop .inv .1)
+    (λ c. c .before .before .before .before .before .before .before .before .before .before .before .before .before .before .ends .given ∙ c .before .before .before .before .before .before .before .before .before .before .before .before .before .before .before .before .before .before .before .before .before .before .before .before .before .before .before .before .before .before .before .before .before .before .before .before .before .before .before .loop .inv .2)
+    (λ c. c .before .before .before .before .before .before .before .before .before .before .before .before .out2 .given ∙ c .before .before .before .before .before .before .before .before .before .before .before .before .before .before .before .before .before .before .before .before .before .before .before .before .before .before .before .before .before .before .before .before .before .out .given ∙ c .before .before .before .before .before .before .before .before .before .before .before .before .before .before .before .before .before .before .before .before .before .before .before .before .before .before .before .before .before .before .before .before .before .before .before .before .before .before .before .loop .inv .3)
+    (λ c. c .before .before .before .before .before .before .before .before .before .before .starts2 .given ∙ c .before .before .before .before .before .before .before .before .before .before .before .before .before .before .before .before .before .before .before .before .before .before .before .before .before .before .before .before .before .before .before .starts .given ∙ c .before .before .before .before .before .before .before .before .before .before .before .before .before .before .before .before .before .before .before .before .before .before .before .before .before .before .before .before .before .before .before .before .before .before .before .before .before .before .before .loop .inv .4)
+    (λ c. c .before .before .before .before .before .before .before .before .stops2 .given ∙ c .before .before .before .before .before .before .before .before .before .before .before .before .before .before .before .before .before .before .before .before .before .before .before .before .before .before .before .before .before .stops .given ∙ c .before .before .before .before .before .before .before .before .before .before .before .before .before .before .before .before .before .before .before .before .before .before .before .before .before .before .before .before .before .before .before .before .before .before .before .before .before .before .before .loop .inv .5)
+    (λ c. c .before .before .before .before .before .before .kinds2 .given ∙ c .before .before .before .before .before .before .before .before .before .before .before .before .before .before .before .before .before .before .before .before .before .before .before .before .before .before .before .kinds .given ∙ c .before .before .before .before .before .before .before .before .before .before .before .before .before .before .before .before .before .before .before .before .before .before .before .before .before .before .before .before .before .before .before .before .before .before .before .before .before .before .before .loop .inv .6)
     returns
     (λ c. search needs)
     (λ c κs. search needs)
-    (λ c. c .before .before .before .before .before .before .before .before .before .before .before .before .before .before .before .bytes .given ∙ c .before .before .before .before .before .before .before .before .before .before .before .before .before .before .before .before .before .before .before .before .before .before .before .loop .inv .1)
-    (λ c. c .before .before .before .before .before .before .before .before .before .before .before .before .before .ends .given ∙ c .before .before .before .before .before .before .before .before .before .before .before .before .before .before .before .before .before .before .before .before .before .before .before .loop .inv .2)
-    (λ c. c .before .before .before .before .before .before .before .before .before .before .before .out .given ∙ c .before .before .before .before .before .before .before .before .before .before .before .before .before .before .before .before .before .before .before .before .before .before .before .loop .inv .3)
-    (λ c. c .before .before .before .before .before .before .before .before .before .starts .given ∙ c .before .before .before .before .before .before .before .before .before .before .before .before .before .before .before .before .before .before .before .before .before .before .before .loop .inv .4)
-    (λ c. c .before .before .before .before .before .before .before .stops .given ∙ c .before .before .before .before .before .before .before .before .before .before .before .before .before .before .before .before .before .before .before .before .before .before .before .loop .inv .5)
-    (λ c. c .before .before .before .before .before .kinds .given ∙ c .before .before .before .before .before .before .before .before .before .before .before .before .before .before .before .before .before .before .before .before .before .before .before .loop .inv .6)
+    (λ c. c .before .before .before .before .before .before .before .before .before .before .before .before .before .before .before .bytes .given ∙ c .before .before .before .before .before .before .before .before .before .before .before .before .before .before .before .before .before .before .before .before .before .before .before .before .before .before .before .before .before .before .before .before .before .before .before .before .before .before .loop .inv .1)
+    (λ c. c .before .before .before .before .before .before .before .before .before .before .before .before .before .ends .given ∙ c .before .before .before .before .before .before .before .before .before .before .before .before .before .before .before .before .before .before .before .before .before .before .before .before .before .before .before .before .before .before .before .before .before .before .before .before .before .before .loop .inv .2)
+    (λ c. c .before .before .before .before .before .before .before .before .before .before .before .out2 .given ∙ c .before .before .before .before .before .before .before .before .before .before .before .before .before .before .before .before .before .before .before .before .before .before .before .before .before .before .before .before .before .before .before .before .out .given ∙ c .before .before .before .before .before .before .before .before .before .before .before .before .before .before .before .before .before .before .before .before .before .before .before .before .before .before .before .before .before .before .before .before .before .before .before .before .before .before .loop .inv .3)
+    (λ c. c .before .before .before .before .before .before .before .before .before .starts2 .given ∙ c .before .before .before .before .before .before .before .before .before .before .before .before .before .before .before .before .before .before .before .before .before .before .before .before .before .before .before .before .before .before .starts .given ∙ c .before .before .before .before .before .before .before .before .before .before .before .before .before .before .before .before .before .before .before .before .before .before .before .before .before .before .before .before .before .before .before .before .before .before .before .before .before .before .loop .inv .4)
+    (λ c. c .before .before .before .before .before .before .before .stops2 .given ∙ c .before .before .before .before .before .before .before .before .before .before .before .before .before .before .before .before .before .before .before .before .before .before .before .before .before .before .before .before .stops .given ∙ c .before .before .before .before .before .before .before .before .before .before .before .before .before .before .before .before .before .before .before .before .before .before .before .before .before .before .before .before .before .before .before .before .before .before .before .before .before .before .loop .inv .5)
+    (λ c. c .before .before .before .before .before .kinds2 .given ∙ c .before .before .before .before .before .before .before .before .before .before .before .before .before .before .before .before .before .before .before .before .before .before .before .before .before .before .kinds .given ∙ c .before .before .before .before .before .before .before .before .before .before .before .before .before .before .before .before .before .before .before .before .before .before .before .before .before .before .before .before .before .before .before .before .before .before .before .before .before .before .loop .inv .6)
     returns-2
     (λ c. search needs)
     (λ c κs. search needs)
     (λ c κs. search needs)
-    (λ c. c .before .before .before .before .before .before .before .before .before .before .before .before .before .before .before .bytes .given ∙ c .before .before .before .before .before .before .before .before .before .before .before .before .before .before .before .before .before .before .before .before .before .before .before .loop .inv .1)
-    (λ c. c .before .before .before .before .before .before .before .before .before .before .before .before .before .ends .given ∙ c .before .before .before .before .before .before .before .before .before .before .before .before .before .before .before .before .before .before .before .before .before .before .before .loop .inv .2)
-    (λ c. c .before .before .before .before .before .before .before .before .before .before .before .out .given ∙ c .before .before .before .before .before .before .before .before .before .before .before .before .before .before .before .before .before .before .before .before .before .before .before .loop .inv .3)
-    (λ c. c .before .before .before .before .before .before .before .before .before .starts .given ∙ c .before .before .before .before .before .before .before .before .before .before .before .before .before .before .before .before .before .before .before .before .before .before .before .loop .inv .4)
-    (λ c. c .before .before .before .before .before .before .before .stops .given ∙ c .before .before .before .before .before .before .before .before .before .before .before .before .before .before .before .before .before .before .before .before .before .before .before .loop .inv .5)
-    (λ c. c .before .before .before .before .before .kinds .given ∙ c .before .before .before .before .before .before .before .before .before .before .before .before .before .before .before .before .before .before .before .before .before .before .before .loop .inv .6)
+    (λ c. c .before .before .before .before .before .before .before .before .before .before .before .before .before .before .before .bytes .given ∙ c .before .before .before .before .before .before .before .before .before .before .before .before .before .before .before .before .before .before .before .before .before .before .before .before .before .before .before .before .before .before .before .before .before .before .before .before .before .before .loop .inv .1)
+    (λ c. c .before .before .before .before .before .before .before .before .before .before .before .before .before .ends .given ∙ c .before .before .before .before .before .before .before .before .before .before .before .before .before .before .before .before .before .before .before .before .before .before .before .before .before .before .before .before .before .before .before .before .before .before .before .before .before .before .loop .inv .2)
+    (λ c. c .before .before .before .before .before .before .before .before .before .before .before .out2 .given ∙ c .before .before .before .before .before .before .before .before .before .before .before .before .before .before .before .before .before .before .before .before .before .before .before .before .before .before .before .before .before .before .before .before .out .given ∙ c .before .before .before .before .before .before .before .before .before .before .before .before .before .before .before .before .before .before .before .before .before .before .before .before .before .before .before .before .before .before .before .before .before .before .before .before .before .before .loop .inv .3)
+    (λ c. c .before .before .before .before .before .before .before .before .before .starts2 .given ∙ c .before .before .before .before .before .before .before .before .before .before .before .before .before .before .before .before .before .before .before .before .before .before .before .before .before .before .before .before .before .before .starts .given ∙ c .before .before .before .before .before .before .before .before .before .before .before .before .before .before .before .before .before .before .before .before .before .before .before .before .before .before .before .before .before .before .before .before .before .before .before .before .before .before .loop .inv .4)
+    (λ c. c .before .before .before .before .before .before .before .stops2 .given ∙ c .before .before .before .before .before .before .before .before .before .before .before .before .before .before .before .before .before .before .before .before .before .before .before .before .before .before .before .before .stops .given ∙ c .before .before .before .before .before .before .before .before .before .before .before .before .before .before .before .before .before .before .before .before .before .before .before .before .before .before .before .before .before .before .before .before .before .before .before .before .before .before .loop .inv .5)
+    (λ c. c .before .before .before .before .before .kinds2 .given ∙ c .before .before .before .before .before .before .before .before .before .before .before .before .before .before .before .before .before .before .before .before .before .before .before .before .before .before .kinds .given ∙ c .before .before .before .before .before .before .before .before .before .before .before .before .before .before .before .before .before .before .before .before .before .before .before .before .before .before .before .before .before .before .before .before .before .before .before .before .before .before .loop .inv .6)
     returns-3)
