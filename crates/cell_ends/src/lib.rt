@@ -1,11 +1,21 @@
 // Where a cell of a file ends, by whole runs of bytes and one-sided: what is told is what the cell's automaton comes to, and what is not
 // told, the automaton tells.
+//
+// run.rt passes over clean ASCII, text.rt over text between quotes and without them, and value.rt tells the values of CSVJ and TDIF.
 ghost use mathlib.Core.Path.{_≡_};
+ghost use mathlib.Core.Bool.{true};
 ghost use Prim.Native.Nat.{_≤_, _<_};
-ghost use lib.ListN.{length};
+ghost use lib.ListN.{length, getD};
+ghost use Rattle.model.specs.declared.Dialect.{Dialect as TheDialect};
 ghost use Rattle.model.specs.Dialect.{delimiterOf, quoteOf};
+ghost use Rattle.model.specs.Cell.{mayBeEmpty};
 ghost use Rattle.cell_ends.specs.Ends.{Told};
+ghost use Rattle.cell_ends.specs.Coming.{Closes, isEnd};
 use model::Dialect;
+
+mod run;
+mod text;
+mod value;
 
 // The end of a cell, and whether its content stands in it as it is.
 pub struct Ends {
@@ -13,13 +23,92 @@ pub struct Ends {
     pub clean: bool,
 }
 
+// Whether the byte at i is the quote that ends the cell; false too where it is not told.
+fn closes(d: Dialect, q: u8, s: &[u8], i: usize, stop: usize) -> bool
+    requires { ⌜ (i < stop) × (stop ≤ length (now s)) × (q ≡ quoteOf d) ⌝ }
+    ensures { λ r. ⌜ (r ≡ true → Closes d (now (s .entry)) stop i) ⌝ }
+{
+    if s[i] != q {
+        return false;
+    }
+    if stop - i < 2 {
+        return false;
+    }
+    match d {
+        Dialect::Csvj => true,
+        Dialect::Tdif => s[i + 1] != q,
+        Dialect::CsvPlus(_) => s[i + 1] != q,
+    }
+}
+
+// Where the quoted cell that begins at `at` ends.
+fn quoted_end(d: Dialect, q: u8, s: &[u8], at: usize, stop: usize) -> Ends
+    requires { ⌜ (at < stop) × (stop ≤ length (now s)) × (q ≡ quoteOf d) × (getD (now s) at 0 ≡ q) ⌝ }
+    ensures { λ r. ⌜ Told d (now (s .entry)) at stop (r .at) (r .clean) ⌝ }
+{
+    let inside = text::quoted_text(d, s, at + 1, stop, q);
+    let i = inside.end;
+    if i < stop {
+        if closes(d, q, s, i, stop) {
+            return Ends {
+                at: i + 1,
+                clean: inside.clean,
+            };
+        }
+    }
+    Ends {
+        at: stop,
+        clean: false,
+    }
+}
+
+// Whether a cell without quotes of CSV+ ends before this byte.
+fn is_end(b: u8, p: u8) -> bool
+    ensures { λ r. ⌜ r ≡ isEnd p b ⌝ }
+{
+    if b == p {
+        return true;
+    }
+    if b == 0x0A {
+        return true;
+    }
+    b == 0x0D
+}
+
+// Where the cell without quotes of CSV+ ends that begins at `at`.
+fn plain_end(s: &[u8], at: usize, stop: usize, p: u8, q: u8) -> Ends
+    requires { ⌜ (at < stop) × (stop ≤ length (now s)) × (p < 0x80) × (q < 0x80) × (getD (now s) at 0 ≡ q → ⊥) ⌝ }
+    ensures { λ r. ⌜ ((d : TheDialect) → mayBeEmpty d ≡ true → p ≡ delimiterOf d → q ≡ quoteOf d → Told d (now (s .entry)) at stop (r .at) (r .clean)) ⌝ }
+{
+    let i = text::plain_text(s, at, stop, p, q);
+    if i < stop {
+        if is_end(s[i], p) {
+            return Ends { at: i, clean: true };
+        }
+    }
+    Ends {
+        at: stop,
+        clean: false,
+    }
+}
+
 // Where the cell that begins at `at` ends; `stop`: not told. p is the dialect's delimiter, and q its quote.
 pub fn cell_end(d: Dialect, p: u8, q: u8, s: &[u8], at: usize, stop: usize) -> Ends
     requires { ⌜ (at < stop) × (stop ≤ length (now s)) × (p ≡ delimiterOf d) × (q ≡ quoteOf d) ⌝ }
     ensures { λ r. ⌜ Told d (now (s .entry)) at stop (r .at) (r .clean) ⌝ }
 {
-    Ends {
-        at: stop,
-        clean: false,
+    if s[at] == q {
+        return quoted_end(d, q, s, at, stop);
+    }
+    match d {
+        Dialect::Csvj => Ends {
+            at: value::value_end(s, at, stop),
+            clean: false,
+        },
+        Dialect::Tdif => Ends {
+            at: value::null_end(s, at, stop),
+            clean: false,
+        },
+        Dialect::CsvPlus(_) => plain_end(s, at, stop, p, q),
     }
 }

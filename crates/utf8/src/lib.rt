@@ -1,4 +1,4 @@
-// Characters of UTF-8: a text validated a byte at a time, and code points packed into bytes.
+// Characters of UTF-8: a text validated a byte at a time, whole characters passed over (wide.rt), and code points packed into bytes.
 //
 // Where a text stands and its next byte go in, and where it stands then comes out, or that it is broken. A code point goes in,
 // and its bytes come out. The definitions are those of model's specs/Utf8.antt (charStep, pack, joined); specs/Codes.antt says
@@ -19,6 +19,8 @@ use model::Advance;
 use model::Char;
 use model::Inner;
 use model::Lead;
+
+pub mod wide;
 
 // ---- the table
 

@@ -14,7 +14,7 @@ ghost use Rattle.model.specs.declared.Dialect.the-variants.{Csvj, Tdif};
 ghost use Rattle.model.specs.Base.{within};
 ghost use Rattle.model.specs.Cell.{isDigit, isHex, isShort, numeralStep, letterOf, afterLetter, afterHex, firstByte, cellStep};
 
-fn is_digit(b: u8) -> bool
+pub fn is_digit(b: u8) -> bool
     ensures { λ r. ⌜ r ≡ isDigit b ⌝ }
 {
     if b < 0x30 {
@@ -53,7 +53,7 @@ pub fn is_hex(b: u8) -> bool
     is_lower_hex(b)
 }
 
-fn is_short(b: u8) -> bool
+pub fn is_short(b: u8) -> bool
     ensures { λ r. ⌜ r ≡ isShort b ⌝ }
 {
     if b == 0x22 {

@@ -39,12 +39,12 @@ test-top {p} {q} {b} s =
     and-high _ 1 7 ∙ ap (λ (n : ℕ). n % 2 * 0x80) (e .digit)
 
 -- a stop's digit
-stop-hit : (x p : ℕ) → p < 0x80 → x ≡ p → Top (0x80 - bitXor x p) 1
+pub stop-hit : (x p : ℕ) → p < 0x80 → x ≡ p → Top (0x80 - bitXor x p) 1
 stop-hit x p h e =
     let z : bitXor x p ≡ 0 = rw e (xor-self p) in
     record { byte = omega arith; digit = omega arith }
 
-stop-missed : (x p : ℕ) → x < 0x80 → p < 0x80 → ¬ (x ≡ p) → Top (0x80 - bitXor x p) 0
+pub stop-missed : (x p : ℕ) → x < 0x80 → p < 0x80 → ¬ (x ≡ p) → Top (0x80 - bitXor x p) 0
 stop-missed x p h k n =
     let z : ¬ (bitXor x p ≡ 0) = λ e. n (differ-none x p e) in
     record { byte = omega arith; digit = omega arith }
@@ -127,14 +127,14 @@ testWord w first second =
     (bitAnd w 0x7F7F7F7F7F7F7F7F + 0x0101010101010101))
     0x8080808080808080
 
-module _ (w p q : ℕ) (h : w < 0x100 ^ 8) (hp : p < 0x80) (hq : q < 0x80) where
+module _ (w : ℕ) (h : w < 0x100 ^ 8) where
   low-bits : Bytewise (bytesOf 8 w) (bitAnd w 0x7F7F7F7F7F7F7F7F) (λ b. bitAnd b 0x7F)
   low-bits = and-bytes (all-bytes 8 w) (itself w h) (eight-times w 0x7F (omega arith))
 
   low-small : (b : ℕ) → bitAnd b 0x7F < 0x80
   low-small b = mask-lt b 7
 
-  stop-bits : (c : ℕ) → c < 0x80 → Bytewise (bytesOf 8 w) (0x8080808080808080 - bitXor (bitAnd w 0x7F7F7F7F7F7F7F7F) (c * ONES)) (λ b. 0x80 - bitXor (bitAnd b 0x7F) c)
+  pub stop-bits : (c : ℕ) → c < 0x80 → Bytewise (bytesOf 8 w) (0x8080808080808080 - bitXor (bitAnd w 0x7F7F7F7F7F7F7F7F) (c * ONES)) (λ b. 0x80 - bitXor (bitAnd b 0x7F) c)
   stop-bits c k =
       sub-bytes (all-bytes 8 w) (eight-times w 0x80 (omega arith)) (xor-bytes (all-bytes 8 w) low-bits (eight-times w c (omega arith)))
       λ b l. fits b
@@ -142,7 +142,7 @@ module _ (w p q : ℕ) (h : w < 0x100 ^ 8) (hp : p < 0x80) (hq : q < 0x80) where
       fits : (b : ℕ) → bitXor (bitAnd b 0x7F) c ≤ 0x80
       fits b = let x : bitXor (bitAnd b 0x7F) c < 0x80 = xor-lt 7 (bitAnd b 0x7F) c (low-small b) k in omega arith
 
-  below-bits : Bytewise (bytesOf 8 w) (0x9F9F9F9F9F9F9F9F - bitAnd w 0x7F7F7F7F7F7F7F7F) (λ b. 0x9F - bitAnd b 0x7F)
+  pub below-bits : Bytewise (bytesOf 8 w) (0x9F9F9F9F9F9F9F9F - bitAnd w 0x7F7F7F7F7F7F7F7F) (λ b. 0x9F - bitAnd b 0x7F)
   below-bits = sub-bytes (all-bytes 8 w) (eight-times w 0x9F (omega arith)) low-bits λ b l. fits b
     where
       fits : (b : ℕ) → bitAnd b 0x7F ≤ 0x9F
@@ -154,18 +154,18 @@ module _ (w p q : ℕ) (h : w < 0x100 ^ 8) (hp : p < 0x80) (hq : q < 0x80) where
       fits : (b : ℕ) → bitAnd b 0x7F + 0x01 < 0x100
       fits b = let x : bitAnd b 0x7F < 0x80 = low-small b in omega arith
 
-  test-bytes : Bytewise (bytesOf 8 w) (testWord w (p * ONES) (q * ONES)) (testOf p q)
-  test-bytes =
+  test-bytes : (p q : ℕ) → p < 0x80 → q < 0x80 → Bytewise (bytesOf 8 w) (testWord w (p * ONES) (q * ONES)) (testOf p q)
+  test-bytes p q hp hq =
       let hs = all-bytes 8 w in
       and-bytes hs (or-bytes hs (or-bytes hs (or-bytes hs (or-bytes hs (itself w h) (stop-bits p hp)) (stop-bits q hq)) below-bits) last-bits) (eight-times w 0x80 (omega arith))
 
 -- ---- any stops
 
-ascii-small : (p : ℕ) → asciiStop p < 0x80
+pub ascii-small : (p : ℕ) → asciiStop p < 0x80
 unfolding asciiStop
 ascii-small p = split (λ (n : ℕ). n < 0x80) _ (λ t. ltb-true p 0x80 t) λ _. omega arith
 
-ascii-same : (p b : ℕ) → 0x20 ≤ b → b ≤ 0x7E → (b is asciiStop p) ≡ (b is p)
+pub ascii-same : (p b : ℕ) → 0x20 ≤ b → b < 0x80 → (b is asciiStop p) ≡ (b is p)
 unfolding asciiStop if_then_else_
 ascii-same p b l m = go (ltb p 0x80) refl
   where
@@ -178,7 +178,7 @@ unfolding ordinary
 ordinary-ascii p q b = go (within 0x20 0x7E b) refl
   where
     go : (t : Bool) → within 0x20 0x7E b ≡ t → (within 0x20 0x7E b && not (b is asciiStop p) && not (b is asciiStop q)) ≡ (within 0x20 0x7E b && not (b is p) && not (b is q))
-    go true e = let k = within-true 0x20 0x7E b e in rw (ascii-same p b (k .0) (k .1), ascii-same q b (k .0) (k .1))
+    go true e = let k = within-true 0x20 0x7E b e in let m : b ≤ 0x7E = k .1 in rw (ascii-same p b (k .0) (omega arith), ascii-same q b (k .0) (omega arith))
     go false e = rw e
 
 -- no byte of the test's first difference is below 0
@@ -196,6 +196,6 @@ unfolding flagOf
 flags w p q first second h ep eq =
     let ap = ascii-small p in
     let aq = ascii-small q in
-    let tested : Bytewise (bytesOf 8 w) (testWord w first second) (testOf (asciiStop p) (asciiStop q)) = rw (ep, eq) (test-bytes w (asciiStop p) (asciiStop q) h ap aq) in
+    let tested : Bytewise (bytesOf 8 w) (testWord w first second) (testOf (asciiStop p) (asciiStop q)) = rw (ep, eq) (test-bytes w h (asciiStop p) (asciiStop q) ap aq) in
     let byte : (b : ℕ) → b < 0x100 → testOf (asciiStop p) (asciiStop q) b ≡ flagOf (ordinary p q) b = λ b k. test-flag (asciiStop p) (asciiStop q) b k ap aq ∙ rw (ordinary-ascii p q b) in
     flags-from tested byte

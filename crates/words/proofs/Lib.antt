@@ -3,6 +3,8 @@ pub mod Bytewise
 pub mod Tops
 pub mod Flags
 pub mod Flagging
+pub mod Clean
 pub mod Reaching
 pub mod Reading
 pub mod Passing
+pub mod AllPass

@@ -4,7 +4,7 @@ use mathlib.Core.Path.{_≡_}
 use mathlib.Core.Bool.{Bool, true, not, _&&_}
 use mathlib.Core.List.{[], _∷_, map}
 use lib.Dec.{ltb}
-use Rattle.model.specs.Base.{Bytes, if_then_else_, _is_, within}
+use Rattle.model.specs.Base.{Bytes, if_then_else_, _is_, within, BACKSLASH}
 
 -- bytes as one number, the first lowest
 unfoldable pub wordOf : Bytes → ℕ
@@ -31,7 +31,11 @@ ONES = 0x0101010101010101
 unfoldable pub ordinary : (p q b : ℕ) → Bool
 ordinary p q b = within 0x20 0x7E b && not (b is p) && not (b is q)
 
--- the stop that is tested for: no byte from 80 hex on is ordinary, stop or not, and 0 is not either
+-- a clean byte of ASCII: 20 to 7F hex, no backslash, and neither of these two
+unfoldable pub cleanAscii : (p q b : ℕ) → Bool
+cleanAscii p q b = within 0x20 0x7F b && not (b is p) && not (b is q) && not (b is BACKSLASH)
+
+-- the stop that is tested for: no byte from 80 hex on is ordinary or clean, stop or not, and 0 is not either
 unfoldable pub asciiStop : ℕ → ℕ
 asciiStop p = if ltb p 0x80 then p else 0
 

@@ -10,7 +10,7 @@ ghost use Prim.Native.Nat.{_+_, _*_, _≤_};
 ghost use mathlib.Core.List.{[], _∷_};
 ghost use lib.ListN.{length};
 ghost use Rattle.model.specs.Api.{slice};
-ghost use Rattle.words.specs.Words.{wordOf, Word, ONES, bytesOf, asciiStop, ordinary, isByte, isBelow, Flags, zeroBytes};
+ghost use Rattle.words.specs.Words.{wordOf, Word, ONES, bytesOf, asciiStop, ordinary, cleanAscii, isByte, isBelow, Flags, zeroBytes};
 
 // Eight bytes as one number, the first lowest. They are joined by |, of which the compiler makes one load at once: of a sum it does so only
 // after it has found a caller's loop too long to stand where it is called, and tables of short cells took a tenth more time.
@@ -44,7 +44,8 @@ pub fn word(s: &[u8], i: usize) -> u64
     )
 }
 
-// A stop, eight times. Bytes from 80 hex on are not ordinary anyway, so a stop that is one of them is as good as 0, which is not either.
+// A stop, eight times. Bytes from 80 hex on are not ordinary or clean anyway, so a stop that is one of them is as good as 0, which is not
+// either.
 fn eight_stops(p: u8) -> u64
     ensures { λ r. ⌜ r ≡ asciiStop p * ONES ⌝ }
 {
@@ -66,6 +67,18 @@ pub fn unordinary(w: u64, p: u8, q: u8) -> u64
     let below_20 = 0x9F9F9F9F9F9F9F9F - low;
     let is_7f = low + 0x0101010101010101;
     (w | is_first | is_second | below_20 | is_7f) & 0x8080808080808080
+}
+
+// The top bit of each byte that is not clean ASCII, told as in `unordinary`; 7F hex is clean.
+pub fn unclean(w: u64, p: u8, q: u8) -> u64
+    ensures { λ r. ⌜ Flags (cleanAscii p q) w r ⌝ }
+{
+    let ascii = w & 0x7F7F7F7F7F7F7F7F;
+    let is_first = 0x8080808080808080 - (ascii ^ eight_stops(p));
+    let is_second = 0x8080808080808080 - (ascii ^ eight_stops(q));
+    let is_backslash = 0x8080808080808080 - (ascii ^ 0x5C5C5C5C5C5C5C5C);
+    let below_20 = 0x9F9F9F9F9F9F9F9F - ascii;
+    (w | is_first | is_second | is_backslash | below_20) & 0x8080808080808080
 }
 
 // The top bit of each byte that is not `c`: a byte of the difference is not 0, so its low bits reach that bit, or it is set already.
