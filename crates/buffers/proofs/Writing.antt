@@ -27,7 +27,7 @@ taken-whole n l e = omega (arith, length-take n l, e)
 pub length-written : (d : Bytes) (at : ℕ) (w : Bytes) → at + length w ≤ length d → length (written d at w) ≡ length d
 length-written d at w h = simp (length-append, length-take, length-drop) (omega arith)
 
-written-nil : (d : Bytes) (at : ℕ) → written d at [] ≡ d
+pub written-nil : (d : Bytes) (at : ℕ) → written d at [] ≡ d
 written-nil d at = ap (λ (k : ℕ). take at d ++ drop k d) (add-zero at) ∙ take-append-drop at d
 
 -- w written, then v: the text is both

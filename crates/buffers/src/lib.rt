@@ -11,24 +11,24 @@ ghost use mathlib.Core.List.{[], _∷_};
 ghost use Rattle.buffers.specs.Wrote.{written, measure, Room, Put};
 use numbers::MAX_FILE;
 
+mod blocks;
+
 // Copies all of src into out from place at.
 pub fn copy(out: &mut [u8], at: usize, src: &[u8]) -> usize
     requires { ⌜ at + length (now src) ≤ length (now out) ⌝ }
     ensures { λ r. ⌜ (r ≡ at + length (now (src .entry)))
         × (now (out .exit) ≡ written (now (out .entry)) at (now (src .entry))) ⌝ }
 {
-    let mut i = 0;
-    let mut o = at;
-    while i < src.len() {
-        out[o] = src[i];
-        o += 1;
-        i += 1;
+    if src.len() < 8 {
+        blocks::short(out, at, src);
+        return at + src.len();
     }
-    o
+    blocks::long(out, at, src);
+    at + src.len()
 }
 
 // The place after n bytes from o on, where they are only measured.
-fn measured(o: usize, n: usize) -> usize
+pub fn measured(o: usize, n: usize) -> usize
     requires { ⌜ o ≤ MAXFILE ⌝ }
     ensures { λ r. ⌜ r ≡ measure (o + n) ⌝ }
 {

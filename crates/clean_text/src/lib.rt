@@ -9,10 +9,27 @@ ghost use Rattle.cell_ends.specs.Ends.{CleanIn};
 ghost use Rattle.buffers.specs.Wrote.{Room, Put};
 ghost use Rattle.decoder.specs.declared.source.Source.the-variants.{File};
 ghost use Rattle.decoder.specs.Sources.{cellsIn, Cells};
+ghost use Rattle.spell.specs.Passing.{quotesAll};
 use decoder::source::Source;
 use model::Dialect;
+use model::Verdict;
 use spell::record;
 use spell::record::RecordText;
+
+mod marks;
+mod plus;
+mod quoted;
+
+// Whether a target quotes every text.
+fn quotes_all(t: Dialect) -> bool
+    ensures { λ r. ⌜ r ≡ quotesAll t ⌝ }
+{
+    match t {
+        Dialect::Csvj => true,
+        Dialect::Tdif => true,
+        Dialect::CsvPlus(_) => false,
+    }
+}
 
 // The record at a place of the buffer, or only measured from there, as `record::put` has it.
 pub fn put(
@@ -35,6 +52,23 @@ pub fn put(
         (now (out .exit)) (r .end) ⌝ }
     ensures { λ r. ⌜ r .carries ≡ uncarriedFrom t 1 (cellsIn (File d) (now (s .entry)) (now (starts .entry)) (now (ends .entry)) (now (kinds .entry))) ⌝ }
 {
+    if clean {
+        if quotes_all(t) {
+            let end = quoted::put(s, starts, ends, out, at, write);
+            return RecordText {
+                end,
+                carries: Verdict::Sound,
+            };
+        }
+        if cell_lexer::quote_of(t) == 0x22 {
+            let p = cell_lexer::delimiter_of(t);
+            let end = plus::put(s, starts, ends, p, out, at, write);
+            return RecordText {
+                end,
+                carries: Verdict::Sound,
+            };
+        }
+    }
     record::put(
         Source::File(d),
         t,

@@ -1,0 +1,6 @@
+pub mod Content
+pub mod Cells
+pub mod Joined
+pub mod Records
+pub mod Lengths
+pub mod Holding

@@ -1,0 +1,62 @@
+-- `clean_text::plus::put` meets its contract. The invariant: what is still to be put is the text of the cells from here on.
+-- Assumes nothing.
+use Prim.Native.Nat.{_-_}
+use native.Mathlib.Omega.{arith}
+use lib.Dec.{eqb}
+use lib.ListN.{length, getD}
+use Rattle.buffers.proofs.Writing.{same-long}
+use Rattle.clean_text.specs.Joined.{Lies}
+use Rattle.clean_text.specs.Quoting.{plusCell}
+use Rattle.clean_text.proofs.Joined.{PutUpTo, put-none, room-cell, put-cell, put-all}
+use Rattle.clean_text.proofs.plus.put.Statement.{statement}
+use Rattle.clean_text.proofs.plus.put.Tie as tie
+
+abbrev Inv-loop : tie.InvT-loop
+Inv-loop s starts ends p out₀ at write only n₀ o₀ out n o = PutUpTo p (plusCell p (eqb (length starts) 1)) s starts ends write out₀ at out n o
+
+abbrev μ-loop : tie.MeasureT-loop
+μ-loop s starts ends p out₀ at write only n₀ o₀ out n o = length starts - n
+
+-- the cell stands in s
+at-n : (c : tie.After-shared-slice-known5 Inv-loop μ-loop)
+    → let a = c .before .before .before .before .before .before .before .before .args in
+    let n = c .before .before .before .loop .n in
+    Lies (a .s .now) (getD (a .starts .now) n 0) (getD (a .ends .now) n 0)
+at-n c =
+    let l = c .before .before .before in
+    l .before .before .before .before .before .pre .0 .each (l .loop .n) (c .before .before .loop-test .taken)
+
+put-column-requires : tie.Need-put-column-requires Inv-loop μ-loop
+put-column-requires c κs =
+    let l = c .before .before .before .before .before in
+    (at-n (c .before .before) .closed, room-cell (l .before .before .before .before .before .pre .0 .with-ends) (l .loop .inv) (c .before .before .before .before .loop-test .taken))
+
+loop-again : tie.Need-loop-again Inv-loop μ-loop
+loop-again c =
+    let t = c .before .before .before .before .before .before .before in
+    let l = t .before in
+    put-cell (l .before .before .before .before .before .pre .0 .with-ends) (l .loop .inv) (t .loop-test .taken) (c .before .before .put-column .ensures)
+
+returns : tie.Need-returns Inv-loop μ-loop
+returns c = put-all (c .before .before .before .before .before .before .pre .0 .with-ends) (c .before .loop .inv) (c .loop-test .left)
+
+pub put-spec : {M : Type 1} → statement M
+put-spec =
+    tie.close
+    (tie.spec
+    Inv-loop
+    μ-loop
+    (λ c. put-none (c .before .before .before .before .args .write) (c .before .before .before .before .pre .1))
+    (λ c. omega arith)
+    (λ c. omega arith)
+    (λ c. omega arith)
+    (λ c. omega (arith, c .before .before .before .before .before .before .before .before .pre .0 .with-ends))
+    (λ c. at-n c .forward)
+    (λ c. at-n c .forward)
+    (λ c. at-n c .inside)
+    put-column-requires
+    (λ c. omega arith)
+    (λ c. omega arith)
+    loop-again
+    (λ c. same-long (c .before .loop .inv .going))
+    returns)
