@@ -1,12 +1,14 @@
 #!/usr/bin/env bash
 # Measures the proved reader and converters against memcpy, the second program and, where Debian's packages librust-csv-dev and
-# librust-serde-json-dev are installed, csv-core, csv and serde_json. Without a folder it makes its own tables.
+# librust-serde-json-dev are installed, csv-core, csv and serde_json. Without a folder it makes its own tables, and says at the end
+# which bars are met; with --bars it measures only what has a bar.
 #
 #   ./benchmark.sh [FOLDER [ROUNDS]]
+#   ./benchmark.sh --bars [ROUNDS]
 set -euo pipefail
-arguments=("${@:2}")
-if [[ $# -gt 0 ]]; then
-  arguments=("$(realpath "$1")" "${arguments[@]}")
+arguments=("$@")
+if [[ $# -gt 0 && $1 != --bars ]]; then
+  arguments[0]=$(realpath "$1")
 fi
 cd "$(dirname "$0")"
 

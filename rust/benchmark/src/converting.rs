@@ -1,5 +1,6 @@
 //! Files converted, as a whole and in pieces.
 
+use crate::bars::{Measured, Scope, Task};
 use crate::measure::{turn_by_turn, Contestant, Speeds};
 use crate::workload::{name_of, Table};
 use harness::compare::{proved_converter, proved_start};
@@ -8,6 +9,13 @@ use harness::whole::{convert_room, convert_whole};
 use reference::limits::PIECE_ROOM;
 use reference::{convert, Dialect};
 use std::hint::black_box;
+
+/// The proved converter of whole files among the contestants.
+pub const PROVED: &str = "proved converter";
+/// The proved converter in pieces of 4,096 bytes, over a state that is lent.
+pub const PIECES_OF_4_096: &str = "in pieces of 4,096";
+/// The same in pieces of 64 bytes.
+pub const PIECES_OF_64: &str = "in pieces of 64";
 
 /// How a file is handed over in pieces.
 struct Pieces {
@@ -37,9 +45,9 @@ const fn by_value(name: &'static str, size: usize) -> Pieces {
 
 /// For each pair of dialects.
 const LENT: [Pieces; 3] = [
-    lent("in pieces of 4,096", 4_096),
+    lent(PIECES_OF_4_096, 4_096),
     lent("in pieces of 512", 512),
-    lent("in pieces of 64", 64),
+    lent(PIECES_OF_64, 64),
 ];
 
 /// From CSV+ to CSVJ.
@@ -75,20 +83,23 @@ pub fn print_head() {
     );
 }
 
-/// Measures all on one table and prints that.
+/// Measures on one table what the scope takes, and prints that if it is everything. Nothing, if the table can't be carried.
 pub fn compare(
     table: &Table,
     (to, target): (u32, Dialect),
     rounds: usize,
     peers: &[ConvertingPeer],
-) -> Result<(), String> {
+    scope: Scope,
+) -> Result<Option<Measured>, String> {
     let (from, file) = (table.number, &table.file[..]);
+    let task = Task::Convert(table.dialect, target);
+    let is_taken = |name: &str| scope.takes(task, &table.name, name);
     let title = format!("{} to {}", table.title(), name_of(target));
     let text = match convert_whole(from, to, file) {
         Ok(text) => text,
         Err(report) if report.number == 9 => {
             println!("  {title:27} can't be carried");
-            return Ok(());
+            return Ok(None);
         }
         Err(report) => return Err(format!("{title}: {}", report.sentence())),
     };
@@ -100,7 +111,8 @@ pub fn compare(
     {
         return Err(format!("{title}: the texts differ"));
     }
-    let pieces = pieces_between(table.dialect, target);
+    let mut pieces = pieces_between(table.dialect, target);
+    pieces.retain(|pieces| is_taken(pieces.name));
     for pieces in &pieces {
         if converted_in_pieces(pieces, (from, to), file) != text {
             return Err(format!("{title}, {}: the texts differ", pieces.name));
@@ -110,15 +122,10 @@ pub fn compare(
     let mut outputs = vec![vec![0; PIECE_ROOM]; pieces.len()];
     let mut written = Vec::with_capacity(convert_room(file.len()));
     let mut contestants = vec![
-        contestant(
-            "proved converter",
-            file,
-            proved_converter,
-            (from, to),
-            &mut ours,
-        ),
+        contestant(PROVED, file, proved_converter, (from, to), &mut ours),
         contestant("second program", file, convert, (from, to), &mut theirs),
     ];
+    contestants.retain(|contestant| is_taken(contestant.name()));
     if let Some((peer, input)) = &peer {
         let work = |input: &[u8]| {
             written.clear();
@@ -137,12 +144,18 @@ pub fn compare(
     }
     let speeds = turn_by_turn(&mut contestants, rounds, text.len(), "bytes")
         .map_err(|error| format!("{title}: {error}"))?;
-    let (whole, pieces) = speeds.split_at(others);
-    print_speeds(&title, whole);
-    for speed in pieces {
-        print_pieces(speed, whole.get(2));
+    if scope == Scope::Everything {
+        let (whole, pieces) = speeds.split_at(others);
+        print_speeds(&title, whole);
+        for speed in pieces {
+            print_pieces(speed, whole.get(2));
+        }
     }
-    Ok(())
+    Ok(Some(Measured {
+        task,
+        table: table.name.clone(),
+        speeds,
+    }))
 }
 
 /// How a file of this dialect is handed over in pieces, to be converted to that.

@@ -1,7 +1,8 @@
-//! The benchmark without other readers and converters: `benchmark [FOLDER [ROUNDS]]`.
+//! The benchmark without other readers and converters: `benchmark [FOLDER [ROUNDS]]`. It has no bars.
 
+use benchmark::Peers;
 use std::process::ExitCode;
 
 fn main() -> ExitCode {
-    benchmark::main(&[], &[])
+    benchmark::main(&Peers::default())
 }

@@ -30,6 +30,11 @@ impl<'a> Contestant<'a> {
         }
     }
 
+    /// Its name.
+    pub fn name(&self) -> &'static str {
+        self.name
+    }
+
     /// The same one, whose speed is told for so many bytes.
     pub fn told_for(self, length: usize) -> Self {
         Self { length, ..self }

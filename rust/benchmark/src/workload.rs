@@ -1,9 +1,11 @@
-//! The tables that are read and converted: three of the benchmark's own making in each dialect, or those of a folder.
+//! The tables that are read and converted: four of the benchmark's own making in each dialect, or those of a folder.
 //!
 //! *fares* has short plain cells and numbers, *settlements* quoted cells with doubled quotes, line breaks and text beyond
-//! ASCII, *notes* long quoted ASCII text. Each is the same at every run. One that is read is as long as a file may be, one
+//! ASCII, *notes* long quoted ASCII text. *scripts* has words in other scripts, with nearly no ASCII inside the cells, of which
+//! every other one is quoted; it is read only. Each is the same at every run. One that is read is as long as a file may be, one
 //! that is converted half as long, so that its text is not longer than that.
 
+use crate::bars::{Scope, Task};
 use harness::rng::Rng;
 use harness::DIALECTS;
 use reference::limits::FILE_BYTES;
@@ -82,29 +84,33 @@ pub fn load(path: &Path) -> Result<Table, String> {
     })
 }
 
-const SHAPES: [&Shape; 3] = [&FARES, &SETTLEMENTS, &NOTES];
+const READ: [&Shape; 4] = [&FARES, &SETTLEMENTS, &NOTES, &SCRIPTS];
+const CONVERTED: [&Shape; 3] = [&FARES, &SETTLEMENTS, &NOTES];
 
-/// The three tables in the three dialects, each made when it is asked for.
-pub fn tables() -> impl Iterator<Item = Table> {
-    SHAPES.into_iter().flat_map(|shape| {
-        let tables = DIALECTS.into_iter();
-        tables.map(|(number, dialect)| shape.table(number, dialect, FILE_BYTES, false))
-    })
+/// The tables to be read that the scope has, in the three dialects, each made when it is asked for.
+pub fn tables(scope: Scope) -> impl Iterator<Item = Table> {
+    let tables = READ
+        .into_iter()
+        .flat_map(|shape| DIALECTS.map(|dialect| (shape, dialect)));
+    tables
+        .filter(move |(shape, (_, dialect))| scope.has(Task::Read(*dialect), shape.name))
+        .map(|(shape, (number, dialect))| shape.table(number, dialect, FILE_BYTES, false))
 }
 
-/// The three tables for each pair of dialects, with the target. All cells are texts unless the pair is CSVJ and CSVJ: what
-/// every target can carry, and csv can spell.
-pub fn conversions() -> impl Iterator<Item = (Table, (u32, Dialect))> {
-    SHAPES.into_iter().flat_map(|shape| {
-        let pairs = DIALECTS
-            .into_iter()
-            .flat_map(|from| DIALECTS.map(|to| (from, to)));
-        pairs.map(|((number, dialect), target)| {
+/// The tables to be converted that the scope has, for each pair of dialects, with the target. All cells are texts unless the pair
+/// is CSVJ and CSVJ: what every target can carry, and csv can spell.
+pub fn conversions(scope: Scope) -> impl Iterator<Item = (Table, (u32, Dialect))> {
+    let tables = CONVERTED.into_iter().flat_map(|shape| {
+        let pairs = DIALECTS.map(|from| DIALECTS.map(|to| (shape, from, to)));
+        pairs.concat()
+    });
+    tables
+        .filter(move |(shape, from, to)| scope.has(Task::Convert(from.1, to.1), shape.name))
+        .map(|(shape, (number, dialect), target)| {
             let texts_only = (dialect, target.1) != (Dialect::Csvj, Dialect::Csvj);
             let table = shape.table(number, dialect, FILE_BYTES / 2, texts_only);
             (table, target)
         })
-    })
 }
 
 /// A cell before it is spelt.
@@ -115,19 +121,28 @@ enum Value {
     Null,
 }
 
+/// Which CSV+ cells have quotes, besides those that need them.
+enum Quotes {
+    None,
+    /// Those of every other column.
+    Half,
+    All,
+}
+
 /// A kind of table.
-struct Shape {
-    name: &'static str,
+pub struct Shape {
+    /// The table's name.
+    pub name: &'static str,
     columns: &'static [&'static str],
     /// The cells of a data record, given its number.
     record: fn(&mut Rng, usize) -> Vec<Value>,
-    /// Whether a CSV+ cell that needs no quotes has them.
-    all_quoted: bool,
+    quotes: Quotes,
     /// The ending of a CSV+ record.
     ending: &'static str,
 }
 
-const FARES: Shape = Shape {
+/// Short plain cells and numbers.
+pub const FARES: Shape = Shape {
     name: "fares",
     columns: &[
         "trip_id",
@@ -140,24 +155,35 @@ const FARES: Shape = Shape {
         "active",
     ],
     record: fare,
-    all_quoted: false,
+    quotes: Quotes::None,
     ending: "\n",
 };
 
-const SETTLEMENTS: Shape = Shape {
+/// Quoted cells with doubled quotes, line breaks and text beyond ASCII.
+pub const SETTLEMENTS: Shape = Shape {
     name: "settlements",
     columns: &["ref", "payer", "payee", "city", "memo", "amount", "status"],
     record: settlement,
-    all_quoted: true,
+    quotes: Quotes::All,
     ending: "\r\n",
 };
 
-const NOTES: Shape = Shape {
+/// Long quoted ASCII text.
+pub const NOTES: Shape = Shape {
     name: "notes",
     columns: &["id", "title", "body"],
     record: note,
-    all_quoted: true,
+    quotes: Quotes::All,
     ending: "\n",
+};
+
+/// Words in other scripts, every other cell quoted.
+pub const SCRIPTS: Shape = Shape {
+    name: "scripts",
+    columns: &["στάση", "город", "駅名", "où", "σημείωση", "заметка"],
+    record: words_in_scripts,
+    quotes: Quotes::Half,
+    ending: "\r\n",
 };
 
 /// The first sixteen are short.
@@ -178,6 +204,41 @@ const CITIES: [&str; 11] = [
     "北京",
     "🚋 line",
     "Québec",
+];
+/// In Greek, Cyrillic, and the scripts of Japan, China and Korea, and a few with accents, which have some ASCII.
+const WORDS_IN_SCRIPTS: [&str; 32] = [
+    "σταθμός",
+    "λεωφορείο",
+    "εισιτήριο",
+    "γέφυρα",
+    "λιμάνι",
+    "νύχτα",
+    "αγορά",
+    "Αθήνα",
+    "трамвай",
+    "автобус",
+    "станция",
+    "мост",
+    "рынок",
+    "долина",
+    "Київ",
+    "перевезення",
+    "東京",
+    "切符",
+    "地下鉄",
+    "のりば",
+    "ターミナル",
+    "北京",
+    "车站",
+    "渡轮",
+    "夜间",
+    "市场",
+    "서울",
+    "정류장",
+    "été",
+    "çà",
+    "žár",
+    "őrség",
 ];
 const CURRENCIES: [&str; 4] = ["EUR", "CHF", "SEK", "GBP"];
 
@@ -253,6 +314,18 @@ fn note(rng: &mut Rng, number: usize) -> Vec<Value> {
     ]
 }
 
+/// Up to five words in a cell, with a space between them that is not ASCII.
+fn words_in_scripts(rng: &mut Rng, _: usize) -> Vec<Value> {
+    let columns = SCRIPTS.columns.iter();
+    columns
+        .map(|_| {
+            let count = rng.between(1, 5);
+            let words: Vec<&str> = (0..count).map(|_| rng.pick(&WORDS_IN_SCRIPTS)).collect();
+            Value::Text(words.join("\u{a0}"))
+        })
+        .collect()
+}
+
 impl Value {
     /// The text with this content.
     fn into_text(self) -> Self {
@@ -291,7 +364,8 @@ impl Shape {
     }
 
     fn line(&self, dialect: Dialect, record: Vec<Value>) -> String {
-        let cells = record.into_iter().map(|value| self.cell(dialect, value));
+        let cells = (0..).zip(record);
+        let cells = cells.map(|(column, value)| self.cell(dialect, column, value));
         let ending = match dialect {
             Dialect::Csvj | Dialect::Tdif => "\n",
             Dialect::CsvPlus => self.ending,
@@ -299,7 +373,12 @@ impl Shape {
         cells.collect::<Vec<_>>().join(",") + ending
     }
 
-    fn cell(&self, dialect: Dialect, value: Value) -> String {
+    fn cell(&self, dialect: Dialect, column: usize, value: Value) -> String {
+        let is_quoted = match self.quotes {
+            Quotes::None => false,
+            Quotes::Half => column % 2 == 1,
+            Quotes::All => true,
+        };
         let (is_text, content) = match value {
             Value::Text(text) => (true, text),
             Value::Number(spelling) => (false, spelling),
@@ -308,7 +387,7 @@ impl Shape {
                 let null = match dialect {
                     Dialect::Csvj => "null",
                     Dialect::Tdif => "\\N",
-                    Dialect::CsvPlus if self.all_quoted => "\"\"",
+                    Dialect::CsvPlus if is_quoted => "\"\"",
                     Dialect::CsvPlus => "",
                 };
                 return null.to_string();
@@ -320,9 +399,7 @@ impl Shape {
                 format!("\"{escaped}\"")
             }
             Dialect::Csvj => content,
-            Dialect::CsvPlus if !self.all_quoted && !content.contains(['"', ',', '\r', '\n']) => {
-                content
-            }
+            Dialect::CsvPlus if !is_quoted && !content.contains(['"', ',', '\r', '\n']) => content,
             Dialect::Tdif | Dialect::CsvPlus => format!("\"{}\"", content.replace('"', "\"\"")),
         }
     }

@@ -1,9 +1,9 @@
 //! The benchmark with csv-core, which reads CSV+, serde_json, which reads and writes CSVJ, and csv, which reads and writes
-//! CSV+ and writes TDIF: `peers [FOLDER [ROUNDS]]`.
+//! CSV+ and writes TDIF: `peers [FOLDER [ROUNDS]]` or `peers --bars [ROUNDS]`.
 //!
 //! None does all that the proved calls do: csv-core does not look at UTF-8, and no header, kind or limit is judged by any.
 
-use benchmark::{ConvertingPeer, Peer};
+use benchmark::{ConvertingPeer, Peers, ReadingPeer};
 use csv::{QuoteStyle, ReaderBuilder, StringRecord, Terminator, Writer, WriterBuilder};
 use csv_core::ReadRecordResult;
 use reference::limits::{COLUMNS, RECORD_BYTES};
@@ -13,27 +13,30 @@ use serde::Serialize;
 use serde_json::{Deserializer, Value};
 use std::process::ExitCode;
 
-const PEERS: [Peer; 3] = [
-    Peer {
+const READING_PEERS: [ReadingPeer; 4] = [
+    ReadingPeer {
         name: "csv-core",
         dialect: Dialect::CsvPlus,
         prepare: <[u8]>::to_vec,
         read: csv_core_cells,
-        bar: Some(0.3),
     },
-    Peer {
+    ReadingPeer {
+        name: "csv, StringRecord",
+        dialect: Dialect::CsvPlus,
+        prepare: <[u8]>::to_vec,
+        read: csv_cells,
+    },
+    ReadingPeer {
         name: "serde_json, values skipped",
         dialect: Dialect::Csvj,
         prepare: arrays,
         read: json_cells::<IgnoredAny>,
-        bar: None,
     },
-    Peer {
+    ReadingPeer {
         name: "serde_json, values made",
         dialect: Dialect::Csvj,
         prepare: arrays,
         read: json_cells::<Value>,
-        bar: None,
     },
 ];
 
@@ -83,7 +86,25 @@ const CONVERTING_PEERS: [ConvertingPeer; 6] = [
 ];
 
 fn main() -> ExitCode {
-    benchmark::main(&PEERS, &CONVERTING_PEERS)
+    benchmark::main(&Peers {
+        versions: versions(),
+        reading: &READING_PEERS,
+        converting: &CONVERTING_PEERS,
+    })
+}
+
+/// The libraries with the versions that cargo locked when it built this program.
+fn versions() -> String {
+    let lock = include_str!("../Cargo.lock");
+    let told = ["csv-core", "csv", "serde_json"].map(|name| {
+        let entry = format!("name = \"{name}\"\nversion = \"");
+        let version = lock
+            .split(&entry)
+            .nth(1)
+            .and_then(|rest| rest.split('"').next());
+        format!("{name} {}", version.unwrap_or("of no known version"))
+    });
+    told.join(", ")
 }
 
 /// One pass, record by record, into a buffer that each record has for itself.
@@ -152,6 +173,12 @@ fn each_record(file: &[u8], mut take: impl FnMut(&StringRecord)) {
     while reader.read_record(&mut record).expect("a sound record") {
         take(&record);
     }
+}
+
+fn csv_cells(file: &[u8]) -> usize {
+    let mut cells = 0;
+    each_record(file, |record| cells += record.len());
+    cells
 }
 
 fn csv_to_csv(file: &[u8], mut writer: CsvWriter) {
