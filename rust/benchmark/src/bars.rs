@@ -230,3 +230,48 @@ pub fn print(measured: &[Measured], versions: &str) {
         println!("| {} |", cells.join(" | "));
     }
 }
+
+#[cfg(test)]
+mod tests {
+    use super::*;
+
+    /// The first job on its first table, with the peer at 100 MB a second, and the other tables at twice the bar.
+    fn measured(best: f64, median: f64) -> Vec<Measured> {
+        let job = &JOBS[0];
+        let on_table = |(index, table): (usize, &&str)| {
+            let speeds = |name, best, median| Speeds { name, best, median };
+            let (best, median) = match index {
+                0 => (best, median),
+                _ => (200.0 * job.bars[index], 200.0 * job.bars[index]),
+            };
+            Measured {
+                task: job.task,
+                table: table.to_string(),
+                speeds: vec![
+                    speeds(job.proved, best, median),
+                    speeds(job.peer, 100.0, 100.0),
+                ],
+            }
+        };
+        job.tables.iter().enumerate().map(on_table).collect()
+    }
+
+    fn verdict(measured: &[Measured]) -> &'static str {
+        JOBS[0].verdict(&JOBS[0].ratios(measured))
+    }
+
+    #[test]
+    fn a_bar_is_met_by_both_rounds_on_each_table() {
+        assert_eq!(verdict(&measured(85.0, 85.0)), "met");
+        assert_eq!(verdict(&measured(84.9, 90.0)), "not met");
+        assert_eq!(verdict(&measured(90.0, 84.9)), "not met");
+        let all = measured(90.0, 90.0);
+        assert_eq!(verdict(&all[1..]), "not measured");
+        assert_eq!(JOBS[0].row(&all[1..])[2], "- / 1.700 / 2.400");
+    }
+
+    #[test]
+    fn each_table_of_a_job_has_a_bar() {
+        assert!(JOBS.iter().all(|job| job.tables.len() == job.bars.len()));
+    }
+}
