@@ -154,7 +154,7 @@ fn vector_counts(root: &Path) -> Result<Vec<Size>, String> {
 }
 
 /// What the tests compare at each run: what, in which test, and the words in its source before the count.
-const COMPARISONS: [(&str, &str, &str); 11] = [
+const COMPARISONS: [(&str, &str, &str); 14] = [
     (
         "random cells, decoded",
         "proved_decoder",
@@ -209,6 +209,21 @@ const COMPARISONS: [(&str, &str, &str); 11] = [
         "wrong checks before a piece call to be noticed",
         "wrong_pieces",
         "WRONG_CHECKS: [(&str, PieceConverter); ",
+    ),
+    (
+        "files odd at a place, each read and converted to three targets, at least",
+        "quick_paths",
+        "const FILES: usize = ",
+    ),
+    (
+        "cuts of such files, at least",
+        "quick_paths",
+        "const CUTS: usize = ",
+    ),
+    (
+        "wrong calls to be noticed on such files",
+        "quick_paths",
+        "(&str, Wrong); ",
     ),
 ];
 

@@ -1,0 +1,652 @@
+//! Files that leave the quick layer at every place. Before the exact scanner a record is told by whole cells (`crates/quick_records`), and
+//! one whose cells are clean is spelt at once (`crates/clean_text`); whatever is odd goes to the exact code from the record's start. So
+//! ordinary records have something odd at each place, and at each distance from a word's end and from a limit, and the proved calls are
+//! held to the reference on them, whole and in pieces. Wrong calls have to be noticed on the same files.
+
+use harness::compare::{
+    agreed, convert_agrees, convert_in_rooms, proved_lent, read_agrees, read_in_rooms, Calls,
+    PieceComparison, PieceConverter, PROVED,
+};
+use harness::counts::Counts;
+use harness::generate::file_of;
+use harness::ledger::Call;
+use harness::lists::Reader;
+use harness::rooms::WholeConverter;
+use harness::whole::{convert_room, read_whole};
+use harness::DIALECTS;
+use reference::limits::{COLUMNS, FILE_BYTES, PIECE_BYTES, PIECE_ROOM, RECORD_BYTES};
+use reference::{convert, read, Converted, ReadAnswer, Report};
+use std::ops::RangeInclusive;
+
+// ---- odd files
+
+/// What is put into ordinary records. The first is nothing: a byte is missing there, or the file ends.
+const ODD: [&[u8]; 38] = [
+    b"",
+    b"\"",
+    b"\"\"",
+    b"\\",
+    b"\\n",
+    b"\\\"",
+    b"\\\\",
+    b"\\N",
+    b"\\x",
+    b"\\u0041",
+    b"\\u00",
+    b"\\ud83d",
+    b"\\ud83d\\ude00",
+    b"\0",
+    b"\t",
+    b"\n",
+    b"\r",
+    b"\r\n",
+    b"\x1F",
+    b" ",
+    b",",
+    b";",
+    b"\x7F",
+    b"\x80",
+    b"\xC2",
+    b"\xC3\xA9",
+    b"\xE0\x80",
+    b"\xED\xA0\x80",
+    b"\xED\x9F\xBF",
+    b"\xEF\xBB\xBF",
+    b"\xF0\x90\x80\x80",
+    b"\xF4\x90",
+    b"\xFF",
+    b"5",
+    b"e",
+    b"-",
+    b".",
+    b"#",
+];
+
+/// A few of them, where files are wide.
+const FEW_ODD: [&[u8]; 9] = [
+    b"\"",
+    b"\"\"",
+    b"\\n",
+    b"\r",
+    b"\x1F",
+    b",",
+    b"\x80",
+    b"\xC3\xA9",
+    b"e",
+];
+
+/// A file with something odd in place of the byte at this place.
+fn replaced(file: &[u8], place: usize, odd: &[u8]) -> Vec<u8> {
+    let (before, after) = file.split_at(place);
+    [before, odd, after.get(1..).unwrap_or(&[])].concat()
+}
+
+/// A file with everything odd at each place: in place of a byte, between two bytes, and as the file's end.
+fn odd_files(file: &[u8]) -> impl Iterator<Item = Vec<u8>> + '_ {
+    (0..=file.len()).flat_map(move |place| {
+        let (before, after) = file.split_at(place);
+        ODD.iter().flat_map(move |odd| {
+            [
+                replaced(file, place, odd),
+                [before, odd, after].concat(),
+                [before, odd].concat(),
+            ]
+        })
+    })
+}
+
+/// Ordinary files: cells of few bytes, of about eight and of about sixteen, and some beyond ASCII.
+const ORDINARY: [(u32, &str); 9] = [
+    (
+        1,
+        "\"a\",\"b\",\"c\"\n\"Harbour\",\"Harbours\",\"Harbour 1\"\n\
+         \"West Harbour 12\",\"West Harbour 123\",\"West Harbour 1234\"\r\n12,-0.25,true\nfalse,null,\"\"\n",
+    ),
+    (
+        1,
+        "\"a\"\n\"Harbours\"\n\"x\"\n\"\u{e9}\"\r\n10\nnull\n",
+    ),
+    (
+        1,
+        "\"a\",\"b\"\n\"\u{141}\u{f3}d\u{17a}\",\"\u{6771}\u{4eac} \u{1f68b}\"\n\
+         \"a\\\"b\\\\\",\"\\u00e9\\ud83d\\ude00\"\n\"\u{e9}\",\"x\"\n",
+    ),
+    (
+        2,
+        "\"a\",\"b\",\"c\"\n\"Harbour\",\"Harbours\",\"Harbour 1\"\n\
+         \"West Harbour 12\",\"West Harbour 123\",\"West Harbour 1234\"\r\n\"x\",\"\",\"\\N\"\r\\N,\"1\",\\N\n",
+    ),
+    (
+        2,
+        "\"a\"\n\"Harbours\"\n\"x\"\r\"\u{e9}\"\r\n\"\"\n\\N\n",
+    ),
+    (
+        2,
+        "\"a\",\"b\"\n\"\u{141}\u{f3}d\u{17a}\",\"\u{6771}\u{4eac} \u{1f68b}\"\n\
+         \"a\"\"b\",\"a\nb\"\r#c\n\"\u{e9}\",\"\"\"\"\n",
+    ),
+    (
+        3,
+        "a,b,c\nHarbour,\"Harbours\",Harbour 1\n\
+         \"West Harbour 12\",West Harbour 123,\"West Harbour 1234\"\r\n,\"\",x\n1,\"2\",3",
+    ),
+    (3, "a\nHarbours\n\"x\"\n\u{e9}\r\n\n\"\"\n"),
+    (
+        3,
+        "a,b\n\u{141}\u{f3}d\u{17a},\"\u{6771}\u{4eac} \u{1f68b}\"\n\"a\"\"b\",\"a\nb\"\r\n\"\u{e9}\",\\N\n",
+    ),
+];
+
+/// Shorter ones, to be cut at each place, with their dialect.
+const CUT: [(u32, &str); 3] = [
+    (
+        1,
+        "\"a\",\"b\"\n\"Harbour\",\"\u{e9}\"\r\n\"x\\\"y\",\"1\"\n",
+    ),
+    (
+        2,
+        "\"a\",\"b\"\n\"Harbour\",\"\u{e9}\"\r\n\"x\"\"y\",\\N\r\"\",\"1\"\n",
+    ),
+    (3, "a,b\nHarbour,\"West \u{e9}\"\r\n\"x\"\"y\",12\n,3"),
+];
+
+/// The dialect that a file is converted to, where it is one.
+fn target_of(source: u32) -> u32 {
+    match source {
+        1 => 3,
+        _ => 1,
+    }
+}
+
+// ---- comparing
+
+/// How much was compared, and how the whole calls answered.
+#[derive(Default)]
+struct Compared {
+    inputs: usize,
+    reports: Counts,
+}
+
+impl Compared {
+    /// Reads a file and converts it to each dialect, with more than enough, just enough and too little of what is lent.
+    fn whole_in_rooms(&mut self, calls: &Calls, dialect: u32, file: &[u8]) -> Result<(), String> {
+        let answer = read_in_rooms(calls.reader, dialect, file)?;
+        self.reports.add(dialect, answer.report.number);
+        for (target, _) in DIALECTS {
+            let answers = convert_in_rooms(calls.converter, dialect, target, file)?;
+            self.reports.add(dialect, answers[0].report.number);
+        }
+        self.inputs += 1;
+        Ok(())
+    }
+
+    /// The same with lists of so many places, and room for a text that is not much longer than the file.
+    fn whole(
+        &mut self,
+        calls: &Calls,
+        dialect: u32,
+        file: &[u8],
+        places: usize,
+    ) -> Result<(), String> {
+        let answer = read_agrees(calls.reader, dialect, file, [places; 3])?;
+        self.reports.add(dialect, answer.report.number);
+        for (target, _) in DIALECTS {
+            let room = file.len() + 8 * COLUMNS;
+            let answer = convert_agrees(calls.converter, dialect, target, file, room)?;
+            self.reports.add(dialect, answer.report.number);
+        }
+        self.inputs += 1;
+        Ok(())
+    }
+
+    /// Tells how much was compared, which has to be at least so much.
+    fn tell(&self, what: &str, least: usize) {
+        eprintln!("quick paths, {what}: {} agree", self.inputs);
+        assert!(self.inputs >= least, "too few {what}");
+    }
+
+    /// The same of whole files, in each dialect with so many reports of each of these numbers.
+    fn tell_reports(&self, what: &str, least: usize, numbers: &[usize], reports: usize) {
+        self.tell(what, least);
+        self.reports.print(&format!("quick paths, {what}"));
+        agreed(self.reports.require(numbers.iter().copied(), reports));
+    }
+}
+
+// ---- each place of a record
+
+fn odd_at_each_place(calls: &Calls) -> Result<Compared, String> {
+    let mut compared = Compared::default();
+    for (dialect, file) in ORDINARY {
+        for odd in odd_files(file.as_bytes()) {
+            compared.whole_in_rooms(calls, dialect, &odd)?;
+        }
+    }
+    Ok(compared)
+}
+
+#[test]
+fn records_may_be_odd_at_each_place() {
+    const FILES: usize = 70_000;
+    let compared = agreed(odd_at_each_place(&PROVED));
+    compared.tell_reports("files odd at a place", FILES, &[0, 2, 3, 4, 5], 500);
+}
+
+// ---- words of eight bytes
+
+const LONGEST_CELL: usize = 40;
+const LETTERS: &str = "abcdefghijklmnopqrstuvwxyz ABCDEFGHIJKLMN";
+const DIGITS: &str = "1234567890123456789012345678901234567890";
+/// A cell's dialect, what stands on either side of its text, and what the text is taken from.
+const SPELT: [(u32, &str, &str); 5] = [
+    (1, "\"", LETTERS),
+    (1, "", DIGITS),
+    (2, "\"", LETTERS),
+    (3, "", LETTERS),
+    (3, "\"", LETTERS),
+];
+
+/// Cells of each length, with something odd in place of each byte, in the last record of a file and in one before it.
+fn odd_in_words(calls: &Calls) -> Result<Compared, String> {
+    let mut compared = Compared::default();
+    let header = "\"a\",\"b\"\n";
+    for (dialect, quote, text) in SPELT {
+        for length in 0..=LONGEST_CELL {
+            for after in ["", "\"y\",\"z\"\n"] {
+                let text = &text[..length];
+                let file = format!("{header}{quote}{text}{quote},\"x\"\n{after}");
+                let start = header.len() + quote.len();
+                for place in start..=start + length {
+                    for odd in ODD {
+                        let odd = replaced(file.as_bytes(), place, odd);
+                        compared.whole(calls, dialect, &odd, 16)?;
+                    }
+                }
+            }
+        }
+    }
+    Ok(compared)
+}
+
+#[test]
+fn cells_may_be_odd_at_each_distance_from_a_words_end() {
+    const CELLS: usize = 300_000;
+    let compared = agreed(odd_in_words(&PROVED));
+    compared.tell_reports("cells odd at a place", CELLS, &[0, 2, 3], 5_000);
+}
+
+// ---- the limits of a record
+
+/// A long record's dialect, what stands before its filler, what is filled in, what stands behind it, and the ending.
+const LONG: [(u32, &str, &str, &str, &str); 8] = [
+    (1, "\"", "x", "\",\"Harbours\"", "\n"),
+    (1, "\"", "\u{e9}", "\",\"x\"", "\r\n"),
+    (1, "\"", "x", "\",-12.250", "\n"),
+    (2, "\"", "x", "\",\"Harbours\"", "\r\n"),
+    (2, "\"", "x", "\",\\N", "\r"),
+    (3, "", "x", ",Harbours", "\n"),
+    (3, "", "\u{6771}", ",x", "\r\n"),
+    (3, "\"", "x", "\",\"Harbours\"", "\r\n"),
+];
+/// A plain record of a few bytes less than the most is too long for a target that quotes its cells.
+const LENGTHS: RangeInclusive<usize> = RECORD_BYTES - 6..=RECORD_BYTES + 4;
+/// How far from a record's end something odd is put.
+const NEAR: usize = 4;
+
+/// Records of about as many bytes as a record may have, with something odd in place of each byte near their end, and files that end there.
+/// A piece begins with the record.
+fn odd_long_records(calls: &Calls) -> Result<Compared, String> {
+    let mut compared = Compared::default();
+    let mut pieces = PieceComparison::new(calls.pieces);
+    let mut agrees = |dialect: u32, file: &[u8], start: usize| {
+        compared.whole(calls, dialect, file, 16)?;
+        let cuts = [start].into_iter();
+        pieces.cuts_agree(dialect, target_of(dialect), file, cuts)
+    };
+    let before = "\"a\",\"b\"\n\"Harbour\",\"1\"\n";
+    for (dialect, open, filler, close, ending) in LONG {
+        for length in LENGTHS {
+            let missing = length - open.len() - close.len();
+            let filler =
+                "x".repeat(missing % filler.len()) + &filler.repeat(missing / filler.len());
+            let file = format!("{before}{open}{filler}{close}{ending}\"Harbour\",\"2\"\n");
+            let (file, start) = (file.as_bytes(), before.len());
+            for place in start + length - NEAR..=start + length {
+                for odd in ODD {
+                    agrees(dialect, &replaced(file, place, odd), start)?;
+                }
+                agrees(dialect, &file[..place], start)?;
+            }
+        }
+    }
+    Ok(compared)
+}
+
+#[test]
+fn records_may_be_odd_at_each_distance_from_their_limit() {
+    let compared = agreed(odd_long_records(&PROVED));
+    let numbers = [0, 2, 3, 4, 5, 8, 9];
+    compared.tell_reports("files about a record's limit", 15_000, &numbers, 100);
+}
+
+/// How a cell is spelt in a record of many, given its number.
+type Spelling = fn(usize) -> String;
+
+fn quoted(number: usize) -> String {
+    format!("\"{number}\"")
+}
+
+fn bare(number: usize) -> String {
+    number.to_string()
+}
+
+const WIDE: [(u32, Spelling); 5] = [(1, quoted), (1, bare), (2, quoted), (3, bare), (3, quoted)];
+
+fn wide_record(cells: usize, spelling: Spelling) -> String {
+    let cells: Vec<String> = (1..=cells).map(spelling).collect();
+    cells.join(",") + "\n"
+}
+
+/// Records of about as many cells as a record may have, under a header of about as many, with something odd in place of each byte near
+/// their end. A piece begins with the record.
+fn odd_wide_records(calls: &Calls, odd: &[&[u8]]) -> Result<Compared, String> {
+    let mut compared = Compared::default();
+    let mut pieces = PieceComparison::new(calls.pieces);
+    for (dialect, spelling) in WIDE {
+        for columns in COLUMNS - 1..=COLUMNS + 1 {
+            for cells in columns - 1..=columns + 1 {
+                let header = wide_record(columns, quoted);
+                let before = header.clone() + &wide_record(columns, spelling);
+                let record = wide_record(cells, spelling);
+                let (start, end) = (before.len(), before.len() + record.len());
+                let file = before + &record + &header;
+                for place in end - NEAR..end {
+                    for odd in odd {
+                        let odd = replaced(file.as_bytes(), place, odd);
+                        compared.whole(calls, dialect, &odd, 5 * COLUMNS)?;
+                        let cuts = [start].into_iter();
+                        pieces.cuts_agree(dialect, target_of(dialect), &odd, cuts)?;
+                    }
+                }
+            }
+        }
+    }
+    Ok(compared)
+}
+
+#[test]
+fn records_may_be_odd_at_each_distance_from_the_limit_of_columns() {
+    let compared = agreed(odd_wide_records(&PROVED, &FEW_ODD));
+    let numbers = [0, 2, 3, 5, 8];
+    compared.tell_reports("files about the limit of columns", 1_500, &numbers, 20);
+}
+
+// ---- pieces
+
+/// Files cut in two at each place, each converted to one dialect, or to all.
+fn odd_and_cut(calls: &Calls, files: &[(u32, &str)], to_all: bool) -> Result<Compared, String> {
+    let mut pieces = PieceComparison::new(calls.pieces);
+    let mut compared = Compared::default();
+    for (source, file) in files {
+        for odd in odd_files(file.as_bytes()) {
+            let targets = DIALECTS.map(|(target, _)| target).into_iter();
+            for target in targets.filter(|target| to_all || *target == target_of(*source)) {
+                compared.inputs += pieces.cuts_agree(*source, target, &odd, 0..=odd.len())?;
+            }
+        }
+    }
+    Ok(compared)
+}
+
+#[test]
+fn odd_files_may_be_cut_at_each_place() {
+    const CUTS: usize = 400_000;
+    let compared = agreed(odd_and_cut(&PROVED, &CUT, false));
+    compared.tell("cuts of odd files", CUTS);
+}
+
+/// Files cut in three at each two places, of all odd ones one in so many.
+fn odd_and_cut_twice(calls: &Calls, one_in: usize) -> Result<Compared, String> {
+    let mut pieces = PieceComparison::new(calls.pieces);
+    let mut compared = Compared::default();
+    for (source, file) in CUT {
+        for odd in odd_files(file.as_bytes()).step_by(one_in) {
+            for second in 0..=odd.len() {
+                for first in 0..=second {
+                    let parts = [&odd[..first], &odd[first..second], &odd[second..]];
+                    let [first, second, third] = parts.map(|part| Call::Piece(part, PIECE_ROOM));
+                    let calls = [first, second, third, Call::End(PIECE_ROOM)];
+                    pieces.calls_agree(source, target_of(source), &calls)?;
+                    compared.inputs += 1;
+                }
+            }
+        }
+    }
+    Ok(compared)
+}
+
+/// It has no divisor with the number of odd files at a place, so that each of these comes in turn.
+const ONE_IN: usize = 97;
+
+#[test]
+fn odd_files_may_be_cut_at_each_two_places() {
+    let compared = agreed(odd_and_cut_twice(&PROVED, ONE_IN));
+    compared.tell("odd files cut twice", 80_000);
+}
+
+// ---- the limit of a file
+
+/// A last record: the dialect, and what stands before and behind its filler. Of two, the first is ordinary and the second odd.
+const LAST: [(u32, [(&str, &str); 2]); 3] = [
+    (3, [("\"1\",\"", "\"\r\n"), ("1,", "")]),
+    (2, [("\"1\",\"", "\"\n"), ("#c\n\"1\",\"", "\"\"\"\r")]),
+    (1, [("\"1\",\"", "\"\r\n"), ("\"1\" ,\"", "\\n\"\n")]),
+];
+
+/// Ordinary records of as many bytes as a file may have, and of one and two more. Each length and last record comes in one dialect, or in
+/// all.
+fn full_files(calls: &Calls, in_all: bool) -> Result<Compared, String> {
+    let mut compared = Compared::default();
+    let mut pieces = PieceComparison::new(&calls.pieces[..1]);
+    let record = format!("\"Harbour\",\"{}\"\r\n", "West Harbour ".repeat(200));
+    for more in 0..=2 {
+        for (turn, (dialect, last)) in LAST.into_iter().enumerate() {
+            for (which, last) in last.into_iter().enumerate() {
+                if !in_all && (turn + more + which) % LAST.len() != 0 {
+                    continue;
+                }
+                let (target, length) = (target_of(dialect), FILE_BYTES + more);
+                let (file, records) = file_of("\"a\",\"b\"\n", &record, last, length);
+                let answer = read_agrees(calls.reader, dialect, &file, [2 * records; 3])?;
+                compared.reports.add(dialect, answer.report.number);
+                let room = convert_room(length);
+                convert_agrees(calls.converter, dialect, target, &file, room)?;
+                let parts = file.chunks(PIECE_BYTES);
+                let parts = parts.map(|part| Call::Piece(part, PIECE_ROOM));
+                let list: Vec<Call> = parts.chain([Call::End(PIECE_ROOM)]).collect();
+                pieces.calls_agree(dialect, target, &list)?;
+                compared.inputs += 1;
+            }
+        }
+    }
+    Ok(compared)
+}
+
+#[test]
+fn files_may_be_odd_at_their_limit() {
+    let compared = agreed(full_files(&PROVED, false));
+    compared.tell("files about the limit", 6);
+    let numbers = |number| DIALECTS.map(|(dialect, _)| compared.reports.of(dialect, number));
+    assert_eq!(numbers(0).iter().sum::<usize>(), 2);
+    assert_eq!(numbers(8).iter().sum::<usize>(), 4);
+}
+
+// ---- more of all
+
+#[test]
+#[ignore = "it takes minutes; the others cut shorter files, each to one dialect, and fewer of them twice"]
+fn all_odd_files_may_be_cut_anywhere() {
+    let compared = agreed(odd_and_cut(&PROVED, &ORDINARY, true));
+    compared.tell("cuts of odd files to all dialects", 10_000_000);
+    let compared = agreed(odd_and_cut_twice(&PROVED, 5));
+    compared.tell("odd files cut twice", 1_000_000);
+    let compared = agreed(odd_wide_records(&PROVED, &ODD));
+    compared.tell("files about the limit of columns", 10_000);
+    let compared = agreed(full_files(&PROVED, true));
+    compared.tell("files about the limit", 18);
+}
+
+// ---- wrong calls
+
+fn report(number: usize) -> Report {
+    Report {
+        number,
+        ..Report::ACCEPTED
+    }
+}
+
+fn refused_reading(number: usize) -> ReadAnswer {
+    ReadAnswer {
+        report: report(number),
+        columns: 0,
+        records: 0,
+        cells: 0,
+    }
+}
+
+fn is_clean(bytes: &[u8]) -> bool {
+    let mut bytes = bytes.iter();
+    bytes.all(|byte| (0x20..0x80).contains(byte) && !matches!(byte, b'"' | b'\\'))
+}
+
+const PASSES_OVER_80: Reader = |dialect, file, starts, ends, kinds| {
+    let mut mended = file.to_vec();
+    for place in 7..file.len() {
+        if file[place] == 0x80 && is_clean(&file[place - 7..place]) {
+            mended[place] = b'x';
+        }
+    }
+    read(dialect, &mended, starts, ends, kinds)
+};
+
+const ENDS_BY_CR: Reader = |dialect, file, starts, ends, kinds| {
+    let mut mended = file.to_vec();
+    for place in 0..file.len() {
+        if dialect != 2 && file[place] == b'\r' && file.get(place + 1) != Some(&b'\n') {
+            mended[place] = b'\n';
+        }
+    }
+    read(dialect, &mended, starts, ends, kinds)
+};
+
+const REFUSES_FULL_RECORDS: Reader = |dialect, file, starts, ends, kinds| {
+    let mut lines = file.split(|byte| matches!(byte, b'\r' | b'\n'));
+    match lines.any(|line| line.len() == RECORD_BYTES) {
+        true => refused_reading(8),
+        false => read(dialect, file, starts, ends, kinds),
+    }
+};
+
+const REFUSES_FULL_FILES: Reader = |dialect, file, starts, ends, kinds| match file.len() {
+    FILE_BYTES => refused_reading(8),
+    _ => read(dialect, file, starts, ends, kinds),
+};
+
+const COPIES_A_QUOTE: WholeConverter = |from, to, file, room| {
+    let answer = convert(from, to, file, room);
+    let text = &mut room[..answer.written];
+    for place in 8..text.len().saturating_sub(1) {
+        if text[place..].starts_with(b"\\\"") && is_clean(&text[place - 8..place]) {
+            text[place] = b'"';
+        }
+    }
+    answer
+};
+
+const REFUSES_64_CELLS: WholeConverter = |from, to, file, room| match read_whole(from, file) {
+    Ok(table) if table.columns == COLUMNS => Converted {
+        report: report(9),
+        written: 0,
+    },
+    _ => convert(from, to, file, room),
+};
+
+const LOSES_A_CUT_CHARACTER: PieceConverter = |state, call, out| match *call {
+    Call::Piece([0x80..=0xBF, rest @ ..], room) => {
+        proved_lent(state, &Call::Piece(rest, room), out)
+    }
+    _ => proved_lent(state, call, out),
+};
+
+const ENDS_BY_AN_EMPTY_PIECE: PieceConverter = |state, call, out| match *call {
+    Call::Piece([], room) => proved_lent(state, &Call::End(room), out),
+    _ => proved_lent(state, call, out),
+};
+
+/// Calls of which one is wrong, and the comparison that has to notice it.
+type Wrong = (Calls, fn(&Calls) -> Result<Compared, String>);
+
+const fn wrong_reader(reader: Reader) -> Calls {
+    Calls { reader, ..PROVED }
+}
+
+const fn wrong_converter(converter: WholeConverter) -> Calls {
+    Calls {
+        converter,
+        ..PROVED
+    }
+}
+
+const fn wrong_pieces(pieces: &'static [PieceConverter]) -> Calls {
+    Calls { pieces, ..PROVED }
+}
+
+const WRONG: [(&str, Wrong); 8] = [
+    (
+        "a byte that breaks UTF-8 behind seven clean ones is passed over",
+        (wrong_reader(PASSES_OVER_80), odd_in_words),
+    ),
+    (
+        "a CR ends a record of CSVJ and CSV+",
+        (wrong_reader(ENDS_BY_CR), odd_at_each_place),
+    ),
+    (
+        "a record of 4,096 bytes is too long",
+        (wrong_reader(REFUSES_FULL_RECORDS), odd_long_records),
+    ),
+    (
+        "a file of 16,777,215 bytes is too long",
+        (wrong_reader(REFUSES_FULL_FILES), |calls| {
+            full_files(calls, false)
+        }),
+    ),
+    (
+        "a quote behind eight clean bytes is copied as it stands",
+        (wrong_converter(COPIES_A_QUOTE), odd_in_words),
+    ),
+    (
+        "a record of 64 cells has too many",
+        (wrong_converter(REFUSES_64_CELLS), |calls| {
+            odd_wide_records(calls, &FEW_ODD)
+        }),
+    ),
+    (
+        "a character that is cut is lost",
+        (wrong_pieces(&[LOSES_A_CUT_CHARACTER]), |calls| {
+            odd_and_cut(calls, &CUT, false)
+        }),
+    ),
+    (
+        "an empty piece ends the file",
+        (wrong_pieces(&[ENDS_BY_AN_EMPTY_PIECE]), |calls| {
+            odd_and_cut_twice(calls, ONE_IN)
+        }),
+    ),
+];
+
+#[test]
+fn wrong_calls_are_noticed() {
+    for (wrong, (calls, compare)) in WRONG {
+        assert!(compare(&calls).is_err(), "{wrong}");
+    }
+}
