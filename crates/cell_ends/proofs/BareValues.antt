@@ -5,7 +5,7 @@ use mathlib.Core.Path.{_≡_, refl, ap, _∙_}
 use mathlib.Core.Bool.{true, false}
 use mathlib.Core.List.{_∷_}
 use lib.ListN.{length, getD}
-use borrow.Author.Tests.{eq-eqb, ne-eqb}
+use borrow.Author.Tests.{eq-eqb, ne-eqb, eqb-true, eqb-false}
 use Rattle.model.specs.declared.Dialect.{Dialect}
 use Rattle.model.specs.declared.Dialect.the-variants.{Csvj, Tdif}
 use Rattle.model.specs.declared.Numeral.{Numeral}
@@ -18,7 +18,7 @@ use Rattle.model.specs.declared.CellStep.the-variants.{More}
 use Rattle.model.specs.Base.{Bytes, if_then_else_, _is_, QUOTE}
 use Rattle.model.specs.Cell.{isDigit, numeralStep, letterOf, afterLetter, firstByte, cellStep}
 use Rattle.model.specs.Api.{slice}
-use Rattle.model.proofs.Tests.{and-true, within-true}
+use Rattle.model.proofs.Tests.{and-true, within-true, split-on}
 use Rattle.words.specs.Words.{allPass}
 use Rattle.runs.proofs.Runs.{part-next}
 use Rattle.cell_ends.specs.TextRuns.{PassRun}
@@ -134,6 +134,31 @@ module _ (s : Bytes) (stop at : ℕ) (k : stop ≤ length s) where
   pub minus-ends : (r : ℕ) → at < stop → getD s at 0 ≡ 0x2D → EndsFrom Csvj s stop (InNumber Minus) (at + 1) r → EndsFrom Csvj s stop Fresh at r
   unfolding cellStep firstByte if_then_else_
   minus-ends r h e x = comes-ends (comes-byte (comes-none Csvj s stop Fresh at (omega arith)) h k (InNumber Minus) (at + 1) refl (rw e)) x
+
+-- ---- numbers before a comma
+
+module _ (s : Bytes) (stop at : ℕ) (k : stop ≤ length s) (i : ℕ) (h : i < stop) (x : PassRun isDigit s at stop i) (n : ¬ (i ≡ at)) (zero : getD s at 0 ≡ 0x30 → i ≤ at + 1) where
+  -- an integer whose digits these are
+  integer-of : isDigit (getD s i 0) ≡ false → IntegerEnd s stop at i
+  integer-of e =
+      let f : at ≤ i = x .from in
+      split-on (getD s at 0 is 0x30)
+      (λ t.
+      let b : getD s at 0 ≡ 0x30 = eqb-true (getD s at 0) 0x30 t in
+      let l : i ≤ at + 1 = zero b in
+      let m : i ≡ at + 1 = omega arith in
+      rw m (integer-zero s stop at k (omega arith) b))
+      λ t. integer-digits s stop at k i (eqb-false (getD s at 0) 0x30 t) (record { from = f; upto = x .upto; each = x .each; ends = λ _. e })
+
+  pub comma-integer : getD s i 0 ≡ 0x2C → EndsFrom Csvj s stop Fresh at i
+  comma-integer e =
+      let point : ¬ (getD s i 0 ≡ 0x2E) = λ f. omega (arith, e, f) in
+      number-integer s stop at k i (integer-of (rw e)) h n point (rw e) Fresh unsigned
+
+  pub comma-fraction : (end : ℕ) → getD s i 0 ≡ 0x2E → PassRun isDigit s (i + 1) stop end → ¬ (end ≡ i + 1) → end < stop → getD s end 0 ≡ 0x2C → EndsFrom Csvj s stop Fresh at end
+  comma-fraction end p y m l e =
+      let digits : Digits s (i + 1) stop end = record { from = y .from; upto = y .upto; each = y .each; ends = λ _. rw e } in
+      number-fraction s stop at k i end (integer-of (rw p)) h n p (fraction-digits s stop (i + 1) k end m digits) l (rw e) Fresh unsigned
 
 -- ---- words
 

@@ -6,9 +6,10 @@ use mathlib.Core.Bool.{Bool, true}
 use mathlib.Core.List.{[], _∷_, _++_}
 use lib.ListN.{length, take, drop, getD}
 use lib.Seq.{take-take}
-use borrow.Author.Tests.{ne-eqb, le-leb}
-use Rattle.model.specs.Base.{Bytes}
+use borrow.Author.Tests.{ne-eqb, le-leb, eqb-true, eqb-false}
+use Rattle.model.specs.Base.{Bytes, if_then_else_, _is_}
 use Rattle.model.specs.Api.{slice}
+use Rattle.model.proofs.Tests.{split-on}
 use Rattle.words.specs.Words.{cleanAscii, bytesOf, Word, allPass, Flags, zeroBytes, passing}
 use Rattle.words.proofs.Passing.{word-stops}
 use Rattle.words.proofs.AllPass.{all-join, passing-pass, word-all}
@@ -49,6 +50,14 @@ module _ {passes : ℕ → Bool} {s : Bytes} {at i stop w flags : ℕ} (x : Pass
       let small : n < 8 = omega (arith, z, ends .0) in
       let part : slice s i (i + n) ≡ take n (slice s i stop) = (let m : i + n - i ≡ n = omega arith in rw m (sym (take-take n (stop - i) (drop i s) (omega arith)))) in
       (small, pass-join x (record { from = omega arith; upto = omega arith; each = rw (part, same) (passing-pass passes (slice s i stop)) }))
+
+  -- what stands before the first flag, whether there is one or not
+  pub pass-zeros : (n : ℕ) → n ≡ zeroBytes (bytesOf 8 flags) → (n ≤ 8) × PassRun passes s at stop (i + n)
+  unfolding zeroBytes bytesOf if_then_else_
+  pass-zeros n z =
+      split-on (flags is 0)
+      (λ t. let e : flags ≡ 0 = eqb-true flags 0 t in let m : n ≡ 8 = rw e at z in (omega arith, rw m (pass-word e)))
+      λ t. let x = pass-flag n (eqb-false flags 0 t) z in let l : n < 8 = x .0 in (omega arith, x .1)
 
 pub clean-byte : (p q b : ℕ) → 0x20 ≤ b → b ≤ 0x7F → ¬ (b ≡ 0x5C) → ¬ (b ≡ p) → ¬ (b ≡ q) → cleanAscii p q b ≡ true
 unfolding cleanAscii

@@ -179,3 +179,18 @@ module _ {d : Dialect} {s : Bytes} {stop at i r : ℕ} {clean : Bool} (x : Quote
 
   pub quoted-other-on : Passed d s stop i r → QuotedText d s stop at r false
   quoted-other-on y = record { comes = comes-on (x .comes) (y .comes); content = λ e. impossible e }
+
+-- a clean run alone
+pub quoted-run : (d : Dialect) (q : ℕ) {s : Bytes} {at stop r : ℕ} → q ≡ quoteOf d → stop ≤ length s → PassRun (cleanAscii q q) s at stop r → QuotedText d s stop at r true
+quoted-run d q {s} {at} {stop} {r} e k x =
+    let h : at ≤ r = x .from in
+    let l : r ≤ stop = x .upto in
+    quoted-run-on (quoted-none d s stop at true (omega arith)) q e k x
+
+-- and text behind it
+pub quoted-join : {d : Dialect} {s : Bytes} {stop at i r : ℕ} {clean : Bool} → QuotedText d s stop at i true → QuotedText d s stop i r clean → QuotedText d s stop at r clean
+quoted-join {d} {s} {stop} {at} {i} {r} x y =
+    record {
+      comes = comes-on (x .comes) (y .comes);
+      content = λ c. clean-join (quoteOf d) s at i r (x .comes .from) (y .comes .from) (x .content refl) (y .content c);
+    }

@@ -4,12 +4,14 @@
 // run.rt passes over clean ASCII, text.rt over text between quotes and without them, and value.rt tells the values of CSVJ and TDIF.
 ghost use mathlib.Core.Path.{_≡_};
 ghost use mathlib.Core.Bool.{true};
-ghost use Prim.Native.Nat.{_≤_, _<_};
+ghost use Prim.Native.Nat.{ℕ, _+_, _≤_, _<_};
 ghost use lib.ListN.{length, getD};
 ghost use Rattle.model.specs.declared.Dialect.{Dialect as TheDialect};
 ghost use Rattle.model.specs.Dialect.{delimiterOf, quoteOf};
 ghost use Rattle.model.specs.Cell.{mayBeEmpty};
+ghost use Rattle.words.specs.Words.{cleanAscii};
 ghost use Rattle.cell_ends.specs.Ends.{Told};
+ghost use Rattle.cell_ends.specs.TextRuns.{PassRun};
 ghost use Rattle.cell_ends.specs.Coming.{Closes, isEnd};
 use model::Dialect;
 
@@ -41,12 +43,12 @@ fn closes(d: Dialect, q: u8, s: &[u8], i: usize, stop: usize) -> bool
     }
 }
 
-// Where the quoted cell that begins at `at` ends.
-fn quoted_end(d: Dialect, q: u8, s: &[u8], at: usize, stop: usize) -> Ends
-    requires { ⌜ (at < stop) × (stop ≤ length (now s)) × (q ≡ quoteOf d) × (getD (now s) at 0 ≡ q) ⌝ }
-    ensures { λ r. ⌜ Told d (now (s .entry)) at stop (r .at) (r .clean) ⌝ }
+// Where a quoted cell ends whose text goes on at `from`.
+fn rest_quoted(d: Dialect, q: u8, s: &[u8], from: usize, stop: usize) -> Ends
+    requires { ⌜ (from ≤ stop) × (stop ≤ length (now s)) × (q ≡ quoteOf d) ⌝ }
+    ensures { λ r. ⌜ ((at : ℕ) → at < stop → getD (now (s .entry)) at 0 ≡ q → PassRun (cleanAscii q q) (now (s .entry)) (at + 1) stop from → Told d (now (s .entry)) at stop (r .at) (r .clean)) ⌝ }
 {
-    let inside = text::quoted_text(d, s, at + 1, stop, q);
+    let inside = text::quoted_text(d, s, from, stop, q);
     let i = inside.end;
     if i < stop {
         if closes(d, q, s, i, stop) {
@@ -62,6 +64,29 @@ fn quoted_end(d: Dialect, q: u8, s: &[u8], at: usize, stop: usize) -> Ends
     }
 }
 
+// Where the quoted cell that begins at `at` ends.
+fn quoted_end(d: Dialect, q: u8, s: &[u8], at: usize, stop: usize) -> Ends
+    requires { ⌜ (at < stop) × (stop ≤ length (now s)) × (q ≡ quoteOf d) × (getD (now s) at 0 ≡ q) ⌝ }
+    ensures { λ r. ⌜ Told d (now (s .entry)) at stop (r .at) (r .clean) ⌝ }
+{
+    let from = run::clean_words(s, at + 1, stop, q);
+    if 8 <= stop - from {
+        let w = words::word(s, from);
+        let n = words::guess(w, q);
+        if n < 8 {
+            if n == words::before_flag(words::unclean(w, q, q)) {
+                if closes(d, q, s, from + n, stop) {
+                    return Ends {
+                        at: from + n + 1,
+                        clean: true,
+                    };
+                }
+            }
+        }
+    }
+    rest_quoted(d, q, s, from, stop)
+}
+
 // Whether a cell without quotes of CSV+ ends before this byte.
 fn is_end(b: u8, p: u8) -> bool
     ensures { λ r. ⌜ r ≡ isEnd p b ⌝ }
@@ -75,8 +100,8 @@ fn is_end(b: u8, p: u8) -> bool
     b == 0x0D
 }
 
-// Where the cell without quotes of CSV+ ends that begins at `at`.
-fn plain_end(s: &[u8], at: usize, stop: usize, p: u8, q: u8) -> Ends
+// Where the cell without quotes of CSV+ ends that begins at `at`, by runs and characters.
+fn rest_plain(s: &[u8], at: usize, stop: usize, p: u8, q: u8) -> Ends
     requires { ⌜ (at < stop) × (stop ≤ length (now s)) × (p < 0x80) × (q < 0x80) × (getD (now s) at 0 ≡ q → ⊥) ⌝ }
     ensures { λ r. ⌜ ((d : TheDialect) → mayBeEmpty d ≡ true → p ≡ delimiterOf d → q ≡ quoteOf d → Told d (now (s .entry)) at stop (r .at) (r .clean)) ⌝ }
 {
@@ -92,23 +117,55 @@ fn plain_end(s: &[u8], at: usize, stop: usize, p: u8, q: u8) -> Ends
     }
 }
 
+// Where it ends. A short cell is mostly followed by the delimiter, and that is looked for first.
+fn plain_end(s: &[u8], at: usize, stop: usize, p: u8, q: u8) -> Ends
+    requires { ⌜ (at < stop) × (stop ≤ length (now s)) × (p < 0x80) × (q < 0x80) × (getD (now s) at 0 ≡ q → ⊥) ⌝ }
+    ensures { λ r. ⌜ ((d : TheDialect) → mayBeEmpty d ≡ true → p ≡ delimiterOf d → q ≡ quoteOf d → Told d (now (s .entry)) at stop (r .at) (r .clean)) ⌝ }
+{
+    if 8 <= stop - at {
+        let w = words::word(s, at);
+        let n = words::guess(w, p);
+        if n < 8 {
+            if s[at + n] == p {
+                if n == words::before_flag(words::unclean(w, p, q)) {
+                    return Ends {
+                        at: at + n,
+                        clean: true,
+                    };
+                }
+            }
+        }
+    }
+    rest_plain(s, at, stop, p, q)
+}
+
 // Where the cell that begins at `at` ends; `stop`: not told. p is the dialect's delimiter, and q its quote.
 pub fn cell_end(d: Dialect, p: u8, q: u8, s: &[u8], at: usize, stop: usize) -> Ends
     requires { ⌜ (at < stop) × (stop ≤ length (now s)) × (p ≡ delimiterOf d) × (q ≡ quoteOf d) ⌝ }
     ensures { λ r. ⌜ Told d (now (s .entry)) at stop (r .at) (r .clean) ⌝ }
 {
-    if s[at] == q {
-        return quoted_end(d, q, s, at, stop);
-    }
     match d {
-        Dialect::Csvj => Ends {
-            at: value::value_end(s, at, stop),
-            clean: false,
-        },
-        Dialect::Tdif => Ends {
-            at: value::null_end(s, at, stop),
-            clean: false,
-        },
-        Dialect::CsvPlus(_) => plain_end(s, at, stop, p, q),
+        Dialect::Csvj => {
+            if s[at] != 0x22 {
+                return Ends {
+                    at: value::value_end(s, at, stop),
+                    clean: false,
+                };
+            }
+        }
+        Dialect::Tdif => {
+            if s[at] != 0x22 {
+                return Ends {
+                    at: value::null_end(s, at, stop),
+                    clean: false,
+                };
+            }
+        }
+        Dialect::CsvPlus(_) => {
+            if s[at] != q {
+                return plain_end(s, at, stop, p, q);
+            }
+        }
     }
+    quoted_end(d, q, s, at, stop)
 }

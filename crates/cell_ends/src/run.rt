@@ -50,6 +50,21 @@ pub fn quoted_run(s: &[u8], at: usize, stop: usize, q: u8) -> usize
     single_steps(s, i, stop, q, q)
 }
 
+// How far it goes between quotes by whole words alone.
+pub fn clean_words(s: &[u8], at: usize, stop: usize, q: u8) -> usize
+    requires { ⌜ (at ≤ stop) × (stop ≤ length (now s)) ⌝ }
+    ensures { λ r. ⌜ PassRun (cleanAscii q q) (now (s .entry)) at stop r ⌝ }
+{
+    let mut i = at;
+    while 8 <= stop - i {
+        if words::unclean(words::word(s, i), q, q) != 0 {
+            return i;
+        }
+        i += 8;
+    }
+    i
+}
+
 // How far it goes without quotes, where the delimiter p ends it too.
 pub fn plain_run(s: &[u8], at: usize, stop: usize, p: u8, q: u8) -> usize
     requires { ⌜ (at ≤ stop) × (stop ≤ length (now s)) ⌝ }

@@ -1,10 +1,13 @@
 // Cells without quotes of CSVJ and TDIF: numbers without an exponent, true, false and null. Where the end is not told, it is `stop`.
 ghost use mathlib.Core.Path.{_≡_};
+ghost use mathlib.Core.Bool.{true};
 ghost use Prim.Native.Nat.{_≤_, _<_};
 ghost use lib.ListN.{length, getD};
 ghost use Rattle.model.specs.declared.Dialect.the-variants.{Csvj, Tdif};
 ghost use Rattle.model.specs.declared.Cell.{Cell};
 ghost use Rattle.model.specs.declared.Cell.the-variants.{Fresh};
+ghost use Rattle.model.specs.Cell.{isDigit};
+ghost use Rattle.cell_ends.specs.TextRuns.{PassRun};
 ghost use Rattle.cell_ends.specs.Coming.{EndsFrom};
 ghost use Rattle.cell_ends.specs.BareValues.{Digits, isLetterE, BeginsNumber, IntegerEnd, FractionEnd, FourLetters};
 
@@ -118,8 +121,8 @@ fn false_end(s: &[u8], at: usize, stop: usize) -> usize
     end + 1
 }
 
-// Where a cell without quotes of CSVJ ends.
-pub fn value_end(s: &[u8], at: usize, stop: usize) -> usize
+// Where a cell without quotes of CSVJ ends, byte by byte.
+fn stepwise_end(s: &[u8], at: usize, stop: usize) -> usize
     requires { ⌜ (at < stop) × (stop ≤ length (now s)) ⌝ }
     ensures { λ r. ⌜ (r < stop → EndsFrom Csvj (now (s .entry)) stop Fresh at r) ⌝ }
 {
@@ -143,6 +146,62 @@ pub fn value_end(s: &[u8], at: usize, stop: usize) -> usize
         return false_end(s, at, stop);
     }
     stop
+}
+
+// Behind the digits from `at` on, as far as the next eight bytes tell.
+fn word_digits(s: &[u8], at: usize, stop: usize) -> usize
+    requires { ⌜ (at ≤ stop) × (stop ≤ length (now s)) ⌝ }
+    ensures { λ r. ⌜ PassRun isDigit (now (s .entry)) at stop r ⌝ }
+{
+    if stop - at < 8 {
+        return at;
+    }
+    at + words::before_flag(words::no_digit(words::word(s, at)))
+}
+
+// Whether the bytes from `at` up to the comma at `end` are a number without sign and exponent; false too where it is not told.
+fn is_number(s: &[u8], at: usize, end: usize, stop: usize) -> bool
+    requires { ⌜ (at ≤ end) × (end < stop) × (stop ≤ length (now s)) × (getD (now s) end 0 ≡ 0x2C) ⌝ }
+    ensures { λ r. ⌜ (r ≡ true → EndsFrom Csvj (now (s .entry)) stop Fresh at end) ⌝ }
+{
+    let i = word_digits(s, at, stop);
+    if i == at {
+        return false;
+    }
+    if s[at] == 0x30 {
+        if at + 1 < i {
+            return false;
+        }
+    }
+    if end <= i {
+        return i == end;
+    }
+    if s[i] != 0x2E {
+        return false;
+    }
+    let last = word_digits(s, i + 1, stop);
+    if last == i + 1 {
+        return false;
+    }
+    last == end
+}
+
+// Where a cell without quotes of CSVJ ends. A short number is mostly followed by a comma, and that is looked for first.
+pub fn value_end(s: &[u8], at: usize, stop: usize) -> usize
+    requires { ⌜ (at < stop) × (stop ≤ length (now s)) ⌝ }
+    ensures { λ r. ⌜ (r < stop → EndsFrom Csvj (now (s .entry)) stop Fresh at r) ⌝ }
+{
+    if 8 <= stop - at {
+        let n = words::guess(words::word(s, at), 0x2C);
+        if n < 8 {
+            if s[at + n] == 0x2C {
+                if is_number(s, at, at + n, stop) {
+                    return at + n;
+                }
+            }
+        }
+    }
+    stepwise_end(s, at, stop)
 }
 
 // Where TDIF's null ends.

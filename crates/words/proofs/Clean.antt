@@ -1,5 +1,5 @@
 -- The test for clean ASCII: each of its numbers tells of one test by the top digit of each byte, and together they tell of all.
-use Prim.Native.Nat.{ℕ, _*_, _-_, _%_, _^_, _≤_, _<_, max}
+use Prim.Native.Nat.{ℕ, _*_, _-_, _%_, _^_, _≤_, _<_}
 use native.Mathlib.Omega.{arith}
 use mathlib.Core.Path.{_≡_, refl, ap, _∙_}
 use mathlib.Core.Bool.{Bool, true, false, not, _&&_, and-true, and-false}
@@ -9,54 +9,12 @@ use borrow.Author.Tests.{le-leb, lt-leb, ltb-true, ltb-false, leb-true, leb-fals
 use Rattle.model.specs.Base.{if_then_else_, _is_}
 use Rattle.model.proofs.Tests.{split-on}
 use Rattle.words.specs.Words.{cleanAscii, ONES, bytesOf, asciiStop, flagOf, Flags}
-use Rattle.words.proofs.Bytewise.{all-bytes, itself, eight-times, Bytewise, and-bytes, or-bytes}
-use Rattle.words.proofs.Tops.{Top, or-top}
-use Rattle.words.proofs.Flags.{flags-from, flags-same}
+use Rattle.words.proofs.Tops.{Top}
+use Rattle.words.proofs.Flags.{flags-same}
+use Rattle.words.proofs.Telling.{digitOf, Tells, tell-both, tell-flags, top-by, tell-ascii}
 use Rattle.words.proofs.Flagging.{stop-hit, stop-missed, stop-bits, below-bits, ascii-small, ascii-same}
 
--- ---- a number that tells of a test
-
-unfoldable digitOf : Bool → ℕ
-digitOf t = if t then 0 else 1
-
--- the top digit of each byte is 1 where the byte does not pass
-record Tells (w x : ℕ) (passes : ℕ → Bool) : Type 0 where
-  each : ℕ → ℕ
-  word : Bytewise (bytesOf 8 w) x each
-  told : (b : ℕ) → b < 0x100 → Top (each b) (digitOf (passes b))
-
-both : (s t : Bool) → max (digitOf s) (digitOf t) ≡ digitOf (s && t)
-unfolding digitOf if_then_else_
-both true true = refl
-both true false = refl
-both false true = refl
-both false false = refl
-
-tell-both : {w x y : ℕ} {t u : ℕ → Bool} → Tells w x t → Tells w y u → Tells w (bitOr x y) (λ b. t b && u b)
-tell-both {w} {x} {y} {t} {u} a c =
-    record {
-      each = λ b. bitOr (a .each b) (c .each b);
-      word = or-bytes (all-bytes 8 w) (a .word) (c .word);
-      told = λ b h. rw (← both (t b) (u b)) (or-top (a .told b h) (c .told b h));
-    }
-
-flag-digit : (t : Bool) → digitOf t % 2 * 0x80 ≡ (if t then 0 else 0x80)
-unfolding digitOf if_then_else_
-flag-digit true = refl
-flag-digit false = refl
-
-tell-flags : {w x : ℕ} {t : ℕ → Bool} → Tells w x t → Flags t w (bitAnd x 0x8080808080808080)
-unfolding flagOf
-tell-flags {w} {x} {t} a =
-    flags-from (and-bytes (all-bytes 8 w) (a .word) (eight-times w 0x80 (omega arith)))
-    λ b h. and-high (a .each b) 1 7 ∙ ap (λ (n : ℕ). n % 2 * 0x80) (a .told b h .digit) ∙ flag-digit (t b)
-
 -- ---- the tests
-
-top-by : (n : ℕ) (t : Bool) → n < 0x100 → (t ≡ true → n < 0x80) → (t ≡ false → 0x80 ≤ n) → Top n (digitOf t)
-unfolding digitOf if_then_else_
-top-by n true h f g = let k = f refl in record { byte = h; digit = omega arith }
-top-by n false h f g = let k = g refl in record { byte = h; digit = omega arith }
 
 stop-top : (x c : ℕ) (t : Bool) → x < 0x80 → c < 0x80 → (x is c) ≡ t → Top (0x80 - bitXor x c) (digitOf (not t))
 unfolding digitOf if_then_else_
@@ -64,9 +22,6 @@ stop-top x c true h k e = stop-hit x c k (eqb-true x c e)
 stop-top x c false h k e = stop-missed x c h k (eqb-false x c e)
 
 module _ (w : ℕ) (h : w < 0x100 ^ 8) where
-  tell-ascii : Tells w w (λ b. ltb b 0x80)
-  tell-ascii = record { each = λ b. b; word = itself w h; told = λ b l. top-by b (ltb b 0x80) l (ltb-true b 0x80) (ltb-false b 0x80) }
-
   tell-stop : (c : ℕ) → c < 0x80 → Tells w (0x8080808080808080 - bitXor (bitAnd w 0x7F7F7F7F7F7F7F7F) (c * ONES)) (λ b. not (bitAnd b 0x7F is c))
   tell-stop c k = record { each = λ b. 0x80 - bitXor (bitAnd b 0x7F) c; word = stop-bits w h c k; told = λ b l. stop-top (bitAnd b 0x7F) c (bitAnd b 0x7F is c) (small b) k refl }
     where

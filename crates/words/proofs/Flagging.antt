@@ -128,7 +128,7 @@ testWord w first second =
     0x8080808080808080
 
 module _ (w : ℕ) (h : w < 0x100 ^ 8) where
-  low-bits : Bytewise (bytesOf 8 w) (bitAnd w 0x7F7F7F7F7F7F7F7F) (λ b. bitAnd b 0x7F)
+  pub low-bits : Bytewise (bytesOf 8 w) (bitAnd w 0x7F7F7F7F7F7F7F7F) (λ b. bitAnd b 0x7F)
   low-bits = and-bytes (all-bytes 8 w) (itself w h) (eight-times w 0x7F (omega arith))
 
   low-small : (b : ℕ) → bitAnd b 0x7F < 0x80

@@ -3,7 +3,9 @@ pub mod Bytewise
 pub mod Tops
 pub mod Flags
 pub mod Flagging
+pub mod Telling
 pub mod Clean
+pub mod Digits
 pub mod Reaching
 pub mod Reading
 pub mod Passing

@@ -9,6 +9,7 @@ ghost use mathlib.Core.Path.{_≡_};
 ghost use Prim.Native.Nat.{_+_, _*_, _≤_};
 ghost use mathlib.Core.List.{[], _∷_};
 ghost use lib.ListN.{length};
+ghost use Rattle.model.specs.Cell.{isDigit};
 ghost use Rattle.model.specs.Api.{slice};
 ghost use Rattle.words.specs.Words.{wordOf, Word, ONES, bytesOf, asciiStop, ordinary, cleanAscii, isByte, isBelow, Flags, zeroBytes};
 
@@ -81,6 +82,17 @@ pub fn unclean(w: u64, p: u8, q: u8) -> u64
     (w | is_first | is_second | is_backslash | below_20) & 0x8080808080808080
 }
 
+// The top bit of each byte that is no digit, told as in `unordinary`: 46 hex more than the byte has it from 3A hex on, and AF less the byte
+// has it below 30.
+pub fn no_digit(w: u64) -> u64
+    ensures { λ r. ⌜ Flags isDigit w r ⌝ }
+{
+    let ascii = w & 0x7F7F7F7F7F7F7F7F;
+    let above = ascii + 0x4646464646464646;
+    let below = 0xAFAFAFAFAFAFAFAF - ascii;
+    (w | above | below) & 0x8080808080808080
+}
+
 // The top bit of each byte that is not `c`: a byte of the difference is not 0, so its low bits reach that bit, or it is set already.
 pub fn other_than(w: u64, c: u8) -> u64
     ensures { λ r. ⌜ Flags (isByte c) w r ⌝ }
@@ -101,4 +113,15 @@ pub fn before_flag(flags: u64) -> usize
     ensures { λ r. ⌜ r ≡ zeroBytes (bytesOf 8 flags) ⌝ }
 {
     (u64::trailing_zeros(flags) as usize) / 8
+}
+
+// A guess at how many bytes stand before the first `c`, and 8 where none seems to be one. A byte that differs in its top bit alone is taken
+// for it. Nothing is promised: who goes by the guess tests it, and the next place is known before the test is done.
+pub fn guess(w: u64, c: u8) -> usize {
+    let near = (0x8080808080808080 - ((w & 0x7F7F7F7F7F7F7F7F) ^ eight_stops(c)))
+        & 0x8080808080808080;
+    if near == 0 {
+        return 8;
+    }
+    before_flag(near)
 }
