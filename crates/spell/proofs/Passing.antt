@@ -1,22 +1,27 @@
 -- A cell whose content is one run: its text between quotation marks is that run, and it holds no lone surrogate.
 -- Assumes nothing.
 use mathlib.Core.Path.{_≡_, refl, sym, ap, _∙_}
-use mathlib.Core.Bool.{Bool, true, false}
+use mathlib.Core.Bool.{Bool, true, false, not, _&&_}
 use mathlib.Core.List.{[], _∷_, _++_, append-nil}
 use Prim.Native.Nat.{ℕ, suc, _+_, _-_, _≤_}
+use native.Mathlib.Nat.{le-refl}
 use native.Mathlib.Omega.{arith}
-use lib.ListN.{length, take, drop, getD}
+use lib.Dec.{leb}
+use lib.ListN.{length, take, drop, getD, drop-of-length-le}
 use Rattle.model.specs.declared.Dialect.{Dialect}
 use Rattle.model.specs.declared.Dialect.the-variants.{Csvj, Tdif, CsvPlus}
 use Rattle.model.specs.declared.Kind.{Kind}
 use Rattle.model.specs.declared.Kind.the-variants.{Text, Number, True, False, Null}
-use Rattle.model.specs.Base.{Bytes, if_then_else_, _is_, begins, QUOTE}
+use Rattle.model.specs.Base.{Bytes, if_then_else_, _is_, begins, QUOTE, BACKSLASH}
 use Rattle.model.specs.Decode.{kindOf, contentOf}
 use Rattle.model.specs.Dialect.{quoteOf}
 use Rattle.model.specs.Text.{isText, cellText}
 use Rattle.model.specs.Utf8.{holdsLone}
 use Rattle.model.specs.Api.{kindNamed}
-use Rattle.model.proofs.Tests.{split-on, impossible}
+use Rattle.model.proofs.Tests.{split-on, impossible, and-true}
+use Rattle.words.specs.Words.{cleanText, plainText, passing, AllIn}
+use Rattle.buffers.proofs.Writing.{drop-next}
+use Rattle.words.proofs.Stretches.{in-ends, in-weaker}
 use Rattle.decoder.specs.FirstByte.{spellingBy, contentIn}
 use Rattle.decoder.specs.Sources.{kindFrom, contentBy, Spelt, in-file}
 use Rattle.decoder.specs.declared.source.Source.{Source}
@@ -30,7 +35,7 @@ use Rattle.units.specs.PlainRuns.{isPlain, plainRun}
 use Rattle.units.specs.Units.{bodyText}
 use Rattle.units.specs.Contents.{contentFrom, sourceQuote}
 use Rattle.spell.specs.Cells.{valueOf, textCell, writtenAs}
-use Rattle.spell.specs.Passing.{quotesAll, Direct, is-direct, Inner, unquoted, quoted, Looks, looks-plain}
+use Rattle.spell.specs.Passing.{quotesAll, Direct, is-direct, Marks, no-marks, a-mark, Inner, unquoted, quoted, Looks, looks-plain}
 use Rattle.units.proofs.PlainRuns.{plain-is}
 use Rattle.units.proofs.Contents.{content-end, closed-doubled, closed-string}
 use Rattle.units.proofs.Bodies.{text-part, lone-part, text-end, lone-end}
@@ -172,6 +177,45 @@ inner-inside (quoted o r k l) = (omega arith, omega arith)
 
 pub looks-inside : {direct : Bool} {kind : Kind} {raw : Bytes} {i j : ℕ} → Looks direct kind raw (Plain i j) → (i ≤ j) × (j ≤ length raw)
 looks-inside (looks-plain b x p) = inner-inside p
+
+-- ---- how it is seen
+
+pub marks-inside : {raw : Bytes} {n : ℕ} → Marks raw n → (n ≤ length raw) × (n ≤ length raw - n)
+marks-inside no-marks = (omega arith, omega arith)
+marks-inside (a-mark h o k) = (omega arith, omega arith)
+
+-- a byte that is plain in a text
+plain-text : (b : ℕ) → plainText b ≡ true → isPlain QUOTE QUOTE QUOTE b ≡ true
+unfolding plainText cleanText isPlain
+plain-text b e =
+    let d = and-true (leb 0x20 b && not (b is QUOTE) && not (b is BACKSLASH)) (not (b is 0xED)) e in
+    let f = and-true (leb 0x20 b && not (b is QUOTE)) (not (b is BACKSLASH)) (d .0) in
+    let g = and-true (leb 0x20 b) (not (b is QUOTE)) (f .0) in
+    rw (g .0, f .1, d .1, g .1)
+
+run-none : passing (isPlain QUOTE QUOTE QUOTE) [] ≡ 0
+unfolding passing
+run-none = refl
+
+-- a quotation mark is not
+mark-ends : (bs : Bytes) → passing (isPlain QUOTE QUOTE QUOTE) (QUOTE ∷ bs) ≡ 0
+unfolding passing isPlain if_then_else_
+mark-ends bs = refl
+
+pub marks-inner : {raw : Bytes} {n : ℕ} → Marks raw n → AllIn plainText raw n (length raw - n) → Inner raw n (length raw - n)
+unfolding plainRun
+marks-inner {raw} no-marks x =
+    let n : length raw - 0 ≡ length raw = omega arith in
+    let all : AllIn (isPlain QUOTE QUOTE QUOTE) raw 0 (length raw) = in-weaker plainText (isPlain QUOTE QUOTE QUOTE) plain-text (rw n at x) in
+    let none : passing (isPlain QUOTE QUOTE QUOTE) (drop (length raw) raw) ≡ 0 = (let past : drop (length raw) raw ≡ [] = drop-of-length-le raw (le-refl (length raw)) in rw past run-none) in
+    let run = in-ends (isPlain QUOTE QUOTE QUOTE) all (omega arith) (omega arith) none in
+    rw n (unquoted (run ∙ n))
+marks-inner {raw} (a-mark h o k) x =
+    let all = in-weaker plainText (isPlain QUOTE QUOTE QUOTE) plain-text x in
+    let next : drop (length raw - 1) raw ≡ QUOTE ∷ [] = drop-next raw (length raw - 1) (length raw) (omega arith) (omega arith) ∙ rw (k, drop-of-length-le raw (le-refl (length raw))) in
+    let none : passing (isPlain QUOTE QUOTE QUOTE) (drop (length raw - 1) raw) ≡ 0 = rw next (mark-ends []) in
+    let run = in-ends (isPlain QUOTE QUOTE QUOTE) all (omega arith) (omega arith) none in
+    quoted {j = length raw - 1} o (omega arith) k (omega arith)
 
 -- 1 is the number of a text
 pub text-number : isText (kindFrom 1) ≡ true

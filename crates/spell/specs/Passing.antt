@@ -1,5 +1,5 @@
 -- Texts that pass from a source into a target byte for byte.
-use Prim.Native.Nat.{ℕ, _+_}
+use Prim.Native.Nat.{ℕ, _+_, _-_, _≤_}
 use mathlib.Core.Path.{_≡_}
 use mathlib.Core.Bool.{Bool, true, false}
 use lib.ListN.{length, drop, getD}
@@ -24,6 +24,11 @@ quotesAll (CsvPlus s) = false
 -- the quote of a file is the quotation mark, and so are those that its target puts around every text
 pub data Direct : Source → Dialect → Type 0 where
   is-direct : {d t : Dialect} → quoteOf d ≡ QUOTE → quotesAll t ≡ true → Direct (File d) t
+
+-- the quotation marks before the content of a cell, and as many after it, where they are seen
+pub data Marks (raw : Bytes) : ℕ → Type 0 where
+  no-marks : Marks raw 0
+  a-mark : 2 ≤ length raw → getD raw 0 0 ≡ QUOTE → getD raw (length raw - 1) 0 ≡ QUOTE → Marks raw 1
 
 -- all bytes of a cell from i up to j, or all but its two quotation marks, stand for themselves
 pub data Inner (raw : Bytes) : (i j : ℕ) → Type 0 where

@@ -1,23 +1,26 @@
-// Texts that pass into the target byte for byte, as most cells of most files do. One run tells them from the others, and they are put
-// without a look at how they are spelt: for short cells that spares a fifth of the instructions of a conversion.
+// Texts that pass into the target byte for byte, as most cells of most files do. One test of their bytes, eight at once, tells them from
+// the others, and they are put without a look at how they are spelt: for short cells that spares a fifth of the instructions of a conversion.
 // Whatever is not of this form goes to `cell`.
 ghost use mathlib.Core.Path.{_≡_};
 ghost use mathlib.Core.Bool.{true, false};
+ghost use Prim.Native.Nat.{_≤_};
+ghost use lib.ListN.{length};
 ghost use mathlib.Core.List.{[], _∷_, _++_};
 ghost use Rattle.model.specs.Base.{QUOTE};
 ghost use Rattle.model.specs.Dialect.{isCsvj};
 ghost use Rattle.model.specs.Text.{isText, cellText};
 ghost use Rattle.model.specs.Utf8.{holdsLone};
+ghost use Rattle.words.specs.Words.{plainText, AllIn};
 ghost use Rattle.buffers.specs.Wrote.{Room, Put};
 ghost use Rattle.decoder.specs.Sources.{kindFrom, contentBy, Spelt};
 ghost use Rattle.spell.specs.Cells.{valueOf};
 ghost use Rattle.spell.specs.Passing.{Direct, Looks};
 use crate::cell;
+use crate::marks;
 use decoder::source;
 use decoder::source::Source;
 use model::Dialect;
 use units::body::Body;
-use units::run;
 
 // ---- what a source and a target allow
 
@@ -50,6 +53,21 @@ pub enum Passage {
     Spelt,
 }
 
+// Whether all bytes from here up to there stand for themselves, eight to a step.
+fn all_plain(raw: &[u8], from: usize, upto: usize) -> bool
+    requires { ⌜ (from ≤ upto) × (upto ≤ length (now raw)) ⌝ }
+    ensures { λ r. ⌜ (r ≡ true → AllIn plainText (now (raw .entry)) from upto) ⌝ }
+{
+    let mut i = from;
+    while 8 < upto - i {
+        if words::unplain_text(words::word(raw, i)) != 0 {
+            return false;
+        }
+        i += 8;
+    }
+    words::unplain_text(words::last_word(raw, from, upto)) == 0
+}
+
 // The number of its kind is asked as it is: to name the kind first costs two of a hundred instructions.
 fn look(direct: bool, number: u8, raw: &[u8]) -> Passage
     ensures { λ r. ⌜ Looks direct (kindFrom number) (now (raw .entry)) r ⌝ }
@@ -60,21 +78,12 @@ fn look(direct: bool, number: u8, raw: &[u8]) -> Passage
     if number != 1 {
         return Passage::Spelt;
     }
-    let j = run::plain(raw, 0, 0x22, 0x22, 0x22);
-    if raw.len() <= j {
-        return Passage::Plain(0, raw.len());
+    let from = marks::around(raw);
+    let upto = raw.len() - from;
+    if all_plain(raw, from, upto) {
+        return Passage::Plain(from, upto);
     }
-    if raw[0] != 0x22 {
-        return Passage::Spelt;
-    }
-    let k = run::plain(raw, 1, 0x22, 0x22, 0x22);
-    if raw.len() - k != 1 {
-        return Passage::Spelt;
-    }
-    if raw[k] != 0x22 {
-        return Passage::Spelt;
-    }
-    Passage::Plain(1, k)
+    Passage::Spelt
 }
 
 // ---- its text

@@ -10,3 +10,5 @@ pub mod Reaching
 pub mod Reading
 pub mod Passing
 pub mod AllPass
+pub mod TextBytes
+pub mod Stretches

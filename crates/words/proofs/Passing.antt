@@ -37,7 +37,7 @@ module _ (passes : ℕ → Bool) where
 
   module _ (cs : Bytes) where
     -- they go on after bytes that all pass
-    all-pass : (bs : Bytes) → allPass passes bs ≡ true → passing passes (bs ++ cs) ≡ length bs + passing passes cs
+    pub all-pass : (bs : Bytes) → allPass passes bs ≡ true → passing passes (bs ++ cs) ≡ length bs + passing passes cs
     unfolding allPass passing if_then_else_
     all-pass [] e = omega arith
     all-pass (b ∷ bs) e = go (passes b) e (all-pass bs)

@@ -3,7 +3,7 @@ use Prim.Native.Nat.{ℕ, zero, suc, _+_, _*_, _-_, _/_, _%_, _^_, _≤_, _<_}
 use native.Mathlib.Nat.{mul-one}
 use native.Mathlib.Omega.{arith}
 use mathlib.Core.Path.{_≡_, refl, sym, ap, _∙_}
-use mathlib.Core.List.{[], _∷_}
+use mathlib.Core.List.{[], _∷_, _++_}
 use lib.ListN.{length, drop, getD}
 use lib.Seq.{drop-cons}
 use lib.Bits.{bitOr, or-shifted-r, shifted-even, shifted-half}
@@ -13,7 +13,7 @@ use Rattle.model.specs.Base.{Bytes, if_then_else_, _is_}
 use Rattle.model.specs.Api.{slice}
 use Rattle.model.proofs.Tests.{split-on}
 use Rattle.words.specs.Words.{wordOf, bytesOf, Word, zeroBytes}
-use Rattle.words.proofs.Bytewise.{no-bytes, and-byte, bytes-back}
+use Rattle.words.proofs.Bytewise.{AllBytes, no-bytes, and-byte, bytes-back, word-back, all-bytes}
 
 -- ---- eight bytes of a slice
 
@@ -58,6 +58,49 @@ joined-word b0 b1 b2 b3 b4 b5 b6 b7 h0 h1 h2 h3 h4 h5 h6 =
     let e6 = or-shifted-r b6 48 (bitOr (bitOr (bitOr (bitOr (bitOr b0 (b1 * 0x100)) (b2 * 0x10000)) (b3 * 0x1000000)) (b4 * 0x100000000)) (b5 * 0x10000000000)) (omega arith) in
     let e7 = or-shifted-r b7 56 (bitOr (bitOr (bitOr (bitOr (bitOr (bitOr b0 (b1 * 0x100)) (b2 * 0x10000)) (b3 * 0x1000000)) (b4 * 0x100000000)) (b5 * 0x10000000000)) (b6 * 0x1000000000000)) (omega arith) in
     omega arith
+
+-- ---- four bytes
+
+pub four-bytes : (s : Bytes) (i : ℕ) → i + 4 ≤ length s → slice s i (i + 4) ≡ getD s i 0 ∷ getD s (i + 1) 0 ∷ getD s (i + 2) 0 ∷ getD s (i + 3) 0 ∷ []
+four-bytes s i h =
+    let n : i + 4 - i ≡ 4 = omega arith in
+    let e0 = next-byte s i (i + 1) (omega arith) (omega arith) in
+    let e1 = next-byte s (i + 1) (i + 2) (omega arith) (omega arith) in
+    let e2 = next-byte s (i + 2) (i + 3) (omega arith) (omega arith) in
+    let e3 = next-byte s (i + 3) (i + 4) (omega arith) (omega arith) in
+    rw (n, e0, e1, e2, e3)
+
+pub joined-four : (b0 b1 b2 b3 : ℕ) → b0 < 0x100 → b1 < 0x100 → b2 < 0x100 → b3 < 0x100
+    → let w = bitOr (bitOr (bitOr b0 (b1 * 0x100)) (b2 * 0x10000)) (b3 * 0x1000000) in
+    (bytesOf 4 w ≡ b0 ∷ b1 ∷ b2 ∷ b3 ∷ []) × (w < 0x100000000)
+unfolding wordOf
+joined-four b0 b1 b2 b3 h0 h1 h2 h3 =
+    let e1 = or-shifted-r b1 8 b0 h0 in
+    let e2 = or-shifted-r b2 16 (bitOr b0 (b1 * 0x100)) (omega arith) in
+    let e3 = or-shifted-r b3 24 (bitOr (bitOr b0 (b1 * 0x100)) (b2 * 0x10000)) (omega arith) in
+    let whole : bitOr (bitOr (bitOr b0 (b1 * 0x100)) (b2 * 0x10000)) (b3 * 0x1000000) ≡ wordOf (b0 ∷ b1 ∷ b2 ∷ b3 ∷ []) = omega arith in
+    (ap (bytesOf 4) whole ∙ bytes-back (and-byte h0 (and-byte h1 (and-byte h2 (and-byte h3 no-bytes)))), omega arith)
+
+-- two times four
+both-bytes : {xs ys : Bytes} → AllBytes xs → AllBytes ys → AllBytes (xs ++ ys)
+both-bytes no-bytes k = k
+both-bytes (and-byte h hs) k = and-byte h (both-bytes hs k)
+
+pub fours-joined : (a b : ℕ) → a < 0x100000000 → b < 0x100000000 → bytesOf 8 (bitOr a (b * 0x100000000)) ≡ bytesOf 4 a ++ bytesOf 4 b
+unfolding wordOf bytesOf
+fours-joined a b h k =
+    let e = or-shifted-r b 32 a h in
+    let first : wordOf (bytesOf 4 a) ≡ a = word-back 4 a h in
+    let second : wordOf (bytesOf 4 b) ≡ b = word-back 4 b k in
+    let whole : bitOr a (b * 0x100000000) ≡ wordOf (bytesOf 4 a ++ bytesOf 4 b) = omega arith in
+    ap (bytesOf 8) whole ∙ bytes-back (both-bytes (all-bytes 4 a) (all-bytes 4 b))
+
+-- three, and the rest filled up
+pub three-bytes : (w b0 b1 b2 : ℕ) → b0 < 0x100 → b1 < 0x100 → b2 < 0x100 → w ≡ wordOf (b0 ∷ b1 ∷ b2 ∷ 0x20 ∷ 0x20 ∷ 0x20 ∷ 0x20 ∷ 0x20 ∷ [])
+    → bytesOf 8 w ≡ b0 ∷ b1 ∷ b2 ∷ 0x20 ∷ 0x20 ∷ 0x20 ∷ 0x20 ∷ 0x20 ∷ []
+three-bytes w b0 b1 b2 h0 h1 h2 e =
+    let k : 0x20 < 0x100 = omega arith in
+    ap (bytesOf 8) e ∙ bytes-back (and-byte h0 (and-byte h1 (and-byte h2 (and-byte k (and-byte k (and-byte k (and-byte k (and-byte k no-bytes))))))))
 
 -- ---- trailing zeros
 

@@ -1,10 +1,11 @@
 -- Bytes as one number, and tests of eight at once.
-use Prim.Native.Nat.{ℕ, zero, suc, _+_, _*_, _/_, _%_}
+use Prim.Native.Nat.{ℕ, zero, suc, _+_, _*_, _/_, _%_, _≤_, _<_}
 use mathlib.Core.Path.{_≡_}
 use mathlib.Core.Bool.{Bool, true, not, _&&_}
 use mathlib.Core.List.{[], _∷_, map}
-use lib.Dec.{ltb}
-use Rattle.model.specs.Base.{Bytes, if_then_else_, _is_, within, BACKSLASH}
+use lib.Dec.{ltb, leb}
+use lib.ListN.{getD}
+use Rattle.model.specs.Base.{Bytes, if_then_else_, _is_, within, QUOTE, BACKSLASH}
 
 -- bytes as one number, the first lowest
 unfoldable pub wordOf : Bytes → ℕ
@@ -34,6 +35,14 @@ ordinary p q b = within 0x20 0x7E b && not (b is p) && not (b is q)
 -- a clean byte of ASCII: 20 to 7F hex, no backslash, and neither of these two
 unfoldable pub cleanAscii : (p q b : ℕ) → Bool
 cleanAscii p q b = within 0x20 0x7F b && not (b is p) && not (b is q) && not (b is BACKSLASH)
+
+-- a byte that stands for itself in a text between quotation marks: one from 20 hex on that is neither the mark nor a backslash
+unfoldable pub cleanText : ℕ → Bool
+cleanText b = leb 0x20 b && not (b is QUOTE) && not (b is BACKSLASH)
+
+-- and is not ED hex, which may begin a lone surrogate
+unfoldable pub plainText : ℕ → Bool
+plainText b = cleanText b && not (b is 0xED)
 
 -- the stop that is tested for: no byte from 80 hex on is ordinary or clean, stop or not, and 0 is not either
 unfoldable pub asciiStop : ℕ → ℕ
@@ -69,3 +78,13 @@ zeroBytes (b ∷ bs) = if b is 0 then suc (zeroBytes bs) else 0
 unfoldable pub passing : (passes : ℕ → Bool) → Bytes → ℕ
 passing passes [] = 0
 passing passes (b ∷ bs) = if passes b then suc (passing passes bs) else 0
+
+-- ---- stretches of bytes
+
+-- all bytes from here up to there pass
+pub record AllIn (passes : ℕ → Bool) (s : Bytes) (from upto : ℕ) : Type 0 where
+  pub each : (k : ℕ) → from ≤ k → k < upto → passes (getD s k 0) ≡ true
+
+-- a word that holds the last bytes of a stretch, eight of them or all that it has: what all bytes of the word pass, these pass
+pub record LastBytes (s : Bytes) (from upto w : ℕ) : Type 0 where
+  pub each : (passes : ℕ → Bool) → allPass passes (bytesOf 8 w) ≡ true → (k : ℕ) → from ≤ k → k < upto → upto ≤ k + 8 → passes (getD s k 0) ≡ true

@@ -6,12 +6,12 @@
 // each byte of a difference takes away no more than it has. So every operation works on each byte by itself, and the top bit of a byte
 // tells of that byte alone.
 ghost use mathlib.Core.Path.{_≡_};
-ghost use Prim.Native.Nat.{_+_, _*_, _≤_};
-ghost use mathlib.Core.List.{[], _∷_};
-ghost use lib.ListN.{length};
+ghost use Prim.Native.Nat.{_+_, _*_, _≤_, _<_};
+ghost use mathlib.Core.List.{[], _∷_, _++_};
+ghost use lib.ListN.{length, getD};
 ghost use Rattle.model.specs.Cell.{isDigit};
 ghost use Rattle.model.specs.Api.{slice};
-ghost use Rattle.words.specs.Words.{wordOf, Word, ONES, bytesOf, asciiStop, ordinary, cleanAscii, isByte, isBelow, Flags, zeroBytes};
+ghost use Rattle.words.specs.Words.{wordOf, Word, ONES, bytesOf, asciiStop, ordinary, cleanAscii, cleanText, plainText, isByte, isBelow, Flags, zeroBytes, LastBytes};
 
 // Eight bytes as one number, the first lowest. They are joined by |, of which the compiler makes one load at once: of a sum it does so only
 // after it has found a caller's loop too long to stand where it is called, and tables of short cells took a tenth more time.
@@ -44,6 +44,58 @@ pub fn word(s: &[u8], i: usize) -> u64
         s[i + 7],
     )
 }
+
+// ---- the last bytes of a stretch
+
+// Four bytes as one number.
+fn joined_four(b0: u8, b1: u8, b2: u8, b3: u8) -> u64
+    ensures { λ r. ⌜ (bytesOf 4 r ≡ b0 ∷ b1 ∷ b2 ∷ b3 ∷ []) × (r < 0x100000000) ⌝ }
+{
+    (b0 as u64) | (b1 as u64) * 0x100 | (b2 as u64) * 0x10000 | (b3 as u64) * 0x1000000
+}
+
+fn four(s: &[u8], i: usize) -> u64
+    requires { ⌜ i + 4 ≤ length (now s) ⌝ }
+    ensures { λ r. ⌜ (bytesOf 4 r ≡ slice (now (s .entry)) i (i + 4)) × (r < 0x100000000) ⌝ }
+{
+    joined_four(s[i], s[i + 1], s[i + 2], s[i + 3])
+}
+
+// Two times four bytes.
+fn fours(s: &[u8], i: usize, j: usize) -> u64
+    requires { ⌜ (i + 4 ≤ length (now s)) × (j + 4 ≤ length (now s)) ⌝ }
+    ensures { λ r. ⌜ bytesOf 8 r ≡ slice (now (s .entry)) i (i + 4) ++ slice (now (s .entry)) j (j + 4) ⌝ }
+{
+    four(s, i) | four(s, j) * 0x100000000
+}
+
+// Three bytes, and the rest filled up.
+fn three(s: &[u8], i: usize, j: usize, k: usize) -> u64
+    requires { ⌜ (i < length (now s)) × (j < length (now s)) × (k < length (now s)) ⌝ }
+    ensures { λ r. ⌜ bytesOf 8 r ≡ getD (now (s .entry)) i 0 ∷ getD (now (s .entry)) j 0 ∷ getD (now (s .entry)) k 0 ∷ 0x20 ∷ 0x20 ∷ 0x20 ∷ 0x20 ∷ 0x20 ∷ [] ⌝ }
+{
+    joined(s[i], s[j], s[k], 0x20, 0x20, 0x20, 0x20, 0x20)
+}
+
+// The last eight bytes of a stretch. Of fewer, some stand in the word twice: so no byte outside is read, and none by itself.
+pub fn last_word(s: &[u8], from: usize, upto: usize) -> u64
+    requires { ⌜ (from ≤ upto) × (upto ≤ length (now s)) ⌝ }
+    ensures { λ r. ⌜ LastBytes (now (s .entry)) from upto r ⌝ }
+{
+    let n = upto - from;
+    if 8 <= n {
+        return word(s, upto - 8);
+    }
+    if 4 <= n {
+        return fours(s, from, upto - 4);
+    }
+    if n == 0 {
+        return 0x2020202020202020;
+    }
+    three(s, from, from + n / 2, upto - 1)
+}
+
+// ---- tests of bytes
 
 // A stop, eight times. Bytes from 80 hex on are not ordinary or clean anyway, so a stop that is one of them is as good as 0, which is not
 // either.
@@ -91,6 +143,29 @@ pub fn no_digit(w: u64) -> u64
     let above = ascii + 0x4646464646464646;
     let below = 0xAFAFAFAFAFAFAFAF - ascii;
     (w | above | below) & 0x8080808080808080
+}
+
+// The top bit of each byte that is not clean in a text. Of ASCII the low bits tell: to flip 02 hex leaves what is below 20 there, and of
+// the others brings the quotation mark alone to 20, so that one sum tells both from what is above. A byte from 80 hex on is clean.
+pub fn unclean_text(w: u64) -> u64
+    ensures { λ r. ⌜ Flags cleanText w r ⌝ }
+{
+    let low = w & 0x7F7F7F7F7F7F7F7F;
+    let no_mark = (low ^ 0x0202020202020202) + 0x5F5F5F5F5F5F5F5F;
+    let no_backslash = (low ^ 0x5C5C5C5C5C5C5C5C) + 0x7F7F7F7F7F7F7F7F;
+    (((no_mark & no_backslash) | w) & 0x8080808080808080) ^ 0x8080808080808080
+}
+
+// The top bit of each byte that is not plain in a text: of ASCII it is told as in `unclean_text`, and of the others ED hex alone is not.
+pub fn unplain_text(w: u64) -> u64
+    ensures { λ r. ⌜ Flags plainText w r ⌝ }
+{
+    let low = w & 0x7F7F7F7F7F7F7F7F;
+    let no_mark = (low ^ 0x0202020202020202) + 0x5F5F5F5F5F5F5F5F;
+    let no_backslash = (low ^ 0x5C5C5C5C5C5C5C5C) + 0x7F7F7F7F7F7F7F7F;
+    let no_ed = (low ^ 0x6D6D6D6D6D6D6D6D) + 0x7F7F7F7F7F7F7F7F;
+    let ascii = no_mark & no_backslash & (w ^ 0xFFFFFFFFFFFFFFFF);
+    ((ascii | (no_ed & w)) & 0x8080808080808080) ^ 0x8080808080808080
 }
 
 // The top bit of each byte that is not `c`: a byte of the difference is not 0, so its low bits reach that bit, or it is set already.
