@@ -186,7 +186,7 @@ fn is_number(s: &[u8], at: usize, end: usize, stop: usize) -> bool
     last == end
 }
 
-// Where a cell without quotes of CSVJ ends. A short number is mostly followed by a comma, and that is looked for first.
+// Where a cell without quotes of CSVJ ends; first by a guess, a number before the next comma.
 pub fn value_end(s: &[u8], at: usize, stop: usize) -> usize
     requires { ⌜ (at < stop) × (stop ≤ length (now s)) ⌝ }
     ensures { λ r. ⌜ (r < stop → EndsFrom Csvj (now (s .entry)) stop Fresh at r) ⌝ }

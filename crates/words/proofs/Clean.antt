@@ -1,14 +1,14 @@
 -- The test for clean ASCII: each of its numbers tells of one test by the top digit of each byte, and together they tell of all.
 use Prim.Native.Nat.{ℕ, _*_, _-_, _%_, _^_, _≤_, _<_}
 use native.Mathlib.Omega.{arith}
-use mathlib.Core.Path.{_≡_, refl, ap, _∙_}
+use mathlib.Core.Path.{_≡_, refl}
 use mathlib.Core.Bool.{Bool, true, false, not, _&&_, and-true, and-false}
 use lib.Dec.{ltb, leb}
-use lib.Bits.{bitAnd, bitOr, bitXor, and-mask, and-high, and-le-r}
+use lib.Bits.{bitAnd, bitOr, bitXor, and-mask, and-le-r}
 use borrow.Author.Tests.{le-leb, lt-leb, ltb-true, ltb-false, leb-true, leb-false, eqb-true, eqb-false}
 use Rattle.model.specs.Base.{if_then_else_, _is_}
 use Rattle.model.proofs.Tests.{split-on}
-use Rattle.words.specs.Words.{cleanAscii, ONES, bytesOf, asciiStop, flagOf, Flags}
+use Rattle.words.specs.Words.{cleanAscii, ONES, asciiStop, Flags}
 use Rattle.words.proofs.Tops.{Top}
 use Rattle.words.proofs.Flags.{flags-same}
 use Rattle.words.proofs.Telling.{digitOf, Tells, tell-both, tell-flags, top-by, tell-ascii}

@@ -8,7 +8,7 @@ use lib.Bits.{bitAnd, bitOr, and-mask, and-le-r}
 use borrow.Author.Tests.{lt-leb, ltb-true, ltb-false, leb-true, leb-false}
 use Rattle.model.specs.Cell.{isDigit}
 use Rattle.model.proofs.Tests.{split-on}
-use Rattle.words.specs.Words.{bytesOf, Flags}
+use Rattle.words.specs.Words.{Flags}
 use Rattle.words.proofs.Bytewise.{all-bytes, eight-times, add-bytes, sub-bytes}
 use Rattle.words.proofs.Tops.{Top}
 use Rattle.words.proofs.Flags.{flags-same}

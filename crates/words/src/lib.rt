@@ -190,8 +190,8 @@ pub fn before_flag(flags: u64) -> usize
     (u64::trailing_zeros(flags) as usize) / 8
 }
 
-// A guess at how many bytes stand before the first `c`, and 8 where none seems to be one. A byte that differs in its top bit alone is taken
-// for it. Nothing is promised: who goes by the guess tests it, and the next place is known before the test is done.
+// A guess at how many bytes stand before the first `c`; 8: none seems to be one. It takes fewer steps than a test, as a byte that differs in
+// its top bit alone is taken for `c`. Nothing is promised of it, so who goes by it tests it.
 pub fn guess(w: u64, c: u8) -> usize {
     let near = (0x8080808080808080 - ((w & 0x7F7F7F7F7F7F7F7F) ^ eight_stops(c)))
         & 0x8080808080808080;
