@@ -4,3 +4,4 @@ pub mod Joined
 pub mod Records
 pub mod Lengths
 pub mod Holding
+pub mod Cleanness

@@ -30,3 +30,8 @@ pub record Lies (s : Bytes) (from upto : ℕ) : Type 0 where
 pub record Stretches (s : Bytes) (starts ends : List ℕ) : Type 0 where
   pub with-ends : length starts ≡ length ends
   pub each : (k : ℕ) → k < length starts → Lies s (getD starts k 0) (getD ends k 0)
+
+-- as many ends as starts, and each start with its end a part of s
+pub record Parts (s : Bytes) (starts ends : List ℕ) : Type 0 where
+  pub with-ends : length starts ≡ length ends
+  pub each : (k : ℕ) → k < length starts → (getD starts k 0 ≤ getD ends k 0) × (getD ends k 0 ≤ length s)

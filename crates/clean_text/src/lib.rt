@@ -1,5 +1,5 @@
 // The text of a data record of a file in a target. Where each of its cells is a text that stands in it as it is, none is looked at byte by
-// byte; every other record goes to `spell`.
+// byte; every other record goes to `spell`. Of a record of which this is not told, it may be asked.
 ghost use mathlib.Core.Path.{_≡_};
 ghost use mathlib.Core.Bool.{true, false};
 ghost use Rattle.model.specs.Dialect.{into};
@@ -10,12 +10,14 @@ ghost use Rattle.buffers.specs.Wrote.{Room, Put};
 ghost use Rattle.decoder.specs.declared.source.Source.the-variants.{File};
 ghost use Rattle.decoder.specs.Sources.{cellsIn, Cells};
 ghost use Rattle.spell.specs.Passing.{quotesAll};
+ghost use Rattle.clean_text.specs.Joined.{Parts};
 use decoder::source::Source;
 use model::Dialect;
 use model::Verdict;
 use spell::record;
 use spell::record::RecordText;
 
+mod asked;
 mod marks;
 mod plus;
 mod quoted;
@@ -81,4 +83,25 @@ pub fn put(
         at,
         write,
     )
+}
+
+// Whether each cell of a record is clean. Where one is not, no cell after it is looked at.
+pub fn is_clean(d: Dialect, s: &[u8], starts: &[usize], ends: &[usize]) -> bool
+    requires { ⌜ Parts (now s) (now starts) (now ends) ⌝ }
+    ensures { λ r. ⌜ (r ≡ true → CleanIn d (now (s .entry)) (now (starts .entry)) (now (ends .entry))) ⌝ }
+{
+    if cell_lexer::quote_of(d) != 0x22 {
+        return false;
+    }
+    let bare = asked::may_be_bare(d);
+    let mut n = 0;
+    while n < starts.len() {
+        let from = starts[n];
+        let upto = ends[n];
+        if !asked::is_clean(bare, &s[from..upto]) {
+            return false;
+        }
+        n += 1;
+    }
+    true
 }
