@@ -180,9 +180,12 @@ cells-kept d s ends short h w =
 
 -- ---- a text and what follows it
 
+pub whole-room : {out : Bytes} {o : ℕ} (w : Bytes) → o + length w ≤ length out → Room true o w out
+whole-room w h = record { measured = λ e. impossible (sym e); inside = λ _. h }
+
 module _ {out : Bytes} {o : ℕ} (w v : Bytes) (h : o + length (w ++ v) ≤ length out) where
   both-room : Putting true out o (w ++ v) out o (w ++ v)
-  both-room = putting true (record { measured = λ e. impossible (sym e); inside = λ _. h })
+  both-room = putting true (whole-room (w ++ v) h)
 
   pub first-room : Room true o w out
   first-room = room-next w v both-room

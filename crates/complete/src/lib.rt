@@ -19,6 +19,7 @@ ghost use Rattle.decoder.specs.declared.source.Source.the-variants.{File};
 ghost use Rattle.decoder.specs.Followed.{EdFollowed};
 ghost use Rattle.decoder.specs.Sources.{cellsIn, Cells};
 ghost use Rattle.carried.specs.Sound.{InOrder};
+ghost use Rattle.cell_ends.specs.Ends.{CleanIn};
 ghost use Rattle.complete.specs.Completing.{faultAt, textAt, startsBy, endOf, HoldsNoEd, Finishes, Ruled};
 use carried::hand;
 use carried::place::Place;
@@ -66,8 +67,10 @@ fn judged(
     ends: &[usize],
     kinds: &[u8],
     p: Place,
+    clean: bool,
 ) -> Ruling
     requires { ⌜ Cells (File d) (now s) (now starts) (now ends) (now kinds) ⌝ }
+    requires { ⌜ (clean ≡ true → CleanIn d (now s) (now starts) (now ends)) ⌝ }
     requires { ⌜ p .written ≤ MAXFILE ⌝ }
     ensures { λ r. ⌜ r .verdict ≡ faultAt d (into t) p (cellsIn (File d) (now (s .entry)) (now (starts .entry)) (now (ends .entry)) (now (kinds .entry))) ⌝ }
     ensures { λ r. ⌜ (r .verdict ≡ Sound → r .length ≡ length (textAt (into t) p (cellsIn (File d) (now (s .entry)) (now (starts .entry)) (now (ends .entry)) (now (kinds .entry))))) ⌝ }
@@ -77,16 +80,12 @@ fn judged(
             verdict: Verdict::Faulty(e),
             length: 0,
         },
-        Verdict::Sound => target::judged(
-            Source::File(d),
-            t,
-            s,
-            starts,
-            ends,
-            kinds,
-            p.records == 0,
-            p.written,
-        ),
+        Verdict::Sound => {
+            if p.records == 0 {
+                return target::judged(Source::File(d), t, s, starts, ends, kinds, true, p.written);
+            }
+            target::judged_data(d, t, s, starts, ends, kinds, clean, p.written)
+        }
     }
 }
 
@@ -99,14 +98,19 @@ fn put(
     ends: &[usize],
     kinds: &[u8],
     header: bool,
+    clean: bool,
     out: &mut [u8],
     o: usize,
 ) -> usize
     requires { ⌜ Cells (File d) (now s) (now starts) (now ends) (now kinds) ⌝ }
+    requires { ⌜ (clean ≡ true → CleanIn d (now s) (now starts) (now ends)) ⌝ }
     requires { ⌜ o + length (recordText (into t) header (cellsIn (File d) (now s) (now starts) (now ends) (now kinds)) ++ ending t) ≤ length (now out) ⌝ }
     ensures { λ r. ⌜ r ≡ o + length (recordText (into t) header (cellsIn (File d) (now (s .entry)) (now (starts .entry)) (now (ends .entry)) (now (kinds .entry))) ++ ending t) ⌝ }
     ensures { λ r. ⌜ now (out .exit) ≡ written (now (out .entry)) o (recordText (into t) header (cellsIn (File d) (now (s .entry)) (now (starts .entry)) (now (ends .entry)) (now (kinds .entry))) ++ ending t) ⌝ }
 {
+    if !header {
+        return target::put_data(d, t, s, starts, ends, kinds, clean, out, o);
+    }
     let x = record::put(
         Source::File(d),
         t,
@@ -138,7 +142,8 @@ fn finished(
     requires { ⌜ (p .written ≤ MAXFILE) × (o ≤ length (now out)) ⌝ }
     ensures { λ r. ⌜ Finishes (faultAt d (into t) p (cellsIn (File d) (now (s .entry)) (now (starts .entry)) (now (ends .entry)) (now (kinds .entry)))) (textAt (into t) p (cellsIn (File d) (now (s .entry)) (now (starts .entry)) (now (ends .entry)) (now (kinds .entry)))) o (now (out .entry)) (now (out .exit)) r ⌝ }
 {
-    let r = judged(d, t, s, starts, ends, kinds, p);
+    let clean = clean_text::is_clean(d, s, starts, ends);
+    let r = judged(d, t, s, starts, ends, kinds, p, clean);
     let v = r.verdict;
     match v {
         Verdict::Faulty(e) => Done::Refused(e),
@@ -146,7 +151,7 @@ fn finished(
             if out.len() - o < r.length {
                 return Done::Lost;
             }
-            Done::Written(put(d, t, s, starts, ends, kinds, p.records == 0, out, o))
+            Done::Written(put(d, t, s, starts, ends, kinds, p.records == 0, clean, out, o))
         }
     }
 }

@@ -11,6 +11,7 @@ use Rattle.model.specs.Text.{Value}
 use Rattle.decoder.specs.declared.source.Source.the-variants.{File}
 use Rattle.decoder.specs.Sources.{cellsIn}
 use Rattle.buffers.proofs.Writing.{length-written}
+use Rattle.clean_text.proofs.Cleanness.{parts-of}
 use Rattle.complete.specs.Completing.{textAt, is-written, is-refused, has-no-room}
 use Rattle.complete.proofs.finished.Statement.{statement}
 use Rattle.complete.proofs.finished.Tie as tie
@@ -21,9 +22,12 @@ cells s = let a = s .args in cellsIn (File (a .d)) (a .s .now) (a .starts .now) 
 abbrev text : tie.Start → Bytes
 text s = textAt (into (s .args .t)) (s .args .p) (cells s)
 
+is-clean-requires : tie.Need-is-clean-requires
+is-clean-requires c κs = parts-of (c .before .before .before .before .before .pre .0)
+
 returns : tie.Need-returns
 returns c =
-    let s = c .before .before .before .before .before .before .before .before .before .before in
+    let s = c .before .before .before .before .before .before .before .before .before .before .before in
     let j = c .before .before .before .before .judged in
     let told = c .before .before .enum-told .given .1 in
     let long : j .result .length ≡ length (text s) = j .ensures .1 told in
@@ -34,13 +38,13 @@ returns c =
 put-requires : tie.Need-put-requires
 put-requires c κs =
     let left = c .before .before in
-    let s = left .before .before .before .before .before .before .before .before .before .before in
+    let s = left .before .before .before .before .before .before .before .before .before .before .before in
     let j = left .before .before .before .before .judged in
     let told = left .before .before .enum-told .given .1 in
     let long : j .result .length ≡ length (text s) = j .ensures .1 told in
     let o : s .args .o ≤ length (s .args .out .now) = s .pre .1 .1 in
     let room : j .result .length ≤ length (s .args .out .now) - s .args .o = left .if1 .left in
-    (s .pre .0, omega arith)
+    (s .pre .0, (left .before .before .before .before .before .is-clean .ensures, omega arith))
 
 returns-2 : tie.Need-returns-2
 returns-2 c =
@@ -51,7 +55,7 @@ returns-3 : tie.Need-returns-3
 returns-3 c =
     let put = c .before .before .put in
     let left = c .before .before .before .before .before in
-    let s = left .before .before .before .before .before .before .before .before .before .before in
+    let s = left .before .before .before .before .before .before .before .before .before .before .before in
     let j = left .before .before .before .before .judged in
     let told = left .before .before .enum-told .given .1 in
     let long : j .result .length ≡ length (text s) = j .ensures .1 told in
@@ -63,7 +67,7 @@ same-length : tie.Need-same-length
 same-length c =
     let put = c .before .before .put in
     let left = c .before .before .before .before .before in
-    let s = left .before .before .before .before .before .before .before .before .before .before in
+    let s = left .before .before .before .before .before .before .before .before .before .before .before in
     let j = left .before .before .before .before .judged in
     let told = left .before .before .enum-told .given .1 in
     let long : j .result .length ≡ length (text s) = j .ensures .1 told in
@@ -74,4 +78,4 @@ same-length c =
 pub finished-spec : {M : Type 1} → statement M
 finished-spec =
     tie.close
-    (tie.spec (λ c κs. search needs) (λ c. search needs) (λ c. search needs) (λ c. search needs) returns put-requires returns-2 same-length returns-3)
+    (tie.spec is-clean-requires (λ c κs. search needs) (λ c. search needs) (λ c. search needs) (λ c. search needs) returns put-requires returns-2 same-length returns-3)

@@ -1,13 +1,22 @@
 -- What the source asks comes first, and then what the target asks.
-use mathlib.Core.Path.{_≡_, sym, _∙_}
+use mathlib.Core.Path.{_≡_, sym, ap, _∙_}
+use mathlib.Core.Bool.{Bool, true, false}
+use mathlib.Core.List.{List, _++_}
 use Prim.Native.Nat.{ℕ}
 use native.Mathlib.Omega.{arith}
+use lib.ListN.{length}
 use borrow.Author.Needs.{needs}
-use Rattle.model.specs.Records.{_orElse_}
+use borrow.Author.Tests.{eq-eqb, ne-eqb}
+use Rattle.model.specs.Base.{_is_}
+use Rattle.model.specs.Dialect.{into}
+use Rattle.model.specs.Text.{Value, recordText, ending}
+use Rattle.model.specs.Records.{_orElse_, targetFault}
+use Rattle.decoder.specs.declared.source.Source.the-variants.{File}
+use Rattle.decoder.specs.Sources.{cellsIn}
 use Rattle.model.specs.declared.Fault.{Fault}
 use Rattle.model.specs.declared.Verdict.{Verdict}
 use Rattle.model.specs.declared.Verdict.the-variants.{Sound, Faulty}
-use Rattle.complete.specs.Completing.{faultAt}
+use Rattle.complete.specs.Completing.{faultAt, textAt}
 use Rattle.complete.proofs.judged.Statement.{statement}
 use Rattle.complete.proofs.judged.Tie as tie
 
@@ -22,17 +31,48 @@ or-sound v w h = rw h
 not-sound : {A : Type 0} (e : Fault) → Faulty e ≡ Sound → A
 not-sound e h = let z : _≡_ {A = ℕ} 0 1 = cc in absurd (omega arith)
 
+abbrev cells : tie.Start → List Value
+cells s = let a = s .args in cellsIn (File (a .d)) (a .s .now) (a .starts .now) (a .ends .now) (a .kinds .now)
+
+-- what the target asks of a record in a row, whether it is the header or not
+module _ (s : tie.Start) (header : Bool) (same : (s .args .p .records is 0) ≡ header) where
+  asked-here : targetFault (into (s .args .t)) header (s .args .p .written) (cells s) ≡ targetFault (into (s .args .t)) (s .args .p .records is 0) (s .args .p .written) (cells s)
+  asked-here = ap (λ (b : Bool). targetFault (into (s .args .t)) b (s .args .p .written) (cells s)) (sym same)
+
+  long-here : length (recordText (into (s .args .t)) header (cells s) ++ ending (s .args .t)) ≡ length (textAt (into (s .args .t)) (s .args .p) (cells s))
+  long-here = ap (λ (b : Bool). length (recordText (into (s .args .t)) b (cells s) ++ ending (s .args .t))) (sym same)
+
 returns : tie.Need-returns
 unfolding faultAt
 returns c =
-    let e = c .before .e .given in
-    (sym (or-faulty _ _ _ (sym (c .before .before .before .asked-by-source .ensures) ∙ e .1)), λ h. not-sound _ h)
+    let s = c .before .before .before .before .before .before .before .before .before .before in
+    let asked = c .before .before .before .before .before .asked-by-source in
+    let header = eq-eqb _ _ (c .before .if1 .taken) in
+    ((c .judged .ensures .0 ∙ asked-here s true header) ∙ sym (or-sound _ _ (sym (asked .ensures) ∙ c .before .before .before .enum-told .given .1)), λ h. c .judged .ensures .1 h ∙ long-here s true header)
 
 returns-2 : tie.Need-returns-2
 unfolding faultAt
 returns-2 c =
-    let asked = c .before .before .before .before .asked-by-source in
-    (c .judged .ensures .0 ∙ sym (or-sound _ _ (sym (asked .ensures) ∙ c .before .before .enum-told .given .1)), c .judged .ensures .1)
+    let e = c .before .e .given in
+    (sym (or-faulty _ _ _ (sym (c .before .before .before .asked-by-source .ensures) ∙ e .1)), λ h. not-sound _ h)
+
+returns-3 : tie.Need-returns-3
+unfolding faultAt
+returns-3 c =
+    let s = c .before .before .before .before .before .before .before .before .before .before in
+    let asked = c .before .before .before .before .before .asked-by-source in
+    let data-record = ne-eqb _ _ (c .before .if1 .left) in
+    ((c .judged-data .ensures .0 ∙ asked-here s false data-record) ∙ sym (or-sound _ _ (sym (asked .ensures) ∙ c .before .before .before .enum-told .given .1)), λ h. c .judged-data .ensures .1 h ∙ long-here s false data-record)
 
 pub judged-spec : {M : Type 1} → statement M
-judged-spec = tie.close (tie.spec (λ c κs. search needs) (λ c. search needs) (λ c. search needs) (λ c κs. search needs) returns returns-2)
+judged-spec =
+    tie.close
+    (tie.spec
+    (λ c κs. search needs)
+    (λ c. search needs)
+    (λ c. search needs)
+    (λ c κs. search needs)
+    returns
+    (λ c κs. search needs)
+    returns-2
+    returns-3)
