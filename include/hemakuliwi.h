@@ -113,7 +113,7 @@ struct hk_text_answer {
 /* A whole file in the dialect `from` to its canonical text in the dialect `to`, in `room`. Bytes past the text are left as they were. A
    file is refused with its first fault; HK_NOT_CARRIED is asked of each record as it ends, so that it can come before another fault of a
    later record. HK_ROOM only if nothing else is wrong and the text is longer than the room: HK_CONVERT_ROOM(file_length) is enough.
-   Stack of hk_convert: 11,000 bytes. */
+   Stack of hk_convert: 11,300 bytes. */
 struct hk_text_answer hk_convert(uint32_t from, uint32_t to, const uint8_t *file, size_t file_length, uint8_t *room, size_t room_length);
 
 /* A table to its canonical text, in `room`. Cells come record by record, the header first, and `records` counts the header too: cell i
@@ -190,7 +190,7 @@ struct hk_piece_answer hk_piece(struct hk_converter converter, const uint8_t *pi
 struct hk_piece_answer hk_end(struct hk_converter converter, uint8_t *out, size_t out_length);
 
 /* The same over the fields of a converter where they are, so that nothing is copied.
-   Stack of hk_piece_lent: 12,000 bytes. Stack of hk_end_lent: 10,800 bytes. */
+   Stack of hk_piece_lent: 12,300 bytes. Stack of hk_end_lent: 10,800 bytes. */
 struct hk_text_answer hk_piece_lent(uint32_t source, uint32_t target, size_t numbers[14], size_t ends[HK_COLUMNS],
                                     size_t name_ends[HK_COLUMNS], uint8_t bytes[HK_RECORD_BYTES], uint8_t names[HK_RECORD_BYTES],
                                     const uint8_t *piece, size_t piece_length, uint8_t *out, size_t out_length);
@@ -199,7 +199,7 @@ struct hk_text_answer hk_end_lent(uint32_t source, uint32_t target, size_t numbe
                                   uint8_t *out, size_t out_length);
 
 /* The same over a converter, which is what a program calls.
-   Stack of hk_converter_piece: 12,000 bytes. Stack of hk_converter_end: 10,800 bytes. */
+   Stack of hk_converter_piece: 12,300 bytes. Stack of hk_converter_end: 10,800 bytes. */
 static inline struct hk_text_answer hk_converter_piece(struct hk_converter *converter, const uint8_t *piece, size_t piece_length,
                                                        uint8_t *out, size_t out_length) {
     return hk_piece_lent(converter->source, converter->target, converter->numbers, converter->ends, converter->name_ends, converter->bytes,
