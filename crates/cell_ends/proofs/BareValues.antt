@@ -22,7 +22,8 @@ use Rattle.model.proofs.Tests.{and-true, within-true, split-on}
 use Rattle.words.specs.Words.{allPass}
 use Rattle.runs.proofs.Runs.{part-next}
 use Rattle.cell_ends.specs.TextRuns.{PassRun}
-use Rattle.cell_ends.specs.Coming.{Comes, EndsFrom}
+use Rattle.cell_ends.specs.Ends.{EndsFrom}
+use Rattle.cell_ends.specs.Coming.{Comes}
 use Rattle.cell_ends.specs.BareValues.{Digits, isLetterE, BeginsNumber, unsigned, negative, afterInteger, IntegerEnd, FractionEnd, FourLetters}
 use Rattle.cell_ends.proofs.Coming.{comes-none, comes-on, comes-byte, comes-ends, ends-here, text-comes}
 use Rattle.cell_ends.proofs.TextRuns.{low-text}

@@ -25,9 +25,9 @@ use Rattle.utf8.specs.Wide.{charsFrom}
 use Rattle.utf8.proofs.WideTexts.{part-join}
 use Rattle.runs.specs.Run.{cellRun}
 use Rattle.runs.proofs.Runs.{rest-more, rest-stops}
-use Rattle.cell_ends.specs.Ends.{Told}
+use Rattle.cell_ends.specs.Ends.{EndsFrom, Told}
 use Rattle.cell_ends.specs.TextRuns.{TextRun}
-use Rattle.cell_ends.specs.Coming.{Comes, EndsFrom}
+use Rattle.cell_ends.specs.Coming.{Comes}
 
 pub comes-none : (d : Dialect) (s : Bytes) (stop : ℕ) (c : Cell) (at : ℕ) → at ≤ stop → Comes d s stop c at c at
 comes-none d s stop c at h = record { from = omega arith; upto = h; rest = refl }
@@ -58,7 +58,7 @@ untold d s at stop clean = record { ends = λ h. absurd (omega arith); content =
 
 -- of a cell that is not clean
 pub value-told : {d : Dialect} {s : Bytes} {at stop end : ℕ} → (end < stop → EndsFrom d s stop Fresh at end) → Told d s at stop end false
-value-told f = record { ends = λ h. let x = f h in record { cell = x .cell; ran = x .ran }; content = λ h e. impossible e }
+value-told f = record { ends = f; content = λ h e. impossible e }
 
 -- ---- bytes that lead from one cell to another by the state of a text
 

@@ -23,9 +23,9 @@ use Rattle.model.specs.Cell.{mayBeEmpty, firstByte, plainByte, cellStep}
 use Rattle.model.proofs.Tests.{impossible}
 use Rattle.runs.specs.declared.CellEnd.the-variants.{Stopped}
 use Rattle.runs.proofs.Runs.{rest-more, rest-stops, rest-refused}
-use Rattle.cell_ends.specs.Ends.{bare, Told}
+use Rattle.cell_ends.specs.Ends.{bare, EndsFrom, Told}
 use Rattle.cell_ends.specs.TextRuns.{TextRun, isOpen}
-use Rattle.cell_ends.specs.Coming.{EndsFrom, isEnd}
+use Rattle.cell_ends.specs.Coming.{isEnd}
 use Rattle.cell_ends.proofs.Coming.{ends-here}
 use Rattle.cell_ends.proofs.TextRuns.{text-clean, plain-comes}
 
@@ -81,4 +81,4 @@ pub plain-told : (d : Dialect) {s : Bytes} {at stop i : ℕ} → mayBeEmpty d �
 plain-told d {s} {at} {stop} {i} m h k n x l e =
     let plain = ends-here (plain-comes d x k) l k (end-stops d (getD s i 0) m e) in
     let whole = same-end Fresh (Plain Whole) h k (first-same d (getD s at 0) m n) plain in
-    record { ends = λ _. record { cell = whole .cell; ran = whole .ran }; content = λ _ _. bare m (text-clean (delimiterOf d) (quoteOf d) x .each) }
+    record { ends = λ _. whole; content = λ _ _. bare m (text-clean (delimiterOf d) (quoteOf d) x .each) }

@@ -21,30 +21,17 @@ use Rattle.model.specs.Cell.{quotedByte, plainByte, cellStep}
 use Rattle.model.specs.Api.{slice}
 use Rattle.model.proofs.Tests.{and-true, within-true, impossible}
 use Rattle.model.proofs.Utf8.{ascii-whole, quote-ascii}
-use Rattle.words.specs.Words.{cleanAscii, allPass}
+use Rattle.words.specs.Words.{cleanAscii, isClean, allPass}
+use Rattle.words.proofs.CleanBytes.{clean-is}
 use Rattle.words.proofs.AllPass.{all-join, all-weaker}
 use Rattle.utf8.specs.Wide.{charsFrom, allHigh, WideRun}
 use Rattle.utf8.proofs.WideTexts.{part-join, chars-on, chars-join}
 use Rattle.runs.proofs.Runs.{part-end}
-use Rattle.cell_ends.specs.Ends.{isClean}
 use Rattle.cell_ends.specs.TextRuns.{PassRun, TextRun, isOpen}
 use Rattle.cell_ends.specs.Coming.{Comes, InQuotes, Passed, QuotedText}
 use Rattle.cell_ends.proofs.Coming.{comes-none, comes-on, text-comes}
 
 -- ---- what the tests say
-
--- a clean byte
-pub record Clean (quote b : ℕ) : Type 0 where
-  pub least : 0x20 ≤ b
-  pub no-quote : (b is quote) ≡ false
-  pub no-backslash : (b is BACKSLASH) ≡ false
-
-pub clean-is : (quote b : ℕ) → isClean quote b ≡ true → Clean quote b
-unfolding isClean
-clean-is quote b e =
-    let x = and-true (leb 0x20 b && not (b is quote)) (not (b is BACKSLASH)) e in
-    let y = and-true (leb 0x20 b) (not (b is quote)) (x .0) in
-    record { least = leb-true 0x20 b (y .0); no-quote = not-true (b is quote) (y .1); no-backslash = not-true (b is BACKSLASH) (x .1) }
 
 ascii-open : (p q b : ℕ) → cleanAscii p q b ≡ true → (isOpen p q b ≡ true) × (b ≤ 0x7F)
 unfolding cleanAscii isOpen isClean

@@ -10,21 +10,15 @@ use Rattle.model.specs.declared.Cell.the-variants.{Quoted}
 use Rattle.model.specs.Base.{Bytes, _is_, LF, CR}
 use Rattle.model.specs.Dialect.{quoteOf}
 use Rattle.model.specs.Api.{slice}
-use Rattle.words.specs.Words.{allPass}
-use Rattle.runs.specs.declared.CellEnd.the-variants.{Stopped}
+use Rattle.words.specs.Words.{isClean, allPass}
 use Rattle.runs.specs.Run.{cellRun}
-use Rattle.cell_ends.specs.Ends.{isClean}
+use Rattle.cell_ends.specs.Ends.{EndsFrom}
 
 -- the cell c at this place is the cell t at r, where the bytes before r have been read
 pub record Comes (d : Dialect) (s : Bytes) (stop : ℕ) (c : Cell) (at : ℕ) (t : Cell) (r : ℕ) : Type 0 where
   pub from : at ≤ r
   pub upto : r ≤ stop
   pub rest : cellRun d c at (slice s at stop) ≡ cellRun d t r (slice s r stop)
-
--- the cell c at this place ends before the byte at `end`, which is before `stop`
-pub record EndsFrom (d : Dialect) (s : Bytes) (stop : ℕ) (c : Cell) (at end : ℕ) : Type 0 where
-  pub cell : Cell
-  pub ran : cellRun d c at (slice s at stop) ≡ Stopped cell end
 
 -- between quotes at both places
 abbrev pub InQuotes : (d : Dialect) (s : Bytes) (stop at r : ℕ) → Type 0

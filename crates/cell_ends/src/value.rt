@@ -8,7 +8,7 @@ ghost use Rattle.model.specs.declared.Cell.{Cell};
 ghost use Rattle.model.specs.declared.Cell.the-variants.{Fresh};
 ghost use Rattle.model.specs.Cell.{isDigit};
 ghost use Rattle.cell_ends.specs.TextRuns.{PassRun};
-ghost use Rattle.cell_ends.specs.Coming.{EndsFrom};
+ghost use Rattle.cell_ends.specs.Ends.{EndsFrom};
 ghost use Rattle.cell_ends.specs.BareValues.{Digits, isLetterE, BeginsNumber, IntegerEnd, FractionEnd, FourLetters};
 
 // Behind the digits from `at` on.

@@ -15,18 +15,14 @@ use Rattle.model.proofs.Tests.{split-on}
 use Rattle.model.specs.Dialect.{quoteOf}
 use Rattle.model.specs.Cell.{mayBeEmpty}
 use Rattle.model.specs.Api.{slice}
-use Rattle.words.specs.Words.{allPass, cleanText, AllIn}
-use Rattle.words.proofs.Stretches.{in-all, in-weaker}
+use Rattle.words.specs.Words.{allPass, isClean, AllIn}
+use Rattle.words.proofs.Stretches.{in-all}
 use Rattle.buffers.proofs.Writing.{drop-next}
 use Rattle.decoder.specs.declared.source.Source.{Source}
 use Rattle.decoder.specs.Sources.{Cells}
-use Rattle.cell_ends.specs.Ends.{isClean, CleanCell, bare, quoted, CleanIn}
+use Rattle.cell_ends.specs.Ends.{CleanCell, bare, quoted, CleanIn}
 use Rattle.spell.specs.Passing.{Marks, no-marks, a-mark}
 use Rattle.clean_text.specs.Joined.{Parts}
-
-clean-in : {raw : Bytes} {i j : ℕ} → AllIn cleanText raw i j → j ≤ length raw → allPass (isClean QUOTE) (slice raw i j) ≡ true
-unfolding cleanText isClean
-clean-in x h = in-all (isClean QUOTE) (in-weaker cleanText (isClean QUOTE) (λ b e. e) x) h
 
 whole : (raw : Bytes) → slice raw 0 (length raw) ≡ raw
 whole raw = let n : length raw - 0 ≡ length raw = omega arith in rw n (take-length raw)
@@ -39,13 +35,13 @@ between-marks raw h o k =
     let rest : drop 1 raw ≡ slice raw 1 (length raw - 1) ++ drop (length raw - 1) raw = sym (take-append-drop (length raw - 1 - 1) (drop 1 raw)) ∙ rw (drop-drop, n) in
     first ∙ ap (λ (l : Bytes). QUOTE ∷ l) (rest ∙ rw last)
 
-pub marks-clean : (d : Dialect) {raw : Bytes} {n : ℕ} → quoteOf d ≡ QUOTE → Marks raw n → (n ≡ 0 → mayBeEmpty d ≡ true) → AllIn cleanText raw n (length raw - n) → CleanCell d raw
+pub marks-clean : (d : Dialect) {raw : Bytes} {n : ℕ} → quoteOf d ≡ QUOTE → Marks raw n → (n ≡ 0 → mayBeEmpty d ≡ true) → AllIn (isClean QUOTE) raw n (length raw - n) → CleanCell d raw
 marks-clean d {raw} q no-marks m x =
     let n : length raw - 0 ≡ length raw = omega arith in
-    let all : allPass (isClean QUOTE) raw ≡ true = rw (whole raw) at (clean-in (rw n at x) (le-refl (length raw))) in
+    let all : allPass (isClean QUOTE) raw ≡ true = rw (whole raw) at (in-all (isClean QUOTE) (rw n at x) (le-refl (length raw))) in
     bare {raw = raw} (m refl) (rw q all)
 marks-clean d {raw} q (a-mark h o k) m x =
-    let all : allPass (isClean QUOTE) (slice raw 1 (length raw - 1)) ≡ true = clean-in x (omega arith) in
+    let all : allPass (isClean QUOTE) (slice raw 1 (length raw - 1)) ≡ true = in-all (isClean QUOTE) x (omega arith) in
     let cell : CleanCell d (quoteOf d ∷ (slice raw 1 (length raw - 1) ++ quoteOf d ∷ [])) = quoted (slice raw 1 (length raw - 1)) (rw q all) in
     rw (between-marks raw h o k) (rw q at cell)
 

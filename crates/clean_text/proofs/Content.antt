@@ -20,37 +20,24 @@ use Rattle.model.specs.Decode.{kindOf, contentOf, undouble, between, units, tex
 use Rattle.model.specs.Text.{special, jsonBody, doubled, escaped}
 use Rattle.model.specs.Utf8.{isSurrogate, holdsLone}
 use Rattle.model.proofs.Tests.{split-on, impossible, and-true, is→eq}
-use Rattle.words.specs.Words.{isByte, allPass}
+use Rattle.words.specs.Words.{isByte, isClean, allPass}
+use Rattle.words.proofs.CleanBytes.{Clean, clean-is}
 use Rattle.decoder.specs.Followed.{EdFollows, EdFollowed}
 use Rattle.units.specs.Units.{bodyText}
 use Rattle.units.proofs.Units.{escaped-itself}
-use Rattle.cell_ends.specs.Ends.{isClean, CleanCell, bare, quoted}
+use Rattle.cell_ends.specs.Ends.{CleanCell, bare, quoted}
 use Rattle.clean_text.specs.Quoting.{quotedCell, insideOf}
-
--- ---- a byte
-
-pub record Clean (b : ℕ) : Type 0 where
-  pub least : 0x20 ≤ b
-  pub no-quote : (b is QUOTE) ≡ false
-  pub no-backslash : (b is BACKSLASH) ≡ false
-
-is-clean : (b : ℕ) → isClean QUOTE b ≡ true → Clean b
-unfolding isClean
-is-clean b e =
-    let x = and-true (leb 0x20 b && not (b is QUOTE)) (not (b is BACKSLASH)) e in
-    let y = and-true (leb 0x20 b) (not (b is QUOTE)) (x .0) in
-    record { least = leb-true 0x20 b (y .0); no-quote = not-true (b is QUOTE) (y .1); no-backslash = not-true (b is BACKSLASH) (x .1) }
 
 -- ---- bytes
 
 pub data AllClean : Bytes → Type 0 where
   none : AllClean []
-  one : {b : ℕ} {bs : Bytes} → Clean b → AllClean bs → AllClean (b ∷ bs)
+  one : {b : ℕ} {bs : Bytes} → Clean QUOTE b → AllClean bs → AllClean (b ∷ bs)
 
 all-clean : (bs : Bytes) → allPass (isClean QUOTE) bs ≡ true → AllClean bs
 unfolding allPass
 all-clean [] e = none
-all-clean (b ∷ bs) e = let x = and-true (isClean QUOTE b) (allPass (isClean QUOTE) bs) e in one (is-clean b (x .0)) (all-clean bs (x .1))
+all-clean (b ∷ bs) e = let x = and-true (isClean QUOTE b) (allPass (isClean QUOTE) bs) e in one (clean-is QUOTE b (x .0)) (all-clean bs (x .1))
 
 -- nothing is doubled
 doubled-clean : {bs : Bytes} → AllClean bs → doubled QUOTE bs ≡ bs
@@ -59,7 +46,7 @@ doubled-clean none = refl
 doubled-clean (one {b} {bs} p r) = rw (p .no-quote) (ap (λ (l : Bytes). b ∷ l) (doubled-clean r))
 
 -- nothing is escaped
-byte-clean : {b : ℕ} → Clean b → escaped b ≡ b ∷ []
+byte-clean : {b : ℕ} → Clean QUOTE b → escaped b ≡ b ∷ []
 byte-clean {b} p = escaped-itself b (eqb-false b QUOTE (p .no-quote)) (eqb-false b BACKSLASH (p .no-backslash)) (p .least)
 
 pair-lone : (a b : ℕ) (bs : Bytes) → holdsLone (a ∷ b ∷ bs) ≡ false → isSurrogate a b ≡ false

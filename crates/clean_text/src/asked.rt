@@ -7,7 +7,7 @@ ghost use Rattle.model.specs.declared.Dialect.{Dialect as TheDialect};
 ghost use Rattle.model.specs.Base.{QUOTE};
 ghost use Rattle.model.specs.Dialect.{quoteOf};
 ghost use Rattle.model.specs.Cell.{mayBeEmpty};
-ghost use Rattle.words.specs.Words.{cleanText, AllIn};
+ghost use Rattle.words.specs.Words.{isClean, AllIn};
 ghost use Rattle.cell_ends.specs.Ends.{CleanCell};
 use model::Dialect;
 use spell::marks;
@@ -25,7 +25,7 @@ pub fn may_be_bare(d: Dialect) -> bool
 
 fn all_clean(raw: &[u8], from: usize, upto: usize) -> bool
     requires { ⌜ (from ≤ upto) × (upto ≤ length (now raw)) ⌝ }
-    ensures { λ r. ⌜ (r ≡ true → AllIn cleanText (now (raw .entry)) from upto) ⌝ }
+    ensures { λ r. ⌜ (r ≡ true → AllIn (isClean QUOTE) (now (raw .entry)) from upto) ⌝ }
 {
     let mut i = from;
     while 8 < upto - i {

@@ -30,7 +30,7 @@ use Rattle.scanner.proofs.Calm.{Calm, refuses, leaves, passes, grows, blanks, p
 use Rattle.file_records.specs.Next.{Next, ended, nextRecord, EventInBounds}
 use Rattle.tokens.proofs.Placing.{length-stored-from}
 use Rattle.model.specs.Api.{startsOf, endsOf, kindsOf}
-use Rattle.quick_records.specs.Quickly.{Quickly, is-found, is-odd}
+use Rattle.quick_records.specs.Quickly.{Stores, Quickly, is-found, is-odd}
 use Rattle.quick_records.specs.Quickly.{Clean as CleanCells}
 use Rattle.quick_records.specs.declared.Quick.{Quick}
 use Rattle.quick_records.specs.declared.Quick.the-variants.{Record, Odd}
@@ -196,17 +196,16 @@ module _ (d : Dialect) (file : Bytes) (first : FileState) (from room base : ℕ)
             }
 
     -- and they are as long as before
+    stored-long : {cs : List RawCell} → Stores d room base cs s₀ e₀ k₀ s e k → (length s ≡ length s₀) × (length e ≡ length e₀) × (length k ≡ length k₀)
+    stored-long {cs} y = (
+      ap length (y .at-starts) ∙ length-stored-from room base (rawStarts cs) s₀,
+      ap length (y .at-ends) ∙ length-stored-from room base (rawEnds cs) e₀,
+      ap length (y .at-kinds) ∙ length-stored-from room base (rawKinds d cs) k₀,
+    )
+
     pub told-long : (length s ≡ length s₀) × (length e ≡ length e₀) × (length k ≡ length k₀)
     told-long = go told
       where
         go : {x : Quick} → Quickly d MAXFILE file from first room base s₀ e₀ k₀ s e k x → (length s ≡ length s₀) × (length e ≡ length e₀) × (length k ≡ length k₀)
-        go (is-found cs f b y c) = (
-          ap length (y .at-starts) ∙ length-stored-from room base (rawStarts cs) s₀,
-          ap length (y .at-ends) ∙ length-stored-from room base (rawEnds cs) e₀,
-          ap length (y .at-kinds) ∙ length-stored-from room base (rawKinds d cs) k₀,
-        )
-        go (is-odd cs more f y) = (
-          ap length (y .at-starts) ∙ length-stored-from room base (rawStarts cs) s₀,
-          ap length (y .at-ends) ∙ length-stored-from room base (rawEnds cs) e₀,
-          ap length (y .at-kinds) ∙ length-stored-from room base (rawKinds d cs) k₀,
-        )
+        go (is-found cs f b y c) = stored-long y
+        go (is-odd cs more f y) = stored-long y

@@ -47,7 +47,7 @@ use Rattle.tokens.specs.Stored.{putAt, putIf}
 use Rattle.tokens.proofs.Placing.{not-put, length-put-if}
 use Rattle.tokens.proofs.Coming.{metOf, cell-comes, cell-lies, byte-comes}
 use Rattle.scanner.proofs.Scanning.{Call, Scanning, Asked, Stepping, Out, begins, by-byte, by-cell, step-on, step-over, lengths}
-use Rattle.cell_ends.specs.Ends.{EndsAt, CleanCell}
+use Rattle.cell_ends.specs.Ends.{EndsFrom, CleanCell}
 use Rattle.quick_records.specs.Quickly.{Begins, here, after-cr, after-pair, unknown, nextFound, Stores, Clean, Quickly, is-found, is-odd, Closes, at-once, by-pair, nowhere}
 use Rattle.quick_records.specs.declared.Quick.the-variants.{Record, Odd}
 use Rattle.quick_records.specs.declared.Closing.the-variants as closing
@@ -120,7 +120,7 @@ pub record Bounds (part-length limit start stop : ℕ) : Type 0 where
 module _ (call : Call) where
   open Call call using (d, part, first, limit, from, room, base, starts₀, ends₀, kinds₀)
 
-  module _ {start stop : ℕ} (w : Bounds (length part) limit start stop) {at n : ℕ} (past : start ≤ at) (on : at < stop) {f : FileState} (o : Opening d (getD part at 0) f) {starts ends kinds : List ℕ} (y : Scanning call f at (hand start at n) starts ends kinds) {e : ℕ} (ends-at : EndsAt d part at stop e) where
+  module _ {start stop : ℕ} (w : Bounds (length part) limit start stop) {at n : ℕ} (past : start ≤ at) (on : at < stop) {f : FileState} (o : Opening d (getD part at 0) f) {starts ends kinds : List ℕ} (y : Scanning call f at (hand start at n) starts ends kinds) {e : ℕ} (ends-at : EndsFrom d part stop Fresh at e) where
     free : Free (length part) limit at (at - start) stop
     free =
         let a : stop ≤ length part = w .inside in
@@ -263,7 +263,7 @@ module _ (d : Dialect) (part : Bytes) (limit from room base : ℕ) (starts₀ en
     pub cleans : clean ≡ true → Clean d part room base n starts ends
     pub rest : (first : FileState) → Begins first part from start → Rest (callOf d part first limit from room base starts₀ ends₀ kinds₀) start at n starts ends kinds
 
-  module _ {clean : Bool} {at n : ℕ} {starts ends kinds : List ℕ} (r : Row clean at n starts ends kinds) (on : at < stop) {e : ℕ} (ends-at : EndsAt d part at stop e) where
+  module _ {clean : Bool} {at n : ℕ} {starts ends kinds : List ℕ} (r : Row clean at n starts ends kinds) (on : at < stop) {e : ℕ} (ends-at : EndsFrom d part stop Fresh at e) where
     pub cell-lies-in : (first : FileState) → Begins first part from start → (at ≤ e) × (e < length part) × (e < limit)
     cell-lies-in first b =
         let y = r .rest first b in
@@ -320,7 +320,7 @@ module _ (d : Dialect) (part : Bytes) (limit from room base : ℕ) (starts₀ en
       let cs : List RawCell = nextFound d limit part from first .cells in
       is-found cs (ap (λ (a : Reached). record { answer = a; cells = cs }) (sym (o .answer))) (o .bounds) (record { at-starts = o .at-starts; at-ends = o .at-ends; at-kinds = o .at-kinds }) c
 
-  module _ {clean : Bool} {at n : ℕ} {starts ends kinds : List ℕ} (r : Row clean at n starts ends kinds) (on : at < stop) {e : ℕ} (ends-at : EndsAt d part at stop e) (l : at ≤ e) where
+  module _ {clean : Bool} {at n : ℕ} {starts ends kinds : List ℕ} (r : Row clean at n starts ends kinds) (on : at < stop) {e : ℕ} (ends-at : EndsFrom d part stop Fresh at e) (l : at ≤ e) where
     all-clean : {tells : Bool} → (tells ≡ true → CleanCell d (slice part at e)) → {starts′ ends′ kinds′ : List ℕ} → Puts d part room base n at e starts ends kinds starts′ ends′ kinds′ → (clean && tells) ≡ true → Clean d part room base (n + 1) starts′ ends′
     all-clean {tells} x y c =
         let z = and-true clean tells c in

@@ -1,26 +1,27 @@
 -- A cell whose content is one run: its text between quotation marks is that run, and it holds no lone surrogate.
 -- Assumes nothing.
 use mathlib.Core.Path.{_≡_, refl, sym, ap, _∙_}
-use mathlib.Core.Bool.{Bool, true, false, not, _&&_}
+use mathlib.Core.Bool.{Bool, true, false, not}
 use mathlib.Core.List.{[], _∷_, _++_, append-nil}
 use Prim.Native.Nat.{ℕ, suc, _+_, _-_, _≤_}
 use native.Mathlib.Nat.{le-refl}
 use native.Mathlib.Omega.{arith}
-use lib.Dec.{leb}
 use lib.ListN.{length, take, drop, getD, drop-of-length-le}
 use Rattle.model.specs.declared.Dialect.{Dialect}
 use Rattle.model.specs.declared.Dialect.the-variants.{Csvj, Tdif, CsvPlus}
 use Rattle.model.specs.declared.Kind.{Kind}
 use Rattle.model.specs.declared.Kind.the-variants.{Text, Number, True, False, Null}
-use Rattle.model.specs.Base.{Bytes, if_then_else_, _is_, begins, QUOTE, BACKSLASH}
+use Rattle.model.specs.Base.{Bytes, if_then_else_, _is_, begins, QUOTE}
 use Rattle.model.specs.Decode.{kindOf, contentOf}
 use Rattle.model.specs.Dialect.{quoteOf}
 use Rattle.model.specs.Text.{isText, cellText}
 use Rattle.model.specs.Utf8.{holdsLone}
 use Rattle.model.specs.Api.{kindNamed}
+use borrow.Author.Tests.{le-leb}
 use Rattle.model.proofs.Tests.{split-on, impossible, and-true}
-use Rattle.words.specs.Words.{cleanText, plainText, passing, AllIn}
+use Rattle.words.specs.Words.{isClean, plainText, passing, AllIn}
 use Rattle.buffers.proofs.Writing.{drop-next}
+use Rattle.words.proofs.CleanBytes.{clean-is}
 use Rattle.words.proofs.Stretches.{in-ends, in-weaker}
 use Rattle.decoder.specs.FirstByte.{spellingBy, contentIn}
 use Rattle.decoder.specs.Sources.{kindFrom, contentBy, Spelt, in-file}
@@ -186,12 +187,11 @@ marks-inside (a-mark h o k) = (omega arith, omega arith)
 
 -- a byte that is plain in a text
 plain-text : (b : ℕ) → plainText b ≡ true → isPlain QUOTE QUOTE QUOTE b ≡ true
-unfolding plainText cleanText isPlain
+unfolding plainText isPlain
 plain-text b e =
-    let d = and-true (leb 0x20 b && not (b is QUOTE) && not (b is BACKSLASH)) (not (b is 0xED)) e in
-    let f = and-true (leb 0x20 b && not (b is QUOTE)) (not (b is BACKSLASH)) (d .0) in
-    let g = and-true (leb 0x20 b) (not (b is QUOTE)) (f .0) in
-    rw (g .0, f .1, d .1, g .1)
+    let d = and-true (isClean QUOTE b) (not (b is 0xED)) e in
+    let c = clean-is QUOTE b (d .0) in
+    rw (le-leb 0x20 b (c .least), c .no-quote, c .no-backslash, d .1)
 
 run-none : passing (isPlain QUOTE QUOTE QUOTE) [] ≡ 0
 unfolding passing

@@ -12,3 +12,4 @@ pub mod Passing
 pub mod AllPass
 pub mod TextBytes
 pub mod Stretches
+pub mod CleanBytes

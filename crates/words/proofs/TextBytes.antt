@@ -6,9 +6,9 @@ use mathlib.Core.Bool.{Bool, true, not, _&&_}
 use lib.Dec.{leb}
 use lib.Bits.{bitAnd, bitOr, bitXor, mask-lt, xor-lt, and-le-r}
 use borrow.Author.Tests.{eqb-true, eqb-false}
-use Rattle.model.specs.Base.{if_then_else_, _is_}
+use Rattle.model.specs.Base.{if_then_else_, _is_, QUOTE}
 use Rattle.model.proofs.Tests.{and-true, split-on}
-use Rattle.words.specs.Words.{ONES, bytesOf, flagOf, cleanText, plainText, Flags}
+use Rattle.words.specs.Words.{ONES, bytesOf, flagOf, isClean, plainText, Flags}
 use Rattle.words.proofs.Bytewise.{all-bytes, itself, eight-times, Bytewise, and-bytes, or-bytes, xor-bytes, add-bytes}
 use Rattle.words.proofs.Flags.{flags-from}
 
@@ -36,12 +36,12 @@ cleanOf b = bitXor (bitAnd (bitOr (bitAnd (sumOf 0x02 0x5F b) (sumOf 0x5C 0x7F b
 abbrev plainOf : ℕ → ℕ
 plainOf b = bitXor (bitAnd (bitOr (bitAnd (bitAnd (sumOf 0x02 0x5F b) (sumOf 0x5C 0x7F b)) (bitXor b 0xFF)) (bitAnd (sumOf 0x6D 0x7F b) b)) 0x80) 0x80
 
-clean-byte : (b : ℕ) → b < 0x100 → cleanOf b ≡ flagOf cleanText b
-unfolding flagOf cleanText if_then_else_
-clean-byte b h = eqb-true (cleanOf b) (flagOf cleanText b) (below-at (λ b. cleanOf b is flagOf cleanText b) 0x100 refl b h)
+clean-byte : (b : ℕ) → b < 0x100 → cleanOf b ≡ flagOf (isClean QUOTE) b
+unfolding flagOf isClean if_then_else_
+clean-byte b h = eqb-true (cleanOf b) (flagOf (isClean QUOTE) b) (below-at (λ b. cleanOf b is flagOf (isClean QUOTE) b) 0x100 refl b h)
 
 plain-byte : (b : ℕ) → b < 0x100 → plainOf b ≡ flagOf plainText b
-unfolding flagOf plainText cleanText if_then_else_
+unfolding flagOf plainText isClean if_then_else_
 plain-byte b h = eqb-true (plainOf b) (flagOf plainText b) (below-at (λ b. plainOf b is flagOf plainText b) 0x100 refl b h)
 
 -- ---- the eight bytes of a word
@@ -78,7 +78,7 @@ module _ (w : ℕ) (h : w < 0x100 ^ 8) where
   turned : {v : ℕ} {f : ℕ → ℕ} → Bytewise (bytesOf 8 w) v f → Bytewise (bytesOf 8 w) (bitXor (bitAnd v 0x8080808080808080) 0x8080808080808080) (λ b. bitXor (bitAnd (f b) 0x80) 0x80)
   turned x = let hs = all-bytes 8 w in xor-bytes hs (and-bytes hs x (eight-times w 0x80 (omega arith))) (eight-times w 0x80 (omega arith))
 
-  pub clean-flags : Flags cleanText w (bitXor (bitAnd (bitOr (bitAnd (sumWord 0x0202020202020202 0x5F5F5F5F5F5F5F5F w) (sumWord 0x5C5C5C5C5C5C5C5C 0x7F7F7F7F7F7F7F7F w)) w) 0x8080808080808080) 0x8080808080808080)
+  pub clean-flags : Flags (isClean QUOTE) w (bitXor (bitAnd (bitOr (bitAnd (sumWord 0x0202020202020202 0x5F5F5F5F5F5F5F5F w) (sumWord 0x5C5C5C5C5C5C5C5C 0x7F7F7F7F7F7F7F7F w)) w) 0x8080808080808080) 0x8080808080808080)
   clean-flags = let hs = all-bytes 8 w in flags-from (turned (or-bytes hs (and-bytes hs no-mark no-backslash) (itself w h))) clean-byte
 
   pub plain-flags : Flags plainText w

@@ -36,13 +36,14 @@ ordinary p q b = within 0x20 0x7E b && not (b is p) && not (b is q)
 unfoldable pub cleanAscii : (p q b : ℕ) → Bool
 cleanAscii p q b = within 0x20 0x7F b && not (b is p) && not (b is q) && not (b is BACKSLASH)
 
--- a byte that stands for itself in a text between quotation marks: one from 20 hex on that is neither the mark nor a backslash
-unfoldable pub cleanText : ℕ → Bool
-cleanText b = leb 0x20 b && not (b is QUOTE) && not (b is BACKSLASH)
+-- a byte that stands for itself in every dialect with this quote, between quotes and mostly without them: one from 20 hex on that is
+-- neither the quote nor a backslash
+unfoldable pub isClean : (quote b : ℕ) → Bool
+isClean quote b = leb 0x20 b && not (b is quote) && not (b is BACKSLASH)
 
--- and is not ED hex, which may begin a lone surrogate
+-- the same between quotation marks, and not ED hex, which may begin a lone surrogate
 unfoldable pub plainText : ℕ → Bool
-plainText b = cleanText b && not (b is 0xED)
+plainText b = isClean QUOTE b && not (b is 0xED)
 
 -- the stop that is tested for: no byte from 80 hex on is ordinary or clean, stop or not, and 0 is not either
 unfoldable pub asciiStop : ℕ → ℕ

@@ -9,9 +9,10 @@ ghost use mathlib.Core.Path.{_≡_};
 ghost use Prim.Native.Nat.{_+_, _*_, _≤_, _<_};
 ghost use mathlib.Core.List.{[], _∷_, _++_};
 ghost use lib.ListN.{length, getD};
+ghost use Rattle.model.specs.Base.{QUOTE};
 ghost use Rattle.model.specs.Cell.{isDigit};
 ghost use Rattle.model.specs.Api.{slice};
-ghost use Rattle.words.specs.Words.{wordOf, Word, ONES, bytesOf, asciiStop, ordinary, cleanAscii, cleanText, plainText, isByte, isBelow, Flags, zeroBytes, LastBytes};
+ghost use Rattle.words.specs.Words.{wordOf, Word, ONES, bytesOf, asciiStop, ordinary, cleanAscii, isClean, plainText, isByte, isBelow, Flags, zeroBytes, LastBytes};
 
 // Eight bytes as one number, the first lowest. They are joined by |, of which the compiler makes one load at once: of a sum it does so only
 // after it has found a caller's loop too long to stand where it is called, and tables of short cells took a tenth more time.
@@ -148,7 +149,7 @@ pub fn no_digit(w: u64) -> u64
 // The top bit of each byte that is not clean in a text. Of ASCII the low bits tell: to flip 02 hex leaves what is below 20 there, and of
 // the others brings the quotation mark alone to 20, so that one sum tells both from what is above. A byte from 80 hex on is clean.
 pub fn unclean_text(w: u64) -> u64
-    ensures { λ r. ⌜ Flags cleanText w r ⌝ }
+    ensures { λ r. ⌜ Flags (isClean QUOTE) w r ⌝ }
 {
     let low = w & 0x7F7F7F7F7F7F7F7F;
     let no_mark = (low ^ 0x0202020202020202) + 0x5F5F5F5F5F5F5F5F;

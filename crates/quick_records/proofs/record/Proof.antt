@@ -14,7 +14,8 @@ use Rattle.numbers.proofs.Least.{least-first, least-second, least-above}
 use Rattle.model.specs.Api.{least}
 use Rattle.tokens.specs.Stored.{storedFrom}
 use Rattle.tokens.proofs.Placing.{length-put-if}
-use Rattle.cell_ends.specs.Ends.{EndsAt}
+use Rattle.model.specs.declared.Cell.the-variants.{Fresh}
+use Rattle.cell_ends.specs.Ends.{EndsFrom}
 use Rattle.quick_records.specs.Quickly.{Closes, is-odd}
 use Rattle.quick_records.specs.declared.Closing.{Closing}
 use Rattle.quick_records.proofs.Rows.{Bounds, Row, Puts, begins-on, row-begins, cell-lies-in, next-cell, last-cell, odd}
@@ -62,7 +63,7 @@ returns-2 c = odd _ _ _ _ _ _ _ _ _ _ _ (c .before .before .before .loop .inv) _
 
 -- what is known of the cell
 
-ends-at : (u : tie.After-both Inv-loop μ-loop) → let a = u .before .before .before .before .before .before .before .before .before .before .before .before .before .before .before .args in EndsAt (a .d) (a .part .now) (u .before .before .before .before .loop .at) (u .before .before .before .before .before .before .before .least-of2 .result) (u .before .before .cell-end .result .at)
+ends-at : (u : tie.After-both Inv-loop μ-loop) → let a = u .before .before .before .before .before .before .before .before .before .before .before .before .before .before .before .args in EndsFrom (a .d) (a .part .now) (u .before .before .before .before .before .before .before .least-of2 .result) Fresh (u .before .before .before .before .loop .at) (u .before .before .cell-end .result .at)
 ends-at u = u .before .before .cell-end .ensures .ends (u .before .if2 .left)
 
 lies : (u : tie.After-both Inv-loop μ-loop) → (u .before .before .before .before .loop .at ≤ u .before .before .cell-end .result .at) × (u .before .before .cell-end .result .at < length (u .before .before .before .before .before .before .before .before .before .before .before .before .before .before .before .args .part .now))

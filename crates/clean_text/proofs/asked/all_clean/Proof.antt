@@ -5,13 +5,14 @@ use native.Mathlib.Omega.{arith}
 use borrow.Author.Needs.{needs}
 use borrow.Author.Tests.{eqb-true}
 use Rattle.model.proofs.Tests.{impossible}
-use Rattle.words.specs.Words.{cleanText, AllIn}
+use Rattle.model.specs.Base.{QUOTE}
+use Rattle.words.specs.Words.{isClean, AllIn}
 use Rattle.words.proofs.Stretches.{in-none, in-word, in-last}
 use Rattle.clean_text.proofs.asked.all_clean.Statement.{statement}
 use Rattle.clean_text.proofs.asked.all_clean.Tie as tie
 
 abbrev Inv-loop : tie.InvT-loop
-Inv-loop raw from upto i₀ i = (from ≤ i) × (i ≤ upto) × AllIn cleanText raw from i
+Inv-loop raw from upto i₀ i = (from ≤ i) × (i ≤ upto) × AllIn (isClean QUOTE) raw from i
 
 abbrev μ-loop : tie.MeasureT-loop
 μ-loop raw from upto i₀ i = upto - i
