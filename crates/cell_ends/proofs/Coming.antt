@@ -21,8 +21,8 @@ use Rattle.model.specs.Api.{slice}
 use Rattle.model.proofs.Tests.{and-true, impossible}
 use Rattle.model.proofs.Utf8.{broken-on}
 use Rattle.words.specs.Words.{allPass}
-use Rattle.utf8.specs.Wide.{charsFrom}
-use Rattle.utf8.proofs.WideTexts.{part-join}
+use Rattle.wide_text.specs.Wide.{charsFrom}
+use Rattle.wide_text.proofs.WideTexts.{part-join}
 use Rattle.runs.specs.Run.{cellRun}
 use Rattle.runs.proofs.Runs.{rest-more, rest-stops}
 use Rattle.cell_ends.specs.Ends.{EndsFrom, Told}

@@ -13,7 +13,7 @@ use Rattle.model.proofs.Tests.{split-on}
 use Rattle.words.specs.Words.{cleanAscii, bytesOf, Word, allPass, Flags, zeroBytes, passing}
 use Rattle.words.proofs.Passing.{word-stops}
 use Rattle.words.proofs.AllPass.{all-join, passing-pass, word-all}
-use Rattle.utf8.proofs.WideTexts.{part-join}
+use Rattle.wide_text.proofs.WideTexts.{part-join}
 use Rattle.runs.proofs.Runs.{part-next, part-end}
 use Rattle.cell_ends.specs.TextRuns.{PassRun}
 

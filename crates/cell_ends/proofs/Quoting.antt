@@ -19,7 +19,7 @@ use Rattle.model.specs.Cell.{isHex, isShort, afterHex, firstByte, quotedByte, c
 use Rattle.model.specs.Api.{slice}
 use Rattle.model.proofs.Tests.{impossible}
 use Rattle.model.proofs.Utf8.{ascii-whole}
-use Rattle.utf8.proofs.WideTexts.{part-join}
+use Rattle.wide_text.proofs.WideTexts.{part-join}
 use Rattle.runs.proofs.Runs.{part-next}
 use Rattle.cell_ends.specs.Ends.{quoted, Told}
 use Rattle.cell_ends.specs.Coming.{InQuotes, QuotedText, Closes}

@@ -24,8 +24,8 @@ use Rattle.model.proofs.Utf8.{ascii-whole, quote-ascii}
 use Rattle.words.specs.Words.{cleanAscii, isClean, allPass}
 use Rattle.words.proofs.CleanBytes.{clean-is}
 use Rattle.words.proofs.AllPass.{all-join, all-weaker}
-use Rattle.utf8.specs.Wide.{charsFrom, allHigh, WideRun}
-use Rattle.utf8.proofs.WideTexts.{part-join, chars-on, chars-join}
+use Rattle.wide_text.specs.Wide.{charsFrom, allHigh, WideRun}
+use Rattle.wide_text.proofs.WideTexts.{part-join, chars-on, chars-join}
 use Rattle.runs.proofs.Runs.{part-end}
 use Rattle.cell_ends.specs.TextRuns.{PassRun, TextRun, isOpen}
 use Rattle.cell_ends.specs.Coming.{Comes, InQuotes, Passed, QuotedText}

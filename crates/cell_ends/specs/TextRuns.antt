@@ -7,7 +7,7 @@ use Rattle.model.specs.declared.Advance.the-variants.{On}
 use Rattle.model.specs.Base.{Bytes, _is_}
 use Rattle.model.specs.Api.{slice}
 use Rattle.words.specs.Words.{isClean, allPass}
-use Rattle.utf8.specs.Wide.{charsFrom}
+use Rattle.wide_text.specs.Wide.{charsFrom}
 
 -- bytes that pass this test stand from here to r, at most to `stop`
 pub record PassRun (passes : ℕ → Bool) (s : Bytes) (at stop r : ℕ) : Type 0 where

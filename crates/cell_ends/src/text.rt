@@ -10,7 +10,7 @@ ghost use Rattle.cell_ends.specs.TextRuns.{TextRun, isOpen};
 ghost use Rattle.cell_ends.specs.Coming.{InQuotes, Passed, QuotedText};
 use crate::run;
 use model::Dialect;
-use utf8::wide;
+use wide_text::wide;
 
 // Behind the escape with four digits whose backslash stands at i; i: it is none.
 fn long_escape_end(s: &[u8], i: usize, stop: usize) -> usize
@@ -75,7 +75,7 @@ fn pass(d: Dialect, q: u8, s: &[u8], i: usize, stop: usize) -> usize
     ensures { λ r. ⌜ Passed d (now (s .entry)) stop i r ⌝ }
 {
     if 0x80 <= s[i] {
-        return wide::wide(s, i, stop);
+        return wide(s, i, stop);
     }
     match d {
         Dialect::Csvj => {
@@ -132,7 +132,7 @@ pub fn plain_text(s: &[u8], at: usize, stop: usize, p: u8, q: u8) -> usize
         if s[i] < 0x80 {
             return i;
         }
-        let next = wide::wide(s, i, stop);
+        let next = wide(s, i, stop);
         if next == i {
             return i;
         }

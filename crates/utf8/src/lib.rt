@@ -1,4 +1,4 @@
-// Characters of UTF-8: a text validated a byte at a time, whole characters passed over (wide.rt), and code points packed into bytes.
+// Characters of UTF-8: a text validated a byte at a time, and code points packed into bytes.
 //
 // Where a text stands and its next byte go in, and where it stands then comes out, or that it is broken. A code point goes in,
 // and its bytes come out. The definitions are those of model's specs/Utf8.antt (charStep, pack, joined); specs/Codes.antt says
@@ -20,8 +20,6 @@ use model::Char;
 use model::Inner;
 use model::Lead;
 
-pub mod wide;
-
 // ---- the table
 
 // The rules' table of first and second bytes, from C2 on (§2.11). A row there is a column here:
@@ -29,18 +27,18 @@ pub mod wide;
 //   first   C2-DF E0    E1-EC ED    EE-EF F0    F1-F3 F4
 //   length  2     3     3     3     3     4     4     4
 //   second  80-BF A0-BF 80-BF 80-9F 80-BF 90-BF 80-BF 80-8F
-const FIRST: [u8; 8] = [0xC2, 0xE0, 0xE1, 0xED, 0xEE, 0xF0, 0xF1, 0xF4];
+pub const FIRST: [u8; 8] = [0xC2, 0xE0, 0xE1, 0xED, 0xEE, 0xF0, 0xF1, 0xF4];
 
-const LAST: [u8; 8] = [0xDF, 0xE0, 0xEC, 0xED, 0xEF, 0xF0, 0xF3, 0xF4];
+pub const LAST: [u8; 8] = [0xDF, 0xE0, 0xEC, 0xED, 0xEF, 0xF0, 0xF3, 0xF4];
 
-const LENGTH: [u8; 8] = [2, 3, 3, 3, 3, 4, 4, 4];
+pub const LENGTH: [u8; 8] = [2, 3, 3, 3, 3, 4, 4, 4];
 
-const LOW: [u8; 8] = [0x80, 0xA0, 0x80, 0x80, 0x80, 0x90, 0x80, 0x80];
+pub const LOW: [u8; 8] = [0x80, 0xA0, 0x80, 0x80, 0x80, 0x90, 0x80, 0x80];
 
-const HIGH: [u8; 8] = [0xBF, 0xBF, 0xBF, 0x9F, 0xBF, 0xBF, 0xBF, 0x8F];
+pub const HIGH: [u8; 8] = [0xBF, 0xBF, 0xBF, 0x9F, 0xBF, 0xBF, 0xBF, 0x8F];
 
 // Later bytes, the same in every row.
-const LATER: [u8; 2] = [0x80, 0xBF];
+pub const LATER: [u8; 2] = [0x80, 0xBF];
 
 // The rows' names.
 const ROWS: [Lead; 8] = [

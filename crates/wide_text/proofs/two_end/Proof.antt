@@ -1,8 +1,8 @@
 use native.Mathlib.Omega.{arith}
 use borrow.Author.Needs.{needs}
-use Rattle.utf8.proofs.WideTexts.{wide-none, run-two}
-use Rattle.utf8.proofs.wide.two_end.Statement.{statement}
-use Rattle.utf8.proofs.wide.two_end.Tie as tie
+use Rattle.wide_text.proofs.WideTexts.{wide-none, run-two}
+use Rattle.wide_text.proofs.two_end.Statement.{statement}
+use Rattle.wide_text.proofs.two_end.Tie as tie
 
 returns-4 : tie.Need-returns-4
 returns-4 c =

@@ -1,10 +1,10 @@
 -- The invariant: whole characters stand from `at` to here.
 use Prim.Native.Nat.{_-_}
 use native.Mathlib.Omega.{arith}
-use Rattle.utf8.specs.Wide.{WideRun}
-use Rattle.utf8.proofs.WideTexts.{wide-none, wide-join}
-use Rattle.utf8.proofs.wide.wide.Statement.{statement}
-use Rattle.utf8.proofs.wide.wide.Tie as tie
+use Rattle.wide_text.specs.Wide.{WideRun}
+use Rattle.wide_text.proofs.WideTexts.{wide-none, wide-join}
+use Rattle.wide_text.proofs.wide.Statement.{statement}
+use Rattle.wide_text.proofs.wide.Tie as tie
 
 abbrev Inv-loop : tie.InvT-loop
 Inv-loop s at stop i₀ i = WideRun s at stop i

@@ -1,7 +1,7 @@
 use borrow.Author.Needs.{needs}
 use borrow.Author.Tests.{le-leb, lt-leb}
-use Rattle.utf8.proofs.wide.is_later.Statement.{statement}
-use Rattle.utf8.proofs.wide.is_later.Tie as tie
+use Rattle.wide_text.proofs.is_later.Statement.{statement}
+use Rattle.wide_text.proofs.is_later.Tie as tie
 
 returns : tie.Need-returns
 returns c = rw (lt-leb 0x80 (c .before .args .b) (c .if1 .taken))

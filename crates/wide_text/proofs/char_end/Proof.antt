@@ -1,8 +1,8 @@
 use native.Mathlib.Omega.{arith}
 use borrow.Author.Needs.{needs}
-use Rattle.utf8.proofs.WideTexts.{wide-none}
-use Rattle.utf8.proofs.wide.char_end.Statement.{statement}
-use Rattle.utf8.proofs.wide.char_end.Tie as tie
+use Rattle.wide_text.proofs.WideTexts.{wide-none}
+use Rattle.wide_text.proofs.char_end.Statement.{statement}
+use Rattle.wide_text.proofs.char_end.Tie as tie
 
 returns : tie.Need-returns
 returns c = let a = c .before .before .before .args in wide-none (a .s .now) (a .i) (a .stop) (omega arith)

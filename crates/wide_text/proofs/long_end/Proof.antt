@@ -2,9 +2,9 @@ use native.Mathlib.Omega.{arith}
 use mathlib.Core.Path.{sym, _∙_}
 use borrow.Author.Needs.{needs}
 use borrow.Author.Tests.{not-false}
-use Rattle.utf8.proofs.WideTexts.{wide-none, row-length, row-longest, run-three, run-four}
-use Rattle.utf8.proofs.wide.long_end.Statement.{statement}
-use Rattle.utf8.proofs.wide.long_end.Tie as tie
+use Rattle.wide_text.proofs.WideTexts.{wide-none, row-length, row-longest, run-three, run-four}
+use Rattle.wide_text.proofs.long_end.Statement.{statement}
+use Rattle.wide_text.proofs.long_end.Tie as tie
 
 -- the row has at least three bytes, and the last test left four
 returns-6 : tie.Need-returns-6

@@ -22,7 +22,7 @@ use Rattle.model.specs.Utf8.{rowOf, leads, leadByte, afterSecond, innerStep, ch
 use Rattle.model.specs.Api.{slice}
 use Rattle.model.proofs.Tests.{split-on, and-true}
 use Rattle.model.proofs.Utf8.{ascii-whole, inner-high, broken-on}
-use Rattle.utf8.specs.Wide.{charsFrom, allHigh, WideText, WideRun, RowFor, no-row, three, four}
+use Rattle.wide_text.specs.Wide.{charsFrom, allHigh, WideText, WideRun, RowFor, no-row, three, four}
 
 -- ---- stretches of bytes
 

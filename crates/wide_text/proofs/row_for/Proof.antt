@@ -1,9 +1,9 @@
 -- Each row begins behind the one before it, so the first row whose last byte is not below is the byte's.
 use borrow.Author.Needs.{needs}
-use Rattle.utf8.specs.Wide.{no-row}
-use Rattle.utf8.proofs.WideTexts.{row-e0, row-e1, row-ed, row-ee, row-f0, row-f1, row-f4}
-use Rattle.utf8.proofs.wide.row_for.Statement.{statement}
-use Rattle.utf8.proofs.wide.row_for.Tie as tie
+use Rattle.wide_text.specs.Wide.{no-row}
+use Rattle.wide_text.proofs.WideTexts.{row-e0, row-e1, row-ed, row-ee, row-f0, row-f1, row-f4}
+use Rattle.wide_text.proofs.row_for.Statement.{statement}
+use Rattle.wide_text.proofs.row_for.Tie as tie
 
 pub row-for-spec : {M : Type 1} → statement M
 row-for-spec =

@@ -5,13 +5,13 @@ ghost use mathlib.Core.Path.{_≡_};
 ghost use Prim.Native.Nat.{_≤_, _<_};
 ghost use lib.ListN.{length, getD};
 ghost use Rattle.model.specs.Base.{within};
-ghost use Rattle.utf8.specs.Wide.{RowFor, WideRun};
-use crate::FIRST;
-use crate::HIGH;
-use crate::LAST;
-use crate::LATER;
-use crate::LENGTH;
-use crate::LOW;
+ghost use Rattle.wide_text.specs.Wide.{RowFor, WideRun};
+use utf8::FIRST;
+use utf8::HIGH;
+use utf8::LAST;
+use utf8::LATER;
+use utf8::LENGTH;
+use utf8::LOW;
 
 // What a row says of a character after its first byte. Length 0: there is no row.
 struct Row {
