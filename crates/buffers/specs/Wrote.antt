@@ -2,15 +2,11 @@
 use Prim.Native.Nat.{ℕ, _+_, _≤_}
 use mathlib.Core.Path.{_≡_}
 use mathlib.Core.Bool.{Bool, true, false}
-use mathlib.Core.List.{_++_}
-use lib.ListN.{length, take, drop}
+use lib.ListN.{length}
 use Rattle.model.specs.Base.{Bytes, if_then_else_}
 use Rattle.model.specs.Report.{MAXFILE}
 use Rattle.model.specs.Api.{least}
-
--- old with w over it from place at
-abbrev pub written : Bytes → ℕ → Bytes → Bytes
-written old at w = take at old ++ (w ++ drop (at + length w) old)
+pub use Rattle.blocks.specs.Written.{written}
 
 -- a place as it is measured: none is beyond the limit of a file, so that a text of any length has a measure (§7.1)
 unfoldable pub measure : ℕ → ℕ

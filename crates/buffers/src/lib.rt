@@ -11,8 +11,6 @@ ghost use mathlib.Core.List.{[], _∷_};
 ghost use Rattle.buffers.specs.Wrote.{written, measure, Room, Put};
 use numbers::MAX_FILE;
 
-mod blocks;
-
 // Copies all of src into out from place at.
 pub fn copy(out: &mut [u8], at: usize, src: &[u8]) -> usize
     requires { ⌜ at + length (now src) ≤ length (now out) ⌝ }

@@ -1,10 +1,10 @@
--- `buffers::blocks::eight` meets its contract: its stores, from the last to the first, are the text.
+-- `blocks::eight` meets its contract: its stores, from the last to the first, are the text.
 -- Assumes nothing.
 use native.Mathlib.Omega.{arith}
 use lib.ListN.{length-set}
-use Rattle.buffers.proofs.Overlaps.{eight-stored}
-use Rattle.buffers.proofs.blocks.eight.Statement.{statement}
-use Rattle.buffers.proofs.blocks.eight.Tie as tie
+use Rattle.blocks.proofs.Overlaps.{eight-stored}
+use Rattle.blocks.proofs.eight.Statement.{statement}
+use Rattle.blocks.proofs.eight.Tie as tie
 
 returns : tie.Need-returns
 returns c = let u = c .before .before .before .before .before .before .before .before in eight-stored (u .args .out .now) (u .args .o) (u .args .src .now) (u .args .i) (u .pre .0) (u .pre .1)

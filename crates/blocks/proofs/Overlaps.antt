@@ -8,8 +8,8 @@ use lib.ListN.{length, take, drop, getD, set, length-append, length-take, length
 use lib.Seq.{take-all, take-append-le, take-append-add, drop-append-add, drop-drop, take-set-lt, take-suc-set, set-append-left, set-set, length-take-le}
 use Rattle.model.specs.Base.{Bytes}
 use Rattle.model.specs.Api.{slice}
-use Rattle.buffers.specs.Wrote.{written}
-use Rattle.buffers.proofs.Writing.{drop-next, written-nil, set-written, Writing, start, put}
+use Rattle.blocks.specs.Written.{written}
+use Rattle.blocks.proofs.Writing.{drop-next, written-nil, set-written, Writing, start, put}
 
 -- ---- stores
 

@@ -1,14 +1,14 @@
--- `buffers::blocks::short` meets its contract: four bytes and the last four, or few, or none.
+-- `blocks::short` meets its contract: four bytes and the last four, or few, or none.
 -- Assumes nothing.
 use mathlib.Core.Path.{refl}
 use Prim.Native.Nat.{_-_}
 use native.Mathlib.Omega.{arith}
 use lib.ListN.{length}
 use borrow.Author.Needs.{needs}
-use Rattle.buffers.proofs.Writing.{start}
-use Rattle.buffers.proofs.Overlaps.{no-block, next-block, last-block}
-use Rattle.buffers.proofs.blocks.short.Statement.{statement}
-use Rattle.buffers.proofs.blocks.short.Tie as tie
+use Rattle.blocks.proofs.Writing.{start}
+use Rattle.blocks.proofs.Overlaps.{no-block, next-block, last-block}
+use Rattle.blocks.proofs.short.Statement.{statement}
+use Rattle.blocks.proofs.short.Tie as tie
 
 returns : tie.Need-returns
 returns c =

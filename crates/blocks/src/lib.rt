@@ -7,7 +7,7 @@ ghost use mathlib.Core.Path.{_≡_};
 ghost use Prim.Native.Nat.{_+_, _≤_, _<_};
 ghost use lib.ListN.{length};
 ghost use Rattle.model.specs.Api.{slice};
-ghost use Rattle.buffers.specs.Wrote.{written};
+ghost use Rattle.blocks.specs.Written.{written};
 
 fn eight(out: &mut [u8], o: usize, src: &[u8], i: usize)
     requires { ⌜ (o + 8 ≤ length (now out)) × (i + 8 ≤ length (now src)) ⌝ }

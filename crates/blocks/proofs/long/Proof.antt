@@ -1,13 +1,13 @@
--- `buffers::blocks::long` meets its contract. The invariant: what is still to be written is the rest of `src`.
+-- `blocks::long` meets its contract. The invariant: what is still to be written is the rest of `src`.
 -- Assumes nothing.
 use mathlib.Core.Path.{refl, ap, _∙_}
 use Prim.Native.Nat.{_+_, _-_, _≤_}
 use native.Mathlib.Omega.{arith}
 use lib.ListN.{length, drop}
-use Rattle.buffers.proofs.Writing.{length-written, Writing}
-use Rattle.buffers.proofs.Overlaps.{first-block, next-block, last-block}
-use Rattle.buffers.proofs.blocks.long.Statement.{statement}
-use Rattle.buffers.proofs.blocks.long.Tie as tie
+use Rattle.blocks.proofs.Writing.{length-written, Writing}
+use Rattle.blocks.proofs.Overlaps.{first-block, next-block, last-block}
+use Rattle.blocks.proofs.long.Statement.{statement}
+use Rattle.blocks.proofs.long.Tie as tie
 
 abbrev Inv-loop : tie.InvT-loop
 Inv-loop out₀ at src last i₀ out i = (i ≤ length src) × Writing out₀ at src out (at + i) (drop i src)

@@ -1,12 +1,12 @@
--- `buffers::blocks::few` meets its contract: its stores, from the last to the first, are the text.
+-- `blocks::few` meets its contract: its stores, from the last to the first, are the text.
 -- Assumes nothing.
 use mathlib.Core.Path.{refl}
 use Prim.Native.Nat.{_-_, _/_}
 use native.Mathlib.Omega.{arith}
 use lib.ListN.{length, length-set}
-use Rattle.buffers.proofs.Overlaps.{few-stored}
-use Rattle.buffers.proofs.blocks.few.Statement.{statement}
-use Rattle.buffers.proofs.blocks.few.Tie as tie
+use Rattle.blocks.proofs.Overlaps.{few-stored}
+use Rattle.blocks.proofs.few.Statement.{statement}
+use Rattle.blocks.proofs.few.Tie as tie
 
 returns : tie.Need-returns
 returns c = let u = c .before .before .before in few-stored (u .args .out .now) (u .args .at) (u .args .src .now) (length (u .args .src .now) / 2) (length (u .args .src .now) - 1) refl refl (u .pre .0) (u .pre .1) (u .pre .2)
