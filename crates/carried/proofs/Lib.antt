@@ -1,4 +1,3 @@
-pub mod Codes
 pub mod Keeping
 pub mod InHand
 pub mod Checking

@@ -1,4 +1,3 @@
-pub mod Codes
 pub mod Hand
 pub mod Checks
 pub mod Sound

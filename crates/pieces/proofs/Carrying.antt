@@ -28,10 +28,10 @@ use Rattle.model.proofs.MachineLaws.{machine}
 use Rattle.numbers.specs.Named.{textAnswer}
 use Rattle.numbers.specs.declared.TextAnswer.{TextAnswer}
 use Rattle.carried.specs.Checks.{Tells, tells-taking, tells-faulted, tells-ended}
-use Rattle.carried.specs.Codes.{stateFrom, fixedState}
+use Rattle.state_codes.specs.Codes.{stateFrom, fixedState}
 use Rattle.carried.specs.Sound.{atStart, order-end}
 use Rattle.carried.specs.declared.place.Place.{Place}
-use Rattle.carried.proofs.Codes.{state-back}
+use Rattle.state_codes.proofs.Codes.{state-back}
 use Rattle.turn.specs.declared.Taken.{Taken}
 use Rattle.turn.specs.Holding.{readAt, Holding, keptNone}
 use Rattle.turn.specs.Walking.{InBounds, handIn}

@@ -3,7 +3,7 @@ use Prim.Native.Nat.{ℕ}
 use mathlib.Core.List.{List, [], _∷_}
 use lib.ListN.{getD}
 use Rattle.model.specs.declared.Report.{Report}
-use Rattle.carried.specs.Codes.{stateNumber, stateFrom}
+use Rattle.state_codes.specs.Codes.{stateNumber, stateFrom}
 use Rattle.carried.specs.declared.place.Place.{Place}
 
 -- where the conversion stands (§15.2)

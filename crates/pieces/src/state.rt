@@ -1,7 +1,6 @@
 // The numbers of a state: where the conversion stands, whether its end was accepted, and the report of a fault that was met.
 ghost use mathlib.Core.Path.{_≡_};
 ghost use Rattle.pieces.specs.States.{placeIn, faultIn, numbersOf};
-use carried::code;
 use carried::place::Place;
 use model::Report;
 
@@ -31,7 +30,7 @@ pub fn place_in(n: [usize; 14]) -> Place
     ensures { λ r. ⌜ r ≡ placeIn n ⌝ }
 {
     Place {
-        state: code::state_of(n[STATE]),
+        state: state_codes::state_of(n[STATE]),
         offset: n[OFFSET],
         start: n[START],
         size: n[SIZE],
@@ -59,7 +58,7 @@ pub fn numbers_of(p: Place, ended: usize, e: Report) -> [usize; 14]
 {
     let f = p.state;
     [
-        code::state_number(f),
+        state_codes::state_number(f),
         p.offset,
         p.start,
         p.size,

@@ -1,0 +1,20 @@
+-- `state_codes::numeral_of` meets its contract, by its tests.
+use Rattle.model.specs.Base.{if_then_else_}
+use Rattle.model.proofs.Tests.{tests}
+use Rattle.state_codes.specs.Codes.{numeralFrom}
+use Rattle.state_codes.proofs.numeral_of.Statement.{statement}
+use Rattle.state_codes.proofs.numeral_of.Tie as tie
+
+pub numeral-of-spec : {M : Type 1} → statement M
+unfolding numeralFrom if_then_else_
+numeral-of-spec =
+    tie.close
+    (tie.spec
+    (λ c. search tests)
+    (λ c. search tests)
+    (λ c. search tests)
+    (λ c. search tests)
+    (λ c. search tests)
+    (λ c. search tests)
+    (λ c. search tests)
+    λ c. search tests)
