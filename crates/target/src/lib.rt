@@ -18,18 +18,17 @@ ghost use Rattle.buffers.specs.Wrote.{measure, Room, Put};
 ghost use Rattle.cell_ends.specs.Ends.{CleanIn};
 ghost use Rattle.decoder.specs.declared.source.Source.the-variants.{File};
 ghost use Rattle.decoder.specs.Sources.{cellsIn, Cells};
-ghost use Rattle.validate.specs.Keys.{NamesIn};
+ghost use Rattle.names.specs.Keys.{NamesIn};
 ghost use Rattle.target.specs.Sized.{Sized};
 use decoder::source::Source;
 use model::Dialect;
 use model::Fault;
 use model::Verdict;
+use names::Repeat;
 use numbers::MAX_FILE;
 use numbers::MAX_RECORD;
 use spell::record;
 use spell::record::RecordText;
-use validate::names;
-use validate::names::Repeat;
 
 pub struct Ruling {
     pub verdict: Verdict,

@@ -1,3 +1,1 @@
-pub mod Keys
-pub mod Decoding
 pub mod Records

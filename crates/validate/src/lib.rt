@@ -3,8 +3,7 @@
 // record as its count; the first fault comes out, or none.
 //
 // The definitions are `headerFault` and `dataFault` of model's specs/Records.antt, over the cells that stand in the lists (decoder's
-// specs/Sources.antt). names.rt goes by specs/Keys.antt: another rule for upper and lower case changes `fold_byte`, with what is said of
-// a key in proofs/Keys.antt, and no other function.
+// specs/Sources.antt). Repeated names are told by the crate names.
 ghost use mathlib.Core.Path.{_≡_};
 ghost use mathlib.Core.List.{List};
 ghost use lib.ListN.{length};
@@ -19,9 +18,6 @@ use model::Fault;
 use model::Verdict;
 use names::Repeat;
 use numbers::MAX_COLUMNS;
-
-mod content;
-pub mod names;
 
 // ---- headers
 

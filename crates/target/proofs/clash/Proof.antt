@@ -10,7 +10,7 @@ use Rattle.model.specs.declared.Fault.the-variants.{Clash}
 use Rattle.model.specs.declared.Verdict.{Verdict}
 use Rattle.model.specs.Records.{clashFault}
 use Rattle.decoder.specs.Sources.{cellsIn}
-use Rattle.validate.specs.Keys.{repeatedAs}
+use Rattle.names.specs.Keys.{repeatedAs}
 use Rattle.target.proofs.clash.Statement.{statement}
 use Rattle.target.proofs.clash.Tie as tie
 

@@ -13,7 +13,7 @@ use Rattle.model.specs.Text.{Value, recordText}
 use Rattle.model.proofs.Verdicts.{fault-sound}
 use Rattle.decoder.specs.Sources.{cellsIn}
 use Rattle.decoder.proofs.CellsIn.{cells-length}
-use Rattle.validate.proofs.Keys.{cells-named}
+use Rattle.names.proofs.Keys.{cells-named}
 use Rattle.target.proofs.Reasons.{no-cells, lacks, clashes, by-length}
 use Rattle.target.proofs.judged.Statement.{statement}
 use Rattle.target.proofs.judged.Tie as tie

@@ -10,8 +10,8 @@ use Rattle.model.specs.Records.{headerKindFrom, headerFault}
 use Rattle.model.specs.Text.{Value}
 use Rattle.decoder.specs.Sources.{cellsIn}
 use Rattle.decoder.proofs.CellsIn.{cells-length}
-use Rattle.validate.specs.Keys.{repeatedAs}
-use Rattle.validate.proofs.Keys.{cells-named}
+use Rattle.names.specs.Keys.{repeatedAs}
+use Rattle.names.proofs.Keys.{cells-named}
 use Rattle.validate.proofs.Records.{not-text-cells, header-too-many, header-not-text, header-names}
 use Rattle.validate.proofs.header.Statement.{statement}
 use Rattle.validate.proofs.header.Tie as tie

@@ -7,7 +7,7 @@ use native.Mathlib.Omega.{arith}
 use lib.ListN.{length}
 use borrow.Author.Needs.{needs}
 use Rattle.model.specs.declared.Dialect.the-variants.{Tdif}
-use Rattle.validate.proofs.Keys.{different-lengths, sameFrom, same-end, same-differs, same-next}
+use Rattle.names.proofs.Keys.{different-lengths, sameFrom, same-end, same-differs, same-next}
 use Rattle.wording.proofs.dialects.is_word.Statement.{statement}
 use Rattle.wording.proofs.dialects.is_word.Tie as tie
 
