@@ -17,11 +17,11 @@ use Rattle.model.specs.Text.{cellText, hasQuotes}
 use Rattle.model.specs.Records.{hasKind}
 use Rattle.model.proofs.Tests.{split-on, impossible}
 use Rattle.decoder.specs.declared.source.Source.the-variants.{File}
-use Rattle.spell.specs.Cells.{valueOf, isQuoted, quoteBy, textCell, writtenAs}
-use Rattle.spell.specs.declared.cell.Written.the-variants.{AsText}
+use Rattle.cell_text.specs.Cells.{valueOf, isQuoted, quoteBy, textCell, writtenAs}
+use Rattle.cell_text.specs.declared.cell.Written.the-variants.{AsText}
 use Rattle.spell.specs.Columns.{uncarriedCell}
 use Rattle.spell.specs.Passing.{quotesAll}
-use Rattle.spell.proofs.Cells.{text-parts, cell-as-text}
+use Rattle.cell_text.proofs.Cells.{text-parts, cell-as-text}
 use Rattle.spell.proofs.Columns.{cell-sound, csvj-carries}
 use Rattle.clean_text.specs.Quoting.{marked, quotedCell, needsMarks, plusCell}
 use Rattle.clean_text.proofs.Content.{Known, text-clean, special-clean}

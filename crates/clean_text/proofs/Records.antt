@@ -22,7 +22,7 @@ use Rattle.model.proofs.Tests.{impossible}
 use Rattle.decoder.specs.declared.source.Source.the-variants.{File}
 use Rattle.decoder.specs.Sources.{kindFrom, cellsIn, Spelt, in-file, Cells}
 use Rattle.cell_ends.specs.Ends.{CleanCell, CleanIn}
-use Rattle.spell.specs.Cells.{valueOf}
+use Rattle.cell_text.specs.Cells.{valueOf}
 use Rattle.spell.specs.Columns.{isFirst, beforeCell, columnText}
 use Rattle.spell.specs.Passing.{quotesAll}
 use Rattle.spell.proofs.Columns.{textAt, uncarriedAt, text-at, text-end, uncarried-next, uncarried-end}

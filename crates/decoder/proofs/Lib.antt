@@ -1,7 +1,3 @@
-pub mod Units
-pub mod Strings
-pub mod Doubled
-pub mod FirstByte
 pub mod Validating
 pub mod Answers
 pub mod Followed

@@ -1,7 +1,3 @@
-pub mod Units
-pub mod Strings
-pub mod Wrote
-pub mod FirstByte
 pub mod Answer
 pub mod Followed
 pub mod Sources

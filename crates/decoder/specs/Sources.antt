@@ -12,9 +12,9 @@ use Rattle.model.specs.Decode.{kindOf, contentOf}
 use Rattle.model.specs.Text.{Value}
 use Rattle.model.specs.Report.{MAXRECORD}
 use Rattle.model.specs.Api.{kindNamed, slice}
-use Rattle.decoder.specs.declared.first.Spelling.{Spelling}
-use Rattle.decoder.specs.declared.first.Spelling.the-variants.{AsItStands}
-use Rattle.decoder.specs.FirstByte.{spellingBy}
+use Rattle.cell_content.specs.declared.first.Spelling.{Spelling}
+use Rattle.cell_content.specs.declared.first.Spelling.the-variants.{AsItStands}
+use Rattle.cell_content.specs.FirstByte.{spellingBy}
 use Rattle.decoder.specs.Followed.{EdFollowed}
 use Rattle.decoder.specs.declared.source.Source.{Source}
 use Rattle.decoder.specs.declared.source.Source.the-variants.{File, Contents}

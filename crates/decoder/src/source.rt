@@ -1,10 +1,10 @@
 // What the bytes of a cell are: its raw spelling in a file of some dialect, or its content itself, as the writer is given it.
 ghost use mathlib.Core.Path.{_≡_};
 ghost use Rattle.model.specs.Text.{isText};
-ghost use Rattle.decoder.specs.FirstByte.{contentIn};
+ghost use Rattle.cell_content.specs.FirstByte.{contentIn};
 ghost use Rattle.decoder.specs.Sources.{kindFrom, contentBy, spellingIn};
-use crate::first;
-use crate::first::Spelling;
+use cell_content::first;
+use cell_content::first::Spelling;
 use model::Dialect;
 use model::Kind;
 use numbers::NamedKind;

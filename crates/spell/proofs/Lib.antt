@@ -1,4 +1,2 @@
 pub mod Columns
-pub mod Quoted
-pub mod Cells
 pub mod Passing

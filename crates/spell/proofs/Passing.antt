@@ -23,24 +23,24 @@ use Rattle.words.specs.Words.{isClean, plainText, passing, AllIn}
 use Rattle.buffers.proofs.Writing.{drop-next}
 use Rattle.words.proofs.CleanBytes.{clean-is}
 use Rattle.words.proofs.Stretches.{in-ends, in-weaker}
-use Rattle.decoder.specs.FirstByte.{spellingBy, contentIn}
+use Rattle.cell_content.specs.FirstByte.{spellingBy, contentIn}
 use Rattle.decoder.specs.Sources.{kindFrom, contentBy, Spelt, in-file}
 use Rattle.decoder.specs.declared.source.Source.{Source}
 use Rattle.decoder.specs.declared.source.Source.the-variants.{File}
-use Rattle.decoder.specs.declared.first.Spelling.{Spelling}
-use Rattle.decoder.specs.declared.first.Spelling.the-variants.{AsItStands, Doubled, Escaped}
-use Rattle.decoder.proofs.FirstByte.{content-first}
-use Rattle.spell.specs.declared.cell.Written.the-variants.{AsText}
+use Rattle.cell_content.specs.declared.first.Spelling.{Spelling}
+use Rattle.cell_content.specs.declared.first.Spelling.the-variants.{AsItStands, Doubled, Escaped}
+use Rattle.cell_content.proofs.FirstByte.{content-first}
+use Rattle.cell_text.specs.declared.cell.Written.the-variants.{AsText}
 use Rattle.spell.specs.declared.verbatim.Passage.the-variants.{Plain}
 use Rattle.units.specs.PlainRuns.{isPlain, plainRun}
 use Rattle.units.specs.Units.{bodyText}
 use Rattle.units.specs.Contents.{contentFrom, sourceQuote}
-use Rattle.spell.specs.Cells.{valueOf, textCell, writtenAs}
+use Rattle.cell_text.specs.Cells.{valueOf, textCell, writtenAs}
 use Rattle.spell.specs.Passing.{quotesAll, Direct, is-direct, Marks, no-marks, a-mark, Inner, unquoted, quoted, Looks, looks-plain}
 use Rattle.units.proofs.PlainRuns.{plain-is}
 use Rattle.units.proofs.Contents.{content-end, closed-doubled, closed-string}
 use Rattle.units.proofs.Bodies.{text-part, lone-part, text-end, lone-end}
-use Rattle.spell.proofs.Cells.{text-parts, cell-as-text}
+use Rattle.cell_text.proofs.Cells.{text-parts, cell-as-text}
 
 -- ---- a target that quotes every text
 

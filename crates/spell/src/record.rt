@@ -10,7 +10,7 @@ ghost use Rattle.model.specs.Utf8.{holdsLone};
 ghost use Rattle.model.specs.Records.{_orElse_, hasKind, uncarriedFrom};
 ghost use Rattle.buffers.specs.Wrote.{Room, Put};
 ghost use Rattle.decoder.specs.Sources.{kindFrom, contentBy, cellsIn, Spelt, Cells};
-ghost use Rattle.spell.specs.Cells.{valueOf};
+ghost use Rattle.cell_text.specs.Cells.{valueOf};
 ghost use Rattle.spell.specs.Columns.{beforeCell, isFirst, columnText, uncarriedCell, verdictOf};
 ghost use Rattle.spell.specs.Passing.{Direct};
 use crate::verbatim;

@@ -16,9 +16,9 @@ use Rattle.model.specs.Utf8.{isSurrogate, holdsLone}
 use Rattle.model.specs.Text.{surrogate, jsonBody, doubled}
 use Rattle.model.proofs.Tests.{split-on, impossible, and-true}
 use Rattle.buffers.proofs.Writing.{drop-next}
-use Rattle.decoder.specs.Units.{one}
-use Rattle.decoder.specs.declared.first.Spelling.{Spelling}
-use Rattle.decoder.specs.declared.first.Spelling.the-variants.{Nothing, AsItStands}
+use Rattle.cell_content.specs.Units.{one}
+use Rattle.cell_content.specs.declared.first.Spelling.{Spelling}
+use Rattle.cell_content.specs.declared.first.Spelling.the-variants.{Nothing, AsItStands}
 use Rattle.units.specs.Units.{Spells, bodyText, isLone, beginsLone, paired}
 use Rattle.units.specs.Contents.{contentFrom, sourceQuote, Decoded, Part}
 use Rattle.units.specs.Bodies.{Stops}

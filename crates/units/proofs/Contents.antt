@@ -14,14 +14,14 @@ use Rattle.model.specs.Report.{MAXRECORD}
 use Rattle.model.specs.Decode.{undouble}
 use Rattle.model.proofs.Tests.{split-on, impossible, is→eq}
 use Rattle.buffers.proofs.Writing.{drop-next}
-use Rattle.decoder.specs.Units.{one}
-use Rattle.decoder.specs.Strings.{Goes}
-use Rattle.decoder.specs.FirstByte.{contentIn}
+use Rattle.cell_content.specs.Units.{one}
+use Rattle.cell_content.specs.Strings.{Goes}
+use Rattle.cell_content.specs.FirstByte.{contentIn}
 use Rattle.decoder.specs.Followed.{EdFollows, EdFollowed}
-use Rattle.decoder.specs.declared.first.Spelling.{Spelling}
-use Rattle.decoder.specs.declared.first.Spelling.the-variants.{Nothing, AsItStands, Doubled, Escaped}
-use Rattle.decoder.proofs.Doubled as undoubled
-use Rattle.decoder.proofs.Strings.{string-end, string-quote, string-byte}
+use Rattle.cell_content.specs.declared.first.Spelling.{Spelling}
+use Rattle.cell_content.specs.declared.first.Spelling.the-variants.{Nothing, AsItStands, Doubled, Escaped}
+use Rattle.cell_content.proofs.Doubled as undoubled
+use Rattle.cell_content.proofs.Strings.{string-end, string-quote, string-byte}
 use Rattle.units.specs.PlainRuns.{plainRun}
 use Rattle.units.specs.Units.{paired}
 use Rattle.units.specs.Contents.{contentOn, contentFrom, sourceQuote, Decoded, by-doubled, by-string, Legible, has-none, as-it-stands, decoded, Part}

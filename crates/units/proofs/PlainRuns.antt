@@ -15,8 +15,8 @@ use Rattle.model.specs.Decode.{undouble, units, textOf}
 use Rattle.model.specs.Text.{escaped, jsonBody, doubled}
 use Rattle.model.proofs.Tests.{split-on, and-true, impossible}
 use Rattle.words.proofs.Passing.{passing-short}
-use Rattle.decoder.specs.declared.first.Spelling.{Spelling}
-use Rattle.decoder.specs.declared.first.Spelling.the-variants.{Nothing, AsItStands, Doubled, Escaped}
+use Rattle.cell_content.specs.declared.first.Spelling.{Spelling}
+use Rattle.cell_content.specs.declared.first.Spelling.the-variants.{Nothing, AsItStands, Doubled, Escaped}
 use Rattle.units.specs.PlainRuns.{isPlain, plainRun}
 use Rattle.units.specs.Units.{bodyText}
 use Rattle.units.specs.Contents.{contentOn, sourceQuote}

@@ -17,7 +17,7 @@ use Rattle.model.specs.Utf8.{isSurrogate, holdsLone}
 use Rattle.model.specs.Text.{hexDigit, escaped, surrogate, jsonBody, doubled}
 use Rattle.model.proofs.Tests.{split-on, impossible}
 use Rattle.model.proofs.Utf8.{quote-ascii}
-use Rattle.decoder.specs.Units.{Unit, one, two, three, four, Lead, Later}
+use Rattle.cell_content.specs.Units.{Unit, one, two, three, four, Lead, Later}
 use Rattle.units.specs.Units.{Spells, bodyText, isLone, beginsLone, paired}
 
 -- the same text by another name

@@ -8,7 +8,7 @@ use Rattle.model.specs.declared.Dialect.{Dialect}
 use Rattle.model.specs.Base.{Bytes}
 use Rattle.model.specs.Utf8.{holdsLone}
 use Rattle.buffers.specs.Wrote.{Put}
-use Rattle.decoder.specs.declared.first.Spelling.{Spelling}
+use Rattle.cell_content.specs.declared.first.Spelling.{Spelling}
 use Rattle.units.specs.Units.{bodyText}
 use Rattle.units.specs.Contents.{contentFrom}
 

@@ -7,11 +7,11 @@ use lib.ListN.{length, take, drop, getD}
 use Rattle.model.specs.Base.{Bytes, QUOTE}
 use Rattle.model.specs.Report.{MAXRECORD}
 use Rattle.model.specs.Decode.{undouble, between, units, textOf}
-use Rattle.decoder.specs.Units.{Unit}
-use Rattle.decoder.specs.FirstByte.{contentIn}
+use Rattle.cell_content.specs.Units.{Unit}
+use Rattle.cell_content.specs.FirstByte.{contentIn}
 use Rattle.decoder.specs.Followed.{EdFollowed}
-use Rattle.decoder.specs.declared.first.Spelling.{Spelling}
-use Rattle.decoder.specs.declared.first.Spelling.the-variants.{Nothing, AsItStands, Doubled, Escaped}
+use Rattle.cell_content.specs.declared.first.Spelling.{Spelling}
+use Rattle.cell_content.specs.declared.first.Spelling.the-variants.{Nothing, AsItStands, Doubled, Escaped}
 
 -- the content of the rest of a cell; one that has none is read as it stands, from its end on
 abbrev pub contentOn : Spelling → Bytes → Bytes

@@ -5,15 +5,15 @@ ghost use Prim.Native.Nat.{_<_};
 ghost use lib.ListN.{length, drop};
 ghost use Rattle.model.specs.Utf8.{holdsLone};
 ghost use Rattle.buffers.specs.Wrote.{Room, Put};
-ghost use Rattle.decoder.specs.FirstByte.{contentIn};
-ghost use Rattle.decoder.specs.declared.first.Spelling.the-variants.{AsItStands};
+ghost use Rattle.cell_content.specs.FirstByte.{contentIn};
+ghost use Rattle.cell_content.specs.declared.first.Spelling.the-variants.{AsItStands};
 ghost use Rattle.units.specs.Units.{bodyText, beginsLone, paired};
 ghost use Rattle.units.specs.Contents.{contentFrom, Legible, Decoded};
 ghost use Rattle.units.specs.Bodies.{Stops, Turned};
 use crate::escape;
 use crate::run;
 use crate::unit;
-use decoder::first::Spelling;
+use cell_content::first::Spelling;
 use model::Dialect;
 
 // ---- what stops a run

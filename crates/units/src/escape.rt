@@ -6,7 +6,7 @@ ghost use lib.ListN.{take};
 ghost use Rattle.model.specs.Base.{BACKSLASH};
 ghost use Rattle.model.specs.Dialect.{isCsvj};
 ghost use Rattle.model.specs.Text.{hexDigit, escaped, surrogate, doubled};
-ghost use Rattle.decoder.specs.Units.{Unit};
+ghost use Rattle.cell_content.specs.Units.{Unit};
 ghost use Rattle.units.specs.Units.{Spells, isLone, bodyText};
 use model::Dialect;
 

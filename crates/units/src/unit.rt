@@ -2,12 +2,12 @@
 ghost use mathlib.Core.Path.{_≡_};
 ghost use Prim.Native.Nat.{_<_};
 ghost use lib.ListN.{length};
-ghost use Rattle.decoder.specs.FirstByte.{contentIn};
-ghost use Rattle.decoder.specs.declared.first.Spelling.the-variants.{AsItStands, Doubled, Escaped};
+ghost use Rattle.cell_content.specs.FirstByte.{contentIn};
+ghost use Rattle.cell_content.specs.declared.first.Spelling.the-variants.{AsItStands, Doubled, Escaped};
 ghost use Rattle.units.specs.Contents.{contentFrom, sourceQuote, Part};
-use decoder::escape;
-use decoder::escape::Piece;
-use decoder::first::Spelling;
+use cell_content::escape;
+use cell_content::escape::Piece;
+use cell_content::first::Spelling;
 
 // Where the content begins: at the end of a cell that has none.
 pub fn first_place(c: Spelling, raw: &[u8]) -> usize

@@ -4,9 +4,9 @@ use mathlib.Core.Path.{_≡_, ap, _∙_}
 use lib.ListN.{length}
 use borrow.Author.Needs.{needs}
 use Rattle.model.specs.Decode.{contentOf}
-use Rattle.decoder.specs.FirstByte.{spellingBy, contentIn}
-use Rattle.decoder.specs.declared.first.Spelling.{Spelling}
-use Rattle.decoder.proofs.FirstByte.{content-first}
+use Rattle.cell_content.specs.FirstByte.{spellingBy, contentIn}
+use Rattle.cell_content.specs.declared.first.Spelling.{Spelling}
+use Rattle.cell_content.proofs.FirstByte.{content-first}
 use Rattle.decoder.proofs.content_length.Statement.{statement}
 use Rattle.decoder.proofs.content_length.Tie as tie
 

@@ -4,7 +4,7 @@ use mathlib.Core.Path.{_≡_, sym}
 use mathlib.Core.List.{[]}
 use borrow.Author.Needs.{needs}
 use Rattle.buffers.proofs.Writing.{room-as, put-as}
-use Rattle.spell.proofs.Cells.{put-nothing}
+use Rattle.cell_text.proofs.Cells.{put-nothing}
 use Rattle.clean_text.specs.Joined.{before}
 use Rattle.clean_text.proofs.Joined.{before-first, before-later}
 use Rattle.clean_text.proofs.marks.put_delimiter.Statement.{statement}

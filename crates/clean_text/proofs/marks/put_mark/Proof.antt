@@ -3,7 +3,7 @@
 use mathlib.Core.Path.{sym}
 use borrow.Author.Needs.{needs}
 use Rattle.buffers.proofs.Writing.{room-as, put-as}
-use Rattle.spell.proofs.Cells.{put-nothing}
+use Rattle.cell_text.proofs.Cells.{put-nothing}
 use Rattle.clean_text.proofs.Lengths.{mark-is, mark-none}
 use Rattle.clean_text.proofs.marks.put_mark.Statement.{statement}
 use Rattle.clean_text.proofs.marks.put_mark.Tie as tie

@@ -2,11 +2,11 @@
 -- Assumes nothing.
 use mathlib.Core.Path.{sym, ap, _∙_}
 use borrow.Author.Needs.{needs}
-use Rattle.decoder.specs.FirstByte.{spellingBy, contentIn}
+use Rattle.cell_content.specs.FirstByte.{spellingBy, contentIn}
 use Rattle.decoder.specs.Sources.{contentBy, spellingIn}
-use Rattle.decoder.specs.declared.first.Spelling.{Spelling}
+use Rattle.cell_content.specs.declared.first.Spelling.{Spelling}
 use Rattle.decoder.specs.declared.source.Source.{Source}
-use Rattle.decoder.proofs.FirstByte.{content-first}
+use Rattle.cell_content.proofs.FirstByte.{content-first}
 use Rattle.decoder.proofs.source.spelling_in.Statement.{statement}
 use Rattle.decoder.proofs.source.spelling_in.Tie as tie
 

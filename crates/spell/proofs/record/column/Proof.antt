@@ -7,9 +7,9 @@ use Rattle.model.specs.Base.{Bytes}
 use Rattle.model.specs.Text.{cellText}
 use Rattle.buffers.proofs.Writing.{Putting, putting, room-as, put-as, room-next, room-rest, put-next}
 use Rattle.decoder.specs.Sources.{kindFrom}
-use Rattle.spell.specs.Cells.{valueOf}
+use Rattle.cell_text.specs.Cells.{valueOf}
 use Rattle.spell.specs.Columns.{beforeCell, isFirst, columnText}
-use Rattle.spell.proofs.Cells.{put-long}
+use Rattle.cell_text.proofs.Cells.{put-long}
 use Rattle.spell.proofs.Columns.{put-last}
 use Rattle.spell.proofs.record.column.Statement.{statement}
 use Rattle.spell.proofs.record.column.Tie as tie

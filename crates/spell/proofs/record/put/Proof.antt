@@ -16,7 +16,7 @@ use Rattle.model.specs.Records.{_orElse_}
 use Rattle.model.specs.Api.{slice}
 use Rattle.buffers.proofs.Writing.{Putting, same-long, room-next, put-next, put-whole}
 use Rattle.decoder.specs.Sources.{kindFrom, contentBy, cellsIn, Stretch}
-use Rattle.spell.specs.Cells.{valueOf}
+use Rattle.cell_text.specs.Cells.{valueOf}
 use Rattle.spell.specs.Columns.{columnText, uncarriedCell, verdictOf}
 use Rattle.spell.proofs.Columns.{PutUpTo, textAt, put-none, text-at, text-end, says-next, uncarried-end, orElse-sound}
 use Rattle.spell.proofs.record.put.Statement.{statement}

@@ -10,7 +10,7 @@ use lib.ListN.{length, take, drop}
 use borrow.Author.Needs.{needs}
 use Rattle.model.specs.Utf8.{holdsLone}
 use Rattle.buffers.proofs.Writing.{Putting, putting, same-long, room-next, room-rest, put-next, put-whole}
-use Rattle.decoder.specs.FirstByte.{contentIn}
+use Rattle.cell_content.specs.FirstByte.{contentIn}
 use Rattle.units.specs.Units.{bodyText}
 use Rattle.units.specs.Contents.{contentFrom}
 use Rattle.units.proofs.Contents.{part-inside, content-end}

@@ -1,0 +1,4 @@
+pub mod Units
+pub mod Strings
+pub mod Doubled
+pub mod FirstByte
