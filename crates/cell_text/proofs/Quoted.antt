@@ -18,7 +18,7 @@ use Rattle.model.proofs.Tests.{split-on, impossible, is→eq}
 use Rattle.model.proofs.Utf8.{quote-ascii, delimiter-ascii}
 use Rattle.cell_content.specs.Units.{Unit, one, two, three, four}
 use Rattle.cell_content.specs.declared.first.Spelling.{Spelling}
-use Rattle.units.specs.PlainRuns.{isPlain, plainRun}
+use Rattle.plain_runs.specs.PlainRuns.{isPlain, plainRun}
 use Rattle.units.specs.Contents.{contentFrom, sourceQuote, Part}
 use Rattle.units.proofs.PlainRuns.{Plain, plain-is}
 use Rattle.units.proofs.Units.{first-one}

@@ -12,7 +12,6 @@ use cell_content::first::Spelling;
 use model::Dialect;
 use model::Settings;
 use numbers::MAX_RECORD;
-use units::run;
 use units::unit;
 
 fn is_special(s: Settings, b: u8) -> bool
@@ -52,7 +51,7 @@ fn holds_special(s: Settings, c: Spelling, raw: &[u8]) -> bool
     let r = cell_lexer::delimiter_of(Dialect::CsvPlus(s));
     let mut i = unit::first_place(c, raw);
     while i < raw.len() {
-        let j = run::plain(raw, i, p, q, r);
+        let j = plain_runs::plain(raw, i, p, q, r);
         if raw.len() <= j {
             return false;
         }

@@ -32,7 +32,7 @@ use Rattle.cell_content.specs.declared.first.Spelling.the-variants.{AsItStands,
 use Rattle.cell_content.proofs.FirstByte.{content-first}
 use Rattle.cell_text.specs.declared.cell.Written.the-variants.{AsText}
 use Rattle.spell.specs.declared.verbatim.Passage.the-variants.{Plain}
-use Rattle.units.specs.PlainRuns.{isPlain, plainRun}
+use Rattle.plain_runs.specs.PlainRuns.{isPlain, plainRun}
 use Rattle.units.specs.Units.{bodyText}
 use Rattle.units.specs.Contents.{contentFrom, sourceQuote}
 use Rattle.cell_text.specs.Cells.{valueOf, textCell, writtenAs}

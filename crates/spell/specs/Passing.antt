@@ -11,7 +11,7 @@ use Rattle.model.specs.Dialect.{quoteOf}
 use Rattle.model.specs.Text.{isText}
 use Rattle.decoder.specs.declared.source.Source.{Source}
 use Rattle.decoder.specs.declared.source.Source.the-variants.{File}
-use Rattle.units.specs.PlainRuns.{plainRun}
+use Rattle.plain_runs.specs.PlainRuns.{plainRun}
 use Rattle.spell.specs.declared.verbatim.Passage.{Passage}
 use Rattle.spell.specs.declared.verbatim.Passage.the-variants.{Plain, Spelt}
 

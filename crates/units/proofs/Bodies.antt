@@ -22,7 +22,7 @@ use Rattle.cell_content.specs.declared.first.Spelling.the-variants.{Nothing, As
 use Rattle.units.specs.Units.{Spells, bodyText, isLone, beginsLone, paired}
 use Rattle.units.specs.Contents.{contentFrom, sourceQuote, Decoded, Part}
 use Rattle.units.specs.Bodies.{Stops}
-use Rattle.units.specs.PlainRuns.{plainRun}
+use Rattle.plain_runs.specs.PlainRuns.{plainRun}
 use Rattle.units.proofs.PlainRuns.{text-run, lone-run}
 use Rattle.units.proofs.Units.{body-append, doubled-append, text-append, surrogate-append, no-surrogate, surrogate-by, lone-append, paired-begins, begins-paired}
 use Rattle.units.proofs.Contents.{content-part, part-apart}

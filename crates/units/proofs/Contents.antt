@@ -22,7 +22,7 @@ use Rattle.cell_content.specs.declared.first.Spelling.{Spelling}
 use Rattle.cell_content.specs.declared.first.Spelling.the-variants.{Nothing, AsItStands, Doubled, Escaped}
 use Rattle.cell_content.proofs.Doubled as undoubled
 use Rattle.cell_content.proofs.Strings.{string-end, string-quote, string-byte}
-use Rattle.units.specs.PlainRuns.{plainRun}
+use Rattle.plain_runs.specs.PlainRuns.{plainRun}
 use Rattle.units.specs.Units.{paired}
 use Rattle.units.specs.Contents.{contentOn, contentFrom, sourceQuote, Decoded, by-doubled, by-string, Legible, has-none, as-it-stands, decoded, Part}
 use Rattle.units.proofs.PlainRuns.{run-inside, content-run}

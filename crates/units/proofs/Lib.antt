@@ -1,4 +1,3 @@
-pub mod PlainSteps
 pub mod PlainRuns
 pub mod Units
 pub mod Contents

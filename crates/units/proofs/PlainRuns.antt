@@ -17,7 +17,7 @@ use Rattle.model.proofs.Tests.{split-on, and-true, impossible}
 use Rattle.words.proofs.Passing.{passing-short}
 use Rattle.cell_content.specs.declared.first.Spelling.{Spelling}
 use Rattle.cell_content.specs.declared.first.Spelling.the-variants.{Nothing, AsItStands, Doubled, Escaped}
-use Rattle.units.specs.PlainRuns.{isPlain, plainRun}
+use Rattle.plain_runs.specs.PlainRuns.{isPlain, plainRun}
 use Rattle.units.specs.Units.{bodyText}
 use Rattle.units.specs.Contents.{contentOn, sourceQuote}
 

@@ -1,4 +1,3 @@
-pub mod PlainRuns
 pub mod Units
 pub mod Contents
 pub mod Bodies

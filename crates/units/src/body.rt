@@ -11,7 +11,6 @@ ghost use Rattle.units.specs.Units.{bodyText, beginsLone, paired};
 ghost use Rattle.units.specs.Contents.{contentFrom, Legible, Decoded};
 ghost use Rattle.units.specs.Bodies.{Stops, Turned};
 use crate::escape;
-use crate::run;
 use crate::unit;
 use cell_content::first::Spelling;
 use model::Dialect;
@@ -183,7 +182,7 @@ pub fn put(c: Spelling, t: Dialect, raw: &[u8], out: &mut [u8], at: usize, write
     let mut o = at;
     let mut lone = false;
     while i < raw.len() {
-        let j = run::plain(raw, i, p, q, q);
+        let j = plain_runs::plain(raw, i, p, q, q);
         o = buffers::put(out, o, &raw[i..j], write);
         if raw.len() <= j {
             return Body { end: o, lone };

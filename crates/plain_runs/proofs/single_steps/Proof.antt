@@ -1,14 +1,14 @@
--- `units::run::single_steps` meets its contract. The invariant: what the run from `at` answers is what a run from here answers.
+-- `plain_runs::single_steps` meets its contract. The invariant: what the run from `at` answers is what a run from here answers.
 -- Assumes nothing.
 use mathlib.Core.Path.{_≡_, refl, sym, _∙_}
 use Prim.Native.Nat.{_+_, _-_, _≤_}
 use native.Mathlib.Omega.{arith}
 use lib.ListN.{length, drop}
 use borrow.Author.Needs.{needs}
-use Rattle.units.specs.PlainRuns.{plainRun}
-use Rattle.units.proofs.PlainSteps.{run-on, run-stops, run-ends}
-use Rattle.units.proofs.run.single_steps.Statement.{statement}
-use Rattle.units.proofs.run.single_steps.Tie as tie
+use Rattle.plain_runs.specs.PlainRuns.{plainRun}
+use Rattle.plain_runs.proofs.PlainSteps.{run-on, run-stops, run-ends}
+use Rattle.plain_runs.proofs.single_steps.Statement.{statement}
+use Rattle.plain_runs.proofs.single_steps.Tie as tie
 
 abbrev Inv-loop : tie.InvT-loop
 Inv-loop s at p q r i₀ i = (i ≤ length s) × (at + plainRun p q r (drop at s) ≡ i + plainRun p q r (drop i s))

@@ -1,9 +1,9 @@
--- `units::run::unplain` meets its contract.
+-- `plain_runs::unplain` meets its contract.
 -- Assumes nothing.
 use borrow.Author.Needs.{needs}
-use Rattle.units.proofs.PlainSteps.{plain-flags}
-use Rattle.units.proofs.run.unplain.Statement.{statement}
-use Rattle.units.proofs.run.unplain.Tie as tie
+use Rattle.plain_runs.proofs.PlainSteps.{plain-flags}
+use Rattle.plain_runs.proofs.unplain.Statement.{statement}
+use Rattle.plain_runs.proofs.unplain.Tie as tie
 
 returns : tie.Need-returns
 returns c =

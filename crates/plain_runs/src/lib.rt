@@ -3,7 +3,7 @@ ghost use mathlib.Core.Path.{_≡_};
 ghost use Prim.Native.Nat.{_+_, _≤_};
 ghost use lib.ListN.{length, drop};
 ghost use Rattle.words.specs.Words.{Flags};
-ghost use Rattle.units.specs.PlainRuns.{isPlain, plainRun};
+ghost use Rattle.plain_runs.specs.PlainRuns.{isPlain, plainRun};
 
 // Whether a byte stands for itself: one from 20 hex on that is no backslash, not ED hex, which may begin a lone surrogate, and none of p,
 // q and r, among which are the quotes of the source and of the target.

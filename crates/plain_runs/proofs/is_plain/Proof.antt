@@ -1,9 +1,9 @@
--- `units::run::is_plain` meets its contract: it tests as the definition does.
+-- `plain_runs::is_plain` meets its contract: it tests as the definition does.
 -- Assumes nothing.
 use Rattle.model.proofs.Tests.{tests}
-use Rattle.units.specs.PlainRuns.{isPlain}
-use Rattle.units.proofs.run.is_plain.Statement.{statement}
-use Rattle.units.proofs.run.is_plain.Tie as tie
+use Rattle.plain_runs.specs.PlainRuns.{isPlain}
+use Rattle.plain_runs.proofs.is_plain.Statement.{statement}
+use Rattle.plain_runs.proofs.is_plain.Tie as tie
 
 pub is-plain-spec : {M : Type 1} → statement M
 unfolding isPlain

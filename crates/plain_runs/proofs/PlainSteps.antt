@@ -17,7 +17,7 @@ use Rattle.words.specs.Words.{bytesOf, Word, Flags, zeroBytes, isByte, isBelow}
 use Rattle.words.proofs.Flags.{flags-same, flags-both, flags-other}
 use Rattle.words.proofs.Passing.{word-passes, word-stops}
 use Rattle.buffers.proofs.Writing.{drop-next}
-use Rattle.units.specs.PlainRuns.{isPlain, plainRun}
+use Rattle.plain_runs.specs.PlainRuns.{isPlain, plainRun}
 
 -- ---- the test of a word
 

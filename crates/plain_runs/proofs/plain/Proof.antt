@@ -1,13 +1,13 @@
--- `units::run::plain` meets its contract.
+-- `plain_runs::plain` meets its contract.
 -- Assumes nothing.
 use Prim.Native.Nat.{ℕ, _+_}
 use mathlib.Core.Path.{sym, ap, _∙_}
 use lib.ListN.{drop}
 use borrow.Author.Needs.{needs}
-use Rattle.units.specs.PlainRuns.{plainRun}
-use Rattle.units.proofs.PlainSteps.{same-run}
-use Rattle.units.proofs.run.plain.Statement.{statement}
-use Rattle.units.proofs.run.plain.Tie as tie
+use Rattle.plain_runs.specs.PlainRuns.{plainRun}
+use Rattle.plain_runs.proofs.PlainSteps.{same-run}
+use Rattle.plain_runs.proofs.plain.Statement.{statement}
+use Rattle.plain_runs.proofs.plain.Tie as tie
 
 returns : tie.Need-returns
 returns c =
