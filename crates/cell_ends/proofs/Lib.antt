@@ -1,6 +1,1 @@
-pub mod PassRuns
-pub mod Coming
-pub mod TextRuns
-pub mod Quoting
-pub mod BareValues
 pub mod PlainCells

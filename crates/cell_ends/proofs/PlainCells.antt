@@ -23,11 +23,11 @@ use Rattle.model.specs.Cell.{mayBeEmpty, firstByte, plainByte, cellStep}
 use Rattle.model.proofs.Tests.{impossible}
 use Rattle.runs.specs.declared.CellEnd.the-variants.{Stopped}
 use Rattle.runs.proofs.Runs.{rest-more, rest-stops, rest-refused}
-use Rattle.cell_ends.specs.Ends.{bare, EndsFrom, Told}
-use Rattle.cell_ends.specs.TextRuns.{TextRun, isOpen}
-use Rattle.cell_ends.specs.Coming.{isEnd}
-use Rattle.cell_ends.proofs.Coming.{ends-here}
-use Rattle.cell_ends.proofs.TextRuns.{text-clean, plain-comes}
+use Rattle.cell_runs.specs.Ends.{bare, EndsFrom, Told}
+use Rattle.cell_runs.specs.TextRuns.{TextRun, isOpen}
+use Rattle.cell_runs.specs.Coming.{isEnd}
+use Rattle.cell_runs.proofs.Coming.{ends-here}
+use Rattle.cell_runs.proofs.TextRuns.{text-clean, plain-comes}
 
 -- two cells that a byte does the same to end at the same place
 same-end : {d : Dialect} {s : Bytes} {stop at end : ℕ} (c t : Cell) → at < stop → stop ≤ length s → cellStep d c (getD s at 0) ≡ cellStep d t (getD s at 0) → EndsFrom d s stop t at end → EndsFrom d s stop c at end

@@ -1,4 +1,1 @@
 pub mod Ends
-pub mod TextRuns
-pub mod Coming
-pub mod BareValues

@@ -4,7 +4,7 @@
 // The next cell waits for this one's end. So the end of a short cell is guessed from the delimiter or the quote alone, and whether the bytes
 // before it are a cell is tested aside: tables of short cells take a sixth less time.
 //
-// run.rt passes over clean ASCII, text.rt over text between quotes and without them, and value.rt tells the values of CSVJ and TDIF.
+// What stands between a cell's ends is passed over by cell_runs.
 ghost use mathlib.Core.Path.{_≡_};
 ghost use mathlib.Core.Bool.{true};
 ghost use Prim.Native.Nat.{ℕ, _+_, _≤_, _<_};
@@ -13,14 +13,13 @@ ghost use Rattle.model.specs.declared.Dialect.{Dialect as TheDialect};
 ghost use Rattle.model.specs.Dialect.{delimiterOf, quoteOf};
 ghost use Rattle.model.specs.Cell.{mayBeEmpty};
 ghost use Rattle.words.specs.Words.{cleanAscii};
-ghost use Rattle.cell_ends.specs.Ends.{Told};
-ghost use Rattle.cell_ends.specs.TextRuns.{PassRun};
-ghost use Rattle.cell_ends.specs.Coming.{Closes, isEnd};
+ghost use Rattle.cell_runs.specs.Ends.{Told};
+ghost use Rattle.cell_runs.specs.TextRuns.{PassRun};
+ghost use Rattle.cell_runs.specs.Coming.{Closes, isEnd};
+use cell_runs::run;
+use cell_runs::text;
+use cell_runs::value;
 use model::Dialect;
-
-mod run;
-mod text;
-mod value;
 
 // The end of a cell, and whether its content stands in it as it is.
 pub struct Ends {

@@ -8,7 +8,7 @@ use borrow.Author.Needs.{needs}
 use Rattle.model.specs.Dialect.{delimiterOf, quoteOf}
 use Rattle.model.specs.Cell.{mayBeEmpty}
 use Rattle.model.proofs.Utf8.{quote-ascii, delimiter-ascii}
-use Rattle.cell_ends.proofs.Coming.{value-told}
+use Rattle.cell_runs.proofs.Coming.{value-told}
 use Rattle.cell_ends.proofs.cell_end.Statement.{statement}
 use Rattle.cell_ends.proofs.cell_end.Tie as tie
 

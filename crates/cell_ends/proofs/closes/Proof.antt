@@ -7,7 +7,7 @@ use borrow.Author.Tests.{not-true, eqb-false}
 use Rattle.model.specs.Base.{QUOTE}
 use Rattle.model.specs.Dialect.{quoteOf, isCsvj}
 use Rattle.model.proofs.Tests.{impossible}
-use Rattle.cell_ends.proofs.Quoting.{string-closes, quote-closes}
+use Rattle.cell_runs.proofs.Quoting.{string-closes, quote-closes}
 use Rattle.cell_ends.proofs.closes.Statement.{statement}
 use Rattle.cell_ends.proofs.closes.Tie as tie
 

@@ -6,10 +6,10 @@ use lib.ListN.{getD}
 use borrow.Author.Needs.{needs}
 use borrow.Author.Tests.{eq-eqb}
 use Rattle.model.specs.Dialect.{delimiterOf, quoteOf}
-use Rattle.cell_ends.specs.TextRuns.{TextRun, isOpen}
-use Rattle.cell_ends.specs.Coming.{isEnd}
-use Rattle.cell_ends.proofs.PassRuns.{pass-none, pass-zeros}
-use Rattle.cell_ends.proofs.TextRuns.{ascii-text}
+use Rattle.cell_runs.specs.TextRuns.{TextRun, isOpen}
+use Rattle.cell_runs.specs.Coming.{isEnd}
+use Rattle.cell_runs.proofs.PassRuns.{pass-none, pass-zeros}
+use Rattle.cell_runs.proofs.TextRuns.{ascii-text}
 use Rattle.cell_ends.proofs.PlainCells.{plain-told}
 use Rattle.cell_ends.proofs.plain_end.Statement.{statement}
 use Rattle.cell_ends.proofs.plain_end.Tie as tie

@@ -1,9 +1,9 @@
 use native.Mathlib.Omega.{arith}
 use mathlib.Core.Path.{_∙_}
 use borrow.Author.Needs.{needs}
-use Rattle.cell_ends.proofs.PassRuns.{pass-zeros}
-use Rattle.cell_ends.proofs.TextRuns.{quoted-run}
-use Rattle.cell_ends.proofs.Quoting.{quoted-told}
+use Rattle.cell_runs.proofs.PassRuns.{pass-zeros}
+use Rattle.cell_runs.proofs.TextRuns.{quoted-run}
+use Rattle.cell_runs.proofs.Quoting.{quoted-told}
 use Rattle.cell_ends.proofs.quoted_end.Statement.{statement}
 use Rattle.cell_ends.proofs.quoted_end.Tie as tie
 

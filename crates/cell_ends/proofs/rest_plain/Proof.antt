@@ -3,9 +3,9 @@ use mathlib.Core.Bool.{true, false}
 use lib.ListN.{getD}
 use borrow.Author.Needs.{needs}
 use Rattle.model.specs.Dialect.{delimiterOf, quoteOf}
-use Rattle.cell_ends.specs.TextRuns.{TextRun, isOpen}
-use Rattle.cell_ends.specs.Coming.{isEnd}
-use Rattle.cell_ends.proofs.Coming.{untold}
+use Rattle.cell_runs.specs.TextRuns.{TextRun, isOpen}
+use Rattle.cell_runs.specs.Coming.{isEnd}
+use Rattle.cell_runs.proofs.Coming.{untold}
 use Rattle.cell_ends.proofs.PlainCells.{plain-told}
 use Rattle.cell_ends.proofs.rest_plain.Statement.{statement}
 use Rattle.cell_ends.proofs.rest_plain.Tie as tie

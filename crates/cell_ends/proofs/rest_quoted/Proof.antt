@@ -1,9 +1,9 @@
 use mathlib.Core.Path.{_∙_}
 use mathlib.Core.Bool.{false}
 use borrow.Author.Needs.{needs}
-use Rattle.cell_ends.proofs.Coming.{untold}
-use Rattle.cell_ends.proofs.TextRuns.{quoted-run, quoted-join}
-use Rattle.cell_ends.proofs.Quoting.{quoted-told}
+use Rattle.cell_runs.proofs.Coming.{untold}
+use Rattle.cell_runs.proofs.TextRuns.{quoted-run, quoted-join}
+use Rattle.cell_runs.proofs.Quoting.{quoted-told}
 use Rattle.cell_ends.proofs.rest_quoted.Statement.{statement}
 use Rattle.cell_ends.proofs.rest_quoted.Tie as tie
 

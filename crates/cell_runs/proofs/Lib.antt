@@ -1,0 +1,5 @@
+pub mod PassRuns
+pub mod Coming
+pub mod TextRuns
+pub mod Quoting
+pub mod BareValues
