@@ -30,10 +30,10 @@ use Rattle.numbers.specs.Named.{textAnswer}
 use Rattle.numbers.specs.declared.TextAnswer.{TextAnswer}
 use Rattle.pieces.specs.Calling.{newConverter, Called}
 use Rattle.pieces.specs.declared.Converter.{Converter}
-use Rattle.grammar.specs.Derived.{Derived, Line}
-use Rattle.grammar.specs.Derives.{Derives}
+use Rattle.rfc_grammar.specs.Derived.{Derived, Line}
+use Rattle.file_grammar.specs.Derives.{Derives}
 use Rattle.grammar.specs.Accepted.{Acceptable, cellCount}
-use Rattle.grammar.specs.Stretches.{stretches, stretchOf}
+use Rattle.file_grammar.specs.Stretches.{stretches, stretchOf}
 
 -- ---- demand 1
 

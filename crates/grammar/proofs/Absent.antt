@@ -6,17 +6,17 @@ use mathlib.Core.Path.{_≡_, refl, ap, _∙_}
 use mathlib.Core.Logic.{_≢_}
 use mathlib.Core.List.{List, [], _∷_, _++_}
 use lib.ListN.{length, length-append, length-replicate}
-use Rattle.grammar.specs.Types.{Kind, Csvj}
+use Rattle.rfc_grammar.specs.Types.{Kind, Csvj}
 use Rattle.model.specs.Base.{Bytes}
 use Rattle.model.specs.Dialect.{standard}
-use Rattle.grammar.specs.Rfc5234.{_from_to_, LF}
-use Rattle.grammar.specs.Rfc3629.{c2-df, UTF8-3, e0, e1-ec, ed, ee-ef, f0, f1-f3, f4, UTF8-tail, tail, UTF8-data, of-two, of-three, of-four}
-use Rattle.grammar.specs.Rfc3629.{Octets, one-octet, two-octets, three-octets, four-octets}
-use Rattle.grammar.specs.Derived.{Derived, cell, Line, line, textIn, Every, every-none, every-cons}
-use Rattle.grammar.specs.Rfc8259 as json
-use Rattle.grammar.specs.Csvj as csvj
-use Rattle.grammar.specs.Tdif as tdif
-use Rattle.grammar.specs.CsvPlus as plus
+use Rattle.rfc_grammar.specs.Rfc5234.{_from_to_, LF}
+use Rattle.rfc_grammar.specs.Rfc3629.{c2-df, UTF8-3, e0, e1-ec, ed, ee-ef, f0, f1-f3, f4, UTF8-tail, tail, UTF8-data, of-two, of-three, of-four}
+use Rattle.rfc_grammar.specs.Rfc3629.{Octets, one-octet, two-octets, three-octets, four-octets}
+use Rattle.rfc_grammar.specs.Derived.{Derived, cell, Line, line, textIn, Every, every-none, every-cons}
+use Rattle.rfc_grammar.specs.Rfc8259 as json
+use Rattle.file_grammar.specs.Csvj as csvj
+use Rattle.file_grammar.specs.Tdif as tdif
+use Rattle.file_grammar.specs.CsvPlus as plus
 use Rattle.grammar.specs.Accepted.{a-name, WithinLimits, ChecksHold, checks-hold}
 use Rattle.grammar.specs.NextByte.{GoesOn}
 use Rattle.grammar.specs.Mistakes.{Mistakes, Misplacements, nameA, twoNames, tooLong}

@@ -11,8 +11,8 @@ use mathlib.Core.List.{List, [], _∷_, _++_, map}
 use lib.ListN.{length, length-append}
 use lib.Dec.{ltb}
 use borrow.Author.Tests.{ltb-false, le-ltb}
-use Rattle.grammar.specs.Types.{Dialect, Encoding, Syntax}
-use Rattle.grammar.specs.Types as types
+use Rattle.rfc_grammar.specs.Types.{Dialect, Encoding, Syntax}
+use Rattle.rfc_grammar.specs.Types as types
 use Rattle.model.specs.declared.Report.{Report}
 use Rattle.model.specs.Base.{Bytes, if_then_else_, concat}
 use Rattle.model.specs.Dialect.{dialectOf}
@@ -20,11 +20,11 @@ use Rattle.model.specs.Text.{Value}
 use Rattle.model.specs.Api.{answered, readAnswer, reader}
 use Rattle.model.specs.Report.{numberOf, accepted, refusal, MAXFILE, MAXRECORD}
 use Rattle.model.specs.Records.{Rec, rows, Read, Progress, going, stopped, nothingRead, readBytes, readFile, reportOf}
-use Rattle.grammar.specs.Derived.{Derived, Line, line, textIn, cellsIn, spelling, Every, every-none, every-cons, Each, each-none, each-cons}
-use Rattle.grammar.specs.Derives.{Derives}
-use Rattle.grammar.specs.Reading.{decodedLine}
+use Rattle.rfc_grammar.specs.Derived.{Derived, Line, line, textIn, cellsIn, spelling, Every, every-none, every-cons, Each, each-none, each-cons}
+use Rattle.file_grammar.specs.Derives.{Derives}
+use Rattle.file_grammar.specs.Reading.{decodedLine}
 use Rattle.grammar.specs.Accepted.{Acceptable, cellCount, ShowsRecord}
-use Rattle.grammar.proofs.FileGrammar.{LinesDerived, lines-derived, file-derived, some-decoded, derived-reads, reads-derived, unambiguous}
+use Rattle.file_grammar.proofs.FileGrammar.{LinesDerived, lines-derived, file-derived, some-decoded, derived-reads, reads-derived, unambiguous}
 use Rattle.grammar.proofs.Checks.{each-length, checks-all, all-checks}
 use Rattle.grammar.proofs.Standing.{joined, joined-rest, fit-rest, rest-fit, Stands, tidy-rest}
 use Rattle.grammar.proofs.Accepting.{Some, some, Accepted, accepted as accepted-with, Ready, reads-accepted}

@@ -9,7 +9,7 @@ use mathlib.Core.List.{List, [], _∷_, _++_, map, append-assoc, append-nil}
 use lib.ListN.{length}
 use lib.Dec.{leb}
 use borrow.Author.Tests.{leb-false}
-use Rattle.grammar.specs.Types.{Dialect, Csvj, Tdif, CsvPlus, Cell, Fault, FileState, Top, Begin, Ended, Mark1, Mark2, PlainMark1, PlainMark2, Comment, Blanks, Wanting, Inside, After, Cr, OfCell, Outside, Passed, Between, Tail, Ends, Step, To, Reject, Ending, Clean, Final, Cut, Verdict, Sound, Faulty}
+use Rattle.rfc_grammar.specs.Types.{Dialect, Csvj, Tdif, CsvPlus, Cell, Fault, FileState, Top, Begin, Ended, Mark1, Mark2, PlainMark1, PlainMark2, Comment, Blanks, Wanting, Inside, After, Cr, OfCell, Outside, Passed, Between, Tail, Ends, Step, To, Reject, Ending, Clean, Final, Cut, Verdict, Sound, Faulty}
 use Rattle.model.specs.Base.{Bytes, if_then_else_}
 use Rattle.model.specs.Cell.{isWhole}
 use Rattle.model.specs.File.{fileStep, fileEnd, lastCell, counts}
@@ -19,15 +19,15 @@ use Rattle.model.specs.Records.{Rec, Read, going, stopped, between-records, clo
 use Rattle.model.proofs.Tests.{split}
 use Rattle.model.proofs.Reading.{read-stopped}
 use Rattle.model.proofs.FileSteps.{cell-counts, between-counts, its-transition}
-use Rattle.grammar.specs.Derived.{Derived, Line, line, every-none, Each, each-none, each-cons}
-use Rattle.grammar.specs.Reading.{Reads, decoded, decodedLine}
-use Rattle.grammar.specs.Reading as reading
+use Rattle.rfc_grammar.specs.Derived.{Derived, Line, line, every-none, Each, each-none, each-cons}
+use Rattle.file_grammar.specs.Reading.{Reads, decoded, decodedLine}
+use Rattle.file_grammar.specs.Reading as reading
 use Rattle.grammar.specs.Accepted.{ShowsCell, ShowsRecord}
 use Rattle.grammar.proofs.Stages.{Stage, at-rest, in-cell, stageOf, Recording, record-open, cell-open, NoCell, outside-rests, passed-rests, cell-stage, between-stage, tail-stage, ends-stage, between-no-cell, tail-no-cell, ends-no-cell}
 use Rattle.grammar.proofs.Checks.{LineSound, ChecksFrom, checks-none, checks-next, record-checked}
 use Rattle.grammar.proofs.Standing.{each-snoc, length-snoc, joined, joined-rest, joined-of-cell, joined-between, joined-between-closing, joined-tail-closing, joined-ends, joined-ends-closing, Fit, fit-none, fit-line, rest-fit, Stands, closes-now, stands-reset, stands-more, Rested, rested, Parted, parted, recording-tidy, rest-tidy}
 use Rattle.grammar.proofs.Standing as standing
-use Rattle.grammar.specs.Types as types
+use Rattle.rfc_grammar.specs.Types as types
 use Rattle.grammar.proofs.Standing.{moved-outside, moved-passed, moved-between, moved-tail, moved-ends}
 use Rattle.grammar.proofs.Accepting.{Some, some}
 

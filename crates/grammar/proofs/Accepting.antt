@@ -8,15 +8,15 @@ use mathlib.Core.List.{List, [], _∷_, _++_, append-assoc, append-nil}
 use lib.ListN.{length, length-append}
 use lib.Dec.{leb}
 use borrow.Author.Tests.{lt-leb}
-use Rattle.grammar.specs.Types.{Dialect, FileState, Begin, OfCell, Outside, Passed, Between, Tail, Ends, Step, To, Clean, Final, Sound}
+use Rattle.rfc_grammar.specs.Types.{Dialect, FileState, Begin, OfCell, Outside, Passed, Between, Tail, Ends, Step, To, Clean, Final, Sound}
 use Rattle.model.specs.Base.{Bytes, if_then_else_}
 use Rattle.model.specs.File.{fileStep, fileEnd, counts}
 use Rattle.model.specs.Text.{Value}
 use Rattle.model.specs.Report.{MAXFILE, MAXRECORD}
 use Rattle.model.specs.Records.{Rec, Read, going, between-records, closing, validated, complete, move, fileFull, recordFull, recordFault, readByte, readFrom, endBetween, readEnd}
-use Rattle.grammar.specs.Derived.{Derived, Line, line, Each, each-none, each-cons}
-use Rattle.grammar.specs.Reading.{Reads, decoded}
-use Rattle.grammar.specs.Reading as reading
+use Rattle.rfc_grammar.specs.Derived.{Derived, Line, line, Each, each-none, each-cons}
+use Rattle.file_grammar.specs.Reading.{Reads, decoded}
+use Rattle.file_grammar.specs.Reading as reading
 use Rattle.grammar.specs.Accepted.{ShowsCell, ShowsRecord}
 use Rattle.model.proofs.FileSteps.{Transition, tail-uncounted, ends-uncounted, its-transition}
 use Rattle.grammar.proofs.Stages.{at-rest, stageOf, Recording, cell-stage, between-stage, tail-stage, ends-stage}

@@ -10,13 +10,13 @@ use mathlib.Core.List.{List, [], _∷_, _++_}
 use lib.ListN.{length}
 use lib.Dec.{ltb, eqb}
 use borrow.Author.Tests.{ltb-false, le-ltb, eqb-true, eq-eqb, not-false}
-use Rattle.grammar.specs.Types.{Kind, Text, Number, True, False, Null, Dialect, Fault, TooManyColumns, HeaderKind, RepeatedName, CellCount, Verdict, Sound, Faulty}
+use Rattle.rfc_grammar.specs.Types.{Kind, Text, Number, True, False, Null, Dialect, Fault, TooManyColumns, HeaderKind, RepeatedName, CellCount, Verdict, Sound, Faulty}
 use Rattle.model.specs.Base.{Bytes, if_then_else_, same}
 use Rattle.model.specs.Text.{Value, isText}
 use Rattle.model.specs.Report.{MAXCOLUMNS}
 use Rattle.model.specs.Records.{Rec, _orElse_, when, nameKey, among, repeatFrom, repeatFault, headerKindFrom, headerFault, dataFault, recordFault}
 use Rattle.model.proofs.Tests.{impossible, and-true, is→eq, same-byte}
-use Rattle.grammar.specs.Derived.{Derived, kindIn, contentIn, Line, line, cellsIn, Every, every-none, every-cons, Each, each-none, each-cons}
+use Rattle.rfc_grammar.specs.Derived.{Derived, kindIn, contentIn, Line, line, cellsIn, Every, every-none, every-cons, Each, each-none, each-cons}
 use Rattle.grammar.specs.Accepted.{Distinct, no-names, a-name, ChecksHold, checks-hold, ShowsCell, ShowsRecord}
 
 -- ---- verdicts

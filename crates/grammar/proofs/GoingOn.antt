@@ -6,7 +6,7 @@ use mathlib.Core.Logic.{_↔_}
 use mathlib.Core.Bool.{Bool, true, false}
 use mathlib.Core.Option.{Option}
 use mathlib.Core.List.{List, [], _∷_, _++_, map, append-assoc}
-use Rattle.grammar.specs.Types.{Dialect, Target, FileState, Top, Outside, Passed, OfCell, Between, Tail, Ends, To, Clean}
+use Rattle.rfc_grammar.specs.Types.{Dialect, Target, FileState, Top, Outside, Passed, OfCell, Between, Tail, Ends, To, Clean}
 use Rattle.model.specs.declared.ByteRole.{ByteRole}
 use Rattle.model.specs.Base.{Bytes}
 use Rattle.model.specs.File.{fileStep, fileEnd}
@@ -14,13 +14,13 @@ use Rattle.model.specs.Records.{Read, going, fileFull, recordFull, readBytes}
 use Rattle.model.specs.Viable.{Completes, completed, onward, CanGoOn}
 use Rattle.model.proofs.Laws.{laws}
 use Rattle.model.proofs.FileSteps.{Next, n-begin, n-ended, its-transition}
-use Rattle.grammar.specs.Derived.{Line, line}
-use Rattle.grammar.specs.Reading.{Reads, decodedLine}
-use Rattle.grammar.specs.Reading as reading
+use Rattle.rfc_grammar.specs.Derived.{Line, line}
+use Rattle.file_grammar.specs.Reading.{Reads, decodedLine}
+use Rattle.file_grammar.specs.Reading as reading
 use Rattle.grammar.specs.NextByte.{GoesOn, NextByte}
 use Rattle.grammar.proofs.Stages.{in-cell, stageOf, cell-stage, ends-next}
 use Rattle.grammar.proofs.AcceptedOnly.{HasCell, has-cell, reads-cell}
-use Rattle.grammar.proofs.FileGrammar.{derived-reads, reads-derived}
+use Rattle.file_grammar.proofs.FileGrammar.{derived-reads, reads-derived}
 
 -- these bytes are read to the end of the file, with a record
 data Recorded (d : Dialect) (f : FileState) (xs : Bytes) : Type 0 where

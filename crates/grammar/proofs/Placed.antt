@@ -7,25 +7,25 @@ use mathlib.Core.Option.{none, some}
 use mathlib.Core.List.{List, [], _∷_, _++_, map, map-append, append-assoc, append-nil}
 use lib.ListN.{length}
 use lib.Dec.{ltb}
-use Rattle.grammar.specs.Types.{Dialect, FileState, Begin, OfCell, Outside, Passed, Between, Tail, Ends, Step, To, Clean, Final, Verdict, Sound, Faulty}
-use Rattle.grammar.specs.Types as types
+use Rattle.rfc_grammar.specs.Types.{Dialect, FileState, Begin, OfCell, Outside, Passed, Between, Tail, Ends, Step, To, Clean, Final, Verdict, Sound, Faulty}
+use Rattle.rfc_grammar.specs.Types as types
 use Rattle.model.specs.Base.{Bytes, if_then_else_, concat}
 use Rattle.model.specs.Dialect.{dialectOf}
 use Rattle.model.specs.File.{fileStep, fileEnd}
 use Rattle.model.specs.Report.{accepted}
 use Rattle.model.specs.Records.{Rec, rows, Progress, stopped, Read, going, nothingRead, between-records, cellNow, closing, validated, complete, move, fileFull, recordFull, recordFault, readByte, readFrom, readBytes, endBetween, readEnd, readFile}
 use Rattle.model.specs.Api.{answered, readAnswer, reader}
-use Rattle.grammar.specs.Derived.{Derived, Line}
-use Rattle.grammar.specs.Derives.{Derives}
-use Rattle.grammar.specs.Stretches.{Stretch, stretch, stretches, stretchOf, shown}
+use Rattle.rfc_grammar.specs.Derived.{Derived, Line}
+use Rattle.file_grammar.specs.Derives.{Derives}
+use Rattle.file_grammar.specs.Stretches.{Stretch, stretch, stretches, stretchOf, shown}
 use Rattle.model.proofs.FileSteps.{its-transition}
 use Rattle.grammar.proofs.Stages.{stageOf, cell-stage, between-stage, tail-stage, ends-stage}
 use Rattle.grammar.proofs.Standing.{Tidy, tidy-rest, tidy-cell, recording-tidy, rest-tidy, rested-none, parted-tidy}
 use Rattle.grammar.proofs.Standing.{moved-outside, moved-passed, moved-between, moved-tail}
-use Rattle.grammar.proofs.Walks.{Walks}
-use Rattle.grammar.proofs.Walks as walks
+use Rattle.file_grammar.proofs.Walks.{Walks}
+use Rattle.file_grammar.proofs.Walks as walks
 use Rattle.grammar.proofs.AcceptedOnly.{not-going, same-going, stopped-going}
-use Rattle.grammar.proofs.FileGrammar.{derived-walks}
+use Rattle.file_grammar.proofs.FileGrammar.{derived-walks}
 use Rattle.grammar.proofs.Acceptance.{accepted-going, ten}
 
 -- the complete cells of the record in hand stand before the rest of it

@@ -9,8 +9,8 @@ use mathlib.Core.Bool.{Bool, true, false}
 use mathlib.Core.Option.{none}
 use mathlib.Core.List.{List, [], _∷_, _++_, map}
 use lib.ListN.{length, replicate}
-use Rattle.grammar.specs.Types.{Kind, Text, Dialect, Csvj, Tdif, CsvPlus, FileState, Top, Step, To, Reject, Ending, Clean, Final, Cut}
-use Rattle.grammar.specs.Types as types
+use Rattle.rfc_grammar.specs.Types.{Kind, Text, Dialect, Csvj, Tdif, CsvPlus, FileState, Top, Step, To, Reject, Ending, Clean, Final, Cut}
+use Rattle.rfc_grammar.specs.Types as types
 use Rattle.model.specs.Base.{Bytes}
 use Rattle.model.specs.Dialect.{standard}
 use Rattle.model.specs.File.{fileStep, fileEnd}
@@ -18,23 +18,23 @@ use Rattle.model.specs.Report.{accepted}
 use Rattle.model.specs.Records.{nothingRead, readFile, reportOf}
 use Rattle.model.specs.Computes.{computes}
 use Rattle.model.proofs.Tests.{impossible}
-use Rattle.grammar.specs.Rfc5234.{HEXDIG, decimal, lower}
-use Rattle.grammar.specs.Rfc3629.{UTF8-3, of-three}
-use Rattle.grammar.specs.Derived.{Derived, cell, contentIn, Line, line, textIn, every-none, every-cons}
-use Rattle.grammar.specs.Derives.{Derives}
-use Rattle.grammar.specs.Reading.{Reads, between, ends, ends-clean, decoded, decodedLine, ReadByForm, read-by-form}
-use Rattle.grammar.specs.Rfc8259 as json
-use Rattle.grammar.specs.Csvj as csvj
-use Rattle.grammar.specs.Tdif as tdif
-use Rattle.grammar.specs.CsvPlus as plus
+use Rattle.rfc_grammar.specs.Rfc5234.{HEXDIG, decimal, lower}
+use Rattle.rfc_grammar.specs.Rfc3629.{UTF8-3, of-three}
+use Rattle.rfc_grammar.specs.Derived.{Derived, cell, contentIn, Line, line, textIn, every-none, every-cons}
+use Rattle.file_grammar.specs.Derives.{Derives}
+use Rattle.file_grammar.specs.Reading.{Reads, between, ends, ends-clean, decoded, decodedLine, ReadByForm, read-by-form}
+use Rattle.rfc_grammar.specs.Rfc8259 as json
+use Rattle.file_grammar.specs.Csvj as csvj
+use Rattle.file_grammar.specs.Tdif as tdif
+use Rattle.file_grammar.specs.CsvPlus as plus
 use Rattle.grammar.specs.Accepted.{no-names, a-name, WithinLimits, ChecksHold, checks-hold}
 use Rattle.grammar.specs.Exact.{Exact, ExactPlaces}
 use Rattle.grammar.specs.Mistakes.{Mistakes, Misplacements, nameA, twoNames, tooLong, threeLines, threeRecords, threeDerived}
 use Rattle.grammar.specs.NextByte.{GoesOn}
-use Rattle.grammar.specs.Stretches.{stretch, stretches}
-use Rattle.grammar.proofs.Ranges.{range}
-use Rattle.grammar.proofs.Steps.{Finishes, clean, final, Takes, by-bytes, reads-once}
-use Rattle.grammar.proofs.Steps as steps
+use Rattle.file_grammar.specs.Stretches.{stretch, stretches}
+use Rattle.rfc_grammar.proofs.Ranges.{range}
+use Rattle.file_grammar.proofs.Steps.{Finishes, clean, final, Takes, by-bytes, reads-once}
+use Rattle.file_grammar.proofs.Steps as steps
 use Rattle.grammar.proofs.AcceptedOnly.{stopped-going}
 
 -- ---- a file that is read by form takes the automaton to its end

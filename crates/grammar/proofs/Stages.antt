@@ -3,8 +3,8 @@
 use Prim.Native.Nat.{ℕ}
 use mathlib.Core.Path.{_≡_, refl}
 use mathlib.Core.Bool.{Bool, false}
-use Rattle.grammar.specs.Types.{Dialect, Csvj, Tdif, CsvPlus}
-use Rattle.grammar.specs.Types.{FileState, Top, Begin, Ended, Mark1, Mark2, PlainMark1, PlainMark2, Comment, Blanks, Wanting, Inside, After, Cr, Outside, Passed, OfCell, Between, Tail, Ends, To}
+use Rattle.rfc_grammar.specs.Types.{Dialect, Csvj, Tdif, CsvPlus}
+use Rattle.rfc_grammar.specs.Types.{FileState, Top, Begin, Ended, Mark1, Mark2, PlainMark1, PlainMark2, Comment, Blanks, Wanting, Inside, After, Cr, Outside, Passed, OfCell, Between, Tail, Ends, To}
 use Rattle.model.proofs.FileSteps as steps
 use Rattle.model.proofs.FileSteps.{Rests, Around, Grown, Free, Opens, Next, Leaves, Transition, starts-free}
 

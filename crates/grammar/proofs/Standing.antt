@@ -6,14 +6,14 @@ use mathlib.Core.Path.{_≡_, refl, sym, ap, _∙_}
 use mathlib.Core.Bool.{true, false}
 use mathlib.Core.List.{List, [], _∷_, _++_, map, append-assoc, append-nil}
 use lib.ListN.{length, length-append}
-use Rattle.grammar.specs.Types.{Dialect, FileState, Outside, Passed, Between, Tail, Ends, To}
+use Rattle.rfc_grammar.specs.Types.{Dialect, FileState, Outside, Passed, Between, Tail, Ends, To}
 use Rattle.model.specs.Base.{Bytes}
 use Rattle.model.specs.Decode.{kindOf, contentOf}
 use Rattle.model.specs.Report.{MAXFILE, MAXRECORD}
 use Rattle.model.specs.File.{counts}
 use Rattle.model.specs.Records.{Read, cellNow, closing}
-use Rattle.grammar.specs.Derived.{Derived, Line, line, textIn, Every, every-none, every-cons, Each, each-none, each-cons}
-use Rattle.grammar.specs.Reading.{decoded, decodedLine}
+use Rattle.rfc_grammar.specs.Derived.{Derived, Line, line, textIn, Every, every-none, every-cons, Each, each-none, each-cons}
+use Rattle.file_grammar.specs.Reading.{decoded, decodedLine}
 use Rattle.grammar.specs.Accepted.{ShowsCell, ShowsRecord}
 use Rattle.model.proofs.FileSteps.{Transition, between-counts, tail-uncounted, ends-uncounted}
 use Rattle.grammar.proofs.Stages.{Stage, at-rest, in-record, in-cell, stageOf, Recording, record-open, cell-open, NoCell, none-at-rest, none-in-record, outside-rests, passed-rests, between-stage, tail-stage, ends-stage, between-no-cell, tail-no-cell, ends-no-cell}

@@ -6,7 +6,7 @@ use mathlib.Core.Bool.{true, false}
 use mathlib.Core.Option.{Option, none, some}
 use mathlib.Core.List.{List, [], _∷_, map}
 use lib.ListN.{length}
-use Rattle.grammar.specs.Types.{Dialect, Target, Whole}
+use Rattle.rfc_grammar.specs.Types.{Dialect, Target, Whole}
 use Rattle.model.specs.declared.CellCheck.the-variants.{WholeCell}
 use Rattle.model.specs.Base.{Bytes, concat}
 use Rattle.model.specs.Dialect.{dialectOf, standard}
@@ -16,23 +16,23 @@ use Rattle.model.specs.Report.{accepted}
 use Rattle.model.specs.Records.{Read, going, fileFull, recordFull, readBytes, readFile, reportOf}
 use Rattle.model.specs.Viable.{CanGoOn}
 use Rattle.model.specs.Api.{reader}
-use Rattle.grammar.specs.Rfc5234.{_from_to_}
-use Rattle.grammar.specs.Rfc3629.{UTF8-octets}
-use Rattle.grammar.specs.CsvPlus.{TEXTDATA, NarrowTEXTDATA}
-use Rattle.grammar.specs.Derived.{Derived, rawOf, Line, Each}
-use Rattle.grammar.specs.Derives.{DerivesCell, Derives}
-use Rattle.grammar.specs.Reading.{decoded, ReadByForm}
+use Rattle.rfc_grammar.specs.Rfc5234.{_from_to_}
+use Rattle.rfc_grammar.specs.Rfc3629.{UTF8-octets}
+use Rattle.file_grammar.specs.CsvPlus.{TEXTDATA, NarrowTEXTDATA}
+use Rattle.rfc_grammar.specs.Derived.{Derived, rawOf, Line, Each}
+use Rattle.file_grammar.specs.Derives.{DerivesCell, Derives}
+use Rattle.file_grammar.specs.Reading.{decoded, ReadByForm}
 use Rattle.grammar.specs.NextByte.{GoesOn, NextByte}
-use Rattle.grammar.specs.Stretches.{past, stretches, stretchOf, shown}
+use Rattle.file_grammar.specs.Stretches.{past, stretches, stretchOf, shown}
 use Rattle.grammar.specs.Accepted.{Acceptable, cellCount, ShowsRecord}
-use Rattle.grammar.proofs.Texts.{text-exact}
-use Rattle.grammar.proofs.PlusCells.{textdata-exact}
-use Rattle.grammar.proofs.CellGrammar.{cell-exact, derived-content}
-use Rattle.grammar.proofs.FileGrammar.{grammar-exact, unambiguous}
+use Rattle.rfc_grammar.proofs.Texts.{text-exact}
+use Rattle.file_grammar.proofs.PlusCells.{textdata-exact}
+use Rattle.file_grammar.proofs.CellGrammar.{cell-exact, derived-content}
+use Rattle.file_grammar.proofs.FileGrammar.{grammar-exact, unambiguous}
 use Rattle.grammar.specs.Exact.{Exact, ExactPlaces}
 use Rattle.grammar.specs.Mistakes.{Mistakes, Misplacements}
 use Rattle.grammar.proofs.Acceptance.{acceptance, accepted-records, reader-acceptance}
-use Rattle.grammar.proofs.Walks.{past-length}
+use Rattle.file_grammar.proofs.Walks.{past-length}
 use Rattle.grammar.proofs.Placed.{same-stretches, reader-stretches}
 use Rattle.grammar.proofs.GoingOn.{can-go-on, next-byte-exact}
 use Rattle.grammar.proofs.Refused.{refused, refused-places}

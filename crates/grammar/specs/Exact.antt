@@ -5,16 +5,16 @@ use mathlib.Core.Logic.{_↔_}
 use mathlib.Core.Bool.{false}
 use mathlib.Core.Option.{Option, none}
 use mathlib.Core.List.{List}
-use Rattle.grammar.specs.Types.{Target, Dialect}
+use Rattle.rfc_grammar.specs.Types.{Target, Dialect}
 use Rattle.model.specs.Base.{Bytes}
 use Rattle.model.specs.Report.{accepted}
 use Rattle.model.specs.Records.{Read, going, fileFull, recordFull, readBytes, readFile, reportOf}
-use Rattle.grammar.specs.Derived.{Derived, rawOf, Line}
-use Rattle.grammar.specs.Derives.{DerivesCell, Derives}
-use Rattle.grammar.specs.Reading.{decoded, ReadByForm}
+use Rattle.rfc_grammar.specs.Derived.{Derived, rawOf, Line}
+use Rattle.file_grammar.specs.Derives.{DerivesCell, Derives}
+use Rattle.file_grammar.specs.Reading.{decoded, ReadByForm}
 use Rattle.grammar.specs.Accepted.{Acceptable}
 use Rattle.grammar.specs.NextByte.{NextByte}
-use Rattle.grammar.specs.Stretches.{stretches, shown}
+use Rattle.file_grammar.specs.Stretches.{stretches, shown}
 
 pub record Exact : Type 0 where
   -- a file is derived with these records exactly when it is read by form with them

@@ -1,15 +1,4 @@
-pub mod Types
-pub mod Rfc5234
-pub mod Rfc3629
-pub mod Derived
-pub mod Rfc8259
-pub mod Csvj
-pub mod Tdif
-pub mod CsvPlus
-pub mod Derives
-pub mod Reading
 pub mod Accepted
 pub mod NextByte
-pub mod Stretches
 pub mod Exact
 pub mod Mistakes

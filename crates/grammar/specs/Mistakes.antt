@@ -6,18 +6,18 @@ use mathlib.Core.Path.{_≡_}
 use mathlib.Core.Logic.{_≢_}
 use mathlib.Core.List.{List, [], _∷_}
 use lib.ListN.{length, replicate}
-use Rattle.grammar.specs.Types.{Kind, Text, Csvj, CsvPlus}
+use Rattle.rfc_grammar.specs.Types.{Kind, Text, Csvj, CsvPlus}
 use Rattle.model.specs.Base.{Bytes}
 use Rattle.model.specs.Dialect.{standard}
-use Rattle.grammar.specs.Rfc3629.{UTF8-3}
-use Rattle.grammar.specs.Derived.{Derived, cell, Line, line, textIn}
-use Rattle.grammar.specs.Rfc8259 as json
-use Rattle.grammar.specs.Csvj as csvj
-use Rattle.grammar.specs.Tdif as tdif
-use Rattle.grammar.specs.CsvPlus as plus
+use Rattle.rfc_grammar.specs.Rfc3629.{UTF8-3}
+use Rattle.rfc_grammar.specs.Derived.{Derived, cell, Line, line, textIn}
+use Rattle.rfc_grammar.specs.Rfc8259 as json
+use Rattle.file_grammar.specs.Csvj as csvj
+use Rattle.file_grammar.specs.Tdif as tdif
+use Rattle.file_grammar.specs.CsvPlus as plus
 use Rattle.grammar.specs.Accepted.{WithinLimits, ChecksHold}
 use Rattle.grammar.specs.NextByte.{GoesOn}
-use Rattle.grammar.specs.Stretches.{stretch, stretches}
+use Rattle.file_grammar.specs.Stretches.{stretch, stretches}
 
 -- `"a"`, and `"a","a"`
 abbrev pub nameA : Derived

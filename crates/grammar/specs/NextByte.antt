@@ -5,12 +5,12 @@ use mathlib.Core.Logic.{_↔_}
 use mathlib.Core.Bool.{false}
 use mathlib.Core.Option.{Option}
 use mathlib.Core.List.{List, [], _∷_, _++_}
-use Rattle.grammar.specs.Types.{Dialect, Target, ByteFault, Syntax, Byte}
+use Rattle.rfc_grammar.specs.Types.{Dialect, Target, ByteFault, Syntax, Byte}
 use Rattle.model.specs.Base.{Bytes}
 use Rattle.model.specs.Records.{Read, stopped, readBytes}
 use Rattle.model.specs.Viable.{textAt, breaks}
-use Rattle.grammar.specs.Derived.{Derived, Line}
-use Rattle.grammar.specs.Derives.{Derives}
+use Rattle.rfc_grammar.specs.Derived.{Derived, Line}
+use Rattle.file_grammar.specs.Derives.{Derives}
 
 -- some derivation's text begins with these bytes, and this one after them
 abbrev pub GoesOn : Dialect → Bytes → ℕ → Type 0

@@ -1,3 +1,2 @@
-// No code: the grammars of the three dialects, production by production, are in specs/, and the theorems that the automata of
-// model accept exactly what they derive, with the same cells, contents and places, in proofs/. If an equation of model's specs/Cell.antt,
-// specs/File.antt or specs/Decode.antt changes, the theorems of proofs/ are to be proved again.
+// No code: what is asked of a file beside its grammar is in specs/, and the theorems that a file is accepted exactly when it is derived and
+// meets that, in proofs/.
