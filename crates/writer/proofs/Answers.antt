@@ -3,28 +3,26 @@
 use Prim.Native.Nat.{ℕ, _<_, _≤_}
 use native.Mathlib.Omega.{arith}
 use mathlib.Core.Path.{_≡_, refl, sym, ap, _∙_}
-use mathlib.Core.Bool.{Bool, false}
+use mathlib.Core.Bool.{false}
 use mathlib.Core.Option.{Option, none, some}
 use mathlib.Core.List.{List}
 use lib.ListN.{length}
 use borrow.Author.Tests.{lt-ltb, le-ltb}
 use Rattle.model.specs.declared.Dialect.{Dialect}
-use Rattle.model.specs.declared.Fault.{Fault}
 use Rattle.model.specs.declared.Report.{Report}
 use Rattle.model.specs.declared.Target.{Target}
-use Rattle.model.specs.declared.Verdict.the-variants.{Sound, Faulty}
 use Rattle.model.specs.Base.{Bytes, if_then_else_, over}
 use Rattle.model.specs.Dialect.{dialectOf, into}
 use Rattle.model.specs.Text.{Value, tableText}
 use Rattle.model.specs.Report.{accepted, refusal}
-use Rattle.model.specs.Records.{_orElse_, targetFault}
 use Rattle.model.specs.Api.{Table, Written, unwritten, fitted, rowsIn, rowsFault, writtenRows, writer}
 use Rattle.model.proofs.Tests.{impossible}
 use Rattle.numbers.specs.declared.TextAnswer.{TextAnswer}
 use Rattle.numbers.specs.Named.{textAnswer}
 use Rattle.table.specs.Given.{isThere}
-use Rattle.writer.specs.declared.records.Sum.the-variants.{Accepted, Refused}
-use Rattle.writer.specs.Rows.{headerIf, rowVerdict, sumBy, measuredAs, tableWritten, writtenIn, writerIn}
+use Rattle.table_records.specs.declared.Sum.the-variants.{Accepted, Refused}
+use Rattle.table_records.specs.Rows.{sumBy, measuredAs}
+use Rattle.writer.specs.Answered.{tableWritten, writtenIn, writerIn}
 
 -- ---- answers
 
@@ -51,17 +49,6 @@ too-short room text h = rw (lt-ltb room (length text) h)
 pub long-enough : (room : ℕ) (text : Bytes) → length text ≤ room → fitted room text ≡ record { report = accepted; text = text }
 unfolding if_then_else_
 long-enough room text h = rw (le-ltb room (length text) h)
-
--- ---- one record
-
-module _ (t : Dialect) (header : Bool) (written : ℕ) (r : List Value) where
-  pub header-faulty : (e : Fault) → headerIf t header r ≡ Faulty e → Faulty e ≡ rowVerdict t header written r
-  unfolding _orElse_
-  header-faulty e h = rw h
-
-  pub header-sound : headerIf t header r ≡ Sound → targetFault (into t) header written r ≡ rowVerdict t header written r
-  unfolding _orElse_
-  header-sound h = rw h
 
 -- ---- all records
 

@@ -1,3 +1,1 @@
-mod Parts
-mod Rows
 mod Answers

@@ -1,8 +1,7 @@
 // The canonical writer: a table of contents to text (§13.1). Whether what it was given is a table is asked first, then every record is
 // validated and measured, and only where the text has room is it written.
 //
-// The definition is `writer` of model's specs/Api.antt. records.rt has the two loops over the records; a rule that changes for a record
-// changes a law of proofs/Rows.antt, and no loop.
+// The definition is `writer` of model's specs/Api.antt. The two loops over the records are table_records'.
 ghost use mathlib.Core.Path.{_≡_};
 ghost use Prim.Native.Nat.{_*_};
 ghost use lib.ListN.{length};
@@ -14,13 +13,12 @@ ghost use Rattle.numbers.specs.Named.{textAnswer};
 ghost use Rattle.decoder.specs.declared.source.Source.the-variants.{Contents};
 ghost use Rattle.decoder.specs.Sources.{Cells};
 ghost use Rattle.table.specs.Given.{given};
-ghost use Rattle.writer.specs.Rows.{rowsGiven, tableWritten, writerIn};
+ghost use Rattle.table_records.specs.Rows.{rowsGiven};
+ghost use Rattle.writer.specs.Answered.{tableWritten, writerIn};
 use model::Dialect;
 use numbers::NamedDialect;
 use numbers::TextAnswer;
-use records::Sum;
-
-mod records;
+use table_records::Sum;
 
 // A table whose text is so long: 10 where the room is shorter.
 fn put_if_fits(
@@ -46,7 +44,7 @@ fn put_if_fits(
     if room.len() < size {
         return numbers::refused(numbers::on_call(numbers::NO_ROOM));
     }
-    records::put(t, content, starts, ends, kinds, columns, records, room);
+    table_records::put(t, content, starts, ends, kinds, columns, records, room);
     TextAnswer {
         report: numbers::on_call(numbers::ACCEPTED),
         length: size,
@@ -73,7 +71,7 @@ fn write_table(
         (rowsGiven (now (content .entry)) (now (starts .entry)) (now (ends .entry)) (now (kinds .entry)) columns records)
         (length (now (room .entry))) .text) (now (room .entry)) ⌝ }
 {
-    match records::measured(t, content, starts, ends, kinds, columns, records) {
+    match table_records::measured(t, content, starts, ends, kinds, columns, records) {
         Sum::Accepted { length } => put_if_fits(
             t,
             content,

@@ -7,7 +7,7 @@ use borrow.Author.Tests.{not-true, not-false}
 use Rattle.model.specs.Api.{Table}
 use Rattle.table.specs.Given.{given}
 use Rattle.table.proofs.Tables.{Tabled, tabled}
-use Rattle.writer.specs.Rows.{writtenIn}
+use Rattle.writer.specs.Answered.{writtenIn}
 use Rattle.writer.proofs.Answers.{refuses, answers-as, no-table}
 use Rattle.writer.proofs.write_in.Statement.{statement}
 use Rattle.writer.proofs.write_in.Tie as tie

@@ -1,4 +1,5 @@
-// The records of a table: validated and measured one after another, and written one after another.
+// The records of a table: validated and measured one after another, and written one after another. A rule that changes for a record
+// changes a law of proofs/Rows.antt, and no loop.
 ghost use mathlib.Core.Path.{_≡_};
 ghost use mathlib.Core.Bool.{true};
 ghost use mathlib.Core.List.{_++_};
@@ -12,7 +13,7 @@ ghost use Rattle.model.specs.Report.{MAXFILE};
 ghost use Rattle.buffers.specs.Wrote.{Room, Put};
 ghost use Rattle.decoder.specs.declared.source.Source.the-variants.{Contents};
 ghost use Rattle.decoder.specs.Sources.{cellsIn, Cells};
-ghost use Rattle.writer.specs.Rows.{rowsGiven, headerIf, rowVerdict, measuredAs};
+ghost use Rattle.table_records.specs.Rows.{rowsGiven, headerIf, rowVerdict, measuredAs};
 use decoder::source::Source;
 use model::Dialect;
 use model::Report;

@@ -1,4 +1,4 @@
--- `writer::records::measured` meets its contract. The invariant: the records that are passed have no fault, and their text is so long.
+-- `table_records::measured` meets its contract. The invariant: the records that are passed have no fault, and their text is so long.
 -- Assumes nothing.
 use mathlib.Core.Path.{_≡_, sym, ap, _∙_}
 use mathlib.Core.List.{List, _++_}
@@ -13,12 +13,12 @@ use Rattle.model.specs.Text.{Value, recordText, ending}
 use Rattle.decoder.specs.declared.source.Source.the-variants.{Contents}
 use Rattle.decoder.specs.Sources.{cellsIn}
 use Rattle.decoder.proofs.CellsIn.{cells-length}
-use Rattle.writer.specs.declared.records.Sum.the-variants.{Refused}
-use Rattle.writer.specs.Rows.{rowVerdict}
-use Rattle.writer.proofs.Parts.{part-cells, part-stands}
-use Rattle.writer.proofs.Rows.{rowAt, row-inside, Measuring, measuring, measured-fault, measured-next, measured-all}
-use Rattle.writer.proofs.records.measured.Statement.{statement}
-use Rattle.writer.proofs.records.measured.Tie as tie
+use Rattle.table_records.specs.declared.Sum.the-variants.{Refused}
+use Rattle.table_records.specs.Rows.{rowVerdict}
+use Rattle.table_records.proofs.Parts.{part-cells, part-stands}
+use Rattle.table_records.proofs.Rows.{rowAt, row-inside, Measuring, measuring, measured-fault, measured-next, measured-all}
+use Rattle.table_records.proofs.measured.Statement.{statement}
+use Rattle.table_records.proofs.measured.Tie as tie
 
 abbrev Inv-loop : tie.InvT-loop
 Inv-loop t content starts ends kinds columns records n₀ at₀ size₀ n at size = Measuring t (cellsIn Contents content starts ends kinds) columns records n at size

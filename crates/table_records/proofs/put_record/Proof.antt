@@ -1,4 +1,4 @@
--- `writer::records::put_record` meets its contract: the record's text, and its ending after it.
+-- `table_records::put_record` meets its contract: the record's text, and its ending after it.
 -- Assumes nothing.
 use borrow.Author.Needs.{needs}
 use Rattle.model.specs.Base.{Bytes}
@@ -6,9 +6,9 @@ use Rattle.model.specs.Dialect.{into}
 use Rattle.model.specs.Text.{recordText, ending}
 use Rattle.decoder.specs.declared.source.Source.the-variants.{Contents}
 use Rattle.decoder.specs.Sources.{cellsIn}
-use Rattle.writer.proofs.Rows.{room-first, room-second, put-both}
-use Rattle.writer.proofs.records.put_record.Statement.{statement}
-use Rattle.writer.proofs.records.put_record.Tie as tie
+use Rattle.table_records.proofs.Rows.{room-first, room-second, put-both}
+use Rattle.table_records.proofs.put_record.Statement.{statement}
+use Rattle.table_records.proofs.put_record.Tie as tie
 
 -- the record's text
 abbrev rowText : tie.Start → Bytes

@@ -1,4 +1,4 @@
--- What is said of the records of a table, and what a call answers once it knows its dialect and its records.
+-- What is said of the records of a table.
 use Prim.Native.Nat.{ℕ}
 use mathlib.Core.Bool.{Bool, true, false}
 use mathlib.Core.Option.{Option, none, some}
@@ -12,13 +12,12 @@ use Rattle.model.specs.declared.Verdict.the-variants.{Sound}
 use Rattle.model.specs.Base.{Bytes}
 use Rattle.model.specs.Dialect.{into}
 use Rattle.model.specs.Text.{Value, tableText}
-use Rattle.model.specs.Report.{refusal}
 use Rattle.model.specs.Records.{_orElse_, headerFault, targetFault}
-use Rattle.model.specs.Api.{Table, Written, unwritten, rowsOf, rowsIn, rowsFault, writtenRows}
+use Rattle.model.specs.Api.{rowsOf, rowsFault}
 use Rattle.decoder.specs.declared.source.Source.the-variants.{Contents}
 use Rattle.decoder.specs.Sources.{cellsIn}
-use Rattle.writer.specs.declared.records.Sum.{Sum}
-use Rattle.writer.specs.declared.records.Sum.the-variants as sums
+use Rattle.table_records.specs.declared.Sum.{Sum}
+use Rattle.table_records.specs.declared.Sum.the-variants as sums
 
 -- the records of a table: the cells of its lists, so many at a time (§13.1)
 abbrev pub rowsGiven : (content : Bytes) (starts ends kinds : List ℕ) (columns records : ℕ) → List (List Value)
@@ -40,16 +39,3 @@ sumBy t rs (some e) = sums.Refused e
 
 abbrev pub measuredAs : Target → List (List Value) → Sum
 measuredAs t rs = sumBy t rs (rowsFault t rs)
-
--- the answer on the records of a table (§13.11 §13.13)
-abbrev pub tableWritten : Dialect → List (List Value) → (room : ℕ) → Written
-tableWritten t rs room = writtenRows (into t) room rs (rowsFault (into t) rs)
-
--- the answer on records, if there are some (§13.2)
-abbrev pub writtenIn : Dialect → (room : ℕ) → Option (List (List Value)) → Written
-writtenIn t room none = unwritten (refusal 12)
-writtenIn t room (some rs) = tableWritten t rs room
-
--- the writer in a dialect that is known
-abbrev pub writerIn : Dialect → Table → (room : ℕ) → Written
-writerIn t table room = writtenIn t room (rowsIn table)

@@ -28,8 +28,8 @@ use Rattle.model.proofs.TableText.{row-length}
 use Rattle.model.proofs.Verdicts.{else-sound, target-sound}
 use Rattle.buffers.specs.Wrote.{Room, Put}
 use Rattle.buffers.proofs.Writing.{Putting, putting, room-next, room-rest, put-next, put-whole, same-long, written-first}
-use Rattle.writer.specs.declared.records.Sum.the-variants.{Accepted, Refused}
-use Rattle.writer.specs.Rows.{headerIf, rowVerdict, sumBy, measuredAs}
+use Rattle.table_records.specs.declared.Sum.the-variants.{Accepted, Refused}
+use Rattle.table_records.specs.Rows.{headerIf, rowVerdict, sumBy, measuredAs}
 
 -- ---- the records that are left
 
@@ -244,3 +244,14 @@ module _ {t : Dialect} {vs : List Value} {columns records : ℕ} {old room : Byt
 
   pub rows-long : length room ≡ length old
   rows-long = same-long (w .going)
+
+-- ---- one record
+
+module _ (t : Dialect) (header : Bool) (written : ℕ) (r : List Value) where
+  pub header-faulty : (e : Fault) → headerIf t header r ≡ Faulty e → Faulty e ≡ rowVerdict t header written r
+  unfolding _orElse_
+  header-faulty e h = rw h
+
+  pub header-sound : headerIf t header r ≡ Sound → targetFault (into t) header written r ≡ rowVerdict t header written r
+  unfolding _orElse_
+  header-sound h = rw h

@@ -1,4 +1,4 @@
--- `writer::records::validated` meets its contract: a header's own fault comes first.
+-- `table_records::validated` meets its contract: a header's own fault comes first.
 -- Assumes nothing.
 use mathlib.Core.Path.{sym, _∙_}
 use mathlib.Core.List.{List}
@@ -7,9 +7,9 @@ use Rattle.model.specs.Text.{Value}
 use Rattle.model.proofs.Verdicts.{fault-sound}
 use Rattle.decoder.specs.declared.source.Source.the-variants.{Contents}
 use Rattle.decoder.specs.Sources.{cellsIn}
-use Rattle.writer.proofs.Answers.{header-faulty, header-sound}
-use Rattle.writer.proofs.records.validated.Statement.{statement}
-use Rattle.writer.proofs.records.validated.Tie as tie
+use Rattle.table_records.proofs.Rows.{header-faulty, header-sound}
+use Rattle.table_records.proofs.validated.Statement.{statement}
+use Rattle.table_records.proofs.validated.Tie as tie
 
 -- the record's cells
 abbrev cells : tie.Start → List Value

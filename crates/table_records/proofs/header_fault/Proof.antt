@@ -1,9 +1,9 @@
--- `writer::records::header_fault` meets its contract: only a header has one.
+-- `table_records::header_fault` meets its contract: only a header has one.
 -- Assumes nothing.
 use borrow.Author.Needs.{needs}
 use borrow.Author.Tests.{not-true, not-false}
-use Rattle.writer.proofs.records.header_fault.Statement.{statement}
-use Rattle.writer.proofs.records.header_fault.Tie as tie
+use Rattle.table_records.proofs.header_fault.Statement.{statement}
+use Rattle.table_records.proofs.header_fault.Tie as tie
 
 returns : tie.Need-returns
 returns c =

@@ -1,4 +1,4 @@
--- `writer::records::put` meets its contract. The invariant: the room holds the text of the records that are passed, and has place for
+-- `table_records::put` meets its contract. The invariant: the room holds the text of the records that are passed, and has place for
 -- that of the rest.
 -- Assumes nothing.
 use mathlib.Core.Path.{_≡_, sym, ap, _∙_}
@@ -14,10 +14,10 @@ use Rattle.buffers.proofs.Writing.{room-as, put-as}
 use Rattle.decoder.specs.declared.source.Source.the-variants.{Contents}
 use Rattle.decoder.specs.Sources.{cellsIn}
 use Rattle.decoder.proofs.CellsIn.{cells-length}
-use Rattle.writer.proofs.Parts.{part-cells, part-stands}
-use Rattle.writer.proofs.Rows.{rowAt, row-inside, WritingRows, writing-rows, row-room, row-written, rows-written, rows-long}
-use Rattle.writer.proofs.records.put.Statement.{statement}
-use Rattle.writer.proofs.records.put.Tie as tie
+use Rattle.table_records.proofs.Parts.{part-cells, part-stands}
+use Rattle.table_records.proofs.Rows.{rowAt, row-inside, WritingRows, writing-rows, row-room, row-written, rows-written, rows-long}
+use Rattle.table_records.proofs.put.Statement.{statement}
+use Rattle.table_records.proofs.put.Tie as tie
 
 abbrev Inv-loop : tie.InvT-loop
 Inv-loop t content starts ends kinds columns records room₀ n₀ at₀ o₀ room n at o = WritingRows t (cellsIn Contents content starts ends kinds) columns records room₀ room n at o
