@@ -12,81 +12,12 @@ use model::Dialect;
 use model::FileState;
 use model::Inner;
 use model::Lead;
-use model::Settings;
 use model::Step;
+use separators::is_blank;
 ghost use mathlib.Core.Path.{_≡_};
 ghost use Rattle.model.specs.Utf8.{charStep};
-ghost use Rattle.model.specs.Cell.{inQuotes};
-ghost use Rattle.model.specs.File.{isBlank, afterCell, beginRecord, beginFile, commented, fileStep, quotesOpen, counts};
+ghost use Rattle.model.specs.File.{beginRecord, beginFile, commented, fileStep};
 ghost use Rattle.file_lexer.specs.Dispatched.{stepOf};
-
-fn is_blank(b: u8) -> bool
-    ensures { λ r. ⌜ r ≡ isBlank b ⌝ }
-{
-    if b == 0x20 {
-        return true;
-    }
-    b == 0x09
-}
-
-fn csvj_after(closes: bool, b: u8) -> Step
-    ensures { λ r. ⌜ r ≡ afterCell Dialect.Csvj closes b ⌝ }
-{
-    if is_blank(b) {
-        return Step::To(FileState::After, ByteRole::Between { closes });
-    }
-    if b == 0x2C {
-        return Step::To(FileState::Wanting, ByteRole::Between { closes });
-    }
-    if b == 0x0A {
-        return Step::To(FileState::Begin, ByteRole::Ends { closes });
-    }
-    if b == 0x0D {
-        return Step::To(FileState::Cr, ByteRole::Tail { closes });
-    }
-    Step::Reject(ByteFault::Syntax)
-}
-
-fn tdif_after(closes: bool, b: u8) -> Step
-    ensures { λ r. ⌜ r ≡ afterCell Dialect.Tdif closes b ⌝ }
-{
-    if b == 0x2C {
-        return Step::To(FileState::Inside(Cell::Fresh), ByteRole::Between { closes });
-    }
-    if b == 0x0A {
-        return Step::To(FileState::Begin, ByteRole::Ends { closes });
-    }
-    if b == 0x0D {
-        return Step::To(FileState::Ended, ByteRole::Ends { closes });
-    }
-    Step::Reject(ByteFault::Syntax)
-}
-
-fn plus_after(s: Settings, closes: bool, b: u8) -> Step
-    ensures { λ r. ⌜ r ≡ afterCell (Dialect.CsvPlus s) closes b ⌝ }
-{
-    if b == cell_lexer::delimiter_of(Dialect::CsvPlus(s)) {
-        return Step::To(FileState::Inside(Cell::Fresh), ByteRole::Between { closes });
-    }
-    if b == 0x0A {
-        return Step::To(FileState::Begin, ByteRole::Ends { closes });
-    }
-    if b == 0x0D {
-        return Step::To(FileState::Cr, ByteRole::Tail { closes });
-    }
-    Step::Reject(ByteFault::Syntax)
-}
-
-// The byte after a cell that ends before it (closes), or after blanks that follow a cell of CSVJ.
-pub fn after_cell(d: Dialect, closes: bool, b: u8) -> Step
-    ensures { λ r. ⌜ r ≡ afterCell d closes b ⌝ }
-{
-    match d {
-        Dialect::Csvj => csvj_after(closes, b),
-        Dialect::Tdif => tdif_after(closes, b),
-        Dialect::CsvPlus(s) => plus_after(s, closes, b),
-    }
-}
 
 // What a byte does to a file, or the cell in which it stands.
 pub enum Dispatched {
@@ -252,42 +183,4 @@ pub fn dispatch(d: Dialect, f: FileState, b: u8) -> Dispatched
         FileState::After => Dispatched::AfterCell,
         FileState::Cr => Dispatched::Is(after_cr(b)),
     }
-}
-
-fn cell_in_quotes(c: Cell) -> bool
-    ensures { λ r. ⌜ r ≡ inQuotes c ⌝ }
-{
-    match c {
-        Cell::Fresh => false,
-        Cell::Quoted(_) => true,
-        Cell::Closed => false,
-        Cell::Escape => true,
-        Cell::Hex(_) => true,
-        Cell::InNumber(_) => false,
-        Cell::InWord(_) => false,
-        Cell::Plain(_) => false,
-        Cell::Complete => false,
-    }
-}
-
-fn quotes_open(f: FileState) -> bool
-    ensures { λ r. ⌜ r ≡ quotesOpen f ⌝ }
-{
-    match f {
-        FileState::Inside(c) => cell_in_quotes(c),
-        _ => false,
-    }
-}
-
-// Whether a record's limit counts this byte.
-pub fn counted(f: FileState, b: u8) -> bool
-    ensures { λ r. ⌜ r ≡ counts f b ⌝ }
-{
-    if b == 0x0A {
-        return quotes_open(f);
-    }
-    if b == 0x0D {
-        return quotes_open(f);
-    }
-    true
 }

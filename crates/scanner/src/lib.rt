@@ -114,7 +114,7 @@ pub fn advance(
             Token::AfterCell { closes, at: j } => {
                 h = record_state::extended(h, j - i);
                 i = j;
-                match file_lexer::after_cell(d, closes, part[j]) {
+                match separators::after_cell(d, closes, part[j]) {
                     Step::Reject(e) => {
                         return Reached::Failed {
                             fault: Fault::Byte(e),

@@ -1,7 +1,7 @@
 use Rattle.model.specs.Base.{if_then_else_}
 use Rattle.model.proofs.Tests.{tests}
-use Rattle.file_lexer.proofs.is_blank.Statement.{statement}
-use Rattle.file_lexer.proofs.is_blank.Tie as tie
+use Rattle.separators.proofs.is_blank.Statement.{statement}
+use Rattle.separators.proofs.is_blank.Tie as tie
 
 pub is-blank-spec : {M : Type 1} → statement M
 unfolding if_then_else_

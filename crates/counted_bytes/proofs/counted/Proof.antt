@@ -3,8 +3,8 @@ use mathlib.Core.Bool.{or-false, or-true}
 use Rattle.model.specs.File.{quotesOpen, counts}
 use Rattle.model.proofs.Tests.{tests}
 use borrow.Author.Needs.{needs}
-use Rattle.file_lexer.proofs.counted.Statement.{statement}
-use Rattle.file_lexer.proofs.counted.Tie as tie
+use Rattle.counted_bytes.proofs.counted.Statement.{statement}
+use Rattle.counted_bytes.proofs.counted.Tie as tie
 
 pub counted-spec : {M : Type 1} → statement M
 unfolding counts

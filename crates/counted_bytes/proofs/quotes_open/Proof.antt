@@ -11,8 +11,8 @@ use Rattle.model.specs.File.{quotesOpen}
 use Rattle.model.proofs.FileState.{the-type}
 use Rattle.model.proofs.Tests.{tests}
 use borrow.Author.Needs.{needs}
-use Rattle.file_lexer.proofs.quotes_open.Statement.{statement}
-use Rattle.file_lexer.proofs.quotes_open.Tie as tie
+use Rattle.counted_bytes.proofs.quotes_open.Statement.{statement}
+use Rattle.counted_bytes.proofs.quotes_open.Tie as tie
 
 -- the places of the other states in the enum
 abbrev others : List ℕ

@@ -1,8 +1,8 @@
 use Rattle.model.specs.Base.{if_then_else_}
 use Rattle.model.specs.File.{afterCell}
 use Rattle.model.proofs.Tests.{tests}
-use Rattle.file_lexer.proofs.tdif_after.Statement.{statement}
-use Rattle.file_lexer.proofs.tdif_after.Tie as tie
+use Rattle.separators.proofs.tdif_after.Statement.{statement}
+use Rattle.separators.proofs.tdif_after.Tie as tie
 
 pub tdif-after-spec : {M : Type 1} → statement M
 unfolding afterCell if_then_else_

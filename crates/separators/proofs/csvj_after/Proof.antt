@@ -2,8 +2,8 @@ use Rattle.model.specs.Base.{if_then_else_}
 use Rattle.model.specs.File.{afterCell}
 use Rattle.model.proofs.Tests.{tests}
 use borrow.Author.Needs.{needs}
-use Rattle.file_lexer.proofs.csvj_after.Statement.{statement}
-use Rattle.file_lexer.proofs.csvj_after.Tie as tie
+use Rattle.separators.proofs.csvj_after.Statement.{statement}
+use Rattle.separators.proofs.csvj_after.Tie as tie
 
 pub csvj-after-spec : {M : Type 1} → statement M
 unfolding afterCell if_then_else_

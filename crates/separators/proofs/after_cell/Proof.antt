@@ -1,7 +1,7 @@
 use Rattle.model.proofs.Tests.{tests}
 use borrow.Author.Needs.{needs}
-use Rattle.file_lexer.proofs.after_cell.Statement.{statement}
-use Rattle.file_lexer.proofs.after_cell.Tie as tie
+use Rattle.separators.proofs.after_cell.Statement.{statement}
+use Rattle.separators.proofs.after_cell.Tie as tie
 
 pub after-cell-spec : {M : Type 1} → statement M
 after-cell-spec =
