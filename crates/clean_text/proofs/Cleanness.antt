@@ -7,7 +7,7 @@ use mathlib.Core.Path.{_≡_, refl, sym, ap, _∙_, subst}
 use mathlib.Core.Bool.{Bool, true}
 use mathlib.Core.List.{List, [], _∷_, _++_}
 use lib.ListN.{length, take, drop, getD, drop-of-length-le, take-append-drop}
-use lib.Seq.{take-length, drop-drop}
+use lib.Seq.{drop-drop}
 use borrow.Author.Tests.{eqb-true, eqb-false}
 use Rattle.model.specs.declared.Dialect.{Dialect}
 use Rattle.model.specs.Base.{Bytes, _is_, QUOTE}
@@ -16,16 +16,13 @@ use Rattle.model.specs.Dialect.{quoteOf}
 use Rattle.model.specs.Cell.{mayBeEmpty}
 use Rattle.model.specs.Api.{slice}
 use Rattle.words.specs.Words.{allPass, isClean, AllIn}
-use Rattle.words.proofs.Stretches.{in-all}
+use Rattle.words.proofs.Stretches.{in-all, in-whole}
 use Rattle.buffers.proofs.Writing.{drop-next}
 use Rattle.decoder.specs.declared.source.Source.{Source}
 use Rattle.decoder.specs.Sources.{Cells}
 use Rattle.cell_ends.specs.Ends.{CleanCell, bare, quoted, CleanIn}
 use Rattle.spell.specs.Passing.{Marks, no-marks, a-mark}
 use Rattle.clean_text.specs.Joined.{Parts}
-
-whole : (raw : Bytes) → slice raw 0 (length raw) ≡ raw
-whole raw = let n : length raw - 0 ≡ length raw = omega arith in rw n (take-length raw)
 
 between-marks : (raw : Bytes) → 2 ≤ length raw → getD raw 0 0 ≡ QUOTE → getD raw (length raw - 1) 0 ≡ QUOTE → raw ≡ QUOTE ∷ (slice raw 1 (length raw - 1) ++ QUOTE ∷ [])
 between-marks raw h o k =
@@ -38,7 +35,7 @@ between-marks raw h o k =
 pub marks-clean : (d : Dialect) {raw : Bytes} {n : ℕ} → quoteOf d ≡ QUOTE → Marks raw n → (n ≡ 0 → mayBeEmpty d ≡ true) → AllIn (isClean QUOTE) raw n (length raw - n) → CleanCell d raw
 marks-clean d {raw} q no-marks m x =
     let n : length raw - 0 ≡ length raw = omega arith in
-    let all : allPass (isClean QUOTE) raw ≡ true = rw (whole raw) at (in-all (isClean QUOTE) (rw n at x) (le-refl (length raw))) in
+    let all : allPass (isClean QUOTE) raw ≡ true = in-whole (isClean QUOTE) (rw n at x) in
     bare {raw = raw} (m refl) (rw q all)
 marks-clean d {raw} q (a-mark h o k) m x =
     let all : allPass (isClean QUOTE) (slice raw 1 (length raw - 1)) ≡ true = in-all (isClean QUOTE) x (omega arith) in

@@ -151,13 +151,15 @@ fn is_between(p: Place) -> bool
     }
 }
 
-// The turn from i of the piece on, of which n bytes were consumed before, as `turned` has it.
+// The turn from i of the piece on, of which n bytes were consumed before, as `turned` has it. Nothing is told where fewer than `least`
+// bytes are left.
 pub fn data_record(
     d: Dialect,
     t: Dialect,
     piece: &[u8],
     n: usize,
     i: usize,
+    least: usize,
     p: Place,
     out: &mut [u8],
     o: usize,
@@ -170,6 +172,9 @@ pub fn data_record(
     ensures { λ r. ⌜ QuickBounds (now (piece .entry)) n i (now (out .entry)) (now (out .exit)) r ⌝ }
     ensures { λ r. ⌜ ((bytes ends : List ℕ) (done : List Rec) (k : Kept) → Holding d (into t) p bytes ends done k → QuickTurns d (into t) (now (piece .entry)) i p bytes ends done k o (now (out .entry)) (now (out .exit)) r) ⌝ }
 {
+    if piece.len() - i < least {
+        return QuickTurn::Nothing;
+    }
     if !is_between(p) {
         return QuickTurn::Nothing;
     }

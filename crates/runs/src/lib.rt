@@ -97,7 +97,7 @@ pub enum CellEnd {
 }
 
 // The byte beside the quote at which a run ends in this cell, where ordinary bytes leave the cell as it is.
-enum RunStop {
+pub enum RunStop {
     At(u8),
     NoRun,
 }
@@ -111,7 +111,7 @@ fn text_stop(t: Char, q: u8) -> RunStop
     }
 }
 
-fn run_stop(d: Dialect, c: Cell) -> RunStop
+pub fn run_stop(d: Dialect, c: Cell) -> RunStop
     ensures { λ r. ⌜ r ≡ runStop d c ⌝ }
 {
     match c {

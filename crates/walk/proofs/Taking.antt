@@ -24,6 +24,9 @@ use Rattle.turn.specs.declared.Turn.the-variants.{Next, Pended, Stopped, Nowher
 use Rattle.turn.specs.Holding.{allKept, readAt, Holding}
 use Rattle.turn.specs.Walking.{InBounds, Ready, TurnBounds, next-bounds, pended-bounds, Turns, turns-next, turns-pended, turns-stopped, turns-nowhere}
 use Rattle.turn.specs.Calls.{Begins, Named, Begun}
+use Rattle.cell_pieces.specs.CellPieces.{InCell, all-kept, not-told}
+use Rattle.cell_pieces.specs.declared.CellPiece.{CellPiece}
+use Rattle.cell_pieces.specs.declared.CellPiece.the-variants as cell
 use Rattle.quick_turns.specs.declared.QuickTurn.{QuickTurn}
 use Rattle.quick_turns.specs.declared.QuickTurn.the-variants as quick
 use Rattle.quick_turns.specs.QuickTurns.{QuickReady, QuickBounds, next-in-bounds, nothing-in-bounds, QuickTurns, a-record, nothing}
@@ -144,6 +147,30 @@ quick-ready r = record { offset = r .bounds .offset; before = r .bounds .written
 
 pub ready-quickly : {piece : Bytes} {n i : ℕ} {q : Place} {at end : ℕ} {bytes ends out out′ : List ℕ} → Behind piece n i out q at end → length out′ ≡ length out → {p : Place} {o : ℕ} → Ready piece n i p bytes ends out o → Ready piece n at q bytes ends out′ end
 ready-quickly {ends = ends} b l r = record { bounds = b .bounds ends; at = b .place; inside = b .inside; room = omega (arith, b .room); long-bytes = r .long-bytes; long-ends = r .long-ends }
+
+-- ---- a piece inside a cell
+
+-- where it was told, nothing is left to be done
+pub cell-kept :
+    {d : Dialect} {t : Target} {piece : Bytes} {place : Place} {done : List Rec} {k : Kept} {out bytes ends bytes′ : List ℕ} {r : CellPiece} {q : Place} {e : Report}
+    (w : Walked d t piece place done k out 0 place bytes ends out 0) → InCell d piece place bytes ends bytes′ r → r ≡ cell.Kept q → e ≡ accepted →
+    Goes d t piece place done k (w .done′) out bytes′ ends out (record { place = q; report = e; length = 0 })
+cell-kept {d} {t} {piece} {place} {done} {k} {out} {ends = ends} {bytes′ = bytes′} {q = q} {e = e} w (all-kept {q = q′} b turns) z a =
+    let same : q′ ≡ q = cc in
+    subst (λ (y : Place). Goes d t piece place done k (w .done′) out bytes′ ends out (record { place = y; report = e; length = 0 })) same
+    (walk-pends w (turns t (w .done′) (w .k′) out (w .hold)) b a (w .done′) (grows-none t (w .done′)))
+cell-kept w (not-told s) z a = let y : _≡_ {A = ℕ} 0 1 = cc in absurd (omega arith)
+
+pub cell-nothing : {d : Dialect} {piece : Bytes} {place : Place} {bytes ends bytes′ : List ℕ} {r : CellPiece} → InCell d piece place bytes ends bytes′ r → r ≡ cell.Nothing → bytes′ ≡ bytes
+cell-nothing (all-kept b turns) z = let y : _≡_ {A = ℕ} 0 1 = cc in absurd (omega arith)
+cell-nothing (not-told s) z = s
+
+pub still-goes :
+    {d : Dialect} {t : Target} {piece : Bytes} {place : Place} {done : List Rec} {k : Kept} {out bytes ends bytes′ bytes″ ends″ out″ : List ℕ} {r : Taken} → bytes′ ≡ bytes →
+    ((w : Walked d t piece place done k out 0 place bytes′ ends out 0) → Goes d t piece place done k (w .done′) out bytes″ ends″ out″ r) →
+    (w : Walked d t piece place done k out 0 place bytes ends out 0) → Goes d t piece place done k (w .done′) out bytes″ ends″ out″ r
+still-goes {d} {t} {piece} {place} {done} {k} {out} {ends = ends} {bytes″ = bytes″} {ends″ = ends″} {out″ = out″} {r = r} same goes =
+    subst (λ (x : List ℕ). (w : Walked d t piece place done k out 0 place x ends out 0) → Goes d t piece place done k (w .done′) out bytes″ ends″ out″ r) same goes
 
 -- where nothing was told, all is as it was
 module _ {piece : Bytes} {i : ℕ} {p : Place} {bytes ends out out′ : List ℕ} {o : ℕ} (same : out′ ≡ out) where

@@ -10,6 +10,7 @@ ghost use Rattle.turn.specs.Walking.{Scratch, Ready};
 ghost use Rattle.turn.specs.Calls.{ReadyPiece, Begun};
 ghost use Rattle.walk.specs.Taking.{Walked, Entered, Goes, Took};
 use carried::place::Place;
+use cell_pieces::CellPiece;
 use model::Dialect;
 use model::Report;
 use numbers::MAX_COLUMNS;
@@ -27,7 +28,16 @@ fn told(place: Place, report: Report, length: usize) -> Taken
     }
 }
 
-// The turns from i of the piece on, of which n bytes were consumed before, with so many bytes of the output written.
+// How long a record was that began and ended there. A state that no calls made may say that it ended first.
+fn bytes_between(start: usize, end: usize) -> usize {
+    if end < start {
+        return 0;
+    }
+    end - start
+}
+
+// The turns from i of the piece on, of which n bytes were consumed before, with so many bytes of the output written. A record is expected
+// to be as long as the one before it: where less of the piece is left, it will hardly end there, and would be gone over twice.
 fn walked(
     d: Dialect,
     t: Dialect,
@@ -50,9 +60,11 @@ fn walked(
     let mut p = place;
     let mut i = from;
     let mut o = at;
+    let mut least = 0;
     loop {
-        match quick_turns::data_record(d, t, piece, n, i, p, out, o, starts, stops, kinds) {
+        match quick_turns::data_record(d, t, piece, n, i, least, p, out, o, starts, stops, kinds) {
             QuickTurn::Next { place: q, at, end } => {
+                least = bytes_between(p.start, q.offset);
                 p = q;
                 i = at;
                 o = end;
@@ -73,6 +85,7 @@ fn walked(
                 kinds,
             ) {
                 Turn::Next { place: q, at, end } => {
+                    least = bytes_between(p.start, q.offset);
                     p = q;
                     i = at;
                     o = end;
@@ -91,6 +104,42 @@ fn walked(
     }
 }
 
+// A piece behind the header. The lists are filled with zeros only where they are needed.
+fn later(
+    d: Dialect,
+    t: Dialect,
+    piece: &[u8],
+    place: Place,
+    bytes: &mut [u8],
+    ends: &mut [usize],
+    out: &mut [u8],
+) -> Taken
+    requires { ⌜ Ready (now piece) (place .offset) 0 place (now bytes) (now ends) (now out) 0 ⌝ }
+    ensures { λ r. ⌜ ((done : List Rec) (k : Kept) → Entered d (into t) (now (piece .entry)) place done k (now (out .entry)) → (w : Walked d (into t) (now (piece .entry)) place done k (now (out .entry)) 0 place (now (bytes .entry)) (now (ends .entry)) (now (out .entry)) 0) → Goes d (into t) (now (piece .entry)) place done k (w .done′) (now (out .entry)) (now (bytes .exit)) (now (ends .exit)) (now (out .exit)) r) ⌝ }
+{
+    if let CellPiece::Kept(q) = cell_pieces::kept(d, piece, place, bytes, ends) {
+        return told(q, numbers::on_call(numbers::ACCEPTED), 0);
+    }
+    let mut starts = [0usize; MAX_COLUMNS];
+    let mut stops = [0usize; MAX_COLUMNS];
+    let mut kinds = [0u8; MAX_COLUMNS];
+    walked(
+        d,
+        t,
+        piece,
+        place.offset,
+        0,
+        place,
+        bytes,
+        ends,
+        out,
+        0,
+        &mut starts,
+        &mut stops,
+        &mut kinds,
+    )
+}
+
 // A piece. The header's cells are kept where its names then stay, the other records' beside them.
 pub fn take(
     d: Dialect,
@@ -106,27 +155,13 @@ pub fn take(
     requires { ⌜ ReadyPiece place (now names) (now «name_ends») (now bytes) (now ends) ⌝ }
     ensures { λ r. ⌜ ((done : List Rec) (k : Kept) → Begun d (into t) (now (piece .entry)) place (now (names .entry)) (now («name_ends» .entry)) (now (bytes .entry)) (now (ends .entry)) (now (out .entry)) done k → Took d (into t) (now (piece .entry)) place done k (now (out .entry)) (now (names .exit)) (now («name_ends» .exit)) (now (bytes .exit)) (now (ends .exit)) (now (out .exit)) r) ⌝ }
 {
+    if 0 < place.records {
+        return later(d, t, piece, place, bytes, ends, out);
+    }
     let mut starts = [0usize; MAX_COLUMNS];
     let mut stops = [0usize; MAX_COLUMNS];
     let mut kinds = [0u8; MAX_COLUMNS];
     let n = place.offset;
-    if 0 < place.records {
-        return walked(
-            d,
-            t,
-            piece,
-            n,
-            0,
-            place,
-            bytes,
-            ends,
-            out,
-            0,
-            &mut starts,
-            &mut stops,
-            &mut kinds,
-        );
-    }
     match turn::turned(
         d,
         t,

@@ -1,11 +1,12 @@
 -- Laws of stretches whose bytes all pass: a word more, the word of the last bytes, and what such a word holds.
 use Prim.Native.Nat.{ℕ, zero, suc, _+_, _-_, _/_, _≤_, _<_}
+use native.Mathlib.Nat.{le-refl}
 use native.Mathlib.Omega.{arith}
 use mathlib.Core.Path.{_≡_, refl, sym, ap, _∙_}
 use mathlib.Core.Bool.{Bool, true, _&&_}
 use mathlib.Core.List.{[], _∷_, _++_}
 use lib.ListN.{length, take, drop, getD, length-take, length-drop, take-append-drop}
-use lib.Seq.{drop-drop, getD-drop, getD-take}
+use lib.Seq.{drop-drop, getD-drop, getD-take, take-length}
 use borrow.Author.Tests.{eq-eqb, eqb-true, eqb-false, ltb-true, ltb-false}
 use lib.Dec.{ltb}
 use Rattle.model.specs.Base.{Bytes, _is_}
@@ -53,6 +54,13 @@ module _ (passes : ℕ → Bool) where
   -- and back
   pub in-all : {s : Bytes} {i j : ℕ} → AllIn passes s i j → j ≤ length s → allPass passes (slice s i j) ≡ true
   in-all {s} {i} {j} x l = all-from (slice s i j) λ k h. let len = part-length s i j l in rw (part-at s i j k (omega arith)) (x .each (i + k) (omega arith) (omega arith))
+
+  -- and of a whole one
+  pub in-whole : {s : Bytes} → AllIn passes s 0 (length s) → allPass passes s ≡ true
+  in-whole {s} x =
+      let n : length s - 0 ≡ length s = omega arith in
+      let whole : slice s 0 (length s) ≡ s = rw n (take-length s) in
+      rw whole at (in-all x (le-refl (length s)))
 
   -- how many pass from its beginning: as many as it has, where the next does not or there is none
   pub in-ends : {s : Bytes} {i j : ℕ} → AllIn passes s i j → i ≤ j → j ≤ length s → passing passes (drop j s) ≡ 0 → passing passes (drop i s) ≡ j - i

@@ -275,6 +275,43 @@ fn cells_may_be_odd_at_each_distance_from_a_words_end() {
     compared.tell_reports("cells odd at a place", CELLS, &[0, 2, 3], 5_000);
 }
 
+/// About the sizes of a word and of two, and a larger one.
+const PIECES: [usize; 8] = [1, 7, 8, 9, 15, 16, 17, 64];
+
+/// The calls that bring a file in pieces of this size.
+fn in_pieces(file: &[u8], size: usize) -> Vec<Call<'_>> {
+    let parts = file.chunks(size);
+    let parts = parts.map(|part| Call::Piece(part, PIECE_ROOM));
+    parts.chain([Call::End(PIECE_ROOM)]).collect()
+}
+
+/// Long cells with something odd in place of each byte, of which some pieces have nothing but text.
+fn odd_in_cells_in_pieces(calls: &Calls) -> Result<Compared, String> {
+    let mut pieces = PieceComparison::new(calls.pieces);
+    let mut compared = Compared::default();
+    let header = "\"a\",\"b\"\n";
+    for (dialect, quote, text) in SPELT {
+        let file = format!("{header}{quote}{text}{quote},\"x\"\n\"y\",\"z\"\n");
+        let start = header.len() + quote.len();
+        for place in start..=start + text.len() {
+            for odd in ODD {
+                let odd = replaced(file.as_bytes(), place, odd);
+                for size in PIECES {
+                    pieces.calls_agree(dialect, target_of(dialect), &in_pieces(&odd, size))?;
+                    compared.inputs += 1;
+                }
+            }
+        }
+    }
+    Ok(compared)
+}
+
+#[test]
+fn cells_may_be_odd_at_each_distance_from_a_pieces_end() {
+    let compared = agreed(odd_in_cells_in_pieces(&PROVED));
+    compared.tell("odd cells in pieces", 60_000);
+}
+
 // ---- the limits of a record
 
 /// A long record's dialect, what stands before its filler, what is filled in, what stands behind it, and the ending.
@@ -294,14 +331,15 @@ const LENGTHS: RangeInclusive<usize> = RECORD_BYTES - 6..=RECORD_BYTES + 4;
 const NEAR: usize = 4;
 
 /// Records of about as many bytes as a record may have, with something odd in place of each byte near their end, and files that end there.
-/// A piece begins with the record.
+/// A piece begins with the record, or each has 64 bytes.
 fn odd_long_records(calls: &Calls) -> Result<Compared, String> {
     let mut compared = Compared::default();
     let mut pieces = PieceComparison::new(calls.pieces);
     let mut agrees = |dialect: u32, file: &[u8], start: usize| {
         compared.whole(calls, dialect, file, 16)?;
         let cuts = [start].into_iter();
-        pieces.cuts_agree(dialect, target_of(dialect), file, cuts)
+        pieces.cuts_agree(dialect, target_of(dialect), file, cuts)?;
+        pieces.calls_agree(dialect, target_of(dialect), &in_pieces(file, 64))
     };
     let before = "\"a\",\"b\"\n\"Harbour\",\"1\"\n";
     for (dialect, open, filler, close, ending) in LONG {
@@ -461,10 +499,7 @@ fn full_files(calls: &Calls, in_all: bool) -> Result<Compared, String> {
                 compared.reports.add(dialect, answer.report.number);
                 let room = convert_room(length);
                 convert_agrees(calls.converter, dialect, target, &file, room)?;
-                let parts = file.chunks(PIECE_BYTES);
-                let parts = parts.map(|part| Call::Piece(part, PIECE_ROOM));
-                let list: Vec<Call> = parts.chain([Call::End(PIECE_ROOM)]).collect();
-                pieces.calls_agree(dialect, target, &list)?;
+                pieces.calls_agree(dialect, target, &in_pieces(&file, PIECE_BYTES))?;
                 compared.inputs += 1;
             }
         }
@@ -583,6 +618,14 @@ const ENDS_BY_AN_EMPTY_PIECE: PieceConverter = |state, call, out| match *call {
     _ => proved_lent(state, call, out),
 };
 
+const TAKES_A_LAST_QUOTE_FOR_TEXT: PieceConverter = |state, call, out| match *call {
+    Call::Piece([text @ .., b'"'], room) if text.len() >= 7 && is_clean(text) => {
+        let text = [text, b"x"].concat();
+        proved_lent(state, &Call::Piece(&text, room), out)
+    }
+    _ => proved_lent(state, call, out),
+};
+
 /// Calls of which one is wrong, and the comparison that has to notice it.
 type Wrong = (Calls, fn(&Calls) -> Result<Compared, String>);
 
@@ -601,7 +644,7 @@ const fn wrong_pieces(pieces: &'static [PieceConverter]) -> Calls {
     Calls { pieces, ..PROVED }
 }
 
-const WRONG: [(&str, Wrong); 8] = [
+const WRONG: [(&str, Wrong); 9] = [
     (
         "a byte that breaks UTF-8 behind seven clean ones is passed over",
         (wrong_reader(PASSES_OVER_80), odd_in_words),
@@ -635,6 +678,13 @@ const WRONG: [(&str, Wrong); 8] = [
         (wrong_pieces(&[LOSES_A_CUT_CHARACTER]), |calls| {
             odd_and_cut(calls, &CUT, false)
         }),
+    ),
+    (
+        "a quote behind a piece's text is taken for text",
+        (
+            wrong_pieces(&[TAKES_A_LAST_QUOTE_FOR_TEXT]),
+            odd_in_cells_in_pieces,
+        ),
     ),
     (
         "an empty piece ends the file",

@@ -12,12 +12,9 @@ use Rattle.quick_turns.proofs.Turning.{next-file, writes-bounds, writes
 use Rattle.quick_turns.proofs.data_record.Statement.{statement}
 use Rattle.quick_turns.proofs.data_record.Tie as tie
 
-returns : tie.Need-returns
-returns c = (nothing-in-bounds refl, λ bytes ends done k hold. nothing)
-
 record-requires : tie.Need-record-requires
 record-requires c κs =
-    let u = c .before .before .before .before .before .before .before .before .before .before in
+    let u = c .before .before .before .before .before .before .before .before .before .before .before in
     let r = u .pre .0 in
     let l = u .pre .1 in
     let at = r .at in
@@ -26,32 +23,31 @@ record-requires c κs =
 
 completed-requires : tie.Need-completed-requires
 completed-requires c κs =
-    let u = c .before .before .before .before .before .before .before .before .before .before .before .before .before .before .before .before .before .before .before .before .before .before .before .before in
+    let u = c .before .before .before .before .before .before .before .before .before .before .before .before .before .before .before .before .before .before .before .before .before .before .before .before .before in
     let r = u .pre .0 in
     let l = u .pre .1 in
-    let b = c .before .before .before .before .before .before .before .before .before .before .before .before .before .before .before .before .before .before .is-between .ensures (not-false _ (c .before .before .before .before .before .before .before .before .before .before .before .before .before .before .before .before .before .if1 .left)) in
+    let b = c .before .before .before .before .before .before .before .before .before .before .before .before .before .before .before .before .before .before .is-between .ensures (not-false _ (c .before .before .before .before .before .before .before .before .before .before .before .before .before .before .before .before .before .if2 .left)) in
     let records : u .args .p .records ≤ u .args .p .offset = r .records in
     let offset : u .args .p .offset ≤ MAXFILE = r .offset in (
       record { long-starts = c .before .before .before .before .before .before .before .before .before .before .before .before .starts .given ∙ l .long-starts; long-stops = c .before .before .before .before .before .before .before .before .before .before .stops .given ∙ l .long-stops; long-kinds = c .before .before .before .before .before .before .before .before .kinds .given ∙ l .long-kinds },
-      (cells-there _ _ _ _ _ (b .state) (u .pre .0 .inside) (c .before .before .before .before .before .before .before .before .before .before .before .before .before .«record» .ensures) (u .pre .1) (c .before .before .before .before .before .cells .given .1), (clean-there _ _ _ _ _ (b .state) (u .pre .0 .inside) (c .before .before .before .before .before .before .before .before .before .before .before .before .before .«record» .ensures) (u .pre .1) (c .before .before .before .before .before .cells .given .1), ((r .before, omega arith, next-file (u .args .t) (u .pre .0) (c .before .before .before .before .before .before .before .before .before .before .before .before .before .before .before .before .before .before .is-between .ensures (not-false _ (c .before .before .before .before .before .before .before .before .before .before .before .before .before .before .before .before .before .if1 .left))) (c .before .before .before .before .before .before .before .before .before .before .before .before .before .«record» .ensures) (u .pre .1) (c .before .before .before .before .before .cells .given .1), r .room), b .later))),
+      (cells-there _ _ _ _ _ (b .state) (u .pre .0 .inside) (c .before .before .before .before .before .before .before .before .before .before .before .before .before .«record» .ensures) (u .pre .1) (c .before .before .before .before .before .cells .given .1), (clean-there _ _ _ _ _ (b .state) (u .pre .0 .inside) (c .before .before .before .before .before .before .before .before .before .before .before .before .before .«record» .ensures) (u .pre .1) (c .before .before .before .before .before .cells .given .1), ((r .before, omega arith, next-file (u .args .t) (u .pre .0) (c .before .before .before .before .before .before .before .before .before .before .before .before .before .before .before .before .before .before .is-between .ensures (not-false _ (c .before .before .before .before .before .before .before .before .before .before .before .before .before .before .before .before .before .if2 .left))) (c .before .before .before .before .before .before .before .before .before .before .before .before .before .«record» .ensures) (u .pre .1) (c .before .before .before .before .before .cells .given .1), r .room), b .later))),
     )
 
-returns-2 : tie.Need-returns-2
-returns-2 c = (nothing-in-bounds refl, λ bytes ends done k hold. nothing)
-
-returns-3 : tie.Need-returns-3
-returns-3 c =
-    let u = c .before .before .before .before .before .before .before .before .before .before .before .before .before .before .before .before .before .before .before .before .before .before .before .before .before .before .before in
+returns-4 : tie.Need-returns-4
+returns-4 c =
+    let u = c .before .before .before .before .before .before .before .before .before .before .before .before .before .before .before .before .before .before .before .before .before .before .before .before .before .before .before .before in
     let w = c .before .before .completed .ensures in
-    (writes-bounds (u .args .t) (u .pre .0) (c .before .before .before .before .before .before .before .before .before .before .before .before .before .before .before .before .before .before .before .before .before .is-between .ensures (not-false _ (c .before .before .before .before .before .before .before .before .before .before .before .before .before .before .before .before .before .before .before .before .if1 .left))) (c .before .before .before .before .before .before .before .before .before .before .before .before .before .before .before .before .«record» .ensures) (u .pre .1) (c .before .before .before .before .before .before .before .before .cells .given .1) w, λ bytes ends done k hold. writes-turns (u .args .t) (u .pre .0) (c .before .before .before .before .before .before .before .before .before .before .before .before .before .before .before .before .before .before .before .before .before .is-between .ensures (not-false _ (c .before .before .before .before .before .before .before .before .before .before .before .before .before .before .before .before .before .before .before .before .if1 .left))) (c .before .before .before .before .before .before .before .before .before .before .before .before .before .before .before .before .«record» .ensures) (u .pre .1) (c .before .before .before .before .before .before .before .before .cells .given .1) hold w)
+    (writes-bounds (u .args .t) (u .pre .0) (c .before .before .before .before .before .before .before .before .before .before .before .before .before .before .before .before .before .before .before .before .before .is-between .ensures (not-false _ (c .before .before .before .before .before .before .before .before .before .before .before .before .before .before .before .before .before .before .before .before .if2 .left))) (c .before .before .before .before .before .before .before .before .before .before .before .before .before .before .before .before .«record» .ensures) (u .pre .1) (c .before .before .before .before .before .before .before .before .cells .given .1) w, λ bytes ends done k hold. writes-turns (u .args .t) (u .pre .0) (c .before .before .before .before .before .before .before .before .before .before .before .before .before .before .before .before .before .before .before .before .before .is-between .ensures (not-false _ (c .before .before .before .before .before .before .before .before .before .before .before .before .before .before .before .before .before .before .before .before .if2 .left))) (c .before .before .before .before .before .before .before .before .before .before .before .before .before .before .before .before .«record» .ensures) (u .pre .1) (c .before .before .before .before .before .before .before .before .cells .given .1) hold w)
 
 pub data-record-spec : {M : Type 1} → statement M
 data-record-spec =
     tie.close
     (tie.spec
+    (λ c. let inside = c .before .before .before .before .before .pre .0 .inside in omega arith)
+    (λ c. (nothing-in-bounds refl, λ bytes ends done k hold. nothing))
     (λ c κs. search needs)
-    returns
-    (λ c. let r = c .before .before .before .before .before .before .before .pre .0 in let at = r .at in let offset = r .offset in omega arith)
+    (λ c. (nothing-in-bounds refl, λ bytes ends done k hold. nothing))
+    (λ c. let r = c .before .before .before .before .before .before .before .before .pre .0 in let at = r .at in let offset = r .offset in omega arith)
     record-requires
     (λ c. search needs)
     (λ c. search needs)
@@ -59,9 +55,9 @@ data-record-spec =
     (λ c. search needs)
     (λ c. search needs)
     (λ c. search needs)
-    returns-2
+    (λ c. (nothing-in-bounds refl, λ bytes ends done k hold. nothing))
     (λ c. search needs)
     (λ c. search needs)
     (λ c. search needs)
     (λ c. search needs)
-    returns-3)
+    returns-4)

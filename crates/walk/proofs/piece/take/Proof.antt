@@ -11,31 +11,32 @@ use Rattle.walk.proofs.Taking.{walk-begins, walk-nowhere, pended-in-bou
 use Rattle.walk.proofs.piece.take.Statement.{statement}
 use Rattle.walk.proofs.piece.take.Tie as tie
 
-walked-requires : tie.Need-walked-requires
-walked-requires c κs =
-    let more : 0 < c .before .before .before .before .before .before .before .before .before .before .before .before .before .before .args .place .records = c .before .before .before .before .before .before .if1 .taken in
-    (ready-later (c .before .before .before .before .before .before .before .before .before .before .before .before .before .before .pre) (λ e. omega arith), record { long-starts = search needs; long-stops = search needs; long-kinds = search needs })
+later-requires : tie.Need-later-requires
+later-requires c κs =
+    let s = c .before .before .before .before .before .before .before .before .before .before .before in
+    let more : 0 < s .args .place .records = c .before .before .before .if1 .taken in
+    ready-later (s .pre) (λ e. omega arith)
 
 returns : tie.Need-returns
 returns c =
-    let a = c .before .before .before .before .before .before .before .before .before .before .before .before .before .before .before .before .before .before .before .before .before .before .before .before .args in
-    let more : 0 < a .place .records = c .before .before .before .before .before .before .before .before .before .before .before .before .before .before .before .before .if1 .taken in
+    let a = c .before .before .before .before .before .before .before .before .before .before .before .before .before .before .before .before .before .before .args in
+    let more : 0 < a .place .records = c .before .before .before .before .before .before .before .before .before .before .if1 .taken in
     λ done k b.
     let h = headed-begins b more in
-    took-later h (c .before .before .before .before .before .before .before .before .before .walked .ensures (a .place) done k (a .out .now) (entered-of (begun-later b (λ e. omega arith))) refl (h .now))
+    took-later h (c .before .before .before .before .before .before .later .ensures done k (entered-of (begun-later b (λ e. omega arith))) (h .now))
 
 turned-requires : tie.Need-turned-requires
 turned-requires c κs =
     let none : c .before .before .before .before .before .before .before .before .before .before .before .before .before .before .args .place .records ≤ 0 = c .before .before .before .before .before .before .if1 .left in
     (ready-header (c .before .before .before .before .before .before .before .before .before .before .before .before .before .before .pre) (omega arith), record { long-starts = search needs; long-stops = search needs; long-kinds = search needs })
 
-walked-requires-2 : tie.Need-walked-requires-2
-walked-requires-2 c κs =
+walked-requires : tie.Need-walked-requires
+walked-requires c κs =
     let s = c .before .before .before .before .before .before .before .before .before .before .before .before .before .before .before .before .before .before .before .before .before .before .before .before .before .before .before .before .before .before .before .before .before in
     let a = s .args in
     let t = c .before .before .before .before .before .before .before .before .before .before .before .before .before .before .before .before .before .before .turned in (
       ready-behind (subst (TurnBounds (a .piece .now) (a .place .offset) 0 _ (a .out .now)) (c .before .before .before .before .before .before .before .q .given .1) (t .ensures .0)) (s .pre .long-bytes) (s .pre .long-ends) (c .before .before .before .before .before .before .before .before .before .before .before .before .before .out2 .given),
-      record { long-starts = c .before .before .before .before .before .before .before .before .before .before .before .starts4 .given; long-stops = c .before .before .before .before .before .before .before .before .before .before .stops4 .given; long-kinds = c .before .before .before .before .before .before .before .before .before .kinds4 .given },
+      record { long-starts = c .before .before .before .before .before .before .before .before .before .before .before .starts2 .given; long-stops = c .before .before .before .before .before .before .before .before .before .before .stops2 .given; long-kinds = c .before .before .before .before .before .before .before .before .before .kinds2 .given },
     )
 
 returns-2 : tie.Need-returns-2
@@ -49,7 +50,7 @@ returns-2 c =
     let begins = begun-header b none in
     let turn = subst (Turns (a .d) (into (a .t)) (a .piece .now) 0 (a .place) done k 0 (a .out .now) _ _ _) (c .before .before .before .before .before .before .before .before .before .before .before .before .before .before .before .before .before .q .given .1) (t .ensures .1 done k (begins .hold)) in
     let h = headed-next begins none turn (none-in-hand bounds) (a .bytes .now) (a .ends .now) in
-    took-later h (c .before .before .before .before .before .before .before .before .before .walked2 .ensures (a .place) done k (a .out .now) (entered-of begins) (c .before .before .before .before .before .before .before .before .before .before .before .before .before .before .before .before .before .before .before .before .before .before .before .out2 .given) (h .now))
+    took-later h (c .before .before .before .before .before .before .before .before .before .walked .ensures (a .place) done k (a .out .now) (entered-of begins) (c .before .before .before .before .before .before .before .before .before .before .before .before .before .before .before .before .before .before .before .before .before .before .before .out2 .given) (h .now))
 
 returns-3 : tie.Need-returns-3
 returns-3 c =
@@ -92,10 +93,7 @@ pub take-spec : {M : Type 1} → statement M
 take-spec =
     tie.close
     (tie.spec
-    (λ c. search needs)
-    (λ c. search needs)
-    (λ c. search needs)
-    walked-requires
+    later-requires
     (λ c. search needs)
     (λ c. search needs)
     (λ c. search needs)
@@ -108,7 +106,7 @@ take-spec =
     (λ c. search needs)
     (λ c. search needs)
     (λ c. search needs)
-    walked-requires-2
+    walked-requires
     (λ c. search needs)
     (λ c κs. search needs)
     (λ c κs. search needs)

@@ -16,13 +16,13 @@ use Rattle.walk.proofs.piece.walked.Statement.{statement}
 use Rattle.walk.proofs.piece.walked.Tie as tie
 
 abbrev Inv-loop : tie.InvT-loop
-Inv-loop d t piece n from bytes₀ ends₀ out₀ at starts₀ stops₀ kinds₀ p₀ i₀ o₀ bytes ends out starts stops kinds p i o =
+Inv-loop d t piece n from bytes₀ ends₀ out₀ at starts₀ stops₀ kinds₀ p₀ i₀ o₀ least₀ bytes ends out starts stops kinds p i o least =
     Ready piece n i p bytes ends out o × (length bytes ≡ length bytes₀) × (length ends ≡ length ends₀) × (length out ≡ length out₀)
     × (length starts ≡ length starts₀) × (length stops ≡ length stops₀) × (length kinds ≡ length kinds₀)
     × ((began : Place) (done : List Rec) (k : Kept) (first : List ℕ) (w : Walked d (into t) piece began done k first from p₀ bytes₀ ends₀ out₀ at) → Since (w .done′) d (into t) piece began done k first i p bytes ends out o)
 
 abbrev μ-loop : tie.MeasureT-loop
-μ-loop d t piece n from bytes₀ ends₀ out₀ at starts₀ stops₀ kinds₀ p₀ i₀ o₀ bytes ends out starts stops kinds p i o = length piece - i
+μ-loop d t piece n from bytes₀ ends₀ out₀ at starts₀ stops₀ kinds₀ p₀ i₀ o₀ least₀ bytes ends out starts stops kinds p i o least = length piece - i
 
 loop-holds : tie.Need-loop-holds Inv-loop μ-loop
 loop-holds c = (c .before .before .before .before .before .before .before .pre .0, refl, refl, refl, refl, refl, refl, λ began done k first w. since-begins w)
@@ -35,24 +35,24 @@ data-record-requires c κs =
 
 loop-less : tie.Need-loop-less Inv-loop μ-loop
 loop-less c =
-    let l = c .before .before .before .before .before .before .before .before .before .before .before .before .before .before .before .before .loop in
-    let b = quick-behind (c .before .before .before .before .before .before .before .before .before .before .before .data-record .ensures .0) (c .before .q .given .1) in
+    let l = c .before .before .before .before .before .before .before .before .before .before .before .before .before .before .before .before .before .loop in
+    let b = quick-behind (c .before .before .before .before .before .before .before .before .before .before .before .before .data-record .ensures .0) (c .before .before .q .given .1) in
     let g0 = b .onward in let g1 = b .inside in omega arith
 
 loop-again : tie.Need-loop-again Inv-loop μ-loop
 loop-again c =
-    let l = c .before .before .before .before .before .before .before .before .before .before .before .before .before .before .before .before .loop in
-    let r = c .before .before .before .before .before .before .before .before .before .before .before .data-record .ensures in
-    let e = c .before .q .given .1 in
+    let l = c .before .before .before .before .before .before .before .before .before .before .before .before .before .before .before .before .before .loop in
+    let r = c .before .before .before .before .before .before .before .before .before .before .before .before .data-record .ensures in
+    let e = c .before .before .q .given .1 in
     let b = quick-behind (r .0) e in
-    let o = c .before .before .before .before .before .before .before .before .before .before .out .given in (
+    let o = c .before .before .before .before .before .before .before .before .before .before .before .out .given in (
       ready-quickly b o (l .inv .0),
       l .inv .1,
       l .inv .2,
       o ∙ l .inv .3,
-      c .before .before .before .before .before .before .before .before .starts .given ∙ l .inv .4,
-      c .before .before .before .before .before .before .stops .given ∙ l .inv .5,
-      c .before .before .before .before .kinds .given ∙ l .inv .6,
+      c .before .before .before .before .before .before .before .before .before .starts .given ∙ l .inv .4,
+      c .before .before .before .before .before .before .before .stops .given ∙ l .inv .5,
+      c .before .before .before .before .before .kinds .given ∙ l .inv .6,
       λ began done k first z.
           let s = l .inv .7 began done k first z in
           let w = s .now in
@@ -67,32 +67,32 @@ turned-requires c κs =
 
 loop-less-2 : tie.Need-loop-less-2 Inv-loop μ-loop
 loop-less-2 c =
-    let l = c .before .before .before .before .before .before .before .before .before .before .before .before .before .before .before .before .before .before .before .before .before .before .before .before .before .before .before .before .before .before .before .before .before .before .before .before .before .loop in
-    let a = c .before .before .before .before .before .before .before .before .before .before .before .before .before .before .before .before .before .before .before .before .before .before .before .before .before .before .before .before .before .before .before .before .before .before .before .before .before .before .before .before .before .before .before .before .before .args in
-    let t = c .before .before .before .before .before .before .before .before .before .before .before .before .before .before .before .turned in
-    let g = goes-forward (subst (TurnBounds (a .piece .now) (a .n) (l .i) _ _) (c .before .q2 .given .1) (t .ensures .0)) in
+    let l = c .before .before .before .before .before .before .before .before .before .before .before .before .before .before .before .before .before .before .before .before .before .before .before .before .before .before .before .before .before .before .before .before .before .before .before .before .before .before .loop in
+    let a = c .before .before .before .before .before .before .before .before .before .before .before .before .before .before .before .before .before .before .before .before .before .before .before .before .before .before .before .before .before .before .before .before .before .before .before .before .before .before .before .before .before .before .before .before .before .before .args in
+    let t = c .before .before .before .before .before .before .before .before .before .before .before .before .before .before .before .before .turned in
+    let g = goes-forward (subst (TurnBounds (a .piece .now) (a .n) (l .i) _ _) (c .before .before .q2 .given .1) (t .ensures .0)) in
     let g0 = g .0 in let g1 = g .1 in omega arith
 
 loop-again-2 : tie.Need-loop-again-2 Inv-loop μ-loop
 loop-again-2 c =
-    let l = c .before .before .before .before .before .before .before .before .before .before .before .before .before .before .before .before .before .before .before .before .before .before .before .before .before .before .before .before .before .before .before .before .before .before .before .before .before .loop in
-    let a = c .before .before .before .before .before .before .before .before .before .before .before .before .before .before .before .before .before .before .before .before .before .before .before .before .before .before .before .before .before .before .before .before .before .before .before .before .before .before .before .before .before .before .before .before .before .args in
-    let t = c .before .before .before .before .before .before .before .before .before .before .before .before .before .before .before .turned in
-    let same = quick-nothing (c .before .before .before .before .before .before .before .before .before .before .before .before .before .before .before .before .before .before .before .before .before .before .before .before .before .before .before .before .before .before .before .before .data-record .ensures .0) (c .before .before .before .before .before .before .before .before .before .before .before .before .before .before .before .before .before .before .before .before .before .before .enum-told .given .1) in
-    let b = c .before .before .before .before .before .before .before .before .before .before .before .before .before .before .bytes .given in
-    let e = c .before .before .before .before .before .before .before .before .before .before .before .before .ends .given in
-    let o = c .before .before .before .before .before .before .before .before .before .before .out2 .given in (
-      ready-on _ _ _ (subst (TurnBounds (a .piece .now) (a .n) (l .i) _ _) (c .before .q2 .given .1) (t .ensures .0)) b e o (ready-still same (l .inv .0)),
+    let l = c .before .before .before .before .before .before .before .before .before .before .before .before .before .before .before .before .before .before .before .before .before .before .before .before .before .before .before .before .before .before .before .before .before .before .before .before .before .before .loop in
+    let a = c .before .before .before .before .before .before .before .before .before .before .before .before .before .before .before .before .before .before .before .before .before .before .before .before .before .before .before .before .before .before .before .before .before .before .before .before .before .before .before .before .before .before .before .before .before .before .args in
+    let t = c .before .before .before .before .before .before .before .before .before .before .before .before .before .before .before .before .turned in
+    let same = quick-nothing (c .before .before .before .before .before .before .before .before .before .before .before .before .before .before .before .before .before .before .before .before .before .before .before .before .before .before .before .before .before .before .before .before .before .data-record .ensures .0) (c .before .before .before .before .before .before .before .before .before .before .before .before .before .before .before .before .before .before .before .before .before .before .before .enum-told .given .1) in
+    let b = c .before .before .before .before .before .before .before .before .before .before .before .before .before .before .before .bytes .given in
+    let e = c .before .before .before .before .before .before .before .before .before .before .before .before .before .ends .given in
+    let o = c .before .before .before .before .before .before .before .before .before .before .before .out2 .given in (
+      ready-on _ _ _ (subst (TurnBounds (a .piece .now) (a .n) (l .i) _ _) (c .before .before .q2 .given .1) (t .ensures .0)) b e o (ready-still same (l .inv .0)),
       b ∙ l .inv .1,
       e ∙ l .inv .2,
-      o ∙ c .before .before .before .before .before .before .before .before .before .before .before .before .before .before .before .before .before .before .before .before .before .before .before .before .before .before .before .before .before .before .before .out .given ∙ l .inv .3,
-      c .before .before .before .before .before .before .before .before .starts2 .given ∙ c .before .before .before .before .before .before .before .before .before .before .before .before .before .before .before .before .before .before .before .before .before .before .before .before .before .before .before .before .before .starts .given ∙ l .inv .4,
-      c .before .before .before .before .before .before .stops2 .given ∙ c .before .before .before .before .before .before .before .before .before .before .before .before .before .before .before .before .before .before .before .before .before .before .before .before .before .before .before .stops .given ∙ l .inv .5,
-      c .before .before .before .before .kinds2 .given ∙ c .before .before .before .before .before .before .before .before .before .before .before .before .before .before .before .before .before .before .before .before .before .before .before .before .before .kinds .given ∙ l .inv .6,
+      o ∙ c .before .before .before .before .before .before .before .before .before .before .before .before .before .before .before .before .before .before .before .before .before .before .before .before .before .before .before .before .before .before .before .before .out .given ∙ l .inv .3,
+      c .before .before .before .before .before .before .before .before .before .starts2 .given ∙ c .before .before .before .before .before .before .before .before .before .before .before .before .before .before .before .before .before .before .before .before .before .before .before .before .before .before .before .before .before .before .starts .given ∙ l .inv .4,
+      c .before .before .before .before .before .before .before .stops2 .given ∙ c .before .before .before .before .before .before .before .before .before .before .before .before .before .before .before .before .before .before .before .before .before .before .before .before .before .before .before .before .stops .given ∙ l .inv .5,
+      c .before .before .before .before .before .kinds2 .given ∙ c .before .before .before .before .before .before .before .before .before .before .before .before .before .before .before .before .before .before .before .before .before .before .before .before .before .before .kinds .given ∙ l .inv .6,
       λ began done k first z.
           let s = since-still same (l .inv .7 began done k first z) in
           let w = s .now in
-          walk-on w (s .grows) (subst (Turns (a .d) (into (a .t)) (a .piece .now) (l .i) (l .p) (w .done′) (w .k′) (l .o) _ _ _ _) (c .before .q2 .given .1) (t .ensures .1 (w .done′) (w .k′) (w .hold))),
+          walk-on w (s .grows) (subst (Turns (a .d) (into (a .t)) (a .piece .now) (l .i) (l .p) (w .done′) (w .k′) (l .o) _ _ _ _) (c .before .before .q2 .given .1) (t .ensures .1 (w .done′) (w .k′) (w .hold))),
     )
 
 returns : tie.Need-returns Inv-loop μ-loop
@@ -138,11 +138,13 @@ walked-spec =
     loop-holds
     data-record-requires
     (λ c. search needs)
+    (λ c κs. search needs)
     loop-less
     loop-again
     (λ c. search needs)
     turned-requires
     (λ c. search needs)
+    (λ c κs. search needs)
     loop-less-2
     loop-again-2
     (λ c. search needs)
