@@ -1,14 +1,13 @@
 -- Ordinary bytes inside a cell leave the scan in that cell, with more of its bytes. So the place behind them is what a turn comes to.
-use Prim.Native.Nat.{ℕ, suc, _+_, _-_, _≤_, _<_}
+use Prim.Native.Nat.{ℕ, suc, _+_, _-_, _≤_}
 use native.Mathlib.Nat.{add-zero}
 use native.Mathlib.Omega.{arith}
-use mathlib.Core.Path.{_≡_, refl, sym, ap, _∙_}
+use mathlib.Core.Path.{_≡_, refl, sym, _∙_}
 use mathlib.Core.Bool.{true}
 use mathlib.Core.List.{List, [], _∷_, _++_, append-nil, append-assoc}
 use lib.ListN.{length, drop}
 use borrow.Author.Tests.{lt-leb}
 use Rattle.model.specs.declared.Dialect.{Dialect}
-use Rattle.model.specs.declared.Target.{Target}
 use Rattle.model.specs.declared.Cell.{Cell}
 use Rattle.model.specs.declared.FileState.{FileState}
 use Rattle.model.specs.declared.FileState.the-variants.{Inside}
@@ -17,9 +16,8 @@ use Rattle.model.specs.declared.ByteRole.the-variants.{OfCell}
 use Rattle.model.specs.Base.{Bytes, if_then_else_}
 use Rattle.model.specs.Dialect.{quoteOf}
 use Rattle.model.specs.File.{inCell, fileStep}
-use Rattle.model.specs.Records.{Rec}
 use Rattle.model.specs.Report.{MAXFILE, MAXRECORD, MAXCOLUMNS}
-use Rattle.model.specs.Scans.{RawCell, Scan, ScanResult, pends, scanStep, scan, Kept, fresh}
+use Rattle.model.specs.Scans.{Scan, pends, scanStep, scan, fresh}
 use Rattle.model.specs.Places.{keptBytes, keptEnds}
 use Rattle.model.proofs.Tests.{and-true}
 use Rattle.buffers.specs.Wrote.{written}
@@ -32,8 +30,7 @@ use Rattle.runs.proofs.Runs.{run-step}
 use Rattle.tokens.specs.declared.record_state.RecordState.{RecordState}
 use Rattle.carried.specs.declared.place.Place.{Place}
 use Rattle.turn.specs.declared.Turn.the-variants.{Pended}
-use Rattle.turn.specs.Holding.{Holding}
-use Rattle.turn.specs.Walking.{InBounds, Ready, TurnBounds, pended-bounds, Turns, Pends, kept-on, pendedPlace}
+use Rattle.turn.specs.Walking.{InBounds, Ready, TurnBounds, pended-bounds, Pends, kept-on, pendedPlace}
 use Rattle.turn.proofs.Showing.{PendedAs}
 use Rattle.turn.proofs.Walking.{here, bounds-pended, turns-pended-on}
 use Rattle.cell_pieces.specs.CellPieces.{Fits, InCell, all-kept}

@@ -1,11 +1,7 @@
-use Prim.Native.Nat.{ℕ}
 use native.Mathlib.Omega.{arith}
-use mathlib.Core.Path.{_≡_, refl, sym, subst, _∙_}
-use lib.ListN.{length}
+use mathlib.Core.Path.{refl, sym, _∙_}
 use borrow.Author.Needs.{needs}
 use borrow.Author.Tests.{not-false}
-use Rattle.model.specs.Dialect.{quoteOf}
-use Rattle.words.specs.Words.{ordinary, AllIn}
 use Rattle.cell_pieces.specs.CellPieces.{not-told}
 use Rattle.cell_pieces.proofs.Inside.{piece-kept}
 use Rattle.cell_pieces.proofs.kept.Statement.{statement}

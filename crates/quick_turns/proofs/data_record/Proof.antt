@@ -1,11 +1,9 @@
-use Prim.Native.Nat.{_+_, _-_, _≤_}
+use Prim.Native.Nat.{_-_, _≤_}
 use native.Mathlib.Omega.{arith}
-use mathlib.Core.Path.{_≡_, refl, _∙_}
-use lib.ListN.{length}
+use mathlib.Core.Path.{refl, _∙_}
 use borrow.Author.Needs.{needs}
 use borrow.Author.Tests.{not-false}
-use Rattle.model.specs.Report.{MAXFILE, MAXCOLUMNS}
-use Rattle.turn.specs.Walking.{Scratch}
+use Rattle.model.specs.Report.{MAXFILE}
 use Rattle.quick_turns.specs.QuickTurns.{nothing-in-bounds, nothing}
 use Rattle.quick_turns.proofs.Finding.{cells-there, clean-there}
 use Rattle.quick_turns.proofs.Turning.{next-file, writes-bounds, writes-turns}

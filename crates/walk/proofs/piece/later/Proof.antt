@@ -5,7 +5,7 @@ use mathlib.Core.List.{List}
 use borrow.Author.Needs.{needs}
 use Rattle.model.specs.Dialect.{into}
 use Rattle.turn.specs.Walking.{Ready}
-use Rattle.walk.specs.Taking.{Goes}
+use Rattle.turns.specs.Turns.{Goes}
 use Rattle.walk.proofs.Taking.{cell-kept, cell-nothing, still-goes}
 use Rattle.walk.proofs.piece.later.Statement.{statement}
 use Rattle.walk.proofs.piece.later.Tie as tie

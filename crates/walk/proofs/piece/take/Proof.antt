@@ -7,7 +7,8 @@ use Rattle.model.specs.Dialect.{into}
 use Rattle.turn.specs.Walking.{TurnBounds, Turns}
 use Rattle.walk.specs.Taking.{Took}
 use Rattle.turn.proofs.Beginning.{begun-header, begun-later, ready-header, ready-later}
-use Rattle.walk.proofs.Taking.{walk-begins, walk-nowhere, pended-in-bounds, none-in-hand, entered-of, ready-behind, headed-begins, headed-next, took-later, took-pended, took-stopped}
+use Rattle.turns.proofs.Turns.{walk-begins, walk-nowhere, pended-in-bounds}
+use Rattle.walk.proofs.Taking.{none-in-hand, entered-of, ready-behind, headed-begins, headed-next, took-later, took-pended, took-stopped}
 use Rattle.walk.proofs.piece.take.Statement.{statement}
 use Rattle.walk.proofs.piece.take.Tie as tie
 

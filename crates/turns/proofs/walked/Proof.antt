@@ -10,10 +10,10 @@ use Rattle.model.specs.Records.{Rec}
 use Rattle.model.specs.Scans.{Kept}
 use Rattle.carried.specs.declared.place.Place.{Place}
 use Rattle.turn.specs.Walking.{Ready, TurnBounds, Turns}
-use Rattle.walk.specs.Taking.{Walked, Goes}
-use Rattle.walk.proofs.Taking.{Since, since-begins, walk-on, walk-pends, walk-stops, walk-nowhere, walk-quickly, quick-behind, quick-nothing, quick-ready, ready-quickly, ready-still, since-still, ready-on, goes-forward, pended-in-bounds}
-use Rattle.walk.proofs.piece.walked.Statement.{statement}
-use Rattle.walk.proofs.piece.walked.Tie as tie
+use Rattle.turns.specs.Turns.{Walked, Goes}
+use Rattle.turns.proofs.Turns.{Since, since-begins, walk-on, walk-pends, walk-stops, walk-nowhere, walk-quickly, quick-behind, quick-nothing, quick-ready, ready-quickly, ready-still, since-still, ready-on, goes-forward, pended-in-bounds}
+use Rattle.turns.proofs.walked.Statement.{statement}
+use Rattle.turns.proofs.walked.Tie as tie
 
 abbrev Inv-loop : tie.InvT-loop
 Inv-loop d t piece n from bytes₀ ends₀ out₀ at starts₀ stops₀ kinds₀ p₀ i₀ o₀ least₀ bytes ends out starts stops kinds p i o least =
