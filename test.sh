@@ -1,6 +1,6 @@
 #!/usr/bin/env bash
-# Passes the tests: the layout of the Rattle files, the proofs, the vectors computed by the definitions, the library that the proofs
-# allow, and the tests of the program, of the command and of callers in Rust, C, C++ and, where it is installed, Python. Stops at the first
+# Passes the tests: the layout of the Rattle files, the proofs, the library that they allow, the vectors computed by the definitions,
+# and the tests of the program, of the command and of callers in Rust, C, C++ and, where it is installed, Python. Stops at the first
 # failure and says where. The last line is the verdict of `rt ci`, and stands there only if everything passed.
 set -euo pipefail
 cd "$(dirname "$0")"
@@ -62,12 +62,13 @@ vectors_by_definitions() {
   rt check
 }
 
-# Beside the proofs, which leave a processor idle where a crate waits for the one below it.
+# Beside the library, which is built by one processor.
 start_vectors() {
+  local began=$SECONDS
   set -m
   (
     vectors_by_definitions
-    printf 'beside the proofs: %d s\n' "$SECONDS"
+    printf 'beside the library: %d s\n' "$((SECONDS - began))"
   ) >"$scratch/vectors" 2>&1 &
   running=$!
   set +m
@@ -90,10 +91,10 @@ callers() {
 }
 
 part 'layout' layout
-start_vectors
 part 'proofs' proofs
-part 'vectors computed by the definitions' end_vectors
+start_vectors
 part 'library' library
+part 'vectors computed by the definitions' end_vectors
 part 'tests of the program, the command and the callers' callers
 printf '== all: %d s\n' "$SECONDS"
 tail -n 1 "$scratch/verdict"

@@ -257,9 +257,11 @@ fn a_disk_without_room_leaves_the_old_file_and_no_other() {
     }
 }
 
+/// Signals end it even if these tests run where they are ignored, as under nohup.
 fn start(target: &Path, input: Stdio) -> Child {
     let words = ["convert", "--from", "csv+", "--to", "csvj", "-o"];
-    Command::new(COMMAND)
+    Command::new("env")
+        .args(["--default-signal=INT,TERM,HUP", COMMAND])
         .args(words)
         .arg(target)
         .stdin(input)

@@ -331,16 +331,16 @@ const LENGTHS: RangeInclusive<usize> = RECORD_BYTES - 6..=RECORD_BYTES + 4;
 const NEAR: usize = 4;
 
 /// Records of about as many bytes as a record may have, with something odd in place of each byte near their end, and files that end there.
-/// A piece begins with the record, or each has 64 bytes.
+/// A piece begins with the record, or, with a few of what is odd, each piece has 64 bytes.
 fn odd_long_records(calls: &Calls) -> Result<Compared, String> {
     let mut compared = Compared::default();
     let mut pieces = PieceComparison::new(calls.pieces);
     let mut agrees = |dialect: u32, file: &[u8], start: usize| {
         compared.whole(calls, dialect, file, 16)?;
         let cuts = [start].into_iter();
-        pieces.cuts_agree(dialect, target_of(dialect), file, cuts)?;
-        pieces.calls_agree(dialect, target_of(dialect), &in_pieces(file, 64))
+        pieces.cuts_agree(dialect, target_of(dialect), file, cuts)
     };
+    let mut small_pieces = PieceComparison::new(calls.pieces);
     let before = "\"a\",\"b\"\n\"Harbour\",\"1\"\n";
     for (dialect, open, filler, close, ending) in LONG {
         for length in LENGTHS {
@@ -352,6 +352,10 @@ fn odd_long_records(calls: &Calls) -> Result<Compared, String> {
             for place in start + length - NEAR..=start + length {
                 for odd in ODD {
                     agrees(dialect, &replaced(file, place, odd), start)?;
+                }
+                for odd in FEW_ODD {
+                    let odd = replaced(file, place, odd);
+                    small_pieces.calls_agree(dialect, target_of(dialect), &in_pieces(&odd, 64))?;
                 }
                 agrees(dialect, &file[..place], start)?;
             }
