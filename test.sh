@@ -53,11 +53,10 @@ proofs() {
   rt ci 2>&1 | tee "$scratch/verdict"
 }
 
-# A repository of two crates: the definitions, and every vector as an equation that the prover computes. It needs nothing of target/,
-# which `rt ci` removes, and stands outside this repository, where `rt ci` would find crates that it does not know.
+# A repository of two crates: the definitions, and every vector as an equation that the prover computes. It stands outside this
+# repository, where `rt ci` would find crates that it does not know.
 vectors_by_definitions() {
-  cargo run --release --offline --quiet --target-dir "$scratch/cargo" --package harness --no-default-features --bin definitions -- \
-    "$scratch/definitions"
+  cargo run --release --offline --quiet --package harness --no-default-features --bin definitions -- "$scratch/definitions"
   cd "$scratch/definitions"
   rt check
 }

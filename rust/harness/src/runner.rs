@@ -10,6 +10,7 @@ use crate::whole::convert_whole;
 use reference::limits::{FILE_BYTES, PIECE_BYTES, PIECE_ROOM};
 use reference::{convert, decode, read, write, Converted, Decoded, ReadAnswer, Report};
 use std::fmt;
+use std::thread;
 
 /// The fewest cases that have to name each dialect.
 pub const LEAST_PER_DIALECT: usize = 80;
@@ -91,21 +92,40 @@ impl fmt::Display for Tally {
     }
 }
 
+/// The cases are checked by two threads, every other one by each: they share nothing.
+const THREADS: usize = 2;
+
 /// Runs all cases; the error lists all differences.
 pub fn run(cases: &[Case]) -> Result<Tally, String> {
     let mut tally = Tally::default();
-    let mut differences = Vec::new();
     for case in cases {
         tally.count(&case.call);
-        if let Err(difference) = check(&case.call) {
-            differences.push(format!("{} ({}): {difference}", case.place, case.name));
-        }
     }
+    let differences: Vec<String> = thread::scope(|scope| {
+        let threads: Vec<_> = (0..THREADS)
+            .map(|first| scope.spawn(move || differences(&cases[first.min(cases.len())..])))
+            .collect();
+        let ended = threads.into_iter().map(|thread| thread.join());
+        ended
+            .flat_map(|told| told.expect("checking ends"))
+            .collect()
+    });
     if differences.is_empty() {
         Ok(tally)
     } else {
         Err(differences.join("\n"))
     }
+}
+
+/// The differences in the first of these cases and in those that come to the same thread.
+fn differences(cases: &[Case]) -> Vec<String> {
+    let cases = cases.iter().step_by(THREADS);
+    let told = cases.map(|case| (case, check(&case.call)));
+    told.filter_map(|(case, result)| {
+        let difference = result.err()?;
+        Some(format!("{} ({}): {difference}", case.place, case.name))
+    })
+    .collect()
 }
 
 fn check(call: &Call) -> Result<(), String> {
