@@ -15,6 +15,7 @@ use quick_turns::QuickTurn;
 use turn::Taken;
 use turn::Turn;
 
+// What a call comes to, as one value.
 pub fn told(place: Place, report: Report, length: usize) -> Taken
     ensures { λ r. ⌜ r ≡ record { place = place; report = report; length = length } ⌝ }
 {

@@ -15,13 +15,12 @@ use Rattle.walk.proofs.piece.take.Tie as tie
 later-requires : tie.Need-later-requires
 later-requires c κs =
     let s = c .before .before .before .before .before .before .before .before .before .before .before in
-    let more : 0 < s .args .place .records = c .before .before .before .if1 .taken in
-    ready-later (s .pre) (λ e. omega arith)
+    ready-later (s .pre) (λ e. omega (arith, c .before .before .before .if1 .taken))
 
 returns : tie.Need-returns
 returns c =
     let a = c .before .before .before .before .before .before .before .before .before .before .before .before .before .before .before .before .before .before .args in
-    let more : 0 < a .place .records = c .before .before .before .before .before .before .before .before .before .before .if1 .taken in
+    let more : 0 < a .place .records = omega (arith, c .before .before .before .before .before .before .before .before .before .before .if1 .taken) in
     λ done k b.
     let h = headed-begins b more in
     took-later h (c .before .before .before .before .before .before .later .ensures done k (entered-of (begun-later b (λ e. omega arith))) (h .now))
