@@ -27,17 +27,25 @@ pub struct DecodeAnswer {
 fn answer_of(d: Decoded) -> DecodeAnswer
     ensures { λ r. ⌜ structAnswer r ≡ givenAnswer d ⌝ }
 {
-    match d {
-        Decoded::Content { size, kind } => DecodeAnswer {
-            report: numbers::on_call(numbers::ACCEPTED),
-            length: size,
-            kind: numbers::kind_number(kind) as usize,
-        },
-        Decoded::Refused(e) => DecodeAnswer {
+    let Decoded::Content { size, kind } = d else {
+        // What is no content is a refusal: the inner `else` is proved never to run.
+        let Decoded::Refused(e) = d else {
+            return DecodeAnswer {
+                report: numbers::on_call(numbers::WRONG_CALL),
+                length: 0,
+                kind: 0,
+            };
+        };
+        return DecodeAnswer {
             report: e,
             length: 0,
             kind: 0,
-        },
+        };
+    };
+    DecodeAnswer {
+        report: numbers::on_call(numbers::ACCEPTED),
+        length: size,
+        kind: numbers::kind_number(kind) as usize,
     }
 }
 

@@ -34,7 +34,7 @@ fn check_between(
         return Check::Refused(fault);
     }
     if 0 < ended {
-        return Check::Refused(numbers::on_call(numbers::UNKNOWN_DIALECT));
+        return Check::Refused(numbers::on_call(numbers::WRONG_CALL));
     }
     if numbers::MAX_PIECE < piece {
         return Check::Refused(numbers::on_call(numbers::NO_ROOM));
@@ -57,10 +57,10 @@ pub fn checked(
     ensures { λ r. ⌜ r ≡ checkNow source target fault ended piece room ⌝ }
 {
     let NamedDialect::Known(d) = numbers::dialect_of(source) else {
-        return Check::Refused(numbers::on_call(numbers::UNKNOWN_DIALECT));
+        return Check::Refused(numbers::on_call(numbers::WRONG_CALL));
     };
     let NamedDialect::Known(t) = numbers::dialect_of(target) else {
-        return Check::Refused(numbers::on_call(numbers::UNKNOWN_DIALECT));
+        return Check::Refused(numbers::on_call(numbers::WRONG_CALL));
     };
     check_between(d, t, fault, ended, piece, room)
 }

@@ -247,8 +247,8 @@ pub fn convert(from: u32, to: u32, file: &[u8], room: &mut [u8]) -> TextAnswer
     match numbers::dialect_of(from) {
         NamedDialect::Known(d) => match numbers::dialect_of(to) {
             NamedDialect::Known(t) => convert_in(d, t, file, room),
-            NamedDialect::Unknown => numbers::refused(numbers::on_call(numbers::UNKNOWN_DIALECT)),
+            NamedDialect::Unknown => numbers::refused(numbers::on_call(numbers::WRONG_CALL)),
         },
-        NamedDialect::Unknown => numbers::refused(numbers::on_call(numbers::UNKNOWN_DIALECT)),
+        NamedDialect::Unknown => numbers::refused(numbers::on_call(numbers::WRONG_CALL)),
     }
 }

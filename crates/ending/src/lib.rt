@@ -71,7 +71,7 @@ fn last_record(
         Done::Refused(e) => failed(p, e, p.start),
         Done::Lost => Taken {
             place: p,
-            report: numbers::on_call(numbers::UNKNOWN_DIALECT),
+            report: numbers::on_call(numbers::WRONG_CALL),
             length: 0,
         },
     }

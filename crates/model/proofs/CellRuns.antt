@@ -11,6 +11,7 @@ use Rattle.model.specs.Types as types
 use Rattle.model.specs.Base.{Bytes, if_then_else_}
 use Rattle.model.specs.Utf8.{rowOf, leads, leadByte, innerStep, charStep}
 use Rattle.model.specs.Cell.{firstByte, cellStep, isWhole}
+pub use Rattle.model.specs.Cell.{Runs, here, there}
 use Rattle.model.specs.Decode.{validateFrom}
 use Rattle.model.specs.Laws.{All, all-none, all-cons}
 
@@ -36,11 +37,6 @@ unfolding cellStep charStep innerStep rowOf if_then_else_
 mark-rest d = refl
 
 -- ---- runs of a cell
-
--- the bytes bs take the cell from c to c′
-pub data Runs (d : Dialect) : Cell → Bytes → Cell → Type 0 where
-  here : {c : Cell} → Runs d c [] c
-  there : {c c′ c″ : Cell} {b : ℕ} {bs : Bytes} → cellStep d c b ≡ More c′ → Runs d c′ bs c″ → Runs d c (b ∷ bs) c″
 
 pub snoc : {d : Dialect} {c c′ c″ : Cell} {bs : Bytes} (b : ℕ) → Runs d c bs c′ → cellStep d c′ b ≡ More c″ → Runs d c (bs ++ (b ∷ [])) c″
 snoc b here e = there e here

@@ -9,26 +9,12 @@ use Rattle.model.specs.Types.{FileState, Top, Begin, Ended, Mark1, Mark2
 use Rattle.model.specs.Types as types
 use Rattle.model.specs.Cell.{cellStep, isWhole}
 use Rattle.model.specs.File.{fileStep, fileEnd, lastCell}
+unfoldable pub use Rattle.model.specs.File.{cellAt}
 use Rattle.model.proofs.Tests.{split}
 use Rattle.model.proofs.FileSteps as steps
 use Rattle.model.proofs.FileSteps.{Rests, Holds, Opens, Next, Leaves, Transition, step-transition}
 
 -- ---- the cell in hand, and what a byte does to it
-
-unfoldable pub cellAt : FileState → Cell
-cellAt Top = Fresh
-cellAt Begin = Fresh
-cellAt Ended = Fresh
-cellAt Mark1 = Fresh
-cellAt Mark2 = Fresh
-cellAt PlainMark1 = Plain (Within (Second EeToEf))
-cellAt PlainMark2 = Plain (Within Last)
-cellAt (Comment c) = Fresh
-cellAt Blanks = Fresh
-cellAt Wanting = Fresh
-cellAt (Inside c) = c
-cellAt After = Fresh
-cellAt Cr = Fresh
 
 abbrev pub Closes : Dialect → Cell → Bool → Type 0
 Closes d c true = isWhole d c ≡ true

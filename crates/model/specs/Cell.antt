@@ -1,13 +1,15 @@
 -- One cell, a byte at a time: what a single cell can be, in each dialect. A record is cells with delimiters between them
 -- (File), and the decoder is a run of this alone (Decode).
 use Prim.Native.Nat.{ℕ}
+use mathlib.Core.Path.{_≡_}
 use mathlib.Core.Bool.{Bool, true, false, _||_}
+use mathlib.Core.List.{[], _∷_}
 use lib.Dec.{ltb}
 use Rattle.model.specs.Types.{Dialect, Csvj, Tdif, CsvPlus, Char, Whole, Within, Advance, On, Broken}
 use Rattle.model.specs.Types.{HexLeft, Four, Three, Two, One, Numeral, Minus, Zero, Integer, Point, Fraction, E, ESign, Exponent}
 use Rattle.model.specs.Types.{Word, T, Tr, Tru, F, Fa, Fal, Fals, N, Nu, Nul, Backslash}
 use Rattle.model.specs.Types.{Cell, Fresh, Quoted, Closed, Escape, Hex, InNumber, InWord, Plain, Complete, CellStep, More, Stop, Refuse, Encoding, Syntax}
-use Rattle.model.specs.Base.{if_then_else_, _is_, within, LF, CR, QUOTE, BACKSLASH}
+use Rattle.model.specs.Base.{Bytes, if_then_else_, _is_, within, LF, CR, QUOTE, BACKSLASH}
 use Rattle.model.specs.Dialect.{quoteOf, delimiterOf}
 use Rattle.model.specs.Utf8.{charStep}
 
@@ -184,6 +186,13 @@ isWhole d (InNumber n) = isNumeral n
 isWhole d (InWord w) = false
 isWhole d (Plain c) = betweenCharacters c
 isWhole d Complete = true
+
+-- ---- what the bytes of a cell lead to
+
+-- the bytes bs take the cell from c to c′ (§6.2 §6.3)
+pub data Runs (d : Dialect) : Cell → Bytes → Cell → Type 0 where
+  here : {c : Cell} → Runs d c [] c
+  there : {c c′ c″ : Cell} {b : ℕ} {bs : Bytes} → cellStep d c b ≡ More c′ → Runs d c′ bs c″ → Runs d c (b ∷ bs) c″
 
 -- ---- the next byte stands inside quotes
 

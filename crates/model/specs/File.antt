@@ -118,6 +118,25 @@ fileEnd d (Inside c) = lastCell d c
 fileEnd d After = Cut
 fileEnd d Cr = Cut
 
+-- ---- the open cell
+
+-- how far the open cell has got: what could be the start of the mark in CSV+ is a plain cell so far; where none is open, one that has no
+-- byte yet (§5.9 §15.2)
+unfoldable pub cellAt : FileState → Cell
+cellAt Top = Fresh
+cellAt Begin = Fresh
+cellAt Ended = Fresh
+cellAt Mark1 = Fresh
+cellAt Mark2 = Fresh
+cellAt PlainMark1 = Plain (Within (Second EeToEf))
+cellAt PlainMark2 = Plain (Within Last)
+cellAt (Comment c) = Fresh
+cellAt Blanks = Fresh
+cellAt Wanting = Fresh
+cellAt (Inside c) = c
+cellAt After = Fresh
+cellAt Cr = Fresh
+
 -- ---- what counts in a record
 
 -- the next byte of a file stands inside quotes (§7.4)

@@ -186,7 +186,8 @@ pub const ACCEPTED: usize = 0;
 
 pub const NO_ROOM: usize = 10;
 
-pub const UNKNOWN_DIALECT: usize = 11;
+// An unknown dialect number, a call after an accepted end, or a state from which a piece converter can't proceed.
+pub const WRONG_CALL: usize = 11;
 
 pub const NOT_A_TABLE: usize = 12;
 

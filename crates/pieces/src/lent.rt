@@ -35,7 +35,7 @@ pub fn piece(
         Check::Taken(d, t) => {
             let p = state::place_in(before);
             if !bounds::is_in_bounds(p, name_ends, ends) {
-                return numbers::refused(numbers::on_call(numbers::UNKNOWN_DIALECT));
+                return numbers::refused(numbers::on_call(numbers::WRONG_CALL));
             }
             let r = walk::piece::take(d, t, input, p, names, name_ends, bytes, ends, out);
             let e = r.report;
@@ -75,7 +75,7 @@ pub fn end(
         Check::Taken(d, t) => {
             let p = state::place_in(before);
             if !bounds::is_in_bounds(p, name_ends, ends) {
-                return numbers::refused(numbers::on_call(numbers::UNKNOWN_DIALECT));
+                return numbers::refused(numbers::on_call(numbers::WRONG_CALL));
             }
             let r = ending::finish(d, t, p, names, name_ends, bytes, ends, out);
             let e = r.report;

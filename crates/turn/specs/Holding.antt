@@ -6,6 +6,8 @@ use mathlib.Core.List.{List, [], _∷_, _++_}
 use lib.ListN.{length, take}
 use Rattle.turn.specs.Types.{Dialect, Target, Fresh, WholeCell, FileState, Top, Begin, Ended, Mark1, Mark2, PlainMark1, PlainMark2, Comment, Blanks, Wanting, Inside, After, Cr}
 use Rattle.model.specs.Base.{if_then_else_, _is_, Bytes}
+use Rattle.model.specs.Cell.{Runs}
+use Rattle.model.specs.File.{cellAt}
 use Rattle.model.specs.Decode.{validateCell}
 use Rattle.model.specs.Text.{tableText}
 use Rattle.model.specs.Report.{MAXCOLUMNS}
@@ -13,8 +15,6 @@ use Rattle.model.specs.Records.{Rec, rows, Read}
 use Rattle.model.specs.Laws.{All}
 use Rattle.model.specs.Scans.{RawCell, Scan, readOf, Kept, Holds, Sized}
 use Rattle.model.specs.Places.{keptBytes, keptEnds}
-use Rattle.model.proofs.CellRuns.{Runs}
-use Rattle.model.proofs.Cells.{cellAt}
 use Rattle.carried.specs.declared.place.Place.{Place}
 
 -- ---- what is kept

@@ -95,7 +95,7 @@ pub fn walked(
                     return told(p, e, o);
                 }
                 Turn::Nowhere => {
-                    return told(p, numbers::on_call(numbers::UNKNOWN_DIALECT), o);
+                    return told(p, numbers::on_call(numbers::WRONG_CALL), o);
                 }
             },
         }

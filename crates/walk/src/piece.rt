@@ -106,6 +106,6 @@ pub fn take(
         ),
         Turn::Pended(q) => told(q, numbers::on_call(numbers::ACCEPTED), 0),
         Turn::Stopped(e) => told(place, e, 0),
-        Turn::Nowhere => told(place, numbers::on_call(numbers::UNKNOWN_DIALECT), 0),
+        Turn::Nowhere => told(place, numbers::on_call(numbers::WRONG_CALL), 0),
     }
 }

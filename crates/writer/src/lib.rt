@@ -134,6 +134,6 @@ pub fn write(
         NamedDialect::Known(t) => {
             write_in(t, content, starts, ends, kinds, columns, records, room)
         }
-        NamedDialect::Unknown => { numbers::refused(numbers::on_call(numbers::UNKNOWN_DIALECT)) }
+        NamedDialect::Unknown => { numbers::refused(numbers::on_call(numbers::WRONG_CALL)) }
     }
 }
