@@ -23,6 +23,7 @@ mod report;
 mod scene;
 mod show;
 mod standard;
+mod system;
 mod trail;
 mod width;
 
