@@ -17,7 +17,6 @@ use hemakuliwi::{read, Converter, Dialect, Refusal};
 use std::env;
 use std::ffi::{OsStr, OsString};
 use std::io::{self, IsTerminal, Write};
-use std::os::unix::ffi::OsStrExt;
 use std::process::ExitCode;
 
 /// The statuses but for acceptance, which is 0.
@@ -87,27 +86,25 @@ impl Voice {
     }
 
     fn failed(&self, failure: &Failure) -> Status {
-        match failure {
-            Failure::System(message) if self.json => self.say(&failure_json(None, message)),
-            Failure::System(message) => self.say(&format!("hemakuliwi: {message}\n")),
-            Failure::ClosedPipe => {}
+        if let Some(text) = self.failure(failure) {
+            self.say(&text);
         }
         Status::Failed
     }
 
     /// As `failed`, of one of several files.
-    fn failed_on(
-        &self,
-        file: &OsStr,
-        failure: &Failure,
-        output: Option<&mut Output>,
-    ) -> Result<Status, Failure> {
+    fn failed_on(&self, failure: &Failure, output: Option<&mut Output>) -> Result<Status, Failure> {
+        if let Some(text) = self.failure(failure) {
+            self.tell(&text, output)?;
+        }
+        Ok(Status::Failed)
+    }
+
+    fn failure(&self, failure: &Failure) -> Option<String> {
         match failure {
-            Failure::System(message) if self.json => {
-                self.tell(&failure_json(Some(file.as_bytes()), message), output)?;
-                Ok(Status::Failed)
-            }
-            _ => Ok(self.failed(failure)),
+            Failure::System { file, message } if self.json => Some(failure_json(file, message)),
+            Failure::System { message, .. } => Some(format!("hemakuliwi: {message}\n")),
+            Failure::ClosedPipe => None,
         }
     }
 
@@ -208,7 +205,7 @@ fn check(
     for input in input::names(inputs) {
         let status = match whole(Some(&input)) {
             Ok((name, bytes)) => check_one(dialect, &name, &bytes, voice, output.as_mut())?,
-            Err(failure) => voice.failed_on(&input, &failure, output.as_mut())?,
+            Err(failure) => voice.failed_on(&failure, output.as_mut())?,
         };
         worst = worst.max(status);
     }

@@ -30,8 +30,12 @@ impl Stream {
 
 /// A stream that is closed is an error; /dev/null is open, in whichever way it was opened.
 pub fn open(stream: Stream) -> Result<File, Failure> {
+    let name = stream.name();
     if system::was_closed(stream.number()) {
-        return Err(Failure::System(format!("{} is closed", stream.name())));
+        return Err(Failure::System {
+            file: name.into(),
+            message: format!("{name} is closed"),
+        });
     }
     let descriptor = match stream {
         Stream::Input => io::stdin().as_fd().try_clone_to_owned(),
@@ -39,5 +43,5 @@ pub fn open(stream: Stream) -> Result<File, Failure> {
     };
     descriptor
         .map(File::from)
-        .map_err(|error| Failure::of(stream.name(), &error))
+        .map_err(|error| Failure::of(name.as_bytes(), &error))
 }
