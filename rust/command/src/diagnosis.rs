@@ -317,7 +317,10 @@ mod tests {
         let plain = Paint::new(When::Never, &std::io::stdout());
         for line in diagnosis.excerpt_text(plain).lines() {
             assert!(
-                glyphs(line.as_bytes()).map(Glyph::width).sum::<usize>() <= SCREEN,
+                glyphs(line.as_bytes())
+                    .map(Glyph::width_in_line)
+                    .sum::<usize>()
+                    <= SCREEN,
                 "{line}"
             );
             assert!(line.chars().all(|character| !character.is_control()));

@@ -76,9 +76,10 @@ hemakuliwi show: a table for looking at
 
 Usage: hemakuliwi show --in DIALECT [--width COLUMNS] [FILE]
 
-Cells stand below each other, long ones are cut with `…`, and control characters
-are shown as escapes. # marks a number, ! true, false and null; the rest is text,
-in quotes where it would look like these or like nothing.
+Cells stand below each other, and long ones are cut with `…`. Control characters,
+spaces other than the usual one and backslashes are shown as escapes: \\t, \\u{A0},
+\\\\. # marks a number, ! true, false and null; the rest is text, in quotes where it
+would look like these or like nothing.
 
 Options:
   --in DIALECT        csvj, tdif or csv+

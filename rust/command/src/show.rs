@@ -195,6 +195,15 @@ mod tests {
     }
 
     #[test]
+    fn different_texts_look_different() {
+        let file =
+            "path,n\nC:\\new,1\n\"C:\new\",2\n\"C:\\\new\",3\na b,4\na\u{A0}b,5\n".as_bytes();
+        let expected = "   path      n\n   --------  -\n2  C:\\\\new   1\n3  C:\\new    2\n4  C:\\\\\\new  3\n\
+            5  a b       4\n6  a\\u{A0}b  5\n";
+        assert_eq!(lines(Dialect::CsvPlus, file, 80), expected);
+    }
+
+    #[test]
     fn long_cells_are_cut_to_fit_and_columns_too_many_left_out() {
         let file = b"a,b\nshort,a text that is far too long for it\n";
         let expected = "   a      b\n   -----  ----------\n2  short  a text th…\n";
