@@ -11,12 +11,14 @@ use crate::progress::Progress;
 use crate::report::{failure_json, Counts};
 use crate::scene::Case;
 use crate::show::show;
+use crate::system;
 use crate::trail::Text;
 use hemakuliwi::raw::PIECE_BYTES;
 use hemakuliwi::{read, Converter, Dialect, Refusal};
 use std::env;
 use std::ffi::{OsStr, OsString};
 use std::io::{self, IsTerminal, Write};
+use std::os::fd::AsFd;
 use std::process::ExitCode;
 
 /// The statuses but for acceptance, which is 0.
@@ -24,7 +26,7 @@ const REFUSED: u8 = 1;
 pub const WRONG_USE: u8 = 2;
 const FAILED: u8 = 3;
 
-/// How wide a screen is taken to be where nothing tells.
+/// How wide a screen is taken to be where it is not known.
 const SCREEN: usize = 80;
 
 #[derive(Clone, Copy, Debug, PartialEq, Eq, PartialOrd, Ord)]
@@ -118,7 +120,7 @@ impl Voice {
     }
 
     fn refusal(&self, name: &[u8], case: &Case) -> String {
-        let diagnosis = Diagnosis::new(case, screen());
+        let diagnosis = Diagnosis::new(case, screen(&io::stderr()));
         if self.json {
             diagnosis.json(name)
         } else {
@@ -127,12 +129,15 @@ impl Voice {
     }
 }
 
-/// What a shell tells of its window, if it is exported.
-fn screen() -> usize {
+/// The width of the terminal that is written to, unless COLUMNS is exported.
+fn screen(output: &impl AsFd) -> usize {
     let columns = env::var("COLUMNS")
         .ok()
         .and_then(|columns| columns.parse().ok());
-    columns.filter(|&columns| columns > 0).unwrap_or(SCREEN)
+    columns
+        .filter(|&columns| columns > 0)
+        .or_else(|| system::columns(output))
+        .unwrap_or(SCREEN)
 }
 
 fn convert(
@@ -261,7 +266,7 @@ fn show_table(
     let mut text = String::new();
     show(
         &table,
-        width.unwrap_or_else(screen),
+        width.unwrap_or_else(|| screen(&io::stdout())),
         Paint::new(voice.color, &io::stdout()),
         |line| {
             text += &line;

@@ -84,7 +84,7 @@ would look like these or like nothing.
 Options:
   --in DIALECT        csvj, tdif or csv+
   --width COLUMNS     how wide the table may be; 0 sets no bound. Without it that
-                      is $COLUMNS, or 80
+                      is $COLUMNS, or the width of the terminal, or 80
   --json              reports a refusal on standard error as one line of JSON
   --color WHEN        auto, always or never
   -h, --help          this text
