@@ -14,7 +14,7 @@ Without FILE, or with -, standard input is read.
 
 Options:
   --color WHEN     auto, always or never; auto is for terminals, and not with
-                   NO_COLOR
+                   NO_COLOR or TERM=dumb
   -h, --help       this text, or with a command what it does
   -V, --version    the version
 

@@ -48,6 +48,8 @@ fn colour_is_for_terminals_and_for_who_asks() {
         check("--color never", ""),
         check("", "NO_COLOR=1"),
         check("", "TERM=dumb"),
+        check("", "TERM="),
+        check("", "unset TERM;"),
     ] {
         assert!(
             plain.contains("refused (3, syntax)") && !plain.contains(COLOUR),
@@ -56,6 +58,7 @@ fn colour_is_for_terminals_and_for_who_asks() {
     }
     assert!(check("", "NO_COLOR=").contains(COLOUR));
     assert!(check("--color=always", "NO_COLOR=1").contains(COLOUR));
+    assert!(check("--color=always", "TERM=dumb").contains(COLOUR));
     assert!(on_terminal("$command explain 3").starts_with("fault 3, syntax"));
 }
 
@@ -92,6 +95,10 @@ fn progress_is_shown_of_a_long_input_and_taken_away() {
         told.contains("18 B, ") && told.ends_with("\r\x1b[K"),
         "{told:?}"
     );
+    for dumb in ["TERM=dumb", "unset TERM;"] {
+        let told = on_terminal(&format!("{slow} {{ {dumb} {convert} >/dev/null; }}"));
+        assert_eq!(told, "", "{dumb}");
+    }
     let same = on_terminal(&format!("{slow} {convert}"));
     assert_eq!(
         same,
