@@ -69,7 +69,7 @@ pub const FAULTS: [Explanation; 12] = [
         fault: Fault::NoRecord,
         name: "no_record",
         title: "the file ends before any record begins",
-        rule: "a file has a header, and may have nothing else",
+        rule: "a file has at least a header",
         place: "the end of the file",
         remedy: "Look whether the program that wrote the file, or the one before a pipe, has \
             failed.",
