@@ -1,6 +1,7 @@
 //! What people usually get wrong, told where the bytes show it. The first hint of the table that applies is given.
 
 use crate::explain;
+use crate::foreign::{self, wide_encoding};
 use crate::scene::{Scene, Standing};
 use hemakuliwi::{Dialect, Fault, Kind};
 
@@ -17,16 +18,22 @@ pub fn hint(scene: &Scene) -> Option<(&'static str, String)> {
 }
 
 /// In an order in which what is told of the whole file comes before what is told of a place.
-pub const HINTS: [Hint; 31] = [
+pub const HINTS: [Hint; 32] = [
     Hint {
-        name: "utf_16",
-        applies: |scene| utf_16(scene).is_some(),
+        name: "other_file_type",
+        applies: |scene| foreign::advice(scene.case.text.head()).is_some(),
         text: |scene| {
-            let encoding = utf_16(scene).unwrap_or_default();
-            format!(
-                "the file is {encoding}, as spreadsheets save \"Unicode text\"; `iconv -f \
-                {encoding} -t UTF-8` makes it UTF-8"
-            )
+            foreign::advice(scene.case.text.head())
+                .unwrap_or_default()
+                .into()
+        },
+    },
+    Hint {
+        name: "wide_encoding",
+        applies: |scene| wide_encoding(scene.case.text.head()).is_some(),
+        text: |scene| {
+            let encoding = wide_encoding(scene.case.text.head()).unwrap_or_default();
+            format!("the file is {encoding}; `iconv -f {encoding} -t UTF-8 FILE` makes it UTF-8")
         },
     },
     Hint {
@@ -387,16 +394,6 @@ fn follows(scene: &Scene, text: &str) -> bool {
         .text
         .from(scene.case.refusal.offset)
         .starts_with(text.as_bytes())
-}
-
-/// The encoding, if the first bytes are a mark of UTF-16, or ASCII in it.
-fn utf_16(scene: &Scene) -> Option<&'static str> {
-    match *scene.case.text.head() {
-        [0xFF, 0xFE, ..] | [0xFE, 0xFF, ..] => Some("UTF-16"),
-        [1..=0x7F, 0, 1..=0x7F, 0, ..] => Some("UTF-16LE"),
-        [0, 1..=0x7F, 0, 1..=0x7F, ..] => Some("UTF-16BE"),
-        _ => None,
-    }
 }
 
 /// The characters of Windows-1252 from 80 to 9F; a space stands where it has none.

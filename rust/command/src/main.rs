@@ -9,6 +9,7 @@ mod diagnosis;
 mod excerpt;
 mod explain;
 mod failure;
+mod foreign;
 mod help;
 mod hints;
 mod input;
