@@ -81,7 +81,8 @@ pub const FAULTS: [Explanation; 12] = [
         title: "a byte breaks UTF-8",
         rule: "text is UTF-8 (RFC 3629)",
         place: "the first byte with which no character can begin or go on",
-        remedy: "Convert the file first, such as with `iconv -f WINDOWS-1252 -t UTF-8`.",
+        remedy: "Convert the file first: `iconv -f ENCODING -t UTF-8 FILE`, with the name of the \
+            encoding in which it was saved. Unpack an archive, and export a spreadsheet as CSV.",
         reasons: &[],
     },
     Explanation {

@@ -2,7 +2,9 @@
 
 use crate::explain;
 use crate::foreign::{self, wide_encoding};
+use crate::printable::printable;
 use crate::scene::{Scene, Standing};
+use crate::windows_1252;
 use hemakuliwi::{Dialect, Fault, Kind};
 
 pub struct Hint {
@@ -18,7 +20,7 @@ pub fn hint(scene: &Scene) -> Option<(&'static str, String)> {
 }
 
 /// In an order in which what is told of the whole file comes before what is told of a place.
-pub const HINTS: [Hint; 32] = [
+pub const HINTS: [Hint; 33] = [
     Hint {
         name: "other_file_type",
         applies: |scene| foreign::advice(scene.case.text.head()).is_some(),
@@ -48,13 +50,32 @@ pub const HINTS: [Hint; 32] = [
         },
     },
     Hint {
-        name: "latin_1",
-        applies: |scene| latin_1(scene).is_some(),
+        name: "windows_1252",
+        applies: |scene| in_windows_1252(scene).is_some(),
         text: |scene| {
-            let (byte, character) = latin_1(scene).unwrap_or_default();
+            let cell = in_windows_1252(scene).unwrap_or_default();
+            let what = match scene.standing {
+                Standing::Comment => "comment",
+                _ => "cell",
+            };
             format!(
-                "byte {byte:02X} is `{character}` in Windows-1252 (Latin-1); `iconv -f \
-                WINDOWS-1252 -t UTF-8` makes the file UTF-8"
+                "in Windows-1252 this {what} would read `{cell}`; if that is right, `iconv -f \
+                WINDOWS-1252 -t UTF-8 FILE` makes the file UTF-8; if not, name its own encoding \
+                there"
+            )
+        },
+    },
+    Hint {
+        name: "other_encoding",
+        applies: |scene| scene.fault() == Fault::Encoding,
+        text: |scene| {
+            let reason = match is_after_utf_8(scene) {
+                true => "the text before this reads as UTF-8: this character may be damaged",
+                false => "this is no character of Windows-1252 either",
+            };
+            format!(
+                "{reason}; if the whole file is in another encoding, `iconv -f ENCODING -t UTF-8 \
+                FILE` makes it UTF-8"
             )
         },
     },
@@ -396,34 +417,31 @@ fn follows(scene: &Scene, text: &str) -> bool {
         .starts_with(text.as_bytes())
 }
 
-/// The characters of Windows-1252 from 80 to 9F; a space stands where it has none.
-const WINDOWS_1252: &str = "€ ‚ƒ„…†‡ˆ‰Š‹Œ Ž  ‘’“”•–—˜™š›œ žŸ";
+/// Whether characters of UTF-8 beyond ASCII are in the record before the place, or half of one at it.
+fn is_after_utf_8(scene: &Scene) -> bool {
+    let start = scene.walk.record_start();
+    let record = scene.case.text.between(start, scene.marked().start);
+    !record.is_ascii() || scene.unfinished().len() > 1
+}
 
-/// The byte and its character in Windows-1252, if one byte above 7F is alone in a record of ASCII.
-fn latin_1(scene: &Scene) -> Option<(u8, char)> {
-    if scene.fault() != Fault::Encoding {
+/// How the cell or comment reads in Windows-1252, around the first byte that is no UTF-8, if it is nothing but that.
+fn in_windows_1252(scene: &Scene) -> Option<String> {
+    /// How many characters are shown on each side.
+    const SHOWN: usize = 20;
+    if scene.fault() != Fault::Encoding || is_after_utf_8(scene) {
         return None;
     }
-    let byte = match scene.unfinished() {
-        [] => scene.byte?,
-        [byte] => *byte,
-        _ => return None,
-    };
-    let record = scene
-        .case
-        .text
-        .between(scene.walk.record_start(), scene.marked().start);
-    let character = match byte {
-        0x80..=0x9F => WINDOWS_1252
-            .chars()
-            .nth(usize::from(byte - 0x80))
-            .filter(|&character| character != ' '),
-        0xA0.. => Some(char::from(byte)),
-        _ => None,
-    };
-    character
-        .filter(|_| record.is_ascii())
-        .map(|character| (byte, character))
+    let text: Vec<char> = windows_1252::decode(scene.around())?.chars().collect();
+    let start = scene.walk.cell().offset;
+    let at = scene.case.text.between(start, scene.marked().start).len();
+    let (start, end) = (
+        at.saturating_sub(SHOWN),
+        text.len().min(at.saturating_add(SHOWN + 1)),
+    );
+    let shown: String = text[start..end].iter().collect();
+    let cut = |is_cut| if is_cut { "…" } else { "" };
+    let shown = printable(shown.trim_matches(['"', ' ', '\t', '\r', '\n']).as_bytes());
+    Some([cut(start > 0), &shown, cut(end < text.len())].concat())
 }
 
 fn other_delimiter(scene: &Scene) -> Option<&'static str> {

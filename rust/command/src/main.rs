@@ -27,6 +27,7 @@ mod standard;
 mod system;
 mod trail;
 mod width;
+mod windows_1252;
 
 use std::env;
 use std::process::ExitCode;

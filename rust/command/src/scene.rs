@@ -145,6 +145,21 @@ impl<'a> Scene<'a> {
             .place(self.case.text.byte(start))
     }
 
+    /// The cell around the place, or the comment, from its first byte up to where it ends or as far as it was read.
+    pub fn around(&self) -> &'a [u8] {
+        let start = self.walk.cell().offset;
+        let offset = self.case.refusal.offset;
+        let mut walk = self.walk;
+        let rest = self.case.text.from(offset);
+        let length = rest.iter().position(|&byte| {
+            walk.step(byte);
+            walk.cell_number() > self.walk.cell_number() || walk.is_between_records()
+        });
+        self.case
+            .text
+            .between(start, offset + length.unwrap_or(rest.len()))
+    }
+
     /// Where the cell begins whose quote is still open at a place where it should not be.
     pub fn opened(&self) -> Option<Place> {
         let is_too_late = matches!(self.fault(), Fault::CutShort | Fault::Limit);
