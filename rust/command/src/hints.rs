@@ -20,7 +20,7 @@ pub fn hint(scene: &Scene) -> Option<(&'static str, String)> {
 }
 
 /// In an order in which what is told of the whole file comes before what is told of a place.
-pub const HINTS: [Hint; 33] = [
+pub const HINTS: [Hint; 34] = [
     Hint {
         name: "other_file_type",
         applies: |scene| foreign::advice(scene.case.text.head()).is_some(),
@@ -141,6 +141,16 @@ pub const HINTS: [Hint; 33] = [
         },
     },
     Hint {
+        name: "last_cell_missing",
+        applies: |scene| is_last_cell_missing(scene),
+        text: |scene| {
+            format!(
+                "the last cell is missing after the comma: {}",
+                empty_cell(scene)
+            )
+        },
+    },
+    Hint {
         name: "comma_at_line_end",
         applies: comma_at_line_end,
         text: |_| {
@@ -151,12 +161,7 @@ pub const HINTS: [Hint; 33] = [
     Hint {
         name: "empty_cell",
         applies: |scene| needs_quotes(scene) && scene.byte == Some(b','),
-        text: |scene| match scene.dialect() {
-            Dialect::Tdif => {
-                "an empty cell is written `\"\"`, and one without a value `\\N`".into()
-            }
-            _ => "an empty cell is written `\"\"`, and one without a value `null`".into(),
-        },
+        text: |scene| empty_cell(scene).into(),
     },
     Hint {
         name: "bare_cr",
@@ -496,6 +501,19 @@ fn is_empty_line(scene: &Scene) -> bool {
 
 fn at_line_end(scene: &Scene) -> bool {
     scene.standing == Standing::CellStart && matches!(scene.byte, Some(b'\r' | b'\n'))
+}
+
+/// Whether a data record of CSVJ or TDIF ends in a comma, and has as many cells as the header with an empty one after it.
+fn is_last_cell_missing(scene: &Scene) -> bool {
+    let cells = scene.walk.cell_number();
+    needs_quotes(scene) && at_line_end(scene) && cells > 1 && cells == scene.case.names.len()
+}
+
+fn empty_cell(scene: &Scene) -> &'static str {
+    match scene.dialect() {
+        Dialect::Tdif => "an empty cell is written `\"\"`, and one without a value `\\N`",
+        _ => "an empty cell is written `\"\"`, and one without a value `null`",
+    }
 }
 
 fn comma_at_line_end(scene: &Scene) -> bool {
