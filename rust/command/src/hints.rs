@@ -293,7 +293,10 @@ pub const HINTS: [Hint; 34] = [
     },
     Hint {
         name: "unclosed_quote",
-        applies: |scene| scene.opened().is_some(),
+        applies: |scene| {
+            let opened = scene.opened();
+            opened.is_some_and(|cell| cell.line < scene.place().line)
+        },
         text: |scene| {
             let cell = scene.walk.cell();
             format!(
