@@ -104,6 +104,11 @@ pub const HINTS: [Hint; 34] = [
         },
     },
     Hint {
+        name: "comment",
+        applies: |scene| comment(scene).is_some(),
+        text: |scene| comment(scene).unwrap_or_default().into(),
+    },
+    Hint {
         name: "other_delimiter",
         applies: |scene| other_delimiter(scene).is_some(),
         text: |scene| {
@@ -226,13 +231,6 @@ pub const HINTS: [Hint; 34] = [
                 written twice"
                 .into()
         },
-    },
-    Hint {
-        name: "comment",
-        applies: |scene| {
-            needs_quotes(scene) && scene.byte == Some(b'#') && scene.walk.cell_number() == 1
-        },
-        text: |_| "only TDIF has comments; leave the line out".into(),
     },
     Hint {
         name: "brackets",
@@ -450,6 +448,42 @@ fn in_windows_1252(scene: &Scene) -> Option<String> {
     let cut = |is_cut| if is_cut { "…" } else { "" };
     let shown = printable(shown.trim_matches(['"', ' ', '\t', '\r', '\n']).as_bytes());
     Some([cut(start > 0), &shown, cut(end < text.len())].concat())
+}
+
+/// What a line means that begins with `#`, as a comment of TDIF does, in a dialect that has none.
+fn comment(scene: &Scene) -> Option<&'static str> {
+    match scene.dialect() {
+        Dialect::Csvj if needs_quotes(scene) && scene.byte == Some(b'#') => {
+            let is_first = scene.walk.cell_number() == 1;
+            is_first.then_some("CSVJ has no comments; leave this line out")
+        }
+        Dialect::CsvPlus if is_comment_line(scene) => Some(
+            "CSV+ has no comments: this line, which begins with `#`, is read as a record; leave it \
+            out if it is meant as a comment",
+        ),
+        Dialect::CsvPlus if is_comment_header(scene) => Some(
+            "CSV+ has no comments: the first line, which begins with `#`, is read as the header; \
+            leave it out if it is meant as a comment",
+        ),
+        _ => None,
+    }
+}
+
+/// Whether a record of CSV+ seems to be a comment. `#1` can be data, so that a fault inside of a cell asks for a sentence.
+fn is_comment_line(scene: &Scene) -> bool {
+    match scene.fault() {
+        Fault::CellCount => scene.record.starts_with(b"#"),
+        Fault::Syntax | Fault::RepeatedName => scene.record.starts_with(b"# "),
+        _ => false,
+    }
+}
+
+/// Whether the header seems to be a comment: the first record below it has another number of cells. `#` alone is a usual name.
+fn is_comment_header(scene: &Scene) -> bool {
+    let name = scene.case.names.first();
+    scene.fault() == Fault::CellCount
+        && scene.case.refusal.record == 2
+        && name.is_some_and(|name| name.starts_with(b"#") && name.len() > 1)
 }
 
 fn other_delimiter(scene: &Scene) -> Option<&'static str> {
