@@ -127,9 +127,9 @@ fn found(scene: &Scene) -> String {
     }
 }
 
-/// The character that begins at the place, if one does.
+/// The character at the place, if there is a whole one.
 fn character_at(scene: &Scene) -> Option<String> {
-    let rest = scene.case.text.from(scene.case.refusal.offset);
+    let rest = scene.case.text.from(scene.character_start());
     let whole = (2..=4)
         .filter_map(|length| rest.get(..length))
         .find(|bytes| from_utf8(bytes).is_ok())?;

@@ -2,6 +2,7 @@
 
 use crate::explain;
 use crate::foreign::{self, wide_encoding};
+use crate::look_alikes::{all, at_start, LookAlike, Looks};
 use crate::printable::printable;
 use crate::scene::{Scene, Standing};
 use crate::windows_1252;
@@ -20,7 +21,7 @@ pub fn hint(scene: &Scene) -> Option<(&'static str, String)> {
 }
 
 /// In an order in which what is told of the whole file comes before what is told of a place.
-pub const HINTS: [Hint; 34] = [
+pub const HINTS: [Hint; 35] = [
     Hint {
         name: "other_file_type",
         applies: |scene| foreign::advice(scene.case.text.head()).is_some(),
@@ -92,6 +93,11 @@ pub const HINTS: [Hint; 34] = [
                 `\"`"
                 .into()
         },
+    },
+    Hint {
+        name: "look_alike",
+        applies: |scene| look_alike(scene).is_some(),
+        text: |scene| look_alike(scene).unwrap_or_default(),
     },
     Hint {
         name: "single_quotes",
@@ -448,6 +454,67 @@ fn in_windows_1252(scene: &Scene) -> Option<String> {
     let cut = |is_cut| if is_cut { "…" } else { "" };
     let shown = printable(shown.trim_matches(['"', ' ', '\t', '\r', '\n']).as_bytes());
     Some([cut(start > 0), &shown, cut(end < text.len())].concat())
+}
+
+/// What a character is that looks like another one, at the place or where it leaves a record with too many or too few cells.
+fn look_alike(scene: &Scene) -> Option<String> {
+    if scene.fault() == Fault::CellCount {
+        return look_alike_in_record(scene);
+    }
+    let one = look_alike_at_place(scene)?;
+    let is_in_value = matches!(scene.standing, Standing::CellStart | Standing::Bare);
+    let remedy = match one.looks {
+        Looks::LikeSpace | Looks::LikeNothing | Looks::Like('\'') => "; leave it out".into(),
+        Looks::LikeLineBreak => "; write a line break (LF)".into(),
+        Looks::Like(character) if is_in_value || character == ',' => {
+            format!("; write `{character}` itself")
+        }
+        Looks::Like(_) => String::new(),
+    };
+    Some(one.text() + &remedy)
+}
+
+/// The character that can't stand at the place, or the one between a comma and the quote of a CSV+ cell.
+fn look_alike_at_place(scene: &Scene) -> Option<&'static LookAlike> {
+    if scene.fault() != Fault::Syntax {
+        return None;
+    }
+    let is_before_quote = scene.dialect() == Dialect::CsvPlus
+        && scene.standing == Standing::Bare
+        && scene.byte == Some(b'"');
+    if is_before_quote {
+        let before = scene.before.trim_ascii();
+        return at_start(before).filter(|one| one.character.len_utf8() == before.len());
+    }
+    at_start(scene.case.text.from(scene.character_start()))
+}
+
+/// In CSV+ commas and quotes that only look so are text: counted as such they explain the number of cells.
+fn look_alike_in_record(scene: &Scene) -> Option<String> {
+    if scene.dialect() != Dialect::CsvPlus {
+        return None;
+    }
+    let (cells, names) = (&scene.cells, &scene.case.names);
+    let commas = |texts: &[&[u8]]| -> Vec<&LookAlike> {
+        texts.iter().flat_map(|text| all(text, ',')).collect()
+    };
+    let texts = cells.iter().map(|cell| &scene.record[cell.range.clone()]);
+    let plain: Vec<&[u8]> = texts.filter(|text| !text.starts_with(b"\"")).collect();
+    let header: Vec<&[u8]> = names.iter().map(Vec::as_slice).collect();
+    let [in_record, in_header] = [commas(&plain), commas(&header)];
+    let explains = |commas: &[&LookAlike], fewer: usize, more: usize| {
+        !commas.is_empty() && fewer + commas.len() == more
+    };
+    if explains(&in_record, cells.len(), names.len()) {
+        return Some(in_record[0].text() + ", and divides no cells; write `,` itself");
+    }
+    if explains(&in_header, names.len(), cells.len()) {
+        let text = in_header[0].text();
+        return Some(text + ", and divides no cells of the header; write `,` itself");
+    }
+    let quote = plain.iter().find_map(|text| at_start(text));
+    let quote = quote.filter(|one| one.looks == Looks::Like('"') && cells.len() > names.len())?;
+    Some(quote.text() + ", and does not hold a cell with a comma together; write `\"` itself")
 }
 
 /// What a line means that begins with `#`, as a comment of TDIF does, in a dialect that has none.

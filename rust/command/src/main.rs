@@ -15,6 +15,7 @@ mod hints;
 mod input;
 mod json;
 mod lines;
+mod look_alikes;
 mod nearest;
 mod output;
 mod paint;

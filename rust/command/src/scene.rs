@@ -106,7 +106,9 @@ impl<'a> Scene<'a> {
             return Standing::AfterCr;
         }
         let is_space = |byte: &u8| self.case.from == Dialect::Csvj && matches!(byte, b' ' | b'\t');
-        match self.before.iter().find(|byte| !is_space(byte)) {
+        let begun = self.case.refusal.offset - self.character_start();
+        let before = &self.before[..self.before.len().saturating_sub(begun)];
+        match before.iter().find(|byte| !is_space(byte)) {
             None => Standing::CellStart,
             Some(b'"') if !is_quoted => Standing::AfterQuote,
             // Of the bytes from 20 on, only those of an escape are a fault inside of a string.
@@ -218,6 +220,15 @@ impl<'a> Scene<'a> {
             .filter(|bytes| bytes.first() >= Some(&0xC2))
             .find(is_unfinished)
             .unwrap_or(&[])
+    }
+
+    /// Where the character at the place begins: before it where a CSVJ file begins with a character that begins as a mark does.
+    pub fn character_start(&self) -> usize {
+        let begun = match self.fault() {
+            Fault::Syntax => self.unfinished(),
+            _ => &[],
+        };
+        self.case.refusal.offset - begun.len()
     }
 
     /// Which of a fault's several reasons holds.
