@@ -72,7 +72,7 @@ pub const HINTS: [Hint; 35] = [
         text: |scene| {
             let reason = match is_after_utf_8(scene) {
                 true => "the text before this reads as UTF-8: this character may be damaged",
-                false => "this is no character of Windows-1252 either",
+                false => "this is no text in Windows-1252 either",
             };
             format!(
                 "{reason}; if the whole file is in another encoding, `iconv -f ENCODING -t UTF-8 \
@@ -444,6 +444,11 @@ fn in_windows_1252(scene: &Scene) -> Option<String> {
         return None;
     }
     let text: Vec<char> = windows_1252::decode(scene.around())?.chars().collect();
+    let is_break_or_tab = |character: &char| matches!(character, '\t' | '\r' | '\n');
+    let is_text = |character: &char| !character.is_control() || is_break_or_tab(character);
+    if !text.iter().all(is_text) {
+        return None;
+    }
     let start = scene.walk.cell().offset;
     let at = scene.case.text.between(start, scene.marked().start).len();
     let (start, end) = (
