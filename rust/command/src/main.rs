@@ -31,6 +31,7 @@ mod width;
 mod windows_1252;
 
 use std::env;
+use std::io::{self, Write};
 use std::process::ExitCode;
 
 fn main() -> ExitCode {
@@ -40,7 +41,9 @@ fn main() -> ExitCode {
             let command = misuse
                 .command
                 .map_or(String::new(), |command| format!(" {command}"));
-            eprintln!(
+            // Nothing can be done about an error there, and the status says enough.
+            let _ = writeln!(
+                io::stderr(),
                 "hemakuliwi: {}\n`hemakuliwi{command} --help` tells how it is used.",
                 misuse.message
             );

@@ -116,11 +116,16 @@ fn a_reader_that_goes_away_is_not_complained_of() {
 }
 
 #[test]
-fn a_closed_standard_error_changes_no_status() {
-    assert_eq!(
-        shell(&format!("{CONVERT} 2>&-"), b"a\n\"b"),
-        Run::new(1, "\"a\"\n", "")
-    );
+fn a_standard_error_that_is_closed_or_full_changes_no_status() {
+    for error in ["2>&-", "2>/dev/full"] {
+        assert_eq!(
+            shell(&format!("{CONVERT} {error}"), b"a\n\"b"),
+            Run::new(1, "\"a\"\n", ""),
+            "{error}"
+        );
+        let wrong = shell(&format!("\"$command\" convrt {error}"), b"");
+        assert_eq!(wrong, Run::new(2, "", ""), "{error}");
+    }
 }
 
 #[test]
