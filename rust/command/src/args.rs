@@ -130,6 +130,12 @@ pub fn parse(words: impl IntoIterator<Item = OsString>) -> Result<Request, Misus
         if !is_option(&word) {
             break Some(named(&word)?);
         }
+        if let Some(message) = too_early(&word).filter(|_| found(&word, &GENERAL).is_err()) {
+            return Err(Misuse {
+                message,
+                command: None,
+            });
+        }
         given.option(&word, &GENERAL, None, &mut words)?;
     };
     let Some(command) = command else {
@@ -326,6 +332,18 @@ fn unknown(word: &OsStr, known: &'static [Flag]) -> String {
     format!("there is no option {}{offered}", quoted(word))
 }
 
+/// The options of commands come after the name of one.
+fn too_early(word: &OsStr) -> Option<String> {
+    let mut flags = COMMANDS.iter().flat_map(|command| command.options);
+    let is_known = flags.any(|flag| found(word, std::slice::from_ref(flag)).is_ok());
+    is_known.then(|| {
+        format!(
+            "{} comes after a command: convert, check or show",
+            quoted(word)
+        )
+    })
+}
+
 /// What another command calls the same option: the dialect of a file is `--in` where nothing is written, and `--from` where `--to` is.
 fn other_name(word: &OsStr) -> Option<&'static str> {
     match word.as_bytes() {
@@ -476,10 +494,17 @@ mod tests {
             ("show --from=csvj", "`--from`; did you mean `--in`?"),
             ("convert --in csvj", "`--in`; did you mean `--from`?"),
             ("check --xyzzy", "`--xyzzy`"),
-            ("--from csvj", "`--from`"),
         ] {
             assert_eq!(message(line), format!("there is no option {expected}"));
         }
+        assert_eq!(
+            message("--json check"),
+            "`--json` comes after a command: convert, check or show"
+        );
+        assert_eq!(
+            message("--in=csvj check"),
+            "`--in=csvj` comes after a command: convert, check or show"
+        );
         assert_eq!(
             message("explain syntx"),
             "there is no fault `syntx`: 1 to 12, which \
