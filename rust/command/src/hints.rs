@@ -21,7 +21,7 @@ pub fn hint(scene: &Scene) -> Option<(&'static str, String)> {
 }
 
 /// In an order in which what is told of the whole file comes before what is told of a place.
-pub const HINTS: [Hint; 35] = [
+pub const HINTS: [Hint; 36] = [
     Hint {
         name: "other_file_type",
         applies: |scene| foreign::advice(scene.case.text.head()).is_some(),
@@ -170,9 +170,17 @@ pub const HINTS: [Hint; 35] = [
         },
     },
     Hint {
+        name: "comma_too_many",
+        applies: |scene| is_at_comma(scene) && scene.cells_by_commas() > Some(columns(scene)),
+        text: |_| "with this comma the record has more cells than the header; leave it out".into(),
+    },
+    Hint {
         name: "empty_cell",
-        applies: |scene| needs_quotes(scene) && scene.byte == Some(b','),
-        text: |scene| empty_cell(scene).into(),
+        applies: is_at_comma,
+        text: |scene| match scene.case.refusal.record {
+            1 => "an empty name is written `\"\"`; if none is meant, leave the comma out".into(),
+            _ => empty_cell(scene).into(),
+        },
     },
     Hint {
         name: "bare_cr",
@@ -479,7 +487,7 @@ fn look_alike(scene: &Scene) -> Option<String> {
     Some(one.text() + &remedy)
 }
 
-/// The character that can't stand at the place, or the one between a comma and the quote of a CSV+ cell.
+/// The character that is refused, or the one between a comma and the quote of a CSV+ cell.
 fn look_alike_at_place(scene: &Scene) -> Option<&'static LookAlike> {
     if scene.fault() != Fault::Syntax {
         return None;
@@ -541,7 +549,7 @@ fn comment(scene: &Scene) -> Option<&'static str> {
     }
 }
 
-/// Whether a record of CSV+ seems to be a comment. `#1` can be data, so that a fault inside of a cell asks for a sentence.
+/// Whether a record of CSV+ seems to be a comment. `#1` can be data, so that a fault inside of a cell is one of a comment only after `# `.
 fn is_comment_line(scene: &Scene) -> bool {
     match scene.fault() {
         Fault::CellCount => scene.record.starts_with(b"#"),
@@ -616,6 +624,19 @@ fn at_line_end(scene: &Scene) -> bool {
 fn is_last_cell_missing(scene: &Scene) -> bool {
     let cells = scene.walk.cell_number();
     needs_quotes(scene) && at_line_end(scene) && cells > 1 && cells == scene.case.names.len()
+}
+
+/// Whether a comma is where a cell of CSVJ or TDIF has to begin.
+fn is_at_comma(scene: &Scene) -> bool {
+    needs_quotes(scene) && scene.byte == Some(b',')
+}
+
+/// How many cells a record may have: as many as the header, once that is complete.
+fn columns(scene: &Scene) -> usize {
+    match scene.case.refusal.record {
+        1 => usize::MAX,
+        _ => scene.case.names.len(),
+    }
 }
 
 fn empty_cell(scene: &Scene) -> &'static str {

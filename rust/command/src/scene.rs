@@ -168,6 +168,13 @@ impl<'a> Scene<'a> {
         Some(self.walk.cell()).filter(|_| is_too_late && self.standing == Standing::Quoted)
     }
 
+    /// How many cells the record has by its commas, sound or not, if it was read up to its end.
+    pub fn cells_by_commas(&self) -> Option<usize> {
+        let mut walk = self.case.text.walk_to(self.walk.record_start());
+        walk.advance(self.record);
+        walk.is_between_records().then(|| walk.cell_number())
+    }
+
     /// Whether the record is sound but for the line break after it.
     pub fn lacks_line_end(&self) -> bool {
         let is_asked_for = self.case.from != Dialect::CsvPlus && self.standing != Standing::AfterCr;
