@@ -2,11 +2,12 @@
 
 use crate::explain;
 use crate::foreign::{self, wide_encoding};
-use crate::look_alikes::{all, at_start, LookAlike, Looks};
+use crate::look_alikes::{all, as_number, at_start, LookAlike, Looks};
 use crate::printable::printable;
-use crate::scene::{Scene, Standing};
+use crate::scene::{cells_of, Scene, Standing};
 use crate::windows_1252;
 use hemakuliwi::{Dialect, Fault, Kind};
+use std::str::from_utf8;
 
 pub struct Hint {
     pub name: &'static str,
@@ -476,15 +477,31 @@ fn look_alike(scene: &Scene) -> Option<String> {
     }
     let one = look_alike_at_place(scene)?;
     let is_in_value = matches!(scene.standing, Standing::CellStart | Standing::Bare);
-    let remedy = match one.looks {
-        Looks::LikeSpace | Looks::LikeNothing | Looks::Like('\'') => "; leave it out".into(),
-        Looks::LikeLineBreak => "; write a line break (LF)".into(),
-        Looks::Like(character) if is_in_value || character == ',' => {
-            format!("; write `{character}` itself")
-        }
-        Looks::Like(_) => String::new(),
+    let remedy = match (number_meant(scene), one.looks) {
+        (Some(number), _) => format!("; write `{number}`"),
+        (None, Looks::LikeSpace | Looks::LikeNothing) => "; leave it out".into(),
+        (None, Looks::LikeLineBreak) => "; write a line break (LF)".into(),
+        (None, Looks::Like(',')) => "; write `,` itself".into(),
+        // What is no number is text without quotes, whatever its characters look like.
+        (None, Looks::Like('0'..='9' | '+' | '-' | '.' | '\'')) if is_in_value => return None,
+        (None, Looks::Like(character)) if is_in_value => format!("; write `{character}` itself"),
+        (None, Looks::Like(_)) => String::new(),
     };
     Some(one.text() + &remedy)
+}
+
+/// The number of CSVJ as which the cell at the place is meant, if it is one but for look-alikes.
+fn number_meant(scene: &Scene) -> Option<String> {
+    /// The longest that is shown.
+    const SHOWN: usize = 40;
+    let is_in_value = matches!(scene.standing, Standing::CellStart | Standing::Bare);
+    if scene.dialect() != Dialect::Csvj || !is_in_value {
+        return None;
+    }
+    let number = as_number(from_utf8(scene.around()).ok()?);
+    let cells = cells_of(Dialect::Csvj, format!("{number}\n").as_bytes());
+    let is_number = cells.len() == 1 && cells[0].kind == Kind::Number;
+    Some(number).filter(|number| is_number && number.len() <= SHOWN)
 }
 
 /// The character that is refused, or the one between a comma and the quote of a CSV+ cell.
@@ -497,7 +514,10 @@ fn look_alike_at_place(scene: &Scene) -> Option<&'static LookAlike> {
         && scene.byte == Some(b'"');
     if is_before_quote {
         let before = scene.before.trim_ascii();
-        return at_start(before).filter(|one| one.character.len_utf8() == before.len());
+        return at_start(before).filter(|one| {
+            let is_blank = matches!(one.looks, Looks::LikeSpace | Looks::LikeNothing);
+            is_blank && one.character.len_utf8() == before.len()
+        });
     }
     at_start(scene.case.text.from(scene.character_start()))
 }

@@ -100,6 +100,20 @@ pub fn all(text: &[u8], character: char) -> Vec<&'static LookAlike> {
     found.filter(|one| one.looks == Like(character)).collect()
 }
 
+/// The text as it is meant where it is a number: each look-alike as what it looks like, and what only divides digits left out.
+pub fn as_number(text: &str) -> String {
+    let meant = |character: char| {
+        let one = LOOK_ALIKES.iter().find(|one| one.character == character);
+        match one.map(|one| one.looks) {
+            None => Some(character),
+            Some(Like(meant)) if meant != '\'' => Some(meant),
+            Some(_) => None,
+        }
+    };
+    let number: String = text.chars().filter_map(meant).collect();
+    number.trim().trim_start_matches('+').into()
+}
+
 impl LookAlike {
     /// Its name, and what it looks like, as a sentence begins.
     pub fn text(&self) -> String {
@@ -128,6 +142,19 @@ mod tests {
         let commas = all("a–b，c，".as_bytes(), ',');
         assert!(commas.len() == 2 && commas[0].name == "FULLWIDTH COMMA");
         assert!(all("a–b".as_bytes(), ',').is_empty());
+    }
+
+    #[test]
+    fn numbers_are_written_with_what_their_characters_look_like() {
+        for (text, expected) in [
+            ("−5", "-5"),
+            ("1\u{A0}000", "1000"),
+            ("1’000.50", "1000.50"),
+            ("＋２．４０", "2.40"),
+            (" –７\u{202F}", "-7"),
+        ] {
+            assert_eq!(as_number(text), expected);
+        }
     }
 
     #[test]
