@@ -110,6 +110,7 @@ pub fn printable(bytes: &[u8]) -> String {
 #[cfg(test)]
 mod tests {
     use super::*;
+    use harness::rng::Rng;
 
     #[test]
     fn what_a_terminal_would_obey_is_escaped() {
@@ -136,6 +137,56 @@ mod tests {
         let shown: Vec<String> = texts.map(|text| printable(text.as_bytes())).into();
         for (at, text) in shown.iter().enumerate() {
             assert!(!shown[..at].contains(text), "{text}");
+        }
+    }
+
+    /// The bytes of which this is the printable form.
+    fn bytes_of(shown: &str) -> Vec<u8> {
+        let Some((before, escape)) = shown.split_once('\\') else {
+            return shown.into();
+        };
+        let hexadecimal = |digits| u32::from_str_radix(digits, 16).expect("digits");
+        let (escaped, rest) = match escape.split_at(1) {
+            ("\\", rest) => (b"\\".to_vec(), rest),
+            ("t", rest) => (b"\t".to_vec(), rest),
+            ("n", rest) => (b"\n".to_vec(), rest),
+            ("r", rest) => (b"\r".to_vec(), rest),
+            ("x", rest) => (vec![hexadecimal(&rest[..2]) as u8], &rest[2..]),
+            (_, rest) => {
+                let (code, rest) = rest[1..].split_once('}').expect("an escape of a character");
+                let character = char::from_u32(hexadecimal(code)).expect("a character");
+                (character.to_string().into_bytes(), rest)
+            }
+        };
+        [before.as_bytes(), &escaped, &bytes_of(rest)].concat()
+    }
+
+    #[test]
+    fn the_bytes_are_known_from_what_is_shown() {
+        let mut rng = Rng::new(4);
+        let parts: [&[u8]; 16] = [
+            b"a",
+            b"t",
+            b"x09",
+            b"u{A0}",
+            b"\\",
+            b"\t",
+            b"\n",
+            b"\r",
+            b"\x07",
+            b"\x7F",
+            b"\xE9",
+            b"\xC2\xA0",
+            b"\xC2\x85",
+            b"\xEF\xBB\xBF",
+            b"\xE9\xA7\x85",
+            b"\xC2",
+        ];
+        for _ in 0..5_000 {
+            let count = rng.between(0, 8);
+            let bytes: Vec<u8> = (0..count).flat_map(|_| rng.pick(&parts).to_vec()).collect();
+            let shown = printable(&bytes);
+            assert_eq!(bytes_of(&shown), bytes, "{shown}");
         }
     }
 
