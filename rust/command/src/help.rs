@@ -79,7 +79,7 @@ Usage: hemakuliwi show --in DIALECT [--width COLUMNS] [FILE]
 Cells stand below each other, and long ones are cut with `…`. Control characters,
 spaces other than the usual one and backslashes are shown as escapes: \\t, \\u{A0},
 \\\\. # marks a number, ! true, false and null; the rest is text, in quotes where it
-would look like these or like nothing.
+would look like these, like nothing, or like one that is cut.
 
 Options:
   --in DIALECT        csvj, tdif or csv+
