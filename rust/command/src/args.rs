@@ -130,6 +130,12 @@ pub fn parse(words: impl IntoIterator<Item = OsString>) -> Result<Request, Misus
         if !is_option(&word) {
             break Some(named(&word)?);
         }
+        if let Some(message) = too_early(&word).filter(|_| found(&word, &GENERAL).is_err()) {
+            return Err(Misuse {
+                message,
+                command: None,
+            });
+        }
         given.option(&word, &GENERAL, None, &mut words)?;
     };
     let Some(command) = command else {
@@ -320,7 +326,31 @@ fn unknown(word: &OsStr, known: &'static [Flag]) -> String {
         .map(|flag| format!("--{}", flag.long))
         .collect();
     let names: Vec<&str> = names.iter().map(String::as_str).collect();
-    format!("there is no option {}{}", quoted(word), offer(word, &names))
+    let offered = other_name(word)
+        .filter(|name| names.contains(name))
+        .map_or_else(|| offer(word, &names), offered);
+    format!("there is no option {}{offered}", quoted(word))
+}
+
+/// The options of commands come after the name of one.
+fn too_early(word: &OsStr) -> Option<String> {
+    let mut flags = COMMANDS.iter().flat_map(|command| command.options);
+    let is_known = flags.any(|flag| found(word, std::slice::from_ref(flag)).is_ok());
+    is_known.then(|| {
+        format!(
+            "{} comes after a command: convert, check or show",
+            quoted(word)
+        )
+    })
+}
+
+/// What another command calls the same option: the dialect of a file is `--in` where nothing is written, and `--from` where `--to` is.
+fn other_name(word: &OsStr) -> Option<&'static str> {
+    match word.as_bytes() {
+        b"--from" => Some("--in"),
+        b"--in" => Some("--from"),
+        _ => None,
+    }
 }
 
 fn quoted(word: &OsStr) -> String {
@@ -329,7 +359,11 @@ fn quoted(word: &OsStr) -> String {
 
 fn offer(word: &OsStr, known: &[&str]) -> String {
     let near = word.to_str().and_then(|word| nearest(word, known));
-    near.map_or(String::new(), |near| format!("; did you mean `{near}`?"))
+    near.map_or(String::new(), offered)
+}
+
+fn offered(name: &str) -> String {
+    format!("; did you mean `{name}`?")
 }
 
 fn request(command: &'static str, mut given: Given) -> Result<Request, String> {
@@ -455,7 +489,22 @@ mod tests {
             message("check --in csv"),
             "there is no dialect `csv`: csvj, tdif, csv+ or 1, 2, 3; did you mean `csv+`?"
         );
-        assert_eq!(message("check --xyzzy"), "there is no option `--xyzzy`");
+        for (line, expected) in [
+            ("check --from csvj", "`--from`; did you mean `--in`?"),
+            ("show --from=csvj", "`--from`; did you mean `--in`?"),
+            ("convert --in csvj", "`--in`; did you mean `--from`?"),
+            ("check --xyzzy", "`--xyzzy`"),
+        ] {
+            assert_eq!(message(line), format!("there is no option {expected}"));
+        }
+        assert_eq!(
+            message("--json check"),
+            "`--json` comes after a command: convert, check or show"
+        );
+        assert_eq!(
+            message("--in=csvj check"),
+            "`--in=csvj` comes after a command: convert, check or show"
+        );
         assert_eq!(
             message("explain syntx"),
             "there is no fault `syntx`: 1 to 12, which \

@@ -11,13 +11,14 @@ use crate::progress::Progress;
 use crate::report::{failure_json, Counts};
 use crate::scene::Case;
 use crate::show::show;
+use crate::system;
 use crate::trail::Text;
 use hemakuliwi::raw::PIECE_BYTES;
 use hemakuliwi::{read, Converter, Dialect, Refusal};
 use std::env;
 use std::ffi::{OsStr, OsString};
 use std::io::{self, IsTerminal, Write};
-use std::os::unix::ffi::OsStrExt;
+use std::os::fd::AsFd;
 use std::process::ExitCode;
 
 /// The statuses but for acceptance, which is 0.
@@ -25,7 +26,7 @@ const REFUSED: u8 = 1;
 pub const WRONG_USE: u8 = 2;
 const FAILED: u8 = 3;
 
-/// How wide a screen is taken to be where nothing tells.
+/// How wide a screen is taken to be where it is not known.
 const SCREEN: usize = 80;
 
 #[derive(Clone, Copy, Debug, PartialEq, Eq, PartialOrd, Ord)]
@@ -87,27 +88,25 @@ impl Voice {
     }
 
     fn failed(&self, failure: &Failure) -> Status {
-        match failure {
-            Failure::System(message) if self.json => self.say(&failure_json(None, message)),
-            Failure::System(message) => self.say(&format!("hemakuliwi: {message}\n")),
-            Failure::ClosedPipe => {}
+        if let Some(text) = self.failure(failure) {
+            self.say(&text);
         }
         Status::Failed
     }
 
     /// As `failed`, of one of several files.
-    fn failed_on(
-        &self,
-        file: &OsStr,
-        failure: &Failure,
-        output: Option<&mut Output>,
-    ) -> Result<Status, Failure> {
+    fn failed_on(&self, failure: &Failure, output: Option<&mut Output>) -> Result<Status, Failure> {
+        if let Some(text) = self.failure(failure) {
+            self.tell(&text, output)?;
+        }
+        Ok(Status::Failed)
+    }
+
+    fn failure(&self, failure: &Failure) -> Option<String> {
         match failure {
-            Failure::System(message) if self.json => {
-                self.tell(&failure_json(Some(file.as_bytes()), message), output)?;
-                Ok(Status::Failed)
-            }
-            _ => Ok(self.failed(failure)),
+            Failure::System { file, message } if self.json => Some(failure_json(file, message)),
+            Failure::System { message, .. } => Some(format!("hemakuliwi: {message}\n")),
+            Failure::ClosedPipe => None,
         }
     }
 
@@ -121,7 +120,7 @@ impl Voice {
     }
 
     fn refusal(&self, name: &[u8], case: &Case) -> String {
-        let diagnosis = Diagnosis::new(case, screen());
+        let diagnosis = Diagnosis::new(case, screen(&io::stderr()));
         if self.json {
             diagnosis.json(name)
         } else {
@@ -130,12 +129,15 @@ impl Voice {
     }
 }
 
-/// What a shell tells of its window, if it is exported.
-fn screen() -> usize {
+/// The width of the terminal that is written to, unless COLUMNS is exported.
+fn screen(output: &impl AsFd) -> usize {
     let columns = env::var("COLUMNS")
         .ok()
         .and_then(|columns| columns.parse().ok());
-    columns.filter(|&columns| columns > 0).unwrap_or(SCREEN)
+    columns
+        .filter(|&columns| columns > 0)
+        .or_else(|| system::columns(output))
+        .unwrap_or(SCREEN)
 }
 
 fn convert(
@@ -208,7 +210,7 @@ fn check(
     for input in input::names(inputs) {
         let status = match whole(Some(&input)) {
             Ok((name, bytes)) => check_one(dialect, &name, &bytes, voice, output.as_mut())?,
-            Err(failure) => voice.failed_on(&input, &failure, output.as_mut())?,
+            Err(failure) => voice.failed_on(&failure, output.as_mut())?,
         };
         worst = worst.max(status);
     }
@@ -264,7 +266,7 @@ fn show_table(
     let mut text = String::new();
     show(
         &table,
-        width.unwrap_or_else(screen),
+        width.unwrap_or_else(|| screen(&io::stdout())),
         Paint::new(voice.color, &io::stdout()),
         |line| {
             text += &line;

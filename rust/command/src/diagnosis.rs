@@ -127,9 +127,9 @@ fn found(scene: &Scene) -> String {
     }
 }
 
-/// The character that begins at the place, if one does.
+/// The character at the place, if there is a whole one.
 fn character_at(scene: &Scene) -> Option<String> {
-    let rest = scene.case.text.from(scene.case.refusal.offset);
+    let rest = scene.case.text.from(scene.character_start());
     let whole = (2..=4)
         .filter_map(|length| rest.get(..length))
         .find(|bytes| from_utf8(bytes).is_ok())?;
@@ -317,7 +317,10 @@ mod tests {
         let plain = Paint::new(When::Never, &std::io::stdout());
         for line in diagnosis.excerpt_text(plain).lines() {
             assert!(
-                glyphs(line.as_bytes()).map(Glyph::width).sum::<usize>() <= SCREEN,
+                glyphs(line.as_bytes())
+                    .map(Glyph::width_in_line)
+                    .sum::<usize>()
+                    <= SCREEN,
                 "{line}"
             );
             assert!(line.chars().all(|character| !character.is_control()));

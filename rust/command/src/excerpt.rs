@@ -127,8 +127,8 @@ impl<'a> Line<'a> {
         }
         for &(offset, glyph) in &glyphs[window.clone()] {
             let is_marked = offset < marked.end && offset + glyph.length() > marked.start;
-            glyph.push_to(&mut shown);
-            carets += &(if is_marked { "^" } else { " " }).repeat(glyph.width());
+            glyph.push_to_line(&mut shown);
+            carets += &(if is_marked { "^" } else { " " }).repeat(glyph.width_in_line());
         }
         if window.end < glyphs.len() || self.is_cut[1] {
             shown += CUT;
@@ -150,7 +150,7 @@ fn window(
     let widths = |range: Range<usize>| {
         glyphs[range]
             .iter()
-            .map(|&(_, glyph)| glyph.width())
+            .map(|&(_, glyph)| glyph.width_in_line())
             .sum::<usize>()
     };
     if is_cut == [false, false] && widths(0..glyphs.len()) <= width {
@@ -161,12 +161,12 @@ fn window(
     let mut used = 0;
     // Half of the room for what is before the place, the rest for what is after it, and what is left for what is before.
     for limit in [room / 2, room] {
-        while window.start > 0 && used + glyphs[window.start - 1].1.width() <= limit {
+        while window.start > 0 && used + glyphs[window.start - 1].1.width_in_line() <= limit {
             window.start -= 1;
-            used += glyphs[window.start].1.width();
+            used += glyphs[window.start].1.width_in_line();
         }
-        while window.end < glyphs.len() && used + glyphs[window.end].1.width() <= room {
-            used += glyphs[window.end].1.width();
+        while window.end < glyphs.len() && used + glyphs[window.end].1.width_in_line() <= room {
+            used += glyphs[window.end].1.width_in_line();
             window.end += 1;
         }
     }
@@ -210,6 +210,14 @@ mod tests {
         );
         assert_eq!(at(b"caf\xE9,", 3..5, 40), one(1, "caf\\xE9,", "   ^^^^^"));
         assert_eq!(at("a駅".as_bytes(), 1..2, 40), one(1, "a駅", " ^^"));
+    }
+
+    #[test]
+    fn a_backslash_is_shown_as_it_is_in_the_file() {
+        assert_eq!(
+            at(b"C:\\a,\"x\"y", 8..9, 40),
+            one(1, "C:\\a,\"x\"y", "        ^")
+        );
     }
 
     #[test]

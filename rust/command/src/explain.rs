@@ -69,7 +69,7 @@ pub const FAULTS: [Explanation; 12] = [
         fault: Fault::NoRecord,
         name: "no_record",
         title: "the file ends before any record begins",
-        rule: "a file has a header, and may have nothing else",
+        rule: "a file has at least a header",
         place: "the end of the file",
         remedy: "Look whether the program that wrote the file, or the one before a pipe, has \
             failed.",
@@ -81,7 +81,8 @@ pub const FAULTS: [Explanation; 12] = [
         title: "a byte breaks UTF-8",
         rule: "text is UTF-8 (RFC 3629)",
         place: "the first byte with which no character can begin or go on",
-        remedy: "Convert the file first, such as with `iconv -f WINDOWS-1252 -t UTF-8`.",
+        remedy: "Convert the file first: `iconv -f ENCODING -t UTF-8 FILE`, with the name of the \
+            encoding in which it was saved. Unpack an archive, and export a spreadsheet as CSV.",
         reasons: &[],
     },
     Explanation {

@@ -14,7 +14,7 @@ Without FILE, or with -, standard input is read.
 
 Options:
   --color WHEN     auto, always or never; auto is for terminals, and not with
-                   NO_COLOR
+                   NO_COLOR or TERM=dumb
   -h, --help       this text, or with a command what it does
   -V, --version    the version
 
@@ -76,14 +76,15 @@ hemakuliwi show: a table for looking at
 
 Usage: hemakuliwi show --in DIALECT [--width COLUMNS] [FILE]
 
-Cells stand below each other, long ones are cut with `…`, and control characters
-are shown as escapes. # marks a number, ! true, false and null; the rest is text,
-in quotes where it would look like these or like nothing.
+Cells stand below each other, and long ones are cut with `…`. Control characters,
+spaces other than the usual one and backslashes are shown as escapes: \\t, \\u{A0},
+\\\\. # marks a number, ! true, false and null; the rest is text, in quotes where it
+would look like these, like nothing, or like one that is cut.
 
 Options:
   --in DIALECT        csvj, tdif or csv+
   --width COLUMNS     how wide the table may be; 0 sets no bound. Without it that
-                      is $COLUMNS, or 80
+                      is $COLUMNS, or the width of the terminal, or 80
   --json              reports a refusal on standard error as one line of JSON
   --color WHEN        auto, always or never
   -h, --help          this text

@@ -1,8 +1,13 @@
 //! What people usually get wrong, told where the bytes show it. The first hint of the table that applies is given.
 
 use crate::explain;
-use crate::scene::{Scene, Standing};
+use crate::foreign::{self, wide_encoding};
+use crate::look_alikes::{all, as_number, at_start, LookAlike, Looks};
+use crate::printable::printable;
+use crate::scene::{cells_of, Scene, Standing};
+use crate::windows_1252;
 use hemakuliwi::{Dialect, Fault, Kind};
+use std::str::from_utf8;
 
 pub struct Hint {
     pub name: &'static str,
@@ -17,16 +22,22 @@ pub fn hint(scene: &Scene) -> Option<(&'static str, String)> {
 }
 
 /// In an order in which what is told of the whole file comes before what is told of a place.
-pub const HINTS: [Hint; 31] = [
+pub const HINTS: [Hint; 36] = [
     Hint {
-        name: "utf_16",
-        applies: |scene| utf_16(scene).is_some(),
+        name: "other_file_type",
+        applies: |scene| foreign::advice(scene.case.text.head()).is_some(),
         text: |scene| {
-            let encoding = utf_16(scene).unwrap_or_default();
-            format!(
-                "the file is {encoding}, as spreadsheets save \"Unicode text\"; `iconv -f \
-                {encoding} -t UTF-8` makes it UTF-8"
-            )
+            foreign::advice(scene.case.text.head())
+                .unwrap_or_default()
+                .into()
+        },
+    },
+    Hint {
+        name: "wide_encoding",
+        applies: |scene| wide_encoding(scene.case.text.head()).is_some(),
+        text: |scene| {
+            let encoding = wide_encoding(scene.case.text.head()).unwrap_or_default();
+            format!("the file is {encoding}; `iconv -f {encoding} -t UTF-8 FILE` makes it UTF-8")
         },
     },
     Hint {
@@ -41,13 +52,32 @@ pub const HINTS: [Hint; 31] = [
         },
     },
     Hint {
-        name: "latin_1",
-        applies: |scene| latin_1(scene).is_some(),
+        name: "windows_1252",
+        applies: |scene| in_windows_1252(scene).is_some(),
         text: |scene| {
-            let (byte, character) = latin_1(scene).unwrap_or_default();
+            let cell = in_windows_1252(scene).unwrap_or_default();
+            let what = match scene.standing {
+                Standing::Comment => "comment",
+                _ => "cell",
+            };
             format!(
-                "byte {byte:02X} is `{character}` in Windows-1252 (Latin-1); `iconv -f \
-                WINDOWS-1252 -t UTF-8` makes the file UTF-8"
+                "in Windows-1252 this {what} would read `{cell}`; if that is right, `iconv -f \
+                WINDOWS-1252 -t UTF-8 FILE` makes the file UTF-8; if not, name its own encoding \
+                there"
+            )
+        },
+    },
+    Hint {
+        name: "other_encoding",
+        applies: |scene| scene.fault() == Fault::Encoding,
+        text: |scene| {
+            let reason = match is_after_utf_8(scene) {
+                true => "the text before this reads as UTF-8: this character may be damaged",
+                false => "this is no text in Windows-1252 either",
+            };
+            format!(
+                "{reason}; if the whole file is in another encoding, `iconv -f ENCODING -t UTF-8 \
+                FILE` makes it UTF-8"
             )
         },
     },
@@ -66,6 +96,11 @@ pub const HINTS: [Hint; 31] = [
         },
     },
     Hint {
+        name: "look_alike",
+        applies: |scene| look_alike(scene).is_some(),
+        text: |scene| look_alike(scene).unwrap_or_default(),
+    },
+    Hint {
         name: "single_quotes",
         applies: |scene| needs_quotes(scene) && scene.byte == Some(b'\''),
         text: |scene| {
@@ -74,6 +109,11 @@ pub const HINTS: [Hint; 31] = [
                 title(scene.dialect())
             )
         },
+    },
+    Hint {
+        name: "comment",
+        applies: |scene| comment(scene).is_some(),
+        text: |scene| comment(scene).unwrap_or_default().into(),
     },
     Hint {
         name: "other_delimiter",
@@ -113,6 +153,16 @@ pub const HINTS: [Hint; 31] = [
         },
     },
     Hint {
+        name: "last_cell_missing",
+        applies: |scene| is_last_cell_missing(scene),
+        text: |scene| {
+            format!(
+                "the last cell is missing after the comma: {}",
+                empty_cell(scene)
+            )
+        },
+    },
+    Hint {
         name: "comma_at_line_end",
         applies: comma_at_line_end,
         text: |_| {
@@ -121,13 +171,16 @@ pub const HINTS: [Hint; 31] = [
         },
     },
     Hint {
+        name: "comma_too_many",
+        applies: |scene| is_at_comma(scene) && scene.cells_by_commas() > Some(columns(scene)),
+        text: |_| "with this comma the record has more cells than the header; leave it out".into(),
+    },
+    Hint {
         name: "empty_cell",
-        applies: |scene| needs_quotes(scene) && scene.byte == Some(b','),
-        text: |scene| match scene.dialect() {
-            Dialect::Tdif => {
-                "an empty cell is written `\"\"`, and one without a value `\\N`".into()
-            }
-            _ => "an empty cell is written `\"\"`, and one without a value `null`".into(),
+        applies: is_at_comma,
+        text: |scene| match scene.case.refusal.record {
+            1 => "an empty name is written `\"\"`; if none is meant, leave the comma out".into(),
+            _ => empty_cell(scene).into(),
         },
     },
     Hint {
@@ -195,13 +248,6 @@ pub const HINTS: [Hint; 31] = [
         },
     },
     Hint {
-        name: "comment",
-        applies: |scene| {
-            needs_quotes(scene) && scene.byte == Some(b'#') && scene.walk.cell_number() == 1
-        },
-        text: |_| "only TDIF has comments; leave the line out".into(),
-    },
-    Hint {
         name: "brackets",
         applies: |scene| needs_quotes(scene) && matches!(scene.byte, Some(b'[' | b'{')),
         text: |_| {
@@ -260,7 +306,10 @@ pub const HINTS: [Hint; 31] = [
     },
     Hint {
         name: "unclosed_quote",
-        applies: |scene| scene.opened().is_some(),
+        applies: |scene| {
+            let opened = scene.opened();
+            opened.is_some_and(|cell| cell.line < scene.place().line)
+        },
         text: |scene| {
             let cell = scene.walk.cell();
             format!(
@@ -389,44 +438,152 @@ fn follows(scene: &Scene, text: &str) -> bool {
         .starts_with(text.as_bytes())
 }
 
-/// The encoding, if the first bytes are a mark of UTF-16, or ASCII in it.
-fn utf_16(scene: &Scene) -> Option<&'static str> {
-    match *scene.case.text.head() {
-        [0xFF, 0xFE, ..] | [0xFE, 0xFF, ..] => Some("UTF-16"),
-        [1..=0x7F, 0, 1..=0x7F, 0, ..] => Some("UTF-16LE"),
-        [0, 1..=0x7F, 0, 1..=0x7F, ..] => Some("UTF-16BE"),
+/// Whether characters of UTF-8 beyond ASCII are in the record before the place, or half of one at it.
+fn is_after_utf_8(scene: &Scene) -> bool {
+    let start = scene.walk.record_start();
+    let record = scene.case.text.between(start, scene.marked().start);
+    !record.is_ascii() || scene.unfinished().len() > 1
+}
+
+/// How the cell or comment reads in Windows-1252, around the first byte that is no UTF-8, if it is nothing but that.
+fn in_windows_1252(scene: &Scene) -> Option<String> {
+    /// How many characters are shown on each side.
+    const SHOWN: usize = 20;
+    if scene.fault() != Fault::Encoding || is_after_utf_8(scene) {
+        return None;
+    }
+    let text: Vec<char> = windows_1252::decode(scene.around())?.chars().collect();
+    let is_break_or_tab = |character: &char| matches!(character, '\t' | '\r' | '\n');
+    let is_text = |character: &char| !character.is_control() || is_break_or_tab(character);
+    if !text.iter().all(is_text) {
+        return None;
+    }
+    let start = scene.walk.cell().offset;
+    let at = scene.case.text.between(start, scene.marked().start).len();
+    let (start, end) = (
+        at.saturating_sub(SHOWN),
+        text.len().min(at.saturating_add(SHOWN + 1)),
+    );
+    let shown: String = text[start..end].iter().collect();
+    let cut = |is_cut| if is_cut { "…" } else { "" };
+    let shown = printable(shown.trim_matches(['"', ' ', '\t', '\r', '\n']).as_bytes());
+    Some([cut(start > 0), &shown, cut(end < text.len())].concat())
+}
+
+/// What a character is that looks like another one, at the place or where it leaves a record with too many or too few cells.
+fn look_alike(scene: &Scene) -> Option<String> {
+    if scene.fault() == Fault::CellCount {
+        return look_alike_in_record(scene);
+    }
+    let one = look_alike_at_place(scene)?;
+    let is_in_value = matches!(scene.standing, Standing::CellStart | Standing::Bare);
+    let remedy = match (number_meant(scene), one.looks) {
+        (Some(number), _) => format!("; write `{number}`"),
+        (None, Looks::LikeSpace | Looks::LikeNothing) => "; leave it out".into(),
+        (None, Looks::LikeLineBreak) => "; write a line break (LF)".into(),
+        (None, Looks::Like(',')) => "; write `,` itself".into(),
+        // What is no number is text without quotes, whatever its characters look like.
+        (None, Looks::Like('0'..='9' | '+' | '-' | '.' | '\'')) if is_in_value => return None,
+        (None, Looks::Like(character)) if is_in_value => format!("; write `{character}` itself"),
+        (None, Looks::Like(_)) => String::new(),
+    };
+    Some(one.text() + &remedy)
+}
+
+/// The number of CSVJ as which the cell at the place is meant, if it is one but for look-alikes.
+fn number_meant(scene: &Scene) -> Option<String> {
+    /// The longest that is shown.
+    const SHOWN: usize = 40;
+    let is_in_value = matches!(scene.standing, Standing::CellStart | Standing::Bare);
+    if scene.dialect() != Dialect::Csvj || !is_in_value {
+        return None;
+    }
+    let number = as_number(from_utf8(scene.around()).ok()?);
+    let cells = cells_of(Dialect::Csvj, format!("{number}\n").as_bytes());
+    let is_number = cells.len() == 1 && cells[0].kind == Kind::Number;
+    Some(number).filter(|number| is_number && number.len() <= SHOWN)
+}
+
+/// The character that is refused, or the one between a comma and the quote of a CSV+ cell.
+fn look_alike_at_place(scene: &Scene) -> Option<&'static LookAlike> {
+    if scene.fault() != Fault::Syntax {
+        return None;
+    }
+    let is_before_quote = scene.dialect() == Dialect::CsvPlus
+        && scene.standing == Standing::Bare
+        && scene.byte == Some(b'"');
+    if is_before_quote {
+        let before = scene.before.trim_ascii();
+        return at_start(before).filter(|one| {
+            let is_blank = matches!(one.looks, Looks::LikeSpace | Looks::LikeNothing);
+            is_blank && one.character.len_utf8() == before.len()
+        });
+    }
+    at_start(scene.case.text.from(scene.character_start()))
+}
+
+/// In CSV+ commas and quotes that only look so are text: counted as such they explain the number of cells.
+fn look_alike_in_record(scene: &Scene) -> Option<String> {
+    if scene.dialect() != Dialect::CsvPlus {
+        return None;
+    }
+    let (cells, names) = (&scene.cells, &scene.case.names);
+    let commas = |texts: &[&[u8]]| -> Vec<&LookAlike> {
+        texts.iter().flat_map(|text| all(text, ',')).collect()
+    };
+    let texts = cells.iter().map(|cell| &scene.record[cell.range.clone()]);
+    let plain: Vec<&[u8]> = texts.filter(|text| !text.starts_with(b"\"")).collect();
+    let header: Vec<&[u8]> = names.iter().map(Vec::as_slice).collect();
+    let [in_record, in_header] = [commas(&plain), commas(&header)];
+    let explains = |commas: &[&LookAlike], fewer: usize, more: usize| {
+        !commas.is_empty() && fewer + commas.len() == more
+    };
+    if explains(&in_record, cells.len(), names.len()) {
+        return Some(in_record[0].text() + ", and divides no cells; write `,` itself");
+    }
+    if explains(&in_header, names.len(), cells.len()) {
+        let text = in_header[0].text();
+        return Some(text + ", and divides no cells of the header; write `,` itself");
+    }
+    let quote = plain.iter().find_map(|text| at_start(text));
+    let quote = quote.filter(|one| one.looks == Looks::Like('"') && cells.len() > names.len())?;
+    Some(quote.text() + ", and does not hold a cell with a comma together; write `\"` itself")
+}
+
+/// What a line means that begins with `#`, as a comment of TDIF does, in a dialect that has none.
+fn comment(scene: &Scene) -> Option<&'static str> {
+    match scene.dialect() {
+        Dialect::Csvj if needs_quotes(scene) && scene.byte == Some(b'#') => {
+            let is_first = scene.walk.cell_number() == 1;
+            is_first.then_some("CSVJ has no comments; leave this line out")
+        }
+        Dialect::CsvPlus if is_comment_line(scene) => Some(
+            "CSV+ has no comments: this line, which begins with `#`, is read as a record; leave it \
+            out if it is meant as a comment",
+        ),
+        Dialect::CsvPlus if is_comment_header(scene) => Some(
+            "CSV+ has no comments: the first line, which begins with `#`, is read as the header; \
+            leave it out if it is meant as a comment",
+        ),
         _ => None,
     }
 }
 
-/// The characters of Windows-1252 from 80 to 9F; a space stands where it has none.
-const WINDOWS_1252: &str = "€ ‚ƒ„…†‡ˆ‰Š‹Œ Ž  ‘’“”•–—˜™š›œ žŸ";
-
-/// The byte and its character in Windows-1252, if one byte above 7F is alone in a record of ASCII.
-fn latin_1(scene: &Scene) -> Option<(u8, char)> {
-    if scene.fault() != Fault::Encoding {
-        return None;
+/// Whether a record of CSV+ seems to be a comment. `#1` can be data, so that a fault inside of a cell is one of a comment only after `# `.
+fn is_comment_line(scene: &Scene) -> bool {
+    match scene.fault() {
+        Fault::CellCount => scene.record.starts_with(b"#"),
+        Fault::Syntax | Fault::RepeatedName => scene.record.starts_with(b"# "),
+        _ => false,
     }
-    let byte = match scene.unfinished() {
-        [] => scene.byte?,
-        [byte] => *byte,
-        _ => return None,
-    };
-    let record = scene
-        .case
-        .text
-        .between(scene.walk.record_start(), scene.marked().start);
-    let character = match byte {
-        0x80..=0x9F => WINDOWS_1252
-            .chars()
-            .nth(usize::from(byte - 0x80))
-            .filter(|&character| character != ' '),
-        0xA0.. => Some(char::from(byte)),
-        _ => None,
-    };
-    character
-        .filter(|_| record.is_ascii())
-        .map(|character| (byte, character))
+}
+
+/// Whether the header seems to be a comment: the first record below it has another number of cells. `#` alone is a usual name.
+fn is_comment_header(scene: &Scene) -> bool {
+    let name = scene.case.names.first();
+    scene.fault() == Fault::CellCount
+        && scene.case.refusal.record == 2
+        && name.is_some_and(|name| name.starts_with(b"#") && name.len() > 1)
 }
 
 fn other_delimiter(scene: &Scene) -> Option<&'static str> {
@@ -481,6 +638,32 @@ fn is_empty_line(scene: &Scene) -> bool {
 
 fn at_line_end(scene: &Scene) -> bool {
     scene.standing == Standing::CellStart && matches!(scene.byte, Some(b'\r' | b'\n'))
+}
+
+/// Whether a data record of CSVJ or TDIF ends in a comma, and has as many cells as the header with an empty one after it.
+fn is_last_cell_missing(scene: &Scene) -> bool {
+    let cells = scene.walk.cell_number();
+    needs_quotes(scene) && at_line_end(scene) && cells > 1 && cells == scene.case.names.len()
+}
+
+/// Whether a comma is where a cell of CSVJ or TDIF has to begin.
+fn is_at_comma(scene: &Scene) -> bool {
+    needs_quotes(scene) && scene.byte == Some(b',')
+}
+
+/// How many cells a record may have: as many as the header, once that is complete.
+fn columns(scene: &Scene) -> usize {
+    match scene.case.refusal.record {
+        1 => usize::MAX,
+        _ => scene.case.names.len(),
+    }
+}
+
+fn empty_cell(scene: &Scene) -> &'static str {
+    match scene.dialect() {
+        Dialect::Tdif => "an empty cell is written `\"\"`, and one without a value `\\N`",
+        _ => "an empty cell is written `\"\"`, and one without a value `null`",
+    }
 }
 
 fn comma_at_line_end(scene: &Scene) -> bool {

@@ -1,7 +1,6 @@
 //! Where a table comes from: a file, or standard input.
 
 use crate::failure::Failure;
-use crate::printable::printable;
 use crate::standard::{self, Stream};
 use hemakuliwi::raw::FILE_BYTES;
 use std::ffi::{OsStr, OsString};
@@ -26,9 +25,7 @@ impl Input {
             |path| path.as_bytes().to_vec(),
         );
         let file = match path {
-            Some(path) => {
-                File::open(path).map_err(|error| Failure::of(&printable(&name), &error))?
-            }
+            Some(path) => File::open(path).map_err(|error| Failure::of(&name, &error))?,
             None => standard::open(Stream::Input)?,
         };
         let is_regular = file.metadata().is_ok_and(|metadata| metadata.is_file());
@@ -48,9 +45,7 @@ impl Input {
         loop {
             match self.file.read(buffer) {
                 Err(error) if error.kind() == ErrorKind::Interrupted => {}
-                result => {
-                    return result.map_err(|error| Failure::of(&printable(&self.name), &error))
-                }
+                result => return result.map_err(|error| Failure::of(&self.name, &error)),
             }
         }
     }

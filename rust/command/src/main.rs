@@ -9,11 +9,13 @@ mod diagnosis;
 mod excerpt;
 mod explain;
 mod failure;
+mod foreign;
 mod help;
 mod hints;
 mod input;
 mod json;
 mod lines;
+mod look_alikes;
 mod nearest;
 mod output;
 mod paint;
@@ -23,10 +25,13 @@ mod report;
 mod scene;
 mod show;
 mod standard;
+mod system;
 mod trail;
 mod width;
+mod windows_1252;
 
 use std::env;
+use std::io::{self, Write};
 use std::process::ExitCode;
 
 fn main() -> ExitCode {
@@ -36,7 +41,9 @@ fn main() -> ExitCode {
             let command = misuse
                 .command
                 .map_or(String::new(), |command| format!(" {command}"));
-            eprintln!(
+            // Nothing can be done about an error there, and the status says enough.
+            let _ = writeln!(
+                io::stderr(),
                 "hemakuliwi: {}\n`hemakuliwi{command} --help` tells how it is used.",
                 misuse.message
             );

@@ -5,7 +5,6 @@
 //! way to name a file that has none; so a signal during this copy, of at most 16 MB, leaves that file, and never a broken target.
 
 use crate::failure::Failure;
-use crate::printable::printable;
 use crate::standard::{self, Stream};
 use std::ffi::OsStr;
 use std::fs::{self, File, Metadata, OpenOptions, Permissions};
@@ -16,7 +15,8 @@ use std::path::{Path, PathBuf};
 use std::process;
 
 pub struct Output {
-    name: String,
+    /// What it is called in reports.
+    name: Vec<u8>,
     file: File,
     /// What is to get the content of `file` at the end; none if `file` is the target itself.
     target: Option<Target>,
@@ -43,7 +43,7 @@ impl Output {
         let Some(path) = path.filter(|&path| path != "-") else {
             return Self::standard();
         };
-        let name = printable(path.as_bytes());
+        let name = path.as_bytes().to_vec();
         let opened = Self::opened(Path::new(path));
         let (file, target) = opened.map_err(|error| Failure::of(&name, &error))?;
         Ok(Self { name, file, target })

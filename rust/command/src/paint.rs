@@ -17,13 +17,16 @@ pub struct Paint {
     is_on: bool,
 }
 
+/// Whether a terminal is not known to obey escape sequences.
+pub fn is_dumb() -> bool {
+    env::var_os("TERM").is_none_or(|term| term.is_empty() || term == "dumb")
+}
+
 impl Paint {
-    /// By itself colour goes to terminals only, and not where NO_COLOR or a dumb terminal says that it is not wanted.
+    /// By itself colour is for terminals only, and not where NO_COLOR or a dumb terminal says that it is not wanted.
     pub fn new(when: When, output: &impl IsTerminal) -> Self {
-        let is_unwanted = || {
-            env::var_os("NO_COLOR").is_some_and(|value| !value.is_empty())
-                || env::var_os("TERM").is_some_and(|term| term == "dumb")
-        };
+        let is_unwanted =
+            || env::var_os("NO_COLOR").is_some_and(|value| !value.is_empty()) || is_dumb();
         let is_on = match when {
             When::Auto => output.is_terminal() && !is_unwanted(),
             When::Always => true,

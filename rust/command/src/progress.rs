@@ -1,5 +1,7 @@
-//! How far a long input is, on standard error where that is a terminal: nothing for the first half second, and nothing left at the end.
+//! How far a long input is, on standard error where that is a terminal that can erase a line: nothing for the first half second, and
+//! nothing left at the end.
 
+use crate::paint::is_dumb;
 use std::io::{self, IsTerminal, Write};
 use std::time::{Duration, Instant};
 
@@ -17,7 +19,7 @@ impl Progress {
     /// Where the input or the output itself is a terminal, it would stand in the midst of it, and nobody waits for it.
     pub fn new(is_wanted: bool) -> Self {
         let started = Instant::now();
-        let is_wanted = is_wanted && io::stderr().is_terminal();
+        let is_wanted = is_wanted && io::stderr().is_terminal() && !is_dumb();
         Self {
             started,
             next: is_wanted.then_some(started + QUIET),

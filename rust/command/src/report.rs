@@ -49,11 +49,11 @@ fn head(outcome: &str, file: &[u8], from: Dialect, to: Option<Dialect>) -> Objec
         .string_or_null("target", to.map(|to| to.name().as_bytes()))
 }
 
-/// What is told when reading or writing has failed, of a file if it is one of several.
-pub fn failure_json(file: Option<&[u8]>, message: &str) -> String {
+/// What is reported when reading or writing a file or stream has failed.
+pub fn failure_json(file: &[u8], message: &str) -> String {
     Object::new()
         .string("outcome", b"failed")
-        .string_or_null("file", file)
+        .string("file", file)
         .string("message", message.as_bytes())
         .line()
 }

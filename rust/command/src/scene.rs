@@ -106,7 +106,9 @@ impl<'a> Scene<'a> {
             return Standing::AfterCr;
         }
         let is_space = |byte: &u8| self.case.from == Dialect::Csvj && matches!(byte, b' ' | b'\t');
-        match self.before.iter().find(|byte| !is_space(byte)) {
+        let begun = self.case.refusal.offset - self.character_start();
+        let before = &self.before[..self.before.len().saturating_sub(begun)];
+        match before.iter().find(|byte| !is_space(byte)) {
             None => Standing::CellStart,
             Some(b'"') if !is_quoted => Standing::AfterQuote,
             // Of the bytes from 20 on, only those of an escape are a fault inside of a string.
@@ -145,10 +147,32 @@ impl<'a> Scene<'a> {
             .place(self.case.text.byte(start))
     }
 
+    /// The cell around the place, or the comment, from its first byte up to where it ends or as far as it was read.
+    pub fn around(&self) -> &'a [u8] {
+        let start = self.walk.cell().offset;
+        let offset = self.case.refusal.offset;
+        let mut walk = self.walk;
+        let rest = self.case.text.from(offset);
+        let length = rest.iter().position(|&byte| {
+            walk.step(byte);
+            walk.cell_number() > self.walk.cell_number() || walk.is_between_records()
+        });
+        self.case
+            .text
+            .between(start, offset + length.unwrap_or(rest.len()))
+    }
+
     /// Where the cell begins whose quote is still open at a place where it should not be.
     pub fn opened(&self) -> Option<Place> {
         let is_too_late = matches!(self.fault(), Fault::CutShort | Fault::Limit);
         Some(self.walk.cell()).filter(|_| is_too_late && self.standing == Standing::Quoted)
+    }
+
+    /// How many cells the record has by its commas, sound or not, if it was read up to its end.
+    pub fn cells_by_commas(&self) -> Option<usize> {
+        let mut walk = self.case.text.walk_to(self.walk.record_start());
+        walk.advance(self.record);
+        walk.is_between_records().then(|| walk.cell_number())
     }
 
     /// Whether the record is sound but for the line break after it.
@@ -203,6 +227,15 @@ impl<'a> Scene<'a> {
             .filter(|bytes| bytes.first() >= Some(&0xC2))
             .find(is_unfinished)
             .unwrap_or(&[])
+    }
+
+    /// Where the character at the place begins: before it where a CSVJ file begins with a character that begins as a mark does.
+    pub fn character_start(&self) -> usize {
+        let begun = match self.fault() {
+            Fault::Syntax => self.unfinished(),
+            _ => &[],
+        };
+        self.case.refusal.offset - begun.len()
     }
 
     /// Which of a fault's several reasons holds.

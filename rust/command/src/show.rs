@@ -110,7 +110,7 @@ fn row(record: &Record, widths: &[usize], paint: Paint) -> String {
     text.trim_end().to_string()
 }
 
-/// A cell with its mark. Text stands in quotes where it would look like another kind, like nothing, or like a shorter text.
+/// A cell with its mark. Text is in quotes where it would look like another kind, like nothing, or like a shorter or longer text.
 fn shown(cell: &Cell) -> Vec<Glyph> {
     let content = cell.content();
     let mark = match cell.kind() {
@@ -131,7 +131,11 @@ fn shown(cell: &Cell) -> Vec<Glyph> {
 
 fn needs_quotes(text: &[u8]) -> bool {
     let is_space = |byte: Option<&u8>| byte == Some(&b' ');
-    text.is_empty() || is_space(text.first()) || is_space(text.last()) || b"#!\"".contains(&text[0])
+    text.is_empty()
+        || is_space(text.first())
+        || is_space(text.last())
+        || text.ends_with(CUT.as_bytes())
+        || b"#!\"".contains(&text[0])
 }
 
 /// As many of the glyphs as fit, with the sign of a cut if not all do, and how wide that is.
@@ -192,6 +196,22 @@ mod tests {
         let file = "名,n\n駅前,1\ne\u{301}a,2\n\"a\tb\",3\n".as_bytes();
         let expected = "   名    n\n   ----  -\n2  駅前  1\n3  e\u{301}a    2\n4  a\\tb  3\n";
         assert_eq!(lines(Dialect::CsvPlus, file, 80), expected);
+    }
+
+    #[test]
+    fn different_texts_look_different() {
+        let file =
+            "path,n\nC:\\new,1\n\"C:\new\",2\n\"C:\\\new\",3\na b,4\na\u{A0}b,5\n".as_bytes();
+        let expected = "   path      n\n   --------  -\n2  C:\\\\new   1\n3  C:\\new    2\n4  C:\\\\\\new  3\n\
+            5  a b       4\n6  a\\u{A0}b  5\n";
+        assert_eq!(lines(Dialect::CsvPlus, file, 80), expected);
+    }
+
+    #[test]
+    fn a_text_that_ends_as_a_cut_one_does_is_in_quotes() {
+        let file = "a\nwait…\nwaiting for it\n".as_bytes();
+        let expected = "   a\n   -------\n2  \"wait…\"\n3  waitin…\n";
+        assert_eq!(lines(Dialect::CsvPlus, file, 10), expected);
     }
 
     #[test]

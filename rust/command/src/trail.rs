@@ -2,14 +2,13 @@
 //! length of the text.
 
 use crate::cells::Walk;
+use crate::foreign::HEAD;
 use crate::lines::MARK;
 use hemakuliwi::raw::RECORD_BYTES;
 use hemakuliwi::Dialect;
 
 /// A record with its ending, and as many bytes before it.
 const KEPT: usize = 2 * RECORD_BYTES + 16;
-/// The first bytes of a text, by which its encoding shows.
-const HEAD: usize = 16;
 
 pub struct Trail {
     dialect: Dialect,

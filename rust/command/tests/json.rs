@@ -95,6 +95,8 @@ fn each_outcome_has_its_fields() {
     );
     assert_eq!(names(failed), "outcome file message");
     assert_eq!(value(failed, "file"), Some("'no such file'"));
+    assert_eq!(names(alone), "outcome file message");
+    assert_eq!(value(alone, "file"), Some("'none'"));
     assert_eq!(
         value(alone, "message"),
         Some("'none: No such file or directory (os error 2)'")
@@ -124,6 +126,34 @@ fn each_outcome_has_its_fields() {
         value(failed, "message"),
         Some("'no such file: No such file or directory (os error 2)'")
     );
+}
+
+#[test]
+fn a_failure_names_the_file_or_the_stream() {
+    let convert = "\"$command\" convert --from csv+ --to csvj --json";
+    for (line, file) in [
+        (format!("{convert} none"), "'none'"),
+        (format!("{convert} -o none/below"), "'none/below'"),
+        (format!("{convert} >/dev/full"), "'standard output'"),
+        (format!("{convert} <&-"), "'standard input'"),
+        (
+            "\"$command\" show --in csv+ --json none".to_string(),
+            "'none'",
+        ),
+        (
+            "\"$command\" check --in csv+ --json - <&- >&2".to_string(),
+            "'standard input'",
+        ),
+    ] {
+        let failed = shell(&line, b"a\n");
+        assert_eq!(
+            (failed.status, failed.told.as_str()),
+            (Some(3), ""),
+            "{line}"
+        );
+        let objects = objects(&failed.said);
+        assert_eq!(value(&objects[0], "file"), Some(file), "{line}");
+    }
 }
 
 #[test]

@@ -51,6 +51,12 @@ fn made(name: &str) -> Vec<u8> {
             b"Airport,5.20\n".repeat(400),
         ]
         .concat(),
+        "fault_8_record_bytes_in_quotes_of_the_same_line" => [
+            b"stop,note\nHarbour,\"".to_vec(),
+            b"x".repeat(4_096),
+            b"\"\n".to_vec(),
+        ]
+        .concat(),
         "fault_9_record_text" => {
             [b"note\n".to_vec(), b"\x01".repeat(1_000), b"\n".to_vec()].concat()
         }

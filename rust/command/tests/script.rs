@@ -92,9 +92,13 @@ fn a_terminal_has_one_line_that_is_taken_away() {
     if !has("script") {
         return;
     }
-    let folder = small_repository("script_terminal", RT);
-    let line = format!("PATH='{0}/bin:'$PATH script --quiet --return --command '{0}/hemakuliwi --version' /dev/null", text(&folder));
-    let told = shell(&line, b"").told;
+    let on_terminal = |name: &str, term: &str| {
+        let folder = text(small_repository(name, RT));
+        let script =
+            format!("script --quiet --return --command '{folder}/hemakuliwi --version' /dev/null");
+        shell(&format!("{term}; PATH='{folder}/bin:'$PATH {script}"), b"").told
+    };
+    let told = on_terminal("script_terminal", "export TERM=xterm");
     assert!(
         told.contains("\r\x1b[Khemakuliwi: 3 of 3 crates are proved, "),
         "{told:?}"
@@ -104,6 +108,13 @@ fn a_terminal_has_one_line_that_is_taken_away() {
         end.starts_with("hemakuliwi: built in ") && end.contains("hemakuliwi 0."),
         "{end:?}"
     );
+    for term in ["export TERM=dumb", "unset TERM"] {
+        let told = on_terminal("script_dumb_terminal", term);
+        assert!(
+            told.contains("\nhemakuliwi: 3 of 3 crates are proved, ") && !told.contains('\x1b'),
+            "{term} {told:?}"
+        );
+    }
 }
 
 #[test]

@@ -6,8 +6,8 @@ use common::{folder, run, shell, text, Run};
 use std::fs;
 
 const CONVERT: &str = "\"$command\" convert --from csv+ --to csvj";
-const CLOSED_INPUT: &str = "hemakuliwi: standard input is closed (or /dev/null, open for reading and writing, which looks the same)\n";
-const CLOSED_OUTPUT: &str = "hemakuliwi: standard output is closed (or /dev/null, open for reading and writing, which looks the same)\n";
+const CLOSED_INPUT: &str = "hemakuliwi: standard input is closed\n";
+const CLOSED_OUTPUT: &str = "hemakuliwi: standard output is closed\n";
 
 #[test]
 fn a_closed_input_is_no_empty_file() {
@@ -21,15 +21,18 @@ fn a_closed_input_is_no_empty_file() {
             Run::new(3, "", CLOSED_INPUT),
             "{command}"
         );
-        let empty = shell(&format!("{command} </dev/null"), b"");
-        assert_eq!(empty.status, Some(1));
-        assert!(
-            empty
-                .said
-                .starts_with("standard input:1:1: refused (1, no_record)"),
-            "{}",
-            empty.said
-        );
+        // A shell opens it for reading, other programs open it both ways.
+        for null in ["</dev/null", "<>/dev/null"] {
+            let empty = shell(&format!("{command} {null}"), b"");
+            assert_eq!(empty.status, Some(1), "{null}");
+            assert!(
+                empty
+                    .said
+                    .starts_with("standard input:1:1: refused (1, no_record)"),
+                "{}",
+                empty.said
+            );
+        }
     }
 }
 
@@ -47,19 +50,30 @@ fn an_output_that_is_closed_is_no_success() {
             Run::new(3, "", CLOSED_OUTPUT),
             "{command}"
         );
-        assert_eq!(
-            shell(&format!("{command} >/dev/null"), b"a\nb\n"),
-            Run::new(0, "", ""),
-            "{command}"
-        );
+        for null in [">/dev/null", "1<>/dev/null"] {
+            assert_eq!(
+                shell(&format!("{command} {null}"), b"a\nb\n"),
+                Run::new(0, "", ""),
+                "{command} {null}"
+            );
+        }
     }
+}
+
+/// Python's DEVNULL and what is ignored in Node are /dev/null, open for reading and writing.
+#[test]
+fn a_program_may_ignore_the_output() {
+    let script = "import subprocess, sys
+run = subprocess.run([sys.argv[1], 'check', '--in', 'csv+'], input=b'a\\nb\\n', stdout=subprocess.DEVNULL)
+sys.exit(run.returncode)";
+    let ignored = shell(&format!("python3 -c \"{script}\" \"$command\""), b"");
+    assert_eq!(ignored, Run::new(0, "", ""));
 }
 
 #[test]
 fn a_quiet_check_needs_no_output() {
     let check = "\"$command\" check --quiet --in csv+";
-    // The third is /dev/null, open both ways, which would be taken for closed.
-    for redirection in ["", ">&-", "<>/dev/null >&0 <<<a", "--json >/dev/full"] {
+    for redirection in ["", ">&-", "--json >/dev/full"] {
         let told = shell(&format!("{check} {redirection}"), b"a\nb\n");
         assert_eq!(told, Run::new(0, "", ""), "{redirection}");
     }
@@ -102,11 +116,16 @@ fn a_reader_that_goes_away_is_not_complained_of() {
 }
 
 #[test]
-fn a_closed_standard_error_changes_no_status() {
-    assert_eq!(
-        shell(&format!("{CONVERT} 2>&-"), b"a\n\"b"),
-        Run::new(1, "\"a\"\n", "")
-    );
+fn a_standard_error_that_is_closed_or_full_changes_no_status() {
+    for error in ["2>&-", "2>/dev/full"] {
+        assert_eq!(
+            shell(&format!("{CONVERT} {error}"), b"a\n\"b"),
+            Run::new(1, "\"a\"\n", ""),
+            "{error}"
+        );
+        let wrong = shell(&format!("\"$command\" convrt {error}"), b"");
+        assert_eq!(wrong, Run::new(2, "", ""), "{error}");
+    }
 }
 
 #[test]

@@ -48,6 +48,8 @@ fn colour_is_for_terminals_and_for_who_asks() {
         check("--color never", ""),
         check("", "NO_COLOR=1"),
         check("", "TERM=dumb"),
+        check("", "TERM="),
+        check("", "unset TERM;"),
     ] {
         assert!(
             plain.contains("refused (3, syntax)") && !plain.contains(COLOUR),
@@ -56,6 +58,7 @@ fn colour_is_for_terminals_and_for_who_asks() {
     }
     assert!(check("", "NO_COLOR=").contains(COLOUR));
     assert!(check("--color=always", "NO_COLOR=1").contains(COLOUR));
+    assert!(check("--color=always", "TERM=dumb").contains(COLOUR));
     assert!(on_terminal("$command explain 3").starts_with("fault 3, syntax"));
 }
 
@@ -92,6 +95,10 @@ fn progress_is_shown_of_a_long_input_and_taken_away() {
         told.contains("18 B, ") && told.ends_with("\r\x1b[K"),
         "{told:?}"
     );
+    for dumb in ["TERM=dumb", "unset TERM;"] {
+        let told = on_terminal(&format!("{slow} {{ {dumb} {convert} >/dev/null; }}"));
+        assert_eq!(told, "", "{dumb}");
+    }
     let same = on_terminal(&format!("{slow} {convert}"));
     assert_eq!(
         same,
@@ -109,4 +116,41 @@ fn progress_is_shown_of_a_long_input_and_taken_away() {
         b"",
     );
     assert_eq!(elsewhere.said, "");
+}
+
+#[test]
+fn a_table_and_a_report_are_as_wide_as_the_terminal() {
+    if !has("script") {
+        return;
+    }
+    let folder = folder("width");
+    let [table, refused] = ["table.csv", "refused.csv"].map(|name| text(folder.join(name)));
+    let note = "x".repeat(200);
+    fs::write(&table, format!("stop,note\nHarbour,{note}\n")).expect("a file");
+    fs::write(&refused, format!("stop\nHarbour{note}\"\n")).expect("a file");
+    let widest = |told: &str| told.lines().map(|line| line.chars().count()).max();
+    let show = format!("$command show --color never --in csv+ {table}");
+    let check = format!("$command check --color never --in csv+ {refused}");
+    for (before, expected) in [
+        ("stty cols 40;", 40),
+        ("stty cols 132;", 132),
+        ("stty cols 0;", 80),
+        ("stty cols 40; COLUMNS=60", 60),
+        ("stty cols 40; COLUMNS=0", 40),
+        ("stty cols 40; COLUMNS=wide", 40),
+    ] {
+        let told = on_terminal(&format!("{before} {show}"));
+        assert_eq!(widest(&told), Some(expected), "{before} {told}");
+        let told = on_terminal(&format!("{before} {check}"));
+        let excerpt = told.lines().find(|line| line.contains("xxx"));
+        let width = excerpt.map_or(0, str::len);
+        assert!(
+            (expected - 8..=expected).contains(&width),
+            "{before} {told}"
+        );
+    }
+    let told = on_terminal(&format!("stty cols 40; {show} | cat"));
+    assert_eq!(widest(&told), Some(80));
+    let told = on_terminal(&format!("stty cols 40; {show} --width 30"));
+    assert_eq!(widest(&told), Some(30));
 }
