@@ -2,6 +2,8 @@ pub mod Leaving
 pub mod Telling
 pub mod Accepting
 pub mod Limits
+pub mod Carrying
+pub mod Deriving
 pub mod LedgerLaws
 pub mod Calls
 pub mod Theorems

@@ -8,6 +8,8 @@ use Rattle.demands.specs.Demands.{Demand1, Demand2, Demand3, Demands}
 use Rattle.demands.proofs.Leaving.{reader-leaves, decoder-leaves, converter-leaves, writer-leaves}
 use Rattle.demands.proofs.Telling.{reader-unknown, decoder-unknown, converter-unknown, writer-unknown, reader-tells, decoder-tells, converter-tells, writer-tells}
 use Rattle.demands.proofs.Accepting.{converted-exactly}
+use Rattle.demands.proofs.Carrying.{written-exactly, carried-comes-back}
+use Rattle.demands.proofs.Deriving.{as-derived}
 use Rattle.demands.proofs.Limits.{converted-limit, written-limit, converted-room}
 use Rattle.demands.proofs.Calls.{every-list, refused, joined, whole-text, end-call, fault-is-whole, fault-of-every-file, room, ten}
 
@@ -28,7 +30,10 @@ demand-1 =
 pub demand-2 : Demand2
 demand-2 =
     record {
+      written-exactly = written-exactly;
+      carried-comes-back = carried-comes-back;
       accepted-exactly = reader-exactly;
+      as-derived = as-derived;
       places = reader-places;
       decodes = trips .reader-decodes;
       converted-exactly = converted-exactly;

@@ -10,6 +10,7 @@ use mathlib.Core.List.{List, [], _∷_, _++_, map, zipWith}
 use lib.ListN.{length, take, drop}
 use Rattle.model.specs.declared.Report.{Report}
 use Rattle.model.specs.declared.Dialect.{Dialect}
+use Rattle.model.specs.declared.Kind.the-variants.{Text}
 use Rattle.model.specs.declared.Fault.{Fault}
 use Rattle.model.specs.declared.Target.{Target}
 use Rattle.model.specs.declared.CellCheck.{CellCheck}
@@ -17,20 +18,20 @@ use Rattle.model.specs.declared.CellCheck.the-variants.{WholeCell, Unsound}
 use Rattle.model.specs.Base.{Bytes, concat}
 use Rattle.model.specs.Dialect.{dialectOf, into}
 use Rattle.model.specs.Decode.{contentOf, validateCell}
-use Rattle.model.specs.Text.{Value, tableText}
-use Rattle.model.specs.Report.{report, accepted, refusal, numberOf, columnOf, MAXFILE}
-use Rattle.model.specs.Records.{Rec, rows, Read, Progress, going, stopped, readBytes, readFile, recordsOf, placeOf, faultReport}
-use Rattle.model.specs.Api.{ReadCall, reader, readCall, decoder, decoderLeaves, converter, converterLeaves, Table, rowsIn, rowsFault, writer, writerLeaves}
+use Rattle.model.specs.Text.{Value, recordText, tableText}
+use Rattle.model.specs.Report.{report, accepted, refusal, numberOf, columnOf, MAXFILE, MAXRECORD, MAXCOLUMNS}
+use Rattle.model.specs.Records.{nameKey, hasKind, losesSurrogate, Rec, rows, Read, Progress, going, stopped, readBytes, readFile, recordsOf, placeOf, faultReport}
+use Rattle.model.specs.Api.{Answer, ReadCall, reader, readCall, decoder, decoderLeaves, converter, converterLeaves, Table, rowsIn, rowsFault, writer, writerLeaves}
 use Rattle.model.specs.Targets.{Passes}
 use Rattle.model.specs.Laws.{All}
 use Rattle.model.specs.Ledger.{Call, piece, finish, Entry, roomOf, isFileFault, faultIn, endedIn, consumedIn, tooSmall, checked, history, ledger, callLeaves}
 use Rattle.model.specs.Demands.{seenIn}
-use Rattle.model.specs.Trips.{RoundTrip, SameText, ConvertedBack, ConvertedOnce, ReaderDecodes}
+use Rattle.model.specs.Trips.{hasCells, ReadsBack, RoundTrip, SameText, ConvertedBack, ConvertedOnce, ReaderDecodes}
 use Rattle.numbers.specs.Named.{textAnswer}
 use Rattle.numbers.specs.declared.TextAnswer.{TextAnswer}
 use Rattle.pieces.specs.Calling.{newConverter, Called}
 use Rattle.pieces.specs.declared.Converter.{Converter}
-use Rattle.rfc_grammar.specs.Derived.{Derived, Line}
+use Rattle.rfc_grammar.specs.Derived.{Derived, kindIn, contentIn, Line, cellsIn}
 use Rattle.file_grammar.specs.Derives.{Derives}
 use Rattle.grammar.specs.Accepted.{Acceptable, cellCount}
 use Rattle.file_grammar.specs.Stretches.{stretches, stretchOf}
@@ -99,12 +100,59 @@ pub record Demand1 : Type 0 where
 
 -- ---- demand 2
 
+-- no two names are the same, by the dialect's rule (§3.11 §4.10 §5.10)
+pub data DistinctNames (d : Dialect) : List Value → Type 0 where
+  no-names : DistinctNames d []
+  a-name :
+      {v : Value} {vs : List Value} → All (λ (w : Value). nameKey d (w .content) ≢ nameKey d (v .content)) vs → DistinctNames d vs →
+      DistinctNames d (v ∷ vs)
+
+-- a table that the dialect carries within the limits, by its cells, its names and its text, whatever the order of the checks (§2.5 §7.1 §7.2
+-- §7.3 §8.2 §8.3)
+pub record CarriedTable (t : Dialect) (h : List Value) (rs : List (List Value)) : Type 0 where
+  pub columns : length h ≤ MAXCOLUMNS
+  pub has-cells : hasCells t h ≡ true
+  pub texts : All (λ (v : Value). v .kind ≡ Text) h
+  pub names : DistinctNames t h
+  pub kinds : All (All (λ (v : Value). hasKind t (v .kind) ≡ true)) (h ∷ rs)
+  pub lossless : All (All (λ (v : Value). losesSurrogate t v ≡ false)) (h ∷ rs)
+  pub short-header : length (recordText (into t) true h) ≤ MAXRECORD
+  pub short-records : All (λ (r : List Value). length (recordText (into t) false r) ≤ MAXRECORD) rs
+  pub short-file : length (tableText (into t) (h ∷ rs)) ≤ MAXFILE
+
+-- the columns of a derivation: the cells of its header (§10.1)
+abbrev pub columnsIn : List (Line Derived) → ℕ
+columnsIn [] = 0
+columnsIn (l ∷ ls) = length (cellsIn l)
+
+-- an answer of the reader with the counts, kinds and contents that are derived (§10.1 §10.2)
+pub record AsDerived (ls : List (Line Derived)) (a : Answer) : Type 0 where
+  pub columns : a .columns ≡ columnsIn ls
+  pub records : suc (a .records) ≡ length ls
+  pub kinds : map (λ (v : Value). v .kind) (a .cells) ≡ map kindIn (concat (map cellsIn ls))
+  pub contents : map (λ (v : Value). v .content) (a .cells) ≡ map contentIn (concat (map cellsIn ls))
+
 pub record Demand2 : Type 0 where
+  -- the writer accepts exactly the tables that the dialect carries within the limits, if the text has room (§13.2 §13.11 §13.13)
+  pub written-exactly :
+      (n : ℕ) (t : Dialect) (table : Table) (room : ℕ) → dialectOf n ≡ some t →
+      (writer n table room .report ≡ accepted)
+      ↔ ((h : List Value) × (rs : List (List Value)) × (rowsIn table ≡ some (h ∷ rs)) × CarriedTable t h rs × (length (tableText (into t) (h ∷ rs)) ≤ room))
+  -- from the table's side: given room, each table that the dialect carries within the limits is written, and read back the same (§19.3)
+  pub carried-comes-back :
+      (n : ℕ) (t : Dialect) (table : Table) (h : List Value) (rs : List (List Value)) (room places : ℕ) → dialectOf n ≡ some t →
+      rowsIn table ≡ some (h ∷ rs) → CarriedTable t h rs → length (tableText (into t) (h ∷ rs)) ≤ room → length (concat (h ∷ rs)) ≤ places →
+      (writer n table room ≡ record { report = accepted; text = tableText (into t) (h ∷ rs) })
+      × ReadsBack n table (h ∷ rs) (tableText (into t) (h ∷ rs)) (reader n (tableText (into t) (h ∷ rs)) places)
   -- the reader accepts exactly what the grammar, the limits and the record checks accept, if the lists have room (§19.2)
   pub accepted-exactly :
       (n : ℕ) (d : Dialect) (file : Bytes) (room : ℕ) → dialectOf n ≡ some d →
       (reader n file room .report ≡ accepted) ↔ ((ls : List (Line Derived)) × Acceptable d file ls × (cellCount ls ≤ room))
-  -- and answers its cells, each where the grammar has it
+  -- and returns what the grammar derives: columns, data records, and of each cell its kind and content
+  pub as-derived :
+      (n : ℕ) (d : Dialect) (file : Bytes) (room : ℕ) (ls : List (Line Derived)) → dialectOf n ≡ some d → Acceptable d file ls → cellCount ls ≤ room →
+      AsDerived ls (reader n file room)
+  -- each where the grammar has it
   pub places :
       (n : ℕ) (d : Dialect) (file : Bytes) (room : ℕ) (ls : List (Line Derived)) (k : Derives d file ls) → dialectOf n ≡ some d →
       reader n file room .report ≡ accepted → map stretchOf (reader n file room .cells) ≡ concat (stretches d file ls k)
