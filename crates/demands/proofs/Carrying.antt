@@ -203,7 +203,7 @@ module _ (t : Dialect) where
 
 -- ---- the writer
 
-writes : (n : ℕ) (t : Dialect) (table : Table) (h : List Value) (rs : List (List Value)) (room : ℕ) → dialectOf n ≡ some t → rowsIn table ≡ some (h ∷ rs) → CarriedTable t h rs →
+pub writes : (n : ℕ) (t : Dialect) (table : Table) (h : List Value) (rs : List (List Value)) (room : ℕ) → dialectOf n ≡ some t → rowsIn table ≡ some (h ∷ rs) → CarriedTable t h rs →
     length (tableText (into t) (h ∷ rs)) ≤ room → writer n table room ≡ accepts (tableText (into t) (h ∷ rs))
 unfolding writer
 writes n t table h rs room e q c f =

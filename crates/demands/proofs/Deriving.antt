@@ -1,26 +1,25 @@
 -- Demand 2: the reader returns what the grammar derives. The records read show those of the derivation, cell by cell (`acceptable-read`
 -- of grammar), so their kinds and contents agree in file order; and a file that is accepted is answered with all its cells.
 -- Assumes nothing.
-use Prim.Native.Nat.{ℕ, suc, _≤_}
+use Prim.Native.Nat.{ℕ, _≤_}
 use native.Mathlib.Omega.{arith}
 use mathlib.Core.Path.{_≡_, refl, sym, ap, ap₂, _∙_}
 use mathlib.Core.Bool.{Bool, true, false}
-use mathlib.Core.Option.{some, none}
+use mathlib.Core.Option.{some}
 use mathlib.Core.List.{List, [], _∷_, _++_, map, map-append}
 use lib.Dec.{ltb}
 use lib.ListN.{length}
 use Rattle.model.specs.declared.Report.{Report}
 use Rattle.model.specs.declared.Dialect.{Dialect}
-use Rattle.model.specs.declared.Kind.{Kind}
 use Rattle.model.specs.Base.{Bytes, concat, if_then_else_}
 use Rattle.model.specs.Dialect.{dialectOf}
 use Rattle.model.specs.Text.{Value}
 use Rattle.model.specs.Report.{accepted}
-use Rattle.model.specs.Records.{Rec, rows, Read, going, readFile}
-use Rattle.model.specs.Api.{Answer, answered, readAnswer, reader}
+use Rattle.model.specs.Records.{Rec, rows}
+use Rattle.model.specs.Api.{answered, readAnswer, reader}
 use Rattle.model.proofs.RoundTrip.{reader-known}
 use Rattle.rfc_grammar.specs.Derived.{Derived, kindIn, contentIn, Line, cellsIn, Each, each-none, each-cons}
-use Rattle.grammar.specs.Accepted.{Acceptable, ChecksHold, checks-hold, cellCount, ShowsCell, ShowsRecord}
+use Rattle.grammar.specs.Accepted.{Acceptable, ChecksHold, cellCount, ShowsCell, ShowsRecord}
 use Rattle.grammar.proofs.Acceptance.{ReadAs, read-as, acceptable-read}
 use Rattle.grammar.proofs.Checks.{each-length}
 use Rattle.grammar.proofs.Theorems.{reader-exactly}

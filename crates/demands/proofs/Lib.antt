@@ -3,6 +3,8 @@ pub mod Telling
 pub mod Accepting
 pub mod Limits
 pub mod Carrying
+pub mod Alike
+pub mod Layouts
 pub mod Deriving
 pub mod LedgerLaws
 pub mod Calls

@@ -9,6 +9,7 @@ use Rattle.demands.proofs.Leaving.{reader-leaves, decoder-leaves, conve
 use Rattle.demands.proofs.Telling.{reader-unknown, decoder-unknown, converter-unknown, writer-unknown, reader-tells, decoder-tells, converter-tells, writer-tells}
 use Rattle.demands.proofs.Accepting.{converted-exactly}
 use Rattle.demands.proofs.Carrying.{written-exactly, carried-comes-back}
+use Rattle.demands.proofs.Layouts.{every-table, rows-come-back}
 use Rattle.demands.proofs.Deriving.{as-derived}
 use Rattle.demands.proofs.Limits.{converted-limit, written-limit, converted-room}
 use Rattle.demands.proofs.Calls.{every-list, refused, joined, whole-text, end-call, fault-is-whole, fault-of-every-file, room, ten}
@@ -30,14 +31,16 @@ demand-1 =
 pub demand-2 : Demand2
 demand-2 =
     record {
-      written-exactly = written-exactly;
-      carried-comes-back = carried-comes-back;
       accepted-exactly = reader-exactly;
       as-derived = as-derived;
       places = reader-places;
       decodes = trips .reader-decodes;
       converted-exactly = converted-exactly;
       first-fault = λ d target e r xs ys h. laws .reading d target .fault-stays e r xs ys h .1;
+      written-exactly = written-exactly;
+      carried-comes-back = carried-comes-back;
+      every-table = every-table;
+      rows-come-back = rows-come-back;
       round-trip = trips .round-trip;
       same-text = trips .same-text;
       converted-once = trips .converted-once;

@@ -21,12 +21,12 @@ use Rattle.model.specs.Decode.{contentOf, validateCell}
 use Rattle.model.specs.Text.{Value, recordText, tableText}
 use Rattle.model.specs.Report.{report, accepted, refusal, numberOf, columnOf, MAXFILE, MAXRECORD, MAXCOLUMNS}
 use Rattle.model.specs.Records.{nameKey, hasKind, losesSurrogate, Rec, rows, Read, Progress, going, stopped, readBytes, readFile, recordsOf, placeOf, faultReport}
-use Rattle.model.specs.Api.{Answer, ReadCall, reader, readCall, decoder, decoderLeaves, converter, converterLeaves, Table, rowsIn, rowsFault, writer, writerLeaves}
+use Rattle.model.specs.Api.{Answer, ReadCall, reader, readCall, decoder, decoderLeaves, converter, converterLeaves, Table, isValue, rowsIn, rowsFault, writer, writerLeaves}
 use Rattle.model.specs.Targets.{Passes}
 use Rattle.model.specs.Laws.{All}
 use Rattle.model.specs.Ledger.{Call, piece, finish, Entry, roomOf, isFileFault, faultIn, endedIn, consumedIn, tooSmall, checked, history, ledger, callLeaves}
 use Rattle.model.specs.Demands.{seenIn}
-use Rattle.model.specs.Trips.{hasCells, ReadsBack, RoundTrip, SameText, ConvertedBack, ConvertedOnce, ReaderDecodes}
+use Rattle.model.specs.Trips.{meaning, SameRows, hasCells, Decodes, ReadsBack, RoundTrip, SameText, ConvertedBack, ConvertedOnce, ReaderDecodes}
 use Rattle.numbers.specs.Named.{textAnswer}
 use Rattle.numbers.specs.declared.TextAnswer.{TextAnswer}
 use Rattle.pieces.specs.Calling.{newConverter, Called}
@@ -120,6 +120,25 @@ pub record CarriedTable (t : Dialect) (h : List Value) (rs : List (List Value)) 
   pub short-records : All (λ (r : List Value). length (recordText (into t) false r) ≤ MAXRECORD) rs
   pub short-file : length (tableText (into t) (h ∷ rs)) ≤ MAXFILE
 
+-- rows of values: a header and data rows of as many cells, and each cell's content has the form of its kind: a text of the content form, a
+-- number as JSON has it, nothing for true, false and null. Where a content lies is no part of it (§2.2 §2.6 §2.9 §13.5 §13.7 §13.8)
+pub record ValueRows (h : List Value) (rs : List (List Value)) : Type 0 where
+  pub contents : All (All (λ (v : Value). isValue (v .kind) (v .content) ≡ true)) (h ∷ rs)
+  pub counts : All (λ (r : List Value). length r ≡ length h) rs
+
+-- a table with these kinds and contents, row by row, wherever they lie in it (§13.1 §13.2)
+abbrev pub TableOf : List Value → List (List Value) → Table → Type 0
+TableOf h rs table = (qs : List (List Value)) × (rowsIn table ≡ some qs) × SameRows qs (h ∷ rs)
+
+-- a text that the reader accepts as these rows: the columns, the row count, each kind and content, and each span decodes to its cell (§10.1
+-- §10.2 §10.3 §19.3)
+pub record ReadAsRows (n : ℕ) (h : List Value) (rs : List (List Value)) (text : Bytes) (a : Answer) : Type 0 where
+  pub report : a .report ≡ accepted
+  pub columns : a .columns ≡ length h
+  pub records : a .records ≡ length rs
+  pub cells : map meaning (a .cells) ≡ map meaning (concat (h ∷ rs))
+  pub decoded : All (Decodes n text) (a .cells)
+
 -- the columns of a derivation: the cells of its header (§10.1)
 abbrev pub columnsIn : List (Line Derived) → ℕ
 columnsIn [] = 0
@@ -133,17 +152,6 @@ pub record AsDerived (ls : List (Line Derived)) (a : Answer) : Type 0 where
   pub contents : map (λ (v : Value). v .content) (a .cells) ≡ map contentIn (concat (map cellsIn ls))
 
 pub record Demand2 : Type 0 where
-  -- the writer accepts exactly the tables that the dialect carries within the limits, if the text has room (§13.2 §13.11 §13.13)
-  pub written-exactly :
-      (n : ℕ) (t : Dialect) (table : Table) (room : ℕ) → dialectOf n ≡ some t →
-      (writer n table room .report ≡ accepted)
-      ↔ ((h : List Value) × (rs : List (List Value)) × (rowsIn table ≡ some (h ∷ rs)) × CarriedTable t h rs × (length (tableText (into t) (h ∷ rs)) ≤ room))
-  -- from the table's side: given room, each table that the dialect carries within the limits is written, and read back the same (§19.3)
-  pub carried-comes-back :
-      (n : ℕ) (t : Dialect) (table : Table) (h : List Value) (rs : List (List Value)) (room places : ℕ) → dialectOf n ≡ some t →
-      rowsIn table ≡ some (h ∷ rs) → CarriedTable t h rs → length (tableText (into t) (h ∷ rs)) ≤ room → length (concat (h ∷ rs)) ≤ places →
-      (writer n table room ≡ record { report = accepted; text = tableText (into t) (h ∷ rs) })
-      × ReadsBack n table (h ∷ rs) (tableText (into t) (h ∷ rs)) (reader n (tableText (into t) (h ∷ rs)) places)
   -- the reader accepts exactly what the grammar, the limits and the record checks accept, if the lists have room (§19.2)
   pub accepted-exactly :
       (n : ℕ) (d : Dialect) (file : Bytes) (room : ℕ) → dialectOf n ≡ some d →
@@ -167,6 +175,27 @@ pub record Demand2 : Type 0 where
   pub first-fault :
       (d : Dialect) (target : Option Target) (e : Fault) (r : Read) (xs ys : Bytes) → readBytes d target xs ≡ stopped e r →
       readFile d target (xs ++ ys) ≡ stopped e r
+  -- the writer accepts exactly the tables that the dialect carries within the limits, if the text has room (§13.2 §13.11 §13.13)
+  pub written-exactly :
+      (n : ℕ) (t : Dialect) (table : Table) (room : ℕ) → dialectOf n ≡ some t →
+      (writer n table room .report ≡ accepted)
+      ↔ ((h : List Value) × (rs : List (List Value)) × (rowsIn table ≡ some (h ∷ rs)) × CarriedTable t h rs × (length (tableText (into t) (h ∷ rs)) ≤ room))
+  -- from the table's side: given room, each table that the dialect carries within the limits is written, and read back the same (§19.3)
+  pub carried-comes-back :
+      (n : ℕ) (t : Dialect) (table : Table) (h : List Value) (rs : List (List Value)) (room places : ℕ) → dialectOf n ≡ some t →
+      rowsIn table ≡ some (h ∷ rs) → CarriedTable t h rs → length (tableText (into t) (h ∷ rs)) ≤ room → length (concat (h ∷ rs)) ≤ places →
+      (writer n table room ≡ record { report = accepted; text = tableText (into t) (h ∷ rs) })
+      × ReadsBack n table (h ∷ rs) (tableText (into t) (h ∷ rs)) (reader n (tableText (into t) (h ∷ rs)) places)
+  -- every rows of values are those of some table, however a table's lists are laid out, and a table has no other rows (§13.1 §13.2)
+  pub every-table : (h : List Value) (rs : List (List Value)) → ValueRows h rs ↔ ((table : Table) × TableOf h rs table)
+  -- so any rows of values that the dialect carries within the limits have a table; each table of them is written as the same text; and the
+  -- text is read back as these rows (§19.3)
+  pub rows-come-back :
+      (n : ℕ) (t : Dialect) (h : List Value) (rs : List (List Value)) (room places : ℕ) → dialectOf n ≡ some t → ValueRows h rs → CarriedTable t h rs →
+      length (tableText (into t) (h ∷ rs)) ≤ room → length (concat (h ∷ rs)) ≤ places →
+      ((table : Table) × TableOf h rs table)
+      × ((table : Table) → TableOf h rs table → writer n table room ≡ record { report = accepted; text = tableText (into t) (h ∷ rs) })
+      × ReadAsRows n h rs (tableText (into t) (h ∷ rs)) (reader n (tableText (into t) (h ∷ rs)) places)
   -- written and read back: the same columns, row count, kinds and contents (§19.3)
   pub round-trip : RoundTrip
   -- canonical text is canonical, and what was converted is read in the target as the file is in its source
