@@ -64,7 +64,7 @@ module _ (t : Dialect) where
   texts-sound n all-none = refl
   texts-sound n (all-cons {x} k ks) = let q : not (isText (x .kind)) ≡ false = rw k in both-sound (not-when (HeaderKind n) q) (texts-sound (suc n) ks)
 
-  header-sound : (h : List Value) → length h ≤ MAXCOLUMNS → All (λ (v : Value). v .kind ≡ Text) h → DistinctNames t h → headerFault t h ≡ Sound
+  pub header-sound : (h : List Value) → length h ≤ MAXCOLUMNS → All (λ (v : Value). v .kind ≡ Text) h → DistinctNames t h → headerFault t h ≡ Sound
   unfolding headerFault repeatFault
   header-sound h c x m = both-sound (not-when TooManyColumns (le-ltb MAXCOLUMNS (length h) c)) (both-sound (texts-sound 1 x) (names-sound RepeatedName [] 1 (unseen-none h) m))
 
@@ -100,7 +100,7 @@ module _ (t : Dialect) where
       let free : targetFault (into t) false (length (tableText (into t) (h ∷ done))) r ≡ Sound = fault-free false (length (tableText (into t) (h ∷ done))) r refl (kinds-sound 1 a b) refl c fits in
       rw free (rows-sound h (done ++ (r ∷ [])) rs u v w rest)
 
-  no-fault : (h : List Value) (rs : List (List Value)) → CarriedTable t h rs → rowsFault (into t) (h ∷ rs) ≡ none
+  pub no-fault : (h : List Value) (rs : List (List Value)) → CarriedTable t h rs → rowsFault (into t) (h ∷ rs) ≡ none
   unfolding rowsFault rowsFrom tableText dataText repeatFault
   no-fault h rs c = go (c .kinds) (c .lossless)
     where
@@ -135,7 +135,7 @@ module _ (t : Dialect) where
   unseen-cons y seen (all-cons {x} p k) =
       let q = among-cons (keyOf t x) y seen p in let m = unseen-cons y seen k in (all-cons (q .0) (m .0), all-cons (q .1) (m .1))
 
-  names-of : (fault : ℕ → Fault) (seen : List Bytes) (n : ℕ) (vs : List Value) → repeatFrom t fault seen n vs ≡ Sound → Unseen t seen vs × DistinctNames t vs
+  pub names-of : (fault : ℕ → Fault) (seen : List Bytes) (n : ℕ) (vs : List Value) → repeatFrom t fault seen n vs ≡ Sound → Unseen t seen vs × DistinctNames t vs
   unfolding repeatFrom if_then_else_
   names-of fault seen n [] e = (all-none, no-names)
   names-of fault seen n (v ∷ vs) e = go (among (keyOf t v) seen) refl (λ q. names-of fault (keyOf t v ∷ seen) (suc n) vs q)
@@ -174,7 +174,7 @@ module _ (t : Dialect) where
       let f = m .fits in
       record { kinds = all-cons (c .0) (m .kinds); lossless = all-cons (c .1) (m .lossless); short = all-cons (b .short) (m .short); fits = omega arith }
 
-  carried-of : (h : List Value) (rs : List (List Value)) → rowsFault (into t) (h ∷ rs) ≡ none → CarriedTable t h rs
+  pub carried-of : (h : List Value) (rs : List (List Value)) → rowsFault (into t) (h ∷ rs) ≡ none → CarriedTable t h rs
   unfolding rowsFault rowsFrom tableText dataText headerFault repeatFault
   carried-of h rs e =
       let text : Bytes = recordText (into t) true h in

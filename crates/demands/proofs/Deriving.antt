@@ -42,7 +42,7 @@ ten p q = let z : _≡_ {A = ℕ} 10 0 = sym p ∙ ap (λ (x : Report). x .numbe
 header-columns : {file : Bytes} {h : Rec} {rs : List Rec} {ls : List (Line Derived)} → Each (ShowsRecord file) (h ∷ rs) ls → length (h .cells) ≡ columnsIn ls
 header-columns (each-cons s k) = each-length (s .cells)
 
-no-records : {A : Type 0} {d : Dialect} → ChecksHold d [] → A
+pub no-records : {A : Type 0} {d : Dialect} → ChecksHold d [] → A
 no-records = elim [ ]
 
 none-read : {A : Type 0} {file : Bytes} {d : Dialect} {ls : List (Line Derived)} → Each (ShowsRecord file) [] ls → ChecksHold d ls → A

@@ -7,7 +7,7 @@ use Rattle.pieces.proofs.Carrying.{new-carries}
 use Rattle.demands.specs.Demands.{Demand1, Demand2, Demand3, Demands}
 use Rattle.demands.proofs.Leaving.{reader-leaves, decoder-leaves, converter-leaves, writer-leaves}
 use Rattle.demands.proofs.Telling.{reader-unknown, decoder-unknown, converter-unknown, writer-unknown, reader-tells, decoder-tells, converter-tells, writer-tells}
-use Rattle.demands.proofs.Accepting.{converted-exactly}
+use Rattle.demands.proofs.Accepting.{converted-exactly, converted-text}
 use Rattle.demands.proofs.Carrying.{written-exactly, carried-comes-back}
 use Rattle.demands.proofs.Layouts.{every-table, rows-come-back}
 use Rattle.demands.proofs.Deriving.{as-derived}
@@ -36,6 +36,7 @@ demand-2 =
       places = reader-places;
       decodes = trips .reader-decodes;
       converted-exactly = converted-exactly;
+      converted-text = converted-text;
       first-fault = λ d target e r xs ys h. laws .reading d target .fault-stays e r xs ys h .1;
       written-exactly = written-exactly;
       carried-comes-back = carried-comes-back;

@@ -22,7 +22,6 @@ use Rattle.model.specs.Text.{Value, recordText, tableText}
 use Rattle.model.specs.Report.{report, accepted, refusal, numberOf, columnOf, MAXFILE, MAXRECORD, MAXCOLUMNS}
 use Rattle.model.specs.Records.{nameKey, hasKind, losesSurrogate, Rec, rows, Read, Progress, going, stopped, readBytes, readFile, recordsOf, placeOf, faultReport}
 use Rattle.model.specs.Api.{Answer, ReadCall, reader, readCall, decoder, decoderLeaves, converter, converterLeaves, Table, isValue, rowsIn, rowsFault, writer, writerLeaves}
-use Rattle.model.specs.Targets.{Passes}
 use Rattle.model.specs.Laws.{All}
 use Rattle.model.specs.Ledger.{Call, piece, finish, Entry, roomOf, isFileFault, faultIn, endedIn, consumedIn, tooSmall, checked, history, ledger, callLeaves}
 use Rattle.model.specs.Demands.{seenIn}
@@ -144,6 +143,14 @@ abbrev pub columnsIn : List (Line Derived) → ℕ
 columnsIn [] = 0
 columnsIn (l ∷ ls) = length (cellsIn l)
 
+-- a derived cell as a value, of its kind and content; where it lies is no matter (§2.3)
+abbrev pub valueIn : Derived → Value
+valueIn c = record { from = 0; upto = 0; kind = kindIn c; content = contentIn c }
+
+-- the row of a derived record (§2.2)
+abbrev pub rowIn : Line Derived → List Value
+rowIn l = map valueIn (cellsIn l)
+
 -- an answer of the reader with the counts, kinds and contents that are derived (§10.1 §10.2)
 pub record AsDerived (ls : List (Line Derived)) (a : Answer) : Type 0 where
   pub columns : a .columns ≡ columnsIn ls
@@ -166,11 +173,17 @@ pub record Demand2 : Type 0 where
       reader n file room .report ≡ accepted → map stretchOf (reader n file room .cells) ≡ concat (stretches d file ls k)
   -- each decodes from there to its kind and content
   pub decodes : ReaderDecodes
-  -- the converter accepts exactly what the reader accepts and the target carries, if its text has room
+  -- the converter accepts exactly the files that are acceptable in the source and whose rows the target carries within the limits, if the
+  -- text has room (§8.1 §12.1 §12.2 §12.3)
   pub converted-exactly :
       (m n : ℕ) (d t : Dialect) (file : Bytes) (room : ℕ) → dialectOf m ≡ some d → dialectOf n ≡ some t →
       (converter m n file room .report ≡ accepted)
-      ↔ ((r : Read) × (readFile d none file ≡ going r) × Passes (into t) [] (r .done) × (length (tableText (into t) (rows (r .done))) ≤ room))
+      ↔ ((l : Line Derived) × (ls : List (Line Derived)) × Acceptable d file (l ∷ ls) × CarriedTable t (rowIn l) (map rowIn ls)
+      × (length (tableText (into t) (map rowIn (l ∷ ls))) ≤ room))
+  -- and writes these rows
+  pub converted-text :
+      (m n : ℕ) (d t : Dialect) (file : Bytes) (room : ℕ) (ls : List (Line Derived)) → dialectOf m ≡ some d → dialectOf n ≡ some t →
+      Acceptable d file ls → converter m n file room .report ≡ accepted → converter m n file room .text ≡ tableText (into t) (map rowIn ls)
   -- a fault met in the first bytes of a file is the file's: no later one is reported in its place
   pub first-fault :
       (d : Dialect) (target : Option Target) (e : Fault) (r : Read) (xs ys : Bytes) → readBytes d target xs ≡ stopped e r →
@@ -186,10 +199,11 @@ pub record Demand2 : Type 0 where
       rowsIn table ≡ some (h ∷ rs) → CarriedTable t h rs → length (tableText (into t) (h ∷ rs)) ≤ room → length (concat (h ∷ rs)) ≤ places →
       (writer n table room ≡ record { report = accepted; text = tableText (into t) (h ∷ rs) })
       × ReadsBack n table (h ∷ rs) (tableText (into t) (h ∷ rs)) (reader n (tableText (into t) (h ∷ rs)) places)
-  -- every rows of values are those of some table, however a table's lists are laid out, and a table has no other rows (§13.1 §13.2)
+  -- any rows of values, and no others, are those of a table, up to where the contents lie: nothing hides in how its lists are laid out (§13.1
+  -- §13.2)
   pub every-table : (h : List Value) (rs : List (List Value)) → ValueRows h rs ↔ ((table : Table) × TableOf h rs table)
-  -- so any rows of values that the dialect carries within the limits have a table; each table of them is written as the same text; and the
-  -- text is read back as these rows (§19.3)
+  -- so rows of values that the dialect carries within the limits have a table; each table of them is written, as the same text; and the text
+  -- is read back as these rows (§19.3)
   pub rows-come-back :
       (n : ℕ) (t : Dialect) (h : List Value) (rs : List (List Value)) (room places : ℕ) → dialectOf n ≡ some t → ValueRows h rs → CarriedTable t h rs →
       length (tableText (into t) (h ∷ rs)) ≤ room → length (concat (h ∷ rs)) ≤ places →
