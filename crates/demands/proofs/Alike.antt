@@ -2,13 +2,11 @@
 -- row by row. Their texts are equal by model's laws of meanings.
 -- Assumes nothing.
 use mathlib.Core.Path.{_≡_, sym, _∙_}
-use mathlib.Core.Logic.{_≢_}
 use mathlib.Core.Bool.{true, false}
 use mathlib.Core.List.{List}
 use Rattle.model.specs.declared.Dialect.{Dialect}
 use Rattle.model.specs.Dialect.{into}
 use Rattle.model.specs.Text.{Value}
-use Rattle.model.specs.Records.{nameKey}
 use Rattle.model.specs.Laws.{All, all-none, all-cons}
 use Rattle.model.specs.Trips.{Same, SameCells, no-cells, and-cell, SameRows, no-rows, and-row, hasCells}
 use Rattle.model.proofs.Meanings.{same-length, record-same, table-same}
@@ -50,10 +48,7 @@ values-alike s m x =
 module _ (t : Dialect) where
   names-alike : {vs ws : List Value} → SameCells vs ws → DistinctNames t vs → DistinctNames t ws
   names-alike no-cells no-names = no-names
-  names-alike (and-cell {v} {w} s k) (a-name n m) = a-name (all-cells differs k n) (names-alike k m)
-    where
-      differs : (x y : Value) → Same x y → nameKey t (x .content) ≢ nameKey t (v .content) → nameKey t (y .content) ≢ nameKey t (w .content)
-      differs x y e p = rw (← (e .content), ← (s .content)) p
+  names-alike (and-cell {w} s k) (a-name n m) = a-name {v = w} (all-cells (λ x y e p. rw (← (e .content), ← (s .content)) p) k n) (names-alike k m)
 
   has-cells-alike : {vs ws : List Value} → SameCells vs ws → hasCells t vs ≡ true → hasCells t ws ≡ true
   has-cells-alike no-cells p = p

@@ -2,14 +2,12 @@
 -- of grammar), so their kinds and contents agree in file order; and a file that is accepted is answered with all its cells.
 -- Assumes nothing.
 use Prim.Native.Nat.{ℕ, _≤_}
-use native.Mathlib.Omega.{arith}
 use mathlib.Core.Path.{_≡_, refl, sym, ap, ap₂, _∙_}
 use mathlib.Core.Bool.{Bool, true, false}
 use mathlib.Core.Option.{some}
 use mathlib.Core.List.{List, [], _∷_, _++_, map, map-append}
 use lib.Dec.{ltb}
 use lib.ListN.{length}
-use Rattle.model.specs.declared.Report.{Report}
 use Rattle.model.specs.declared.Dialect.{Dialect}
 use Rattle.model.specs.Base.{Bytes, concat, if_then_else_}
 use Rattle.model.specs.Dialect.{dialectOf}
@@ -20,7 +18,7 @@ use Rattle.model.specs.Api.{answered, readAnswer, reader}
 use Rattle.model.proofs.RoundTrip.{reader-known}
 use Rattle.rfc_grammar.specs.Derived.{Derived, kindIn, contentIn, Line, cellsIn, Each, each-none, each-cons}
 use Rattle.grammar.specs.Accepted.{Acceptable, ChecksHold, cellCount, ShowsCell, ShowsRecord}
-use Rattle.grammar.proofs.Acceptance.{ReadAs, read-as, acceptable-read}
+use Rattle.grammar.proofs.Acceptance.{ten, ReadAs, read-as, acceptable-read}
 use Rattle.grammar.proofs.Checks.{each-length}
 use Rattle.grammar.proofs.Theorems.{reader-exactly}
 use Rattle.demands.specs.Demands.{columnsIn, AsDerived}
@@ -35,9 +33,6 @@ module _ {A : Type 0} {file : Bytes} (f : Value → A) (g : Derived → A) (agre
   records-agree each-none = refl
   records-agree (each-cons {x = r} {xs = rs} {y = l} {ys = ls} s k) =
       map-append f (r .cells) (concat (rows rs)) ∙ ap₂ (λ (x y : List A). x ++ y) (cells-agree (s .cells)) (records-agree k) ∙ sym (map-append g (cellsIn l) (concat (map cellsIn ls)))
-
-ten : {A : Type 0} {e : Report} → e .number ≡ 10 → e ≡ accepted → A
-ten p q = let z : _≡_ {A = ℕ} 10 0 = sym p ∙ ap (λ (x : Report). x .number) q in absurd (omega arith)
 
 header-columns : {file : Bytes} {h : Rec} {rs : List Rec} {ls : List (Line Derived)} → Each (ShowsRecord file) (h ∷ rs) ls → length (h .cells) ≡ columnsIn ls
 header-columns (each-cons s k) = each-length (s .cells)
@@ -62,7 +57,7 @@ as-derived n d file room ls e a k = by-reading (acceptable-read d file ls a)
     by-records (h ∷ rs) shows q = go (ltb room (length (concat (rows (h ∷ rs))))) refl
       where
         go : (b : Bool) → ltb room (length (concat (rows (h ∷ rs)))) ≡ b → AsDerived ls (answered (h ∷ rs) (concat (rows (h ∷ rs))) room)
-        go true p = ten refl (rw p at q)
+        go true p = ten (rw p at q)
         go false p =
             rw p
             (record {

@@ -6,6 +6,7 @@ pub mod Carrying
 pub mod Alike
 pub mod Layouts
 pub mod Deriving
+pub mod Filling
 pub mod LedgerLaws
 pub mod Calls
 pub mod Theorems

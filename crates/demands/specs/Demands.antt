@@ -17,11 +17,11 @@ use Rattle.model.specs.declared.CellCheck.{CellCheck}
 use Rattle.model.specs.declared.CellCheck.the-variants.{WholeCell, Unsound}
 use Rattle.model.specs.Base.{Bytes, concat}
 use Rattle.model.specs.Dialect.{dialectOf, into}
-use Rattle.model.specs.Decode.{contentOf, validateCell}
+use Rattle.model.specs.Decode.{kindNumber, contentOf, validateCell}
 use Rattle.model.specs.Text.{Value, recordText, tableText}
 use Rattle.model.specs.Report.{report, accepted, refusal, numberOf, columnOf, MAXFILE, MAXRECORD, MAXCOLUMNS}
-use Rattle.model.specs.Records.{nameKey, hasKind, losesSurrogate, Rec, rows, Read, Progress, going, stopped, readBytes, readFile, recordsOf, placeOf, faultReport}
-use Rattle.model.specs.Api.{Answer, ReadCall, reader, readCall, decoder, decoderLeaves, converter, converterLeaves, Table, isValue, rowsIn, rowsFault, writer, writerLeaves}
+use Rattle.model.specs.Records.{nameKey, hasKind, losesSurrogate, Rec, rows, Read, Progress, going, stopped, fileFull, recordFull, readBytes, readFile, recordsOf, placeOf, faultReport}
+use Rattle.model.specs.Api.{Answer, ReadCall, reader, readCall, decoder, decoderLeaves, converter, converterLeaves, Table, isValue, slice, rowsIn, rowsFault, writer, writerLeaves}
 use Rattle.model.specs.Laws.{All}
 use Rattle.model.specs.Ledger.{Call, piece, finish, Entry, roomOf, isFileFault, faultIn, endedIn, consumedIn, tooSmall, checked, history, ledger, callLeaves}
 use Rattle.model.specs.Demands.{seenIn}
@@ -30,10 +30,11 @@ use Rattle.numbers.specs.Named.{textAnswer}
 use Rattle.numbers.specs.declared.TextAnswer.{TextAnswer}
 use Rattle.pieces.specs.Calling.{newConverter, Called}
 use Rattle.pieces.specs.declared.Converter.{Converter}
-use Rattle.rfc_grammar.specs.Derived.{Derived, kindIn, contentIn, Line, cellsIn}
+use Rattle.rfc_grammar.specs.Derived.{Derived, kindIn, contentIn, Line, cellsIn, Each}
 use Rattle.file_grammar.specs.Derives.{Derives}
+use Rattle.file_grammar.specs.Stretches.{Stretch, stretches, stretchOf}
 use Rattle.grammar.specs.Accepted.{Acceptable, cellCount}
-use Rattle.file_grammar.specs.Stretches.{stretches, stretchOf}
+use Rattle.grammar.specs.NextByte.{NextByte}
 
 -- ---- demand 1
 
@@ -158,12 +159,44 @@ pub record AsDerived (ls : List (Line Derived)) (a : Answer) : Type 0 where
   pub kinds : map (λ (v : Value). v .kind) (a .cells) ≡ map kindIn (concat (map cellsIn ls))
   pub contents : map (λ (v : Value). v .content) (a .cells) ≡ map contentIn (concat (map cellsIn ls))
 
+-- each of the three lists has a place for every cell (§10.5)
+pub record HasPlaces (cells : ℕ) (starts ends kinds : List ℕ) : Type 0 where
+  pub for-starts : cells ≤ length starts
+  pub for-ends : cells ≤ length ends
+  pub for-kinds : cells ≤ length kinds
+
+-- a call of the reader with the counts that are derived, and lists that begin with the starts, the ends and the kinds of the derived cells, in
+-- file order (§2.3 §10.1 §10.2 §10.3)
+pub record FilledAsDerived (d : Dialect) (file : Bytes) (ls : List (Line Derived)) (k : Derives d file ls) (c : ReadCall) : Type 0 where
+  pub columns : c .columns ≡ columnsIn ls
+  pub records : suc (c .records) ≡ length ls
+  pub cells : c .cells ≡ cellCount ls
+  pub starts : take (c .cells) (c .starts) ≡ map (λ (s : Stretch). s .from) (concat (stretches d file ls k))
+  pub ends : take (c .cells) (c .ends) ≡ map (λ (s : Stretch). s .upto) (concat (stretches d file ls k))
+  pub kinds : take (c .cells) (c .kinds) ≡ map (λ (x : Derived). kindNumber (kindIn x)) (concat (map cellsIn ls))
+
+-- the decoder makes of a span of the file the kind and the content of a derived cell (§10.3 §11.1)
+abbrev pub DecodesTo : (dialect : ℕ) → (file : Bytes) → Stretch → Derived → Type 0
+DecodesTo n file s c =
+    decoder n (slice file (s .from) (s .upto)) (length (contentIn c))
+    ≡ record { report = accepted; kind = kindNumber (kindIn c); content = contentIn c }
+
 pub record Demand2 : Type 0 where
-  -- the reader accepts exactly what the grammar, the limits and the record checks accept, if the lists have room (§19.2)
+  -- a call of the reader accepts exactly what the grammar, the limits and the record checks accept, if each of the three lists has a place
+  -- for every cell (§10.5 §19.2)
   pub accepted-exactly :
-      (n : ℕ) (d : Dialect) (file : Bytes) (room : ℕ) → dialectOf n ≡ some d →
-      (reader n file room .report ≡ accepted) ↔ ((ls : List (Line Derived)) × Acceptable d file ls × (cellCount ls ≤ room))
-  -- and returns what the grammar derives: columns, data records, and of each cell its kind and content
+      (n : ℕ) (d : Dialect) (file : Bytes) (starts ends kinds : List ℕ) → dialectOf n ≡ some d →
+      (readCall n file starts ends kinds .report ≡ accepted)
+      ↔ ((ls : List (Line Derived)) × Acceptable d file ls × HasPlaces (cellCount ls) starts ends kinds)
+  -- and then counts, and fills the lists, as the grammar derives (§10.1 §10.2)
+  pub filled-as-derived :
+      (n : ℕ) (d : Dialect) (file : Bytes) (starts ends kinds : List ℕ) (ls : List (Line Derived)) (a : Acceptable d file ls) → dialectOf n ≡ some d →
+      HasPlaces (cellCount ls) starts ends kinds → FilledAsDerived d file ls (a .derived) (readCall n file starts ends kinds)
+  -- each span decodes to the kind and the content that are derived there (§10.3 §11.1)
+  pub decoded-as-derived :
+      (n : ℕ) (d : Dialect) (file : Bytes) (ls : List (Line Derived)) (a : Acceptable d file ls) → dialectOf n ≡ some d →
+      Each (DecodesTo n file) (concat (stretches d file ls (a .derived))) (concat (map cellsIn ls))
+  -- the same of the reader's answer before it is written into the lists: its cells have the kinds and contents that are derived
   pub as-derived :
       (n : ℕ) (d : Dialect) (file : Bytes) (room : ℕ) (ls : List (Line Derived)) → dialectOf n ≡ some d → Acceptable d file ls → cellCount ls ≤ room →
       AsDerived ls (reader n file room)
@@ -171,7 +204,7 @@ pub record Demand2 : Type 0 where
   pub places :
       (n : ℕ) (d : Dialect) (file : Bytes) (room : ℕ) (ls : List (Line Derived)) (k : Derives d file ls) → dialectOf n ≡ some d →
       reader n file room .report ≡ accepted → map stretchOf (reader n file room .cells) ≡ concat (stretches d file ls k)
-  -- each decodes from there to its kind and content
+  -- and each decodes from there to its kind and content
   pub decodes : ReaderDecodes
   -- the converter accepts exactly the files that are acceptable in the source and whose rows the target carries within the limits, if the
   -- text has room (§8.1 §12.1 §12.2 §12.3)
@@ -188,6 +221,11 @@ pub record Demand2 : Type 0 where
   pub first-fault :
       (d : Dialect) (target : Option Target) (e : Fault) (r : Read) (xs ys : Bytes) → readBytes d target xs ≡ stopped e r →
       readFile d target (xs ++ ys) ≡ stopped e r
+  -- in the words of the grammar: within the limits, a byte is fault 2 or 3 exactly when no derivation's text begins with the bytes before it
+  -- and then this byte (§6.2 §6.3)
+  pub next-byte :
+      (d : Dialect) (target : Option Target) (xs : Bytes) (r : Read) (b : ℕ) → readBytes d target xs ≡ going r → fileFull r ≡ false →
+      recordFull r b ≡ false → NextByte d target xs r b
   -- the writer accepts exactly the tables that the dialect carries within the limits, if the text has room (§13.2 §13.11 §13.13)
   pub written-exactly :
       (n : ℕ) (t : Dialect) (table : Table) (room : ℕ) → dialectOf n ≡ some t →

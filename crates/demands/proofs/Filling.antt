@@ -1,0 +1,130 @@
+-- Demand 2 over a call of the reader and its three lists. The reader's room is the length of the shortest list, so it has a place for every
+-- cell exactly where each list has (`places-room`). The lists begin with the spans and kinds of the reader's cells, which are those of the
+-- derivation; and each cell of the reader decodes from its span.
+-- Assumes nothing.
+use Prim.Native.Nat.{ℕ, suc, _+_, _≤_}
+use native.Mathlib.Omega.{arith}
+use mathlib.Core.Path.{_≡_, refl, sym, ap, _∙_}
+use mathlib.Core.Logic.{_↔_}
+use mathlib.Core.Option.{some}
+use mathlib.Core.List.{List, [], _∷_, map, map-map}
+use lib.Dec.{leb}
+use lib.ListN.{length, drop, length-append, length-map}
+use lib.Seq.{take-at}
+use Rattle.model.specs.declared.Dialect.{Dialect}
+use Rattle.model.specs.Base.{Bytes, concat}
+use Rattle.model.specs.Dialect.{dialectOf}
+use Rattle.model.specs.Decode.{kindNumber}
+use Rattle.model.specs.Text.{Value}
+use Rattle.model.specs.Report.{accepted}
+use Rattle.model.specs.Api.{Answer, reader, least, startsOf, endsOf, kindsOf, readCall}
+use Rattle.model.specs.Laws.{All, all-none, all-cons}
+use Rattle.model.specs.Trips.{Decodes}
+use Rattle.model.proofs.Tests.{split}
+use Rattle.model.proofs.AllTrips.{trips}
+use Rattle.rfc_grammar.specs.Derived.{Derived, kindIn, contentIn, Line, cellsIn, Each, each-none, each-cons}
+use Rattle.file_grammar.specs.Stretches.{Stretch, stretches, stretchOf}
+use Rattle.grammar.specs.Accepted.{Acceptable, cellCount}
+use Rattle.grammar.proofs.Theorems.{reader-exactly, reader-places}
+use Rattle.demands.specs.Demands.{AsDerived, HasPlaces, FilledAsDerived, DecodesTo}
+use Rattle.demands.proofs.Leaving.{least-first, least-second}
+use Rattle.demands.proofs.Deriving.{as-derived}
+
+-- ---- the shortest list
+
+below-least : (n a b : ℕ) → n ≤ a → n ≤ b → n ≤ least a b
+below-least n a b p q = split (λ (m : ℕ). n ≤ m) (leb a b) (λ _. p) λ _. q
+
+module _ (starts ends kinds : List ℕ) where
+  -- the room of a call with these lists
+  abbrev roomIn : ℕ
+  roomIn = least (length starts) (least (length ends) (length kinds))
+
+  places-room : (n : ℕ) → HasPlaces n starts ends kinds ↔ (n ≤ roomIn)
+  places-room n = (enough, only)
+    where
+      enough : HasPlaces n starts ends kinds → n ≤ roomIn
+      enough p = below-least n (length starts) (least (length ends) (length kinds)) (p .for-starts) (below-least n (length ends) (length kinds) (p .for-ends) (p .for-kinds))
+
+      only : n ≤ roomIn → HasPlaces n starts ends kinds
+      only h =
+          let both : ℕ = least (length ends) (length kinds) in
+          let x : least (length starts) both ≤ length starts = least-first (length starts) both in
+          let y : least (length starts) both ≤ both = least-second (length starts) both in
+          let u : both ≤ length ends = least-first (length ends) (length kinds) in
+          let v : both ≤ length kinds = least-second (length ends) (length kinds) in
+          record { for-starts = omega arith; for-ends = omega arith; for-kinds = omega arith }
+
+pub accepted-exactly :
+    (n : ℕ) (d : Dialect) (file : Bytes) (starts ends kinds : List ℕ) → dialectOf n ≡ some d →
+    (readCall n file starts ends kinds .report ≡ accepted)
+    ↔ ((ls : List (Line Derived)) × Acceptable d file ls × HasPlaces (cellCount ls) starts ends kinds)
+unfolding readCall
+accepted-exactly n d file starts ends kinds e =
+    let x = reader-exactly n d file (roomIn starts ends kinds) e in (
+      λ q. let y = x .0 q in (y .0, y .1, places-room starts ends kinds (cellCount (y .0)) .1 (y .2)),
+      λ y. x .1 (y .0, y .1, places-room starts ends kinds (cellCount (y .0)) .0 (y .2)),
+    )
+
+-- ---- what the lists begin with
+
+cells-count : (ls : List (Line Derived)) → length (concat (map cellsIn ls)) ≡ cellCount ls
+unfolding concat
+cells-count [] = refl
+cells-count (l ∷ ls) = length-append (cellsIn l) (concat (map cellsIn ls)) ∙ ap (λ (n : ℕ). length (cellsIn l) + n) (cells-count ls)
+
+answer-count : (ls : List (Line Derived)) (a : Answer) → AsDerived ls a → length (a .cells) ≡ cellCount ls
+answer-count ls a x =
+    sym (length-map (a .cells) (λ (v : Value). v .kind)) ∙ ap length (x .kinds) ∙ length-map (concat (map cellsIn ls)) kindIn ∙ cells-count ls
+
+pub filled-as-derived :
+    (n : ℕ) (d : Dialect) (file : Bytes) (starts ends kinds : List ℕ) (ls : List (Line Derived)) (a : Acceptable d file ls) → dialectOf n ≡ some d →
+    HasPlaces (cellCount ls) starts ends kinds → FilledAsDerived d file ls (a .derived) (readCall n file starts ends kinds)
+unfolding readCall
+filled-as-derived n d file starts ends kinds ls a e h =
+    let room : ℕ = roomIn starts ends kinds in
+    let fits : cellCount ls ≤ room = places-room starts ends kinds (cellCount ls) .0 h in
+    let vs : List Value = reader n file room .cells in
+    let x : AsDerived ls (reader n file room) = as-derived n d file room ls e a fits in
+    let spans : map stretchOf vs ≡ concat (stretches d file ls (a .derived)) = reader-places n d file room ls (a .derived) e (reader-exactly n d file room e .1 (ls, a, fits)) in
+    record {
+      columns = x .columns;
+      records = x .records;
+      cells = answer-count ls (reader n file room) x;
+      starts =
+          take-at (startsOf vs) (drop (length (startsOf vs)) starts) (length vs) (length-map vs (λ (v : Value). v .from)) ∙
+          sym (map-map (λ (s : Stretch). s .from) stretchOf vs) ∙ ap (map (λ (s : Stretch). s .from)) spans;
+      ends =
+          take-at (endsOf vs) (drop (length (endsOf vs)) ends) (length vs) (length-map vs (λ (v : Value). v .upto)) ∙
+          sym (map-map (λ (s : Stretch). s .upto) stretchOf vs) ∙ ap (map (λ (s : Stretch). s .upto)) spans;
+      kinds =
+          take-at (kindsOf vs) (drop (length (kindsOf vs)) kinds) (length vs) (length-map vs (λ (v : Value). kindNumber (v .kind))) ∙
+          sym (map-map kindNumber (λ (v : Value). v .kind) vs) ∙ ap (map kindNumber) (x .kinds) ∙ map-map kindNumber kindIn (concat (map cellsIn ls));
+    }
+
+-- ---- what the spans decode to
+
+module _ (n : ℕ) (file : Bytes) where
+  spans-decode :
+      (vs : List Value) (cs : List Derived) → map (λ (v : Value). v .kind) vs ≡ map kindIn cs → map (λ (v : Value). v .content) vs ≡ map contentIn cs →
+      All (Decodes n file) vs → Each (DecodesTo n file) (map stretchOf vs) cs
+  spans-decode [] [] p q all-none = each-none
+  spans-decode [] (c ∷ cs) p q all-none = let z : 0 ≡ suc (length (map kindIn cs)) = ap length p in absurd (omega arith)
+  spans-decode (v ∷ vs) [] p q (all-cons m ms) = let z : suc (length (map (λ (w : Value). w .kind) vs)) ≡ 0 = ap length p in absurd (omega arith)
+  spans-decode (v ∷ vs) (c ∷ cs) p q (all-cons m ms) =
+      let kind : v .kind ≡ kindIn c = cc in
+      let content : v .content ≡ contentIn c = cc in
+      let kinds : map (λ (w : Value). w .kind) vs ≡ map kindIn cs = cc in
+      let contents : map (λ (w : Value). w .content) vs ≡ map contentIn cs = cc in
+      each-cons (rw (kind, content) at m) (spans-decode vs cs kinds contents ms)
+
+pub decoded-as-derived :
+    (n : ℕ) (d : Dialect) (file : Bytes) (ls : List (Line Derived)) (a : Acceptable d file ls) → dialectOf n ≡ some d →
+    Each (DecodesTo n file) (concat (stretches d file ls (a .derived))) (concat (map cellsIn ls))
+decoded-as-derived n d file ls a e =
+    let room : ℕ = cellCount ls in
+    let fits : cellCount ls ≤ room = omega arith in
+    let vs : List Value = reader n file room .cells in
+    let x : AsDerived ls (reader n file room) = as-derived n d file room ls e a fits in
+    let spans : map stretchOf vs ≡ concat (stretches d file ls (a .derived)) = reader-places n d file room ls (a .derived) e (reader-exactly n d file room e .1 (ls, a, fits)) in
+    rw spans at (spans-decode n file vs (concat (map cellsIn ls)) (x .kinds) (x .contents) (trips .reader-decodes n file room))
