@@ -40,7 +40,7 @@ pub values-alike : {h k : List Value} {rs qs : List (List Value)} → SameCells 
 values-alike s m x =
     record {
       contents = all-rows (λ r q. all-cells (λ v w e p. rw (← (e .kind), ← (e .content)) p)) (and-row s m) (x .contents);
-      counts = all-rows (λ r q e p. sym (same-length e) ∙ p ∙ same-length s) m (x .counts);
+      counts = all-rows (λ r q e p. rw (← (same-length e), ← (same-length s)) p) m (x .counts);
     }
 
 -- ---- a table that a dialect carries

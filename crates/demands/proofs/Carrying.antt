@@ -55,7 +55,8 @@ module _ (t : Dialect) where
   names-sound : (fault : ℕ → Fault) (seen : List Bytes) (n : ℕ) {vs : List Value} → Unseen seen vs → DistinctNames t vs → repeatFrom t fault seen n vs ≡ Sound
   unfolding repeatFrom if_then_else_
   names-sound fault seen n all-none no-names = refl
-  names-sound fault seen n (all-cons {x} p ps) (a-name w m) = rw p (names-sound fault (keyOf x ∷ seen) (suc n) (cons-unseen (keyOf x) seen w ps) m)
+  names-sound fault seen n (all-cons {x} {xs} p ps) (a-name w m) =
+      let unseen : Unseen (keyOf x ∷ seen) xs = cons-unseen (keyOf x) seen w ps in rw p (names-sound fault (keyOf x ∷ seen) (suc n) unseen m)
 
   -- ---- a header and a record
 
