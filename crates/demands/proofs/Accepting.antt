@@ -17,6 +17,7 @@ use Rattle.model.specs.declared.Kind.the-variants.{Text}
 use Rattle.model.specs.declared.Fault.{Fault}
 use Rattle.model.specs.declared.Fault.the-variants.{Clash}
 use Rattle.model.specs.declared.Target.{Target}
+use Rattle.model.specs.declared.Verdict.{Verdict}
 use Rattle.model.specs.declared.Verdict.the-variants.{Sound}
 use Rattle.model.specs.Base.{Bytes, if_then_else_}
 use Rattle.model.specs.Dialect.{dialectOf, into}
@@ -112,7 +113,8 @@ module _ (t : Target) where
   rows-pass h done [] e = passes-none
   rows-pass h done (x ∷ xs) e =
       let more : rows (h ∷ (done ++ (x ∷ []))) ≡ rows (h ∷ done) ++ (x .cells ∷ []) = rows-append (h ∷ done) (x ∷ []) in
-      let a = next-none (suc (length (rows (h ∷ done)))) (targetNext t (rows (h ∷ done)) (x .cells)) (rowsFrom t (rows (h ∷ done) ++ (x .cells ∷ [])) (rows xs)) e in
+      let check : Verdict = targetNext t (rows (h ∷ done)) (x .cells) in
+      let a = next-none (suc (length (rows (h ∷ done)))) check (rowsFrom t (rows (h ∷ done) ++ (x .cells ∷ [])) (rows xs)) e in
       passes-more (a .0) (rows-pass h (done ++ (x ∷ [])) xs (rw more (a .1)))
 
 module _ (t : Dialect) where
@@ -144,14 +146,16 @@ unfolding rows
 shown-rows each-none = no-rows
 shown-rows (each-cons s k) = and-row (shown-cells (s .cells)) (shown-rows k)
 
-shown-texts : {file : Bytes} {vs : List Value} {cs : List Derived} → Each (ShowsCell file) vs cs → Every (λ (c : Derived). kindIn c ≡ Text) cs → All (λ (v : Value). v .kind ≡ Text) vs
+shown-texts :
+    {file : Bytes} {vs : List Value} {cs : List Derived} → Each (ShowsCell file) vs cs → Every (λ (c : Derived). kindIn c ≡ Text) cs →
+    All (λ (v : Value). v .kind ≡ Text) vs
 shown-texts each-none every-none = all-none
 shown-texts (each-cons s k) (every-cons e m) = all-cons (s .kind ∙ e) (shown-texts k m)
 
 -- ---- the converter
 
 -- the file is acceptable, the target carries its rows, and the text has room
-abbrev Carries : Dialect → Dialect → Bytes → (room : ℕ) → Type 0
+abbrev Carries : (source target : Dialect) → Bytes → (room : ℕ) → Type 0
 Carries d t file room =
     (l : Line Derived) × (ls : List (Line Derived)) × Acceptable d file (l ∷ ls) × CarriedTable t (rowIn l) (map rowIn ls)
     × (length (tableText (into t) (map rowIn (l ∷ ls))) ≤ room)
@@ -169,14 +173,16 @@ module _ (d t : Dialect) (file : Bytes) (room : ℕ) where
   records-carried each-none a ps f = no-records (a .checks)
   records-carried (each-cons {x = h} {xs = rs} {y = l} {ys = ls} s k) a ps f =
       let few : length (cellsIn l) ≤ MAXCOLUMNS = first-of (a .limits .columns) in
-      let c : CarriedTable t (h .cells) (rows rs) = passed-carried t h rs (rw (each-length (s .cells)) few) (shown-texts (s .cells) (header-texts (a .checks))) ps in
+      let texts : All (λ (v : Value). v .kind ≡ Text) (h .cells) = shown-texts (s .cells) (header-texts (a .checks)) in
+      let c : CarriedTable t (h .cells) (rows rs) = passed-carried t h rs (rw (each-length (s .cells)) few) texts ps in
       let same : tableText (into t) (rows (h ∷ rs)) ≡ tableText (into t) (map rowIn (l ∷ ls)) = table-same (into t) (shown-rows (each-cons s k)) in
       (l, ls, a, carried-alike t (shown-cells (s .cells)) (shown-rows k) c, rw same at f)
 
   carried-records :
       {rs : List Rec} {l : Line Derived} {ls : List (Line Derived)} → Each (ShowsRecord file) rs (l ∷ ls) → CarriedTable t (rowIn l) (map rowIn ls) →
       Passes (into t) [] rs
-  carried-records (each-cons {x = h} {xs = rs} s k) c = carried-passes t h rs (carried-alike t (cells-back (shown-cells (s .cells))) (rows-back (shown-rows k)) c)
+  carried-records (each-cons {x = h} {xs = rs} s k) c =
+      carried-passes t h rs (carried-alike t (cells-back (shown-cells (s .cells))) (rows-back (shown-rows k)) c)
 
   converts-carries : Converts d (into t) file room → Carries d t file room
   converts-carries (r, e, ps, f) = go (read-acceptable d file r e)
@@ -193,7 +199,8 @@ module _ (d t : Dialect) (file : Bytes) (room : ℕ) where
           (end, e, carried-records k c, rw same f)
 
 pub converted-exactly :
-    (m n : ℕ) (d t : Dialect) (file : Bytes) (room : ℕ) → dialectOf m ≡ some d → dialectOf n ≡ some t → (converter m n file room .report ≡ accepted) ↔ Carries d t file room
+    (m n : ℕ) (d t : Dialect) (file : Bytes) (room : ℕ) → dialectOf m ≡ some d → dialectOf n ≡ some t →
+    (converter m n file room .report ≡ accepted) ↔ Carries d t file room
 converted-exactly m n d t file room e k =
     let x = converts-exactly m n d t file room e k in (λ q. converts-carries d t file room (x .0 q), λ c. x .1 (carries-converts d t file room c))
 

@@ -32,7 +32,8 @@ module _ {A : Type 0} {file : Bytes} (f : Value → A) (g : Derived → A) (agre
   unfolding rows concat
   records-agree each-none = refl
   records-agree (each-cons {x = r} {xs = rs} {y = l} {ys = ls} s k) =
-      map-append f (r .cells) (concat (rows rs)) ∙ ap₂ (λ (x y : List A). x ++ y) (cells-agree (s .cells)) (records-agree k) ∙ sym (map-append g (cellsIn l) (concat (map cellsIn ls)))
+      map-append f (r .cells) (concat (rows rs)) ∙ ap₂ (λ (x y : List A). x ++ y) (cells-agree (s .cells)) (records-agree k) ∙
+      sym (map-append g (cellsIn l) (concat (map cellsIn ls)))
 
 header-columns : {file : Bytes} {h : Rec} {rs : List Rec} {ls : List (Line Derived)} → Each (ShowsRecord file) (h ∷ rs) ls → length (h .cells) ≡ columnsIn ls
 header-columns (each-cons s k) = each-length (s .cells)
@@ -52,7 +53,9 @@ as-derived n d file room ls e a k = by-reading (acceptable-read d file ls a)
     reported : reader n file room .report ≡ accepted
     reported = reader-exactly n d file room e .1 (ls, a, k)
 
-    by-records : (rs : List Rec) → Each (ShowsRecord file) rs ls → answered rs (concat (rows rs)) room .report ≡ accepted → AsDerived ls (answered rs (concat (rows rs)) room)
+    by-records :
+        (rs : List Rec) → Each (ShowsRecord file) rs ls → answered rs (concat (rows rs)) room .report ≡ accepted →
+        AsDerived ls (answered rs (concat (rows rs)) room)
     by-records [] shows q = none-read shows (a .checks)
     by-records (h ∷ rs) shows q = go (ltb room (length (concat (rows (h ∷ rs))))) refl
       where

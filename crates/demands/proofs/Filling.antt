@@ -44,7 +44,9 @@ module _ (starts ends kinds : List ℕ) where
   places-room n = (enough, only)
     where
       enough : HasPlaces n starts ends kinds → n ≤ roomIn
-      enough p = below-least n (length starts) (least (length ends) (length kinds)) (p .for-starts) (below-least n (length ends) (length kinds) (p .for-ends) (p .for-kinds))
+      enough p =
+          let both : n ≤ least (length ends) (length kinds) = below-least n (length ends) (length kinds) (p .for-ends) (p .for-kinds) in
+          below-least n (length starts) (least (length ends) (length kinds)) (p .for-starts) both
 
       only : n ≤ roomIn → HasPlaces n starts ends kinds
       only h =
@@ -86,7 +88,8 @@ filled-as-derived n d file starts ends kinds ls a e h =
     let fits : cellCount ls ≤ room = places-room starts ends kinds (cellCount ls) .0 h in
     let vs : List Value = reader n file room .cells in
     let x : AsDerived ls (reader n file room) = as-derived n d file room ls e a fits in
-    let spans : map stretchOf vs ≡ concat (stretches d file ls (a .derived)) = reader-places n d file room ls (a .derived) e (reader-exactly n d file room e .1 (ls, a, fits)) in
+    let reported : reader n file room .report ≡ accepted = reader-exactly n d file room e .1 (ls, a, fits) in
+    let spans : map stretchOf vs ≡ concat (stretches d file ls (a .derived)) = reader-places n d file room ls (a .derived) e reported in
     record {
       columns = x .columns;
       records = x .records;
@@ -126,5 +129,6 @@ decoded-as-derived n d file ls a e =
     let fits : cellCount ls ≤ room = omega arith in
     let vs : List Value = reader n file room .cells in
     let x : AsDerived ls (reader n file room) = as-derived n d file room ls e a fits in
-    let spans : map stretchOf vs ≡ concat (stretches d file ls (a .derived)) = reader-places n d file room ls (a .derived) e (reader-exactly n d file room e .1 (ls, a, fits)) in
+    let reported : reader n file room .report ≡ accepted = reader-exactly n d file room e .1 (ls, a, fits) in
+    let spans : map stretchOf vs ≡ concat (stretches d file ls (a .derived)) = reader-places n d file room ls (a .derived) e reported in
     rw spans at (spans-decode n file vs (concat (map cellsIn ls)) (x .kinds) (x .contents) (trips .reader-decodes n file room))

@@ -7,8 +7,10 @@ use native.Mathlib.Omega.{arith}
 use native.Mathlib.Nat.{mul-suc}
 use mathlib.Core.Path.{_≡_, refl, _∙_}
 use mathlib.Core.Logic.{_↔_}
-use mathlib.Core.Option.{some}
+use mathlib.Core.Bool.{true}
+use mathlib.Core.Option.{Option, some}
 use mathlib.Core.List.{List, [], _∷_, _++_, append-assoc}
+use lib.Dec.{eqb}
 use lib.ListN.{length, take, drop, length-append}
 use borrow.Author.Tests.{le-leb, lt-ltb, eq-eqb}
 use Rattle.model.specs.declared.Dialect.{Dialect}
@@ -51,10 +53,12 @@ cell-laid :
 unfolding tableCell if_then_else_
 cell-laid before after v e =
     let bs : Bytes = before ++ (v .content ++ after) in
-    let part : slice bs (length before) (length before + length (v .content)) ≡ v .content = part-is before (v .content) after (length before) (length before + length (v .content)) refl refl in
-    let size : length bs ≡ length before + length (v .content ++ after) = length-append before (v .content ++ after) in
+    let from : ℕ = length before in
+    let upto : ℕ = length before + length (v .content) in
+    let part : slice bs from upto ≡ v .content = part-is before (v .content) after from upto refl refl in
+    let size : length bs ≡ from + length (v .content ++ after) = length-append before (v .content ++ after) in
     let rest : length (v .content ++ after) ≡ length (v .content) + length after = length-append (v .content) after in
-    rw (kind-named (v .kind), tableCell, le-leb (length before) (length before + length (v .content)) (omega arith), le-leb (length before + length (v .content)) (length bs) (omega arith), part, e)
+    rw (kind-named (v .kind), tableCell, le-leb from upto (omega arith), le-leb upto (length bs) (omega arith), part, e)
 
 -- ---- the cells
 
@@ -73,18 +77,18 @@ unfolding laid
 laid-same o [] = no-cells
 laid-same o (v ∷ vs) = and-cell (record { kind = refl; content = refl }) (laid-same (o + length (v .content)) vs)
 
-cells-laid :
-    (before : Bytes) (vs : List Value) → All ValueCell vs →
-    tableCells (before ++ joined vs) (startsOf (laid (length before) vs)) (endsOf (laid (length before) vs)) (kindsOf (laid (length before) vs))
-    ≡ some (laid (length before) vs)
+-- the cells of a table with this content, and with the spans and kinds of these cells
+abbrev heldIn : Bytes → List Value → Option (List Value)
+heldIn content vs = tableCells content (startsOf vs) (endsOf vs) (kindsOf vs)
+
+cells-laid : (before : Bytes) (vs : List Value) → All ValueCell vs → heldIn (before ++ joined vs) (laid (length before) vs) ≡ some (laid (length before) vs)
 unfolding tableCells joined laid
 cells-laid before [] all-none = refl
 cells-laid before (v ∷ vs) (all-cons e es) =
     let text : Bytes = v .content in
     let all : before ++ text ++ joined vs ≡ before ++ (text ++ joined vs) = append-assoc before text (joined vs) in
-    let ih :
-    tableCells (before ++ text ++ joined vs) (startsOf (laid (length (before ++ text)) vs)) (endsOf (laid (length (before ++ text)) vs)) (kindsOf (laid (length (before ++ text)) vs))
-    ≡ some (laid (length (before ++ text)) vs) = cells-laid (before ++ text) vs es in
+    let ih : heldIn (before ++ text ++ joined vs) (laid (length (before ++ text)) vs) ≡ some (laid (length (before ++ text)) vs) =
+    cells-laid (before ++ text) vs es in
     rw (cell-laid before (joined vs) v e, rw (all, length-append before text) at ih)
 
 -- ---- the rows
@@ -94,7 +98,9 @@ parted : (r : List Value) {vs ws : List Value} → SameCells vs (r ++ ws) → Sa
 parted [] s = (no-cells, s)
 parted (v ∷ r) (and-cell s k) = let m = parted r k in (and-cell s (m .0), m .1)
 
-rows-same : (columns : ℕ) (vs : List Value) (rs : List (List Value)) → SameCells vs (concat rs) → All (λ (r : List Value). length r ≡ columns) rs → SameRows (rowsOf (length rs) columns vs) rs
+rows-same :
+    (columns : ℕ) (vs : List Value) (rs : List (List Value)) → SameCells vs (concat rs) → All (λ (r : List Value). length r ≡ columns) rs →
+    SameRows (rowsOf (length rs) columns vs) rs
 unfolding rowsOf concat
 rows-same columns vs [] s all-none = no-rows
 rows-same columns vs (r ∷ rs) s (all-cons e es) =
@@ -141,14 +147,17 @@ module _ (h : List Value) (rs : List (List Value)) where
   laid-rows x =
       let even : All (λ (r : List Value). length r ≡ length h) (h ∷ rs) = all-cons refl (x .counts) in
       let same : SameCells cells (concat (h ∷ rs)) = laid-same 0 (concat (h ∷ rs)) in
-      let whole : tableCells (joined (concat (h ∷ rs))) (startsOf cells) (endsOf cells) (kindsOf cells) ≡ some cells = cells-laid [] (concat (h ∷ rs)) (values-in (x .contents)) in
+      let whole : heldIn (joined (concat (h ∷ rs))) cells ≡ some cells = cells-laid [] (concat (h ∷ rs)) (values-in (x .contents)) in
       let count : length cells ≡ length h * suc (length rs) = same-length same ∙ cell-count (length h) even in
-      (rowsOf (suc (length rs)) (length h) cells, rw (whole, eq-eqb (length cells) (length h * suc (length rs)) count, lt-ltb 0 (suc (length rs)) (omega arith)), rows-same (length h) cells (h ∷ rs) same even)
+      let counted : eqb (length cells) (length h * suc (length rs)) ≡ true = eq-eqb (length cells) (length h * suc (length rs)) count in
+      (rowsOf (suc (length rs)) (length h) cells, rw (whole, counted, lt-ltb 0 (suc (length rs)) (omega arith)), rows-same (length h) cells (h ∷ rs) same even)
 
 pub every-table : (h : List Value) (rs : List (List Value)) → ValueRows h rs ↔ ((table : Table) × TableOf h rs table)
 every-table h rs = (λ x. (laidTable h rs, laid-rows h rs x), λ y. only (y .0) (y .1 .0) (y .1 .1) (y .1 .2))
   where
-    even-values : (columns : ℕ) {k : List Value} {qs : List (List Value)} → All (All ValueCell) (k ∷ qs) → All (λ (r : List Value). length r ≡ columns) (k ∷ qs) → ValueRows k qs
+    even-values :
+        (columns : ℕ) {k : List Value} {qs : List (List Value)} → All (All ValueCell) (k ∷ qs) → All (λ (r : List Value). length r ≡ columns) (k ∷ qs) →
+        ValueRows k qs
     even-values columns v (all-cons e es) = record { contents = v; counts = rw e es }
 
     only : (table : Table) (qs : List (List Value)) → rowsIn table ≡ some qs → SameRows qs (h ∷ rs) → ValueRows h rs
@@ -156,28 +165,31 @@ every-table h rs = (λ x. (laidTable h rs, laid-rows h rs x), λ y. only (y .0) 
 
 -- ---- written and read back
 
-module _ (n : ℕ) (t : Dialect) (h : List Value) (rs : List (List Value)) (room places : ℕ) (known : dialectOf n ≡ some t) (c : CarriedTable t h rs) (fits : length (tableText (into t) (h ∷ rs)) ≤ room) where
-  -- a table of these rows has their text
-  table-text : {qs : List (List Value)} → SameRows qs (h ∷ rs) → tableText (into t) qs ≡ tableText (into t) (h ∷ rs)
-  table-text s = table-same (into t) s
+module _ (n : ℕ) (t : Dialect) (h : List Value) (rs : List (List Value)) (room : ℕ) (known : dialectOf n ≡ some t) (c : CarriedTable t h rs) where
+  abbrev text : Bytes
+  text = tableText (into t) (h ∷ rs)
 
-  rows-written : (table : Table) (qs : List (List Value)) → rowsIn table ≡ some qs → SameRows qs (h ∷ rs) → writer n table room ≡ record { report = accepted; text = tableText (into t) (h ∷ rs) }
-  rows-written table qs e (and-row {r = k} {rs = ks} s m) =
-      let same : tableText (into t) (k ∷ ks) ≡ tableText (into t) (h ∷ rs) = table-text (and-row s m) in
-      rw same at (writes n t table k ks room known e (carried-alike t (cells-back s) (rows-back m) c) (rw same fits))
+  rows-written :
+      (table : Table) (qs : List (List Value)) → rowsIn table ≡ some qs → SameRows qs (h ∷ rs) → length text ≤ room →
+      writer n table room ≡ record { report = accepted; text = text }
+  rows-written table qs e (and-row {r = k} {rs = ks} s m) fits =
+      let same : tableText (into t) (k ∷ ks) ≡ text = table-same (into t) (and-row s m) in
+      let carried : CarriedTable t k ks = carried-alike t (cells-back s) (rows-back m) c in
+      rw same at (writes n t table k ks room known e carried (rw same fits))
 
   rows-read :
-      (table : Table) (qs : List (List Value)) → rowsIn table ≡ some qs → SameRows qs (h ∷ rs) → table .columns ≡ length h → table .records ≡ suc (length rs) →
-      length (concat (h ∷ rs)) ≤ places → ReadAsRows n h rs (tableText (into t) (h ∷ rs)) (reader n (tableText (into t) (h ∷ rs)) places)
-  rows-read table qs e (and-row {r = k} {rs = ks} s m) columns records g =
-      let same : tableText (into t) (k ∷ ks) ≡ tableText (into t) (h ∷ rs) = table-text (and-row s m) in
+      (table : Table) (qs : List (List Value)) (places : ℕ) → rowsIn table ≡ some qs → SameRows qs (h ∷ rs) → table .columns ≡ length h →
+      table .records ≡ suc (length rs) → length text ≤ room → length (concat (h ∷ rs)) ≤ places → ReadAsRows n h rs text (reader n text places)
+  rows-read table qs places e (and-row {r = k} {rs = ks} s m) columns records fits g =
+      let same : tableText (into t) (k ∷ ks) ≡ text = table-same (into t) (and-row s m) in
+      let carried : CarriedTable t k ks = carried-alike t (cells-back s) (rows-back m) c in
       let count : length (concat (k ∷ ks)) ≡ length (concat (h ∷ rs)) = same-length (concat-same (and-row s m)) in
-      let b : ReadsBack n table (k ∷ ks) (tableText (into t) (h ∷ rs)) (reader n (tableText (into t) (h ∷ rs)) places) =
-      rw same at (carried-comes-back n t table k ks room places known e (carried-alike t (cells-back s) (rows-back m) c) (rw same fits) (rw count g) .1) in
+      let b : ReadsBack n table (k ∷ ks) text (reader n text places) =
+      rw same at (carried-comes-back n t table k ks room places known e carried (rw same fits) (rw count g) .1) in
       record {
         report = b .report;
         columns = b .columns ∙ columns;
-        records = let q : suc (reader n (tableText (into t) (h ∷ rs)) places .records) ≡ suc (length rs) = b .records ∙ records in omega arith;
+        records = let q : suc (reader n text places .records) ≡ suc (length rs) = b .records ∙ records in omega arith;
         cells = b .cells ∙ cells-meaning (concat-same (and-row s m));
         decoded = b .decoded;
       }
@@ -191,6 +203,6 @@ pub rows-come-back :
 rows-come-back n t h rs room places e x c f g =
     let y = laid-rows h rs x in (
       (laidTable h rs, y),
-      λ table z. rows-written n t h rs room places e c f table (z .0) (z .1) (z .2),
-      rows-read n t h rs room places e c f (laidTable h rs) (y .0) (y .1) (y .2) refl refl g,
+      λ table z. rows-written n t h rs room e c table (z .0) (z .1) (z .2) f,
+      rows-read n t h rs room e c (laidTable h rs) (y .0) places (y .1) (y .2) refl refl f g,
     )
