@@ -107,8 +107,8 @@ pub data DistinctNames (d : Dialect) : List Value → Type 0 where
       {v : Value} {vs : List Value} → All (λ (w : Value). nameKey d (w .content) ≢ nameKey d (v .content)) vs → DistinctNames d vs →
       DistinctNames d (v ∷ vs)
 
--- a table that the dialect carries within the limits, by its cells, its names and its text, whatever the order of the checks (§2.5 §7.1 §7.2
--- §7.3 §8.2 §8.3)
+-- a table that the dialect carries within the limits, by its cells, its names and its text, whatever the order of the checks (§2.5 §3.10 §4.9
+-- §7.1 §7.2 §7.3 §8.2 §8.3 §8.4 §8.5 §8.6)
 pub record CarriedTable (t : Dialect) (h : List Value) (rs : List (List Value)) : Type 0 where
   pub columns : length h ≤ MAXCOLUMNS
   pub has-cells : hasCells t h ≡ true
