@@ -1,22 +1,24 @@
 -- Demand 2 over a call of the reader and its three lists. The reader's room is the length of the shortest list, so it has a place for every
--- cell exactly where each list has (`places-room`). The lists begin with the spans and kinds of the reader's cells, which are those of the
--- derivation; and each cell of the reader decodes from its span.
+-- cell exactly where each list has (`places-room`); a file that is read and not accepted has too few. The lists begin with the spans and
+-- kinds of the reader's cells, which are those of the derivation; and each cell of the reader decodes from its span.
 -- Assumes nothing.
 use Prim.Native.Nat.{ℕ, suc, _+_, _≤_}
 use native.Mathlib.Omega.{arith}
 use mathlib.Core.Path.{_≡_, refl, sym, ap, _∙_}
-use mathlib.Core.Logic.{_↔_}
-use mathlib.Core.Option.{some}
+use mathlib.Core.Logic.{_≢_, _↔_}
+use mathlib.Core.Option.{none, some}
 use mathlib.Core.List.{List, [], _∷_, map, map-map}
 use lib.Dec.{leb}
 use lib.ListN.{length, drop, length-append, length-map}
 use lib.Seq.{take-at}
+use Rattle.model.specs.declared.Report.{Report}
 use Rattle.model.specs.declared.Dialect.{Dialect}
 use Rattle.model.specs.Base.{Bytes, concat}
 use Rattle.model.specs.Dialect.{dialectOf}
 use Rattle.model.specs.Decode.{kindNumber}
 use Rattle.model.specs.Text.{Value}
-use Rattle.model.specs.Report.{accepted}
+use Rattle.model.specs.Report.{accepted, refusal}
+use Rattle.model.specs.Records.{Rec, rows, Read, Progress, going, readFile}
 use Rattle.model.specs.Api.{Answer, reader, least, startsOf, endsOf, kindsOf, readCall}
 use Rattle.model.specs.Laws.{All, all-none, all-cons}
 use Rattle.model.specs.Trips.{Decodes}
@@ -25,9 +27,14 @@ use Rattle.model.proofs.AllTrips.{trips}
 use Rattle.rfc_grammar.specs.Derived.{Derived, kindIn, contentIn, Line, cellsIn, Each, each-none, each-cons}
 use Rattle.file_grammar.specs.Stretches.{Stretch, stretches, stretchOf}
 use Rattle.grammar.specs.Accepted.{Acceptable, cellCount}
-use Rattle.grammar.proofs.Theorems.{reader-exactly, reader-places}
-use Rattle.demands.specs.Demands.{AsDerived, HasPlaces, FilledAsDerived, DecodesTo}
+use Rattle.grammar.proofs.Acceptance.{ten, ReadAs, read-as, acceptable-read, AcceptedAs, accepted-as, read-acceptable}
+use Rattle.grammar.proofs.AcceptedOnly.{stopped-going}
+use Rattle.grammar.proofs.Theorems.{one-meaning, reader-exactly, reader-places}
+use Rattle.demands.specs.Demands.{TellsFile, AsDerived, HasPlaces, FilledAsDerived, DecodesTo}
+use Rattle.demands.specs.Demands as told
 use Rattle.demands.proofs.Leaving.{least-first, least-second}
+use Rattle.demands.proofs.Telling.{reader-tells}
+use Rattle.demands.proofs.Limits.{zero-ten, fault-ten}
 use Rattle.demands.proofs.Deriving.{as-derived}
 
 -- ---- the shortest list
@@ -67,6 +74,55 @@ accepted-exactly n d file starts ends kinds e =
       λ q. let y = x .0 q in (y .0, y .1, places-room starts ends kinds (cellCount (y .0)) .1 (y .2)),
       λ y. x .1 (y .0, y .1, places-room starts ends kinds (cellCount (y .0)) .0 (y .2)),
     )
+
+-- ---- too few places
+
+module _ {needs : List Rec → ℕ} {room : ℕ} where
+  full-read : (p : Progress) (x : Report) → TellsFile needs room p x → x ≡ refusal 10 → (r : Read) × (p ≡ going r)
+  full-read p x (told.fault {e}) q = absurd (fault-ten e (ap (λ (y : Report). y .number) q))
+  full-read p x (told.no-room {r} h) q = (r, refl)
+  full-read p x (told.accepts {r} h) q = absurd (zero-ten (ap (λ (y : Report). y .number) q))
+
+  read-full : (p : Progress) (x : Report) (r : Read) → TellsFile needs room p x → p ≡ going r → x ≢ accepted → x ≡ refusal 10
+  read-full p x r told.fault q n = stopped-going q
+  read-full p x r (told.no-room h) q n = refl
+  read-full p x r (told.accepts h) q n = absurd (n refl)
+
+module _ (n : ℕ) (d : Dialect) (file : Bytes) (starts ends kinds : List ℕ) (known : dialectOf n ≡ some d) where
+  abbrev reported : Report
+  reported = reader n file (roomIn starts ends kinds) .report
+
+  tells : TellsFile (λ (rs : List Rec). length (concat (rows rs))) (roomIn starts ends kinds) (readFile d none file) reported
+  tells = reader-tells n d file (roomIn starts ends kinds) known
+
+  accepts : (reported ≡ accepted) ↔ ((ls : List (Line Derived)) × Acceptable d file ls × (cellCount ls ≤ roomIn starts ends kinds))
+  accepts = reader-exactly n d file (roomIn starts ends kinds) known
+
+  full-only : reported ≡ refusal 10 → (ls : List (Line Derived)) × Acceptable d file ls × (¬ HasPlaces (cellCount ls) starts ends kinds)
+  full-only q = let x = full-read (readFile d none file) reported tells q in go (read-acceptable d file (x .0) (x .1))
+    where
+      go : {r : Read} → AcceptedAs d file r → (ls : List (Line Derived)) × Acceptable d file ls × (¬ HasPlaces (cellCount ls) starts ends kinds)
+      go (accepted-as ls a k) = (ls, a, λ h. ten (sym q ∙ accepts .1 (ls, a, places-room starts ends kinds (cellCount ls) .0 h)))
+
+  full-enough : (ls : List (Line Derived)) → Acceptable d file ls → (¬ HasPlaces (cellCount ls) starts ends kinds) → reported ≡ refusal 10
+  full-enough ls a few = go (acceptable-read d file ls a)
+    where
+      refused : reported ≢ accepted
+      refused q =
+          let y = accepts .0 q in
+          let same : y .0 ≡ ls = one-meaning d file (y .0) ls (y .1 .derived) (a .derived) in
+          few (rw same at (places-room starts ends kinds (cellCount (y .0)) .1 (y .2)))
+
+      go : ReadAs d file ls → reported ≡ refusal 10
+      go (read-as end e k) = read-full (readFile d none file) reported end tells e refused
+
+pub too-few-places :
+    (n : ℕ) (d : Dialect) (file : Bytes) (starts ends kinds : List ℕ) → dialectOf n ≡ some d →
+    (readCall n file starts ends kinds .report ≡ refusal 10)
+    ↔ ((ls : List (Line Derived)) × Acceptable d file ls × (¬ HasPlaces (cellCount ls) starts ends kinds))
+unfolding readCall
+too-few-places n d file starts ends kinds e =
+    (λ q. full-only n d file starts ends kinds e q, λ y. full-enough n d file starts ends kinds e (y .0) (y .1) (y .2))
 
 -- ---- what the lists begin with
 

@@ -11,7 +11,7 @@ use Rattle.demands.proofs.Accepting.{converted-exactly, converted-text}
 use Rattle.demands.proofs.Carrying.{written-exactly, carried-comes-back}
 use Rattle.demands.proofs.Layouts.{every-table, rows-come-back}
 use Rattle.demands.proofs.Deriving.{as-derived}
-use Rattle.demands.proofs.Filling.{accepted-exactly, filled-as-derived, decoded-as-derived}
+use Rattle.demands.proofs.Filling.{accepted-exactly, too-few-places, filled-as-derived, decoded-as-derived}
 use Rattle.demands.proofs.Limits.{converted-limit, written-limit, converted-room}
 use Rattle.demands.proofs.Calls.{every-list, refused, joined, whole-text, end-call, fault-is-whole, fault-of-every-file, room, ten}
 
@@ -33,6 +33,7 @@ pub demand-2 : Demand2
 demand-2 =
     record {
       accepted-exactly = accepted-exactly;
+      too-few-places = too-few-places;
       filled-as-derived = filled-as-derived;
       decoded-as-derived = decoded-as-derived;
       as-derived = as-derived;

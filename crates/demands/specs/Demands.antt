@@ -188,7 +188,12 @@ pub record Demand2 : Type 0 where
       (n : ℕ) (d : Dialect) (file : Bytes) (starts ends kinds : List ℕ) → dialectOf n ≡ some d →
       (readCall n file starts ends kinds .report ≡ accepted)
       ↔ ((ls : List (Line Derived)) × Acceptable d file ls × HasPlaces (cellCount ls) starts ends kinds)
-  -- and then counts, and fills the lists, as the grammar derives (§10.1 §10.2)
+  -- and reports 10 exactly when these accept it and one of the lists has too few places (§10.5)
+  pub too-few-places :
+      (n : ℕ) (d : Dialect) (file : Bytes) (starts ends kinds : List ℕ) → dialectOf n ≡ some d →
+      (readCall n file starts ends kinds .report ≡ refusal 10)
+      ↔ ((ls : List (Line Derived)) × Acceptable d file ls × (¬ HasPlaces (cellCount ls) starts ends kinds))
+  -- accepting, it counts and fills the lists as the grammar derives (§10.1 §10.2)
   pub filled-as-derived :
       (n : ℕ) (d : Dialect) (file : Bytes) (starts ends kinds : List ℕ) (ls : List (Line Derived)) (a : Acceptable d file ls) → dialectOf n ≡ some d →
       HasPlaces (cellCount ls) starts ends kinds → FilledAsDerived d file ls (a .derived) (readCall n file starts ends kinds)
