@@ -66,10 +66,10 @@ reader-fits n file room = by-dialect (dialectOf n)
     by-dialect none = nothing-fits (refusal 11) room
     by-dialect (some d) = by-end (readFile d none file)
 
-least-first : (a b : ℕ) → least a b ≤ a
+pub least-first : (a b : ℕ) → least a b ≤ a
 least-first a b = split (λ (n : ℕ). n ≤ a) (leb a b) (λ _. omega arith) λ e. omega (arith, leb-false a b e)
 
-least-second : (a b : ℕ) → least a b ≤ b
+pub least-second : (a b : ℕ) → least a b ≤ b
 least-second a b = split (λ (n : ℕ). n ≤ b) (leb a b) (λ e. leb-true a b e) λ _. omega arith
 
 -- a list of numbers, one for each cell

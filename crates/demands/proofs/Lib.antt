@@ -2,6 +2,11 @@ pub mod Leaving
 pub mod Telling
 pub mod Accepting
 pub mod Limits
+pub mod Carrying
+pub mod Alike
+pub mod Layouts
+pub mod Deriving
+pub mod Filling
 pub mod LedgerLaws
 pub mod Calls
 pub mod Theorems

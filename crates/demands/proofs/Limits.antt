@@ -28,13 +28,13 @@ use Rattle.model.proofs.Verdicts.{else-sound, target-sound}
 use Rattle.model.proofs.Room.{file-output, file-room}
 use Rattle.model.proofs.WriterBack.{next-none}
 
-zero-ten : _≡_ {A = ℕ} 0 10 → ⊥
+pub zero-ten : _≡_ {A = ℕ} 0 10 → ⊥
 zero-ten e = omega arith
 
 eleven-ten : _≡_ {A = ℕ} 11 10 → ⊥
 eleven-ten e = omega arith
 
-fault-ten : (e : Fault) → numberOf e ≡ 10 → ⊥
+pub fault-ten : (e : Fault) → numberOf e ≡ 10 → ⊥
 fault-ten NoRecord h = omega arith
 fault-ten (Byte Encoding) h = omega arith
 fault-ten (Byte Syntax) h = omega arith

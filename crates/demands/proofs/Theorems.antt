@@ -2,12 +2,16 @@
 use mathlib.Core.Path.{_≡_}
 use Rattle.model.proofs.AllTrips.{trips}
 use Rattle.model.proofs.Laws.{laws}
-use Rattle.grammar.proofs.Theorems.{reader-exactly, reader-places}
+use Rattle.grammar.proofs.Theorems.{reader-places, next-byte}
 use Rattle.pieces.proofs.Carrying.{new-carries}
 use Rattle.demands.specs.Demands.{Demand1, Demand2, Demand3, Demands}
 use Rattle.demands.proofs.Leaving.{reader-leaves, decoder-leaves, converter-leaves, writer-leaves}
 use Rattle.demands.proofs.Telling.{reader-unknown, decoder-unknown, converter-unknown, writer-unknown, reader-tells, decoder-tells, converter-tells, writer-tells}
-use Rattle.demands.proofs.Accepting.{converted-exactly}
+use Rattle.demands.proofs.Accepting.{converted-exactly, converted-text}
+use Rattle.demands.proofs.Carrying.{written-exactly, carried-comes-back}
+use Rattle.demands.proofs.Layouts.{every-table, rows-come-back}
+use Rattle.demands.proofs.Deriving.{as-derived}
+use Rattle.demands.proofs.Filling.{accepted-exactly, too-few-places, filled-as-derived, decoded-as-derived}
 use Rattle.demands.proofs.Limits.{converted-limit, written-limit, converted-room}
 use Rattle.demands.proofs.Calls.{every-list, refused, joined, whole-text, end-call, fault-is-whole, fault-of-every-file, room, ten}
 
@@ -28,11 +32,21 @@ demand-1 =
 pub demand-2 : Demand2
 demand-2 =
     record {
-      accepted-exactly = reader-exactly;
+      accepted-exactly = accepted-exactly;
+      too-few-places = too-few-places;
+      filled-as-derived = filled-as-derived;
+      decoded-as-derived = decoded-as-derived;
+      as-derived = as-derived;
       places = reader-places;
       decodes = trips .reader-decodes;
       converted-exactly = converted-exactly;
+      converted-text = converted-text;
       first-fault = λ d target e r xs ys h. laws .reading d target .fault-stays e r xs ys h .1;
+      next-byte = next-byte;
+      written-exactly = written-exactly;
+      carried-comes-back = carried-comes-back;
+      every-table = every-table;
+      rows-come-back = rows-come-back;
       round-trip = trips .round-trip;
       same-text = trips .same-text;
       converted-once = trips .converted-once;

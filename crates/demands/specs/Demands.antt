@@ -10,30 +10,31 @@ use mathlib.Core.List.{List, [], _∷_, _++_, map, zipWith}
 use lib.ListN.{length, take, drop}
 use Rattle.model.specs.declared.Report.{Report}
 use Rattle.model.specs.declared.Dialect.{Dialect}
+use Rattle.model.specs.declared.Kind.the-variants.{Text}
 use Rattle.model.specs.declared.Fault.{Fault}
 use Rattle.model.specs.declared.Target.{Target}
 use Rattle.model.specs.declared.CellCheck.{CellCheck}
 use Rattle.model.specs.declared.CellCheck.the-variants.{WholeCell, Unsound}
 use Rattle.model.specs.Base.{Bytes, concat}
 use Rattle.model.specs.Dialect.{dialectOf, into}
-use Rattle.model.specs.Decode.{contentOf, validateCell}
-use Rattle.model.specs.Text.{Value, tableText}
-use Rattle.model.specs.Report.{report, accepted, refusal, numberOf, columnOf, MAXFILE}
-use Rattle.model.specs.Records.{Rec, rows, Read, Progress, going, stopped, readBytes, readFile, recordsOf, placeOf, faultReport}
-use Rattle.model.specs.Api.{ReadCall, reader, readCall, decoder, decoderLeaves, converter, converterLeaves, Table, rowsIn, rowsFault, writer, writerLeaves}
-use Rattle.model.specs.Targets.{Passes}
+use Rattle.model.specs.Decode.{kindNumber, contentOf, validateCell}
+use Rattle.model.specs.Text.{Value, recordText, tableText}
+use Rattle.model.specs.Report.{report, accepted, refusal, numberOf, columnOf, MAXFILE, MAXRECORD, MAXCOLUMNS}
+use Rattle.model.specs.Records.{nameKey, hasKind, losesSurrogate, Rec, rows, Read, Progress, going, stopped, fileFull, recordFull, readBytes, readFile, recordsOf, placeOf, faultReport}
+use Rattle.model.specs.Api.{Answer, ReadCall, reader, readCall, decoder, decoderLeaves, converter, converterLeaves, Table, isValue, slice, rowsIn, rowsFault, writer, writerLeaves}
 use Rattle.model.specs.Laws.{All}
 use Rattle.model.specs.Ledger.{Call, piece, finish, Entry, roomOf, isFileFault, faultIn, endedIn, consumedIn, tooSmall, checked, history, ledger, callLeaves}
 use Rattle.model.specs.Demands.{seenIn}
-use Rattle.model.specs.Trips.{RoundTrip, SameText, ConvertedBack, ConvertedOnce, ReaderDecodes}
+use Rattle.model.specs.Trips.{meaning, SameRows, hasCells, Decodes, ReadsBack, RoundTrip, SameText, ConvertedBack, ConvertedOnce, ReaderDecodes}
 use Rattle.numbers.specs.Named.{textAnswer}
 use Rattle.numbers.specs.declared.TextAnswer.{TextAnswer}
 use Rattle.pieces.specs.Calling.{newConverter, Called}
 use Rattle.pieces.specs.declared.Converter.{Converter}
-use Rattle.rfc_grammar.specs.Derived.{Derived, Line}
+use Rattle.rfc_grammar.specs.Derived.{Derived, kindIn, contentIn, Line, cellsIn, Each}
 use Rattle.file_grammar.specs.Derives.{Derives}
+use Rattle.file_grammar.specs.Stretches.{Stretch, stretches, stretchOf}
 use Rattle.grammar.specs.Accepted.{Acceptable, cellCount}
-use Rattle.file_grammar.specs.Stretches.{stretches, stretchOf}
+use Rattle.grammar.specs.NextByte.{NextByte}
 
 -- ---- demand 1
 
@@ -99,26 +100,159 @@ pub record Demand1 : Type 0 where
 
 -- ---- demand 2
 
+-- no two names are the same, by the dialect's rule (§3.11 §4.10 §5.10)
+pub data DistinctNames (d : Dialect) : List Value → Type 0 where
+  no-names : DistinctNames d []
+  a-name :
+      {v : Value} {vs : List Value} → All (λ (w : Value). nameKey d (w .content) ≢ nameKey d (v .content)) vs → DistinctNames d vs →
+      DistinctNames d (v ∷ vs)
+
+-- a table that the dialect carries within the limits, by its cells, its names and its text, whatever the order of the checks (§2.5 §3.10 §4.9
+-- §7.1 §7.2 §7.3 §8.2 §8.3 §8.4 §8.5 §8.6)
+pub record CarriedTable (t : Dialect) (h : List Value) (rs : List (List Value)) : Type 0 where
+  pub columns : length h ≤ MAXCOLUMNS
+  pub has-cells : hasCells t h ≡ true
+  pub texts : All (λ (v : Value). v .kind ≡ Text) h
+  pub names : DistinctNames t h
+  pub kinds : All (All (λ (v : Value). hasKind t (v .kind) ≡ true)) (h ∷ rs)
+  pub lossless : All (All (λ (v : Value). losesSurrogate t v ≡ false)) (h ∷ rs)
+  pub short-header : length (recordText (into t) true h) ≤ MAXRECORD
+  pub short-records : All (λ (r : List Value). length (recordText (into t) false r) ≤ MAXRECORD) rs
+  pub short-file : length (tableText (into t) (h ∷ rs)) ≤ MAXFILE
+
+-- rows of values: a header and data rows of as many cells, and each cell's content has the form of its kind: a text of the content form, a
+-- number as JSON has it, nothing for true, false and null. Where a content lies is no part of it (§2.2 §2.6 §2.9 §13.5 §13.7 §13.8)
+pub record ValueRows (h : List Value) (rs : List (List Value)) : Type 0 where
+  pub contents : All (All (λ (v : Value). isValue (v .kind) (v .content) ≡ true)) (h ∷ rs)
+  pub counts : All (λ (r : List Value). length r ≡ length h) rs
+
+-- a table with these kinds and contents, row by row, wherever they lie in it (§13.1 §13.2)
+abbrev pub TableOf : List Value → List (List Value) → Table → Type 0
+TableOf h rs table = (qs : List (List Value)) × (rowsIn table ≡ some qs) × SameRows qs (h ∷ rs)
+
+-- a text that the reader accepts as these rows: the columns, the row count, each kind and content, and each span decodes to its cell (§10.1
+-- §10.2 §10.3 §19.3)
+pub record ReadAsRows (n : ℕ) (h : List Value) (rs : List (List Value)) (text : Bytes) (a : Answer) : Type 0 where
+  pub report : a .report ≡ accepted
+  pub columns : a .columns ≡ length h
+  pub records : a .records ≡ length rs
+  pub cells : map meaning (a .cells) ≡ map meaning (concat (h ∷ rs))
+  pub decoded : All (Decodes n text) (a .cells)
+
+-- the columns of a derivation: the cells of its header (§10.1)
+abbrev pub columnsIn : List (Line Derived) → ℕ
+columnsIn [] = 0
+columnsIn (l ∷ ls) = length (cellsIn l)
+
+-- a derived cell as a value, of its kind and content; where it lies is no matter (§2.3)
+abbrev pub valueIn : Derived → Value
+valueIn c = record { from = 0; upto = 0; kind = kindIn c; content = contentIn c }
+
+-- the row of a derived record (§2.2)
+abbrev pub rowIn : Line Derived → List Value
+rowIn l = map valueIn (cellsIn l)
+
+-- an answer of the reader with the counts, kinds and contents that are derived (§10.1 §10.2)
+pub record AsDerived (ls : List (Line Derived)) (a : Answer) : Type 0 where
+  pub columns : a .columns ≡ columnsIn ls
+  pub records : suc (a .records) ≡ length ls
+  pub kinds : map (λ (v : Value). v .kind) (a .cells) ≡ map kindIn (concat (map cellsIn ls))
+  pub contents : map (λ (v : Value). v .content) (a .cells) ≡ map contentIn (concat (map cellsIn ls))
+
+-- each of the three lists has a place for every cell (§10.5)
+pub record HasPlaces (cells : ℕ) (starts ends kinds : List ℕ) : Type 0 where
+  pub for-starts : cells ≤ length starts
+  pub for-ends : cells ≤ length ends
+  pub for-kinds : cells ≤ length kinds
+
+-- a call of the reader with the counts that are derived, and lists that begin with the starts, the ends and the kinds of the derived cells, in
+-- file order (§2.3 §10.1 §10.2 §10.3)
+pub record FilledAsDerived (d : Dialect) (file : Bytes) (ls : List (Line Derived)) (k : Derives d file ls) (c : ReadCall) : Type 0 where
+  pub columns : c .columns ≡ columnsIn ls
+  pub records : suc (c .records) ≡ length ls
+  pub cells : c .cells ≡ cellCount ls
+  pub starts : take (c .cells) (c .starts) ≡ map (λ (s : Stretch). s .from) (concat (stretches d file ls k))
+  pub ends : take (c .cells) (c .ends) ≡ map (λ (s : Stretch). s .upto) (concat (stretches d file ls k))
+  pub kinds : take (c .cells) (c .kinds) ≡ map (λ (x : Derived). kindNumber (kindIn x)) (concat (map cellsIn ls))
+
+-- the decoder makes of a span of the file the kind and the content of a derived cell (§10.3 §11.1)
+abbrev pub DecodesTo : (dialect : ℕ) → (file : Bytes) → Stretch → Derived → Type 0
+DecodesTo n file s c =
+    decoder n (slice file (s .from) (s .upto)) (length (contentIn c))
+    ≡ record { report = accepted; kind = kindNumber (kindIn c); content = contentIn c }
+
 pub record Demand2 : Type 0 where
-  -- the reader accepts exactly what the grammar, the limits and the record checks accept, if the lists have room (§19.2)
+  -- a call of the reader accepts exactly what the grammar, the limits and the record checks accept, if each of the three lists has a place
+  -- for every cell (§10.5 §19.2)
   pub accepted-exactly :
-      (n : ℕ) (d : Dialect) (file : Bytes) (room : ℕ) → dialectOf n ≡ some d →
-      (reader n file room .report ≡ accepted) ↔ ((ls : List (Line Derived)) × Acceptable d file ls × (cellCount ls ≤ room))
-  -- and answers its cells, each where the grammar has it
+      (n : ℕ) (d : Dialect) (file : Bytes) (starts ends kinds : List ℕ) → dialectOf n ≡ some d →
+      (readCall n file starts ends kinds .report ≡ accepted)
+      ↔ ((ls : List (Line Derived)) × Acceptable d file ls × HasPlaces (cellCount ls) starts ends kinds)
+  -- and reports 10 exactly when these accept it and one of the lists has too few places (§10.5)
+  pub too-few-places :
+      (n : ℕ) (d : Dialect) (file : Bytes) (starts ends kinds : List ℕ) → dialectOf n ≡ some d →
+      (readCall n file starts ends kinds .report ≡ refusal 10)
+      ↔ ((ls : List (Line Derived)) × Acceptable d file ls × (¬ HasPlaces (cellCount ls) starts ends kinds))
+  -- accepting, it counts and fills the lists as the grammar derives (§10.1 §10.2)
+  pub filled-as-derived :
+      (n : ℕ) (d : Dialect) (file : Bytes) (starts ends kinds : List ℕ) (ls : List (Line Derived)) (a : Acceptable d file ls) → dialectOf n ≡ some d →
+      HasPlaces (cellCount ls) starts ends kinds → FilledAsDerived d file ls (a .derived) (readCall n file starts ends kinds)
+  -- each span decodes to the kind and the content that are derived there (§10.3 §11.1)
+  pub decoded-as-derived :
+      (n : ℕ) (d : Dialect) (file : Bytes) (ls : List (Line Derived)) (a : Acceptable d file ls) → dialectOf n ≡ some d →
+      Each (DecodesTo n file) (concat (stretches d file ls (a .derived))) (concat (map cellsIn ls))
+  -- the same of the reader's answer before it is written into the lists: its cells have the kinds and contents that are derived
+  pub as-derived :
+      (n : ℕ) (d : Dialect) (file : Bytes) (room : ℕ) (ls : List (Line Derived)) → dialectOf n ≡ some d → Acceptable d file ls → cellCount ls ≤ room →
+      AsDerived ls (reader n file room)
+  -- each where the grammar has it
   pub places :
       (n : ℕ) (d : Dialect) (file : Bytes) (room : ℕ) (ls : List (Line Derived)) (k : Derives d file ls) → dialectOf n ≡ some d →
       reader n file room .report ≡ accepted → map stretchOf (reader n file room .cells) ≡ concat (stretches d file ls k)
-  -- each decodes from there to its kind and content
+  -- and each decodes from there to its kind and content
   pub decodes : ReaderDecodes
-  -- the converter accepts exactly what the reader accepts and the target carries, if its text has room
+  -- the converter accepts exactly the files that are acceptable in the source and whose rows the target carries within the limits, if the
+  -- text has room (§8.1 §12.1 §12.2 §12.3)
   pub converted-exactly :
       (m n : ℕ) (d t : Dialect) (file : Bytes) (room : ℕ) → dialectOf m ≡ some d → dialectOf n ≡ some t →
       (converter m n file room .report ≡ accepted)
-      ↔ ((r : Read) × (readFile d none file ≡ going r) × Passes (into t) [] (r .done) × (length (tableText (into t) (rows (r .done))) ≤ room))
+      ↔ ((l : Line Derived) × (ls : List (Line Derived)) × Acceptable d file (l ∷ ls) × CarriedTable t (rowIn l) (map rowIn ls)
+      × (length (tableText (into t) (map rowIn (l ∷ ls))) ≤ room))
+  -- and writes these rows
+  pub converted-text :
+      (m n : ℕ) (d t : Dialect) (file : Bytes) (room : ℕ) (ls : List (Line Derived)) → dialectOf m ≡ some d → dialectOf n ≡ some t →
+      Acceptable d file ls → converter m n file room .report ≡ accepted → converter m n file room .text ≡ tableText (into t) (map rowIn ls)
   -- a fault met in the first bytes of a file is the file's: no later one is reported in its place
   pub first-fault :
       (d : Dialect) (target : Option Target) (e : Fault) (r : Read) (xs ys : Bytes) → readBytes d target xs ≡ stopped e r →
       readFile d target (xs ++ ys) ≡ stopped e r
+  -- in the words of the grammar: within the limits, a byte is fault 2 or 3 exactly when no derivation's text begins with the bytes before it
+  -- and then this byte (§6.2 §6.3)
+  pub next-byte :
+      (d : Dialect) (target : Option Target) (xs : Bytes) (r : Read) (b : ℕ) → readBytes d target xs ≡ going r → fileFull r ≡ false →
+      recordFull r b ≡ false → NextByte d target xs r b
+  -- the writer accepts exactly the tables that the dialect carries within the limits, if the text has room (§13.2 §13.11 §13.13)
+  pub written-exactly :
+      (n : ℕ) (t : Dialect) (table : Table) (room : ℕ) → dialectOf n ≡ some t →
+      (writer n table room .report ≡ accepted)
+      ↔ ((h : List Value) × (rs : List (List Value)) × (rowsIn table ≡ some (h ∷ rs)) × CarriedTable t h rs × (length (tableText (into t) (h ∷ rs)) ≤ room))
+  -- from the table's side: given room, each table that the dialect carries within the limits is written, and read back the same (§19.3)
+  pub carried-comes-back :
+      (n : ℕ) (t : Dialect) (table : Table) (h : List Value) (rs : List (List Value)) (room places : ℕ) → dialectOf n ≡ some t →
+      rowsIn table ≡ some (h ∷ rs) → CarriedTable t h rs → length (tableText (into t) (h ∷ rs)) ≤ room → length (concat (h ∷ rs)) ≤ places →
+      (writer n table room ≡ record { report = accepted; text = tableText (into t) (h ∷ rs) })
+      × ReadsBack n table (h ∷ rs) (tableText (into t) (h ∷ rs)) (reader n (tableText (into t) (h ∷ rs)) places)
+  -- any rows of values, and no others, are those of a table, up to where the contents lie: nothing hides in how its lists are laid out (§13.1
+  -- §13.2)
+  pub every-table : (h : List Value) (rs : List (List Value)) → ValueRows h rs ↔ ((table : Table) × TableOf h rs table)
+  -- so rows of values that the dialect carries within the limits have a table; each table of them is written, as the same text; and the text
+  -- is read back as these rows (§19.3)
+  pub rows-come-back :
+      (n : ℕ) (t : Dialect) (h : List Value) (rs : List (List Value)) (room places : ℕ) → dialectOf n ≡ some t → ValueRows h rs → CarriedTable t h rs →
+      length (tableText (into t) (h ∷ rs)) ≤ room → length (concat (h ∷ rs)) ≤ places →
+      ((table : Table) × TableOf h rs table)
+      × ((table : Table) → TableOf h rs table → writer n table room ≡ record { report = accepted; text = tableText (into t) (h ∷ rs) })
+      × ReadAsRows n h rs (tableText (into t) (h ∷ rs)) (reader n (tableText (into t) (h ∷ rs)) places)
   -- written and read back: the same columns, row count, kinds and contents (§19.3)
   pub round-trip : RoundTrip
   -- canonical text is canonical, and what was converted is read in the target as the file is in its source

@@ -44,7 +44,7 @@ sound-when t e p = rw p
 
 -- ---- text
 
-not-text : (k : Kind) → not (isText k) ≡ false → k ≡ Text
+pub not-text : (k : Kind) → not (isText k) ≡ false → k ≡ Text
 not-text Text p = refl
 not-text Number p = impossible (sym p)
 not-text True p = impossible (sym p)
@@ -91,7 +91,7 @@ not-same : (x y : Bytes) → same x y ≡ false → x ≢ y
 not-same x y p e = impossible (sym p ∙ (rw e (same-refl y)))
 
 -- among the names seen
-among-cons : (x y : Bytes) (ys : List Bytes) → among x (y ∷ ys) ≡ false → (x ≢ y) × (among x ys ≡ false)
+pub among-cons : (x y : Bytes) (ys : List Bytes) → among x (y ∷ ys) ≡ false → (x ≢ y) × (among x ys ≡ false)
 unfolding among if_then_else_
 among-cons x y ys p = go (same x y) refl
   where
@@ -99,7 +99,7 @@ among-cons x y ys p = go (same x y) refl
     go true q = impossible (sym (rw q at p))
     go false q = (not-same x y q, rw q at p)
 
-cons-among : (x y : Bytes) (ys : List Bytes) → x ≢ y → among x ys ≡ false → among x (y ∷ ys) ≡ false
+pub cons-among : (x y : Bytes) (ys : List Bytes) → x ≢ y → among x ys ≡ false → among x (y ∷ ys) ≡ false
 unfolding among if_then_else_
 cons-among x y ys n p = rw (same-not x y n, p)
 
