@@ -31,7 +31,7 @@ use Rattle.grammar.proofs.Acceptance.{ten, ReadAs, read-as, acceptable-read, Ac
 use Rattle.grammar.proofs.AcceptedOnly.{stopped-going}
 use Rattle.grammar.proofs.Theorems.{one-meaning, reader-exactly, reader-places}
 use Rattle.demands.specs.Demands.{TellsFile, AsDerived, HasPlaces, FilledAsDerived, DecodesTo}
-use Rattle.demands.specs.Demands as told
+use Rattle.demands.specs.Demands as reports
 use Rattle.demands.proofs.Leaving.{least-first, least-second}
 use Rattle.demands.proofs.Telling.{reader-tells}
 use Rattle.demands.proofs.Limits.{zero-ten, fault-ten}
@@ -79,42 +79,42 @@ accepted-exactly n d file starts ends kinds e =
 
 module _ {needs : List Rec → ℕ} {room : ℕ} where
   full-read : (p : Progress) (x : Report) → TellsFile needs room p x → x ≡ refusal 10 → (r : Read) × (p ≡ going r)
-  full-read p x (told.fault {e}) q = absurd (fault-ten e (ap (λ (y : Report). y .number) q))
-  full-read p x (told.no-room {r} h) q = (r, refl)
-  full-read p x (told.accepts {r} h) q = absurd (zero-ten (ap (λ (y : Report). y .number) q))
+  full-read p x (reports.fault {e}) q = absurd (fault-ten e (ap (λ (y : Report). y .number) q))
+  full-read p x (reports.no-room {r} h) q = (r, refl)
+  full-read p x (reports.accepts {r} h) q = absurd (zero-ten (ap (λ (y : Report). y .number) q))
 
   read-full : (p : Progress) (x : Report) (r : Read) → TellsFile needs room p x → p ≡ going r → x ≢ accepted → x ≡ refusal 10
-  read-full p x r told.fault q n = stopped-going q
-  read-full p x r (told.no-room h) q n = refl
-  read-full p x r (told.accepts h) q n = absurd (n refl)
+  read-full p x r reports.fault q n = stopped-going q
+  read-full p x r (reports.no-room h) q n = refl
+  read-full p x r (reports.accepts h) q n = absurd (n refl)
 
 module _ (n : ℕ) (d : Dialect) (file : Bytes) (starts ends kinds : List ℕ) (known : dialectOf n ≡ some d) where
   abbrev reported : Report
   reported = reader n file (roomIn starts ends kinds) .report
 
-  tells : TellsFile (λ (rs : List Rec). length (concat (rows rs))) (roomIn starts ends kinds) (readFile d none file) reported
-  tells = reader-tells n d file (roomIn starts ends kinds) known
+  file-report : TellsFile (λ (rs : List Rec). length (concat (rows rs))) (roomIn starts ends kinds) (readFile d none file) reported
+  file-report = reader-tells n d file (roomIn starts ends kinds) known
 
-  accepts : (reported ≡ accepted) ↔ ((ls : List (Line Derived)) × Acceptable d file ls × (cellCount ls ≤ roomIn starts ends kinds))
-  accepts = reader-exactly n d file (roomIn starts ends kinds) known
+  accepted-with : (reported ≡ accepted) ↔ ((ls : List (Line Derived)) × Acceptable d file ls × (cellCount ls ≤ roomIn starts ends kinds))
+  accepted-with = reader-exactly n d file (roomIn starts ends kinds) known
 
   full-only : reported ≡ refusal 10 → (ls : List (Line Derived)) × Acceptable d file ls × (¬ HasPlaces (cellCount ls) starts ends kinds)
-  full-only q = let x = full-read (readFile d none file) reported tells q in go (read-acceptable d file (x .0) (x .1))
+  full-only q = let x = full-read (readFile d none file) reported file-report q in go (read-acceptable d file (x .0) (x .1))
     where
       go : {r : Read} → AcceptedAs d file r → (ls : List (Line Derived)) × Acceptable d file ls × (¬ HasPlaces (cellCount ls) starts ends kinds)
-      go (accepted-as ls a k) = (ls, a, λ h. ten (sym q ∙ accepts .1 (ls, a, places-room starts ends kinds (cellCount ls) .0 h)))
+      go (accepted-as ls a k) = (ls, a, λ h. ten (sym q ∙ accepted-with .1 (ls, a, places-room starts ends kinds (cellCount ls) .0 h)))
 
   full-enough : (ls : List (Line Derived)) → Acceptable d file ls → (¬ HasPlaces (cellCount ls) starts ends kinds) → reported ≡ refusal 10
   full-enough ls a few = go (acceptable-read d file ls a)
     where
       refused : reported ≢ accepted
       refused q =
-          let y = accepts .0 q in
+          let y = accepted-with .0 q in
           let same : y .0 ≡ ls = one-meaning d file (y .0) ls (y .1 .derived) (a .derived) in
           few (rw same at (places-room starts ends kinds (cellCount (y .0)) .1 (y .2)))
 
       go : ReadAs d file ls → reported ≡ refusal 10
-      go (read-as end e k) = read-full (readFile d none file) reported end tells e refused
+      go (read-as end e k) = read-full (readFile d none file) reported end file-report e refused
 
 pub too-few-places :
     (n : ℕ) (d : Dialect) (file : Bytes) (starts ends kinds : List ℕ) → dialectOf n ≡ some d →
