@@ -412,18 +412,24 @@ class Converter:
         self._prepare()
 
 
-def convert_stream(reader: BinaryIO, writer: BinaryIO, source: AnyDialect, target: AnyDialect) -> int:
+def convert_stream(source: AnyDialect, target: AnyDialect, reader: BinaryIO, writer: BinaryIO) -> int:
     r"""Converts what `reader` gives until its end, into `writer`, in constant memory; how many bytes were written.
 
     Each record is written as soon as the bytes that complete it were read. So when this raises, because the file is refused or the reader
     fails, the writer has every record that was completed before, and `Refused.written` is empty. Neither is flushed or closed.
 
     >>> out = io.BytesIO()
-    >>> convert_stream(io.BytesIO(b"stop,fare\nHarbour,2.40\n"), out, "csv+", "tdif")
+    >>> convert_stream("csv+", "tdif", io.BytesIO(b"stop,fare\nHarbour,2.40\n"), out)
     31
     >>> out.getvalue()
     b'"stop","fare"\n"Harbour","2.40"\n'
     """
+    for file, method in ((reader, "read"), (writer, "write")):
+        if not hasattr(file, method):
+            raise TypeError(
+                "convert_stream(source, target, reader, writer) takes the dialects first, then the files, "
+                f"and no {type(file).__name__}, which can't {method}"
+            )
     converter = Converter(source, target)
     # A buffered reader's `read` would wait for all of the bytes that it is asked for, and hold a complete record back.
     next_bytes = getattr(reader, "read1", None) or reader.read

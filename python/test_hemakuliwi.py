@@ -264,7 +264,7 @@ class Faults(unittest.TestCase):
             converted, sentence = io.BytesIO(), ""
             dialects = [int(word) if word.isdigit() else word for word in arguments.read_text().split()]
             try:
-                hemakuliwi.convert_stream(io.BytesIO(arguments.with_suffix(".in").read_bytes()), converted, *dialects)
+                hemakuliwi.convert_stream(*dialects, io.BytesIO(arguments.with_suffix(".in").read_bytes()), converted)
             except Refused as refused:
                 sentence = f"{refused}\n"
             self.assertEqual(sentence, said, arguments)
@@ -568,7 +568,7 @@ class Streams(unittest.TestCase):
     def test_a_file_goes_through(self):
         for source, target in PAIRS:
             for reader, writer in [(io.BytesIO(STOPS_IN[source]), io.BytesIO()), (Drip(STOPS_IN[source]), Drip())]:
-                count = hemakuliwi.convert_stream(reader, writer, source, target)
+                count = hemakuliwi.convert_stream(source, target, reader, writer)
                 self.assertEqual(writer.taken if isinstance(writer, Drip) else writer.getvalue(), STOPS_IN[target])
                 self.assertEqual(count, len(STOPS_IN[target]))
 
@@ -579,7 +579,7 @@ class Streams(unittest.TestCase):
             source.write_bytes(file)
             for buffering in (-1, 0):
                 with open(source, "rb", buffering) as reader, open(target, "wb", buffering) as writer:
-                    hemakuliwi.convert_stream(reader, writer, "csv+", "csvj")
+                    hemakuliwi.convert_stream("csv+", "csvj", reader, writer)
                 self.assertEqual(target.read_bytes(), hemakuliwi.convert("csv+", "csvj", file))
 
     def test_completed_records_are_written_before_a_fault(self):
@@ -587,14 +587,14 @@ class Streams(unittest.TestCase):
         for reader in (io.BytesIO(file), Drip(file)):
             writer = io.BytesIO()
             with self.assertRaises(Refused) as caught:
-                hemakuliwi.convert_stream(reader, writer, "csv+", "tdif")
+                hemakuliwi.convert_stream("csv+", "tdif", reader, writer)
             self.assertEqual(writer.getvalue(), b'"stop","fare"\n"Harbour","2.40"\n')
             self.assertEqual((caught.exception.report, caught.exception.written), ((5, 3, 0, 23), b""))
 
     def test_completed_records_are_written_before_the_reader_fails(self):
         writer = io.BytesIO()
         with self.assertRaisesRegex(OSError, "the line went dead"):
-            hemakuliwi.convert_stream(Drip(b"name\nHarbour\nOld M", OSError("the line went dead")), writer, "csv+", "tdif")
+            hemakuliwi.convert_stream("csv+", "tdif", Drip(b"name\nHarbour\nOld M", OSError("the line went dead")), writer)
         self.assertEqual(writer.getvalue(), b'"name"\n"Harbour"\n')
 
     def test_a_record_is_written_as_it_completes(self):
@@ -609,7 +609,7 @@ class Streams(unittest.TestCase):
 
         writer = Writer()
         with open(from_pipe, "rb") as reader, open(to_pipe, "wb", 0) as feeder:
-            convert = threading.Thread(target=hemakuliwi.convert_stream, args=(reader, writer, "csv+", "csvj"))
+            convert = threading.Thread(target=hemakuliwi.convert_stream, args=("csv+", "csvj", reader, writer))
             convert.start()
             feeder.write(b"name\nHar")
             self.assertTrue(written.wait(20), "the header is held back until the pipe ends")
@@ -621,13 +621,21 @@ class Streams(unittest.TestCase):
 
     def test_a_file_that_would_block_is_told(self):
         with self.assertRaises(BlockingIOError):
-            hemakuliwi.convert_stream(Blocked(), io.BytesIO(), 1, 1)
+            hemakuliwi.convert_stream(1, 1, Blocked(), io.BytesIO())
         with self.assertRaises(BlockingIOError):
-            hemakuliwi.convert_stream(io.BytesIO(b'"a"\n'), Blocked(), 1, 1)
+            hemakuliwi.convert_stream(1, 1, io.BytesIO(b'"a"\n'), Blocked())
 
     def test_characters_are_no_bytes(self):
         with self.assertRaisesRegex(TypeError, "^bytes are needed"):
-            hemakuliwi.convert_stream(io.StringIO("a\n"), io.BytesIO(), 3, 1)
+            hemakuliwi.convert_stream(3, 1, io.StringIO("a\n"), io.BytesIO())
+
+    def test_files_before_the_dialects_are_a_type_error(self):
+        reader, writer = io.BytesIO(b"name\nHarbour\n"), io.BytesIO()
+        for wrong in [(reader, writer, "csv+", "csvj"), (reader, writer, 3, 1), ("csv+", "csvj", "in", "out"), ("csv+", "csvj", reader, "out")]:
+            with self.assertRaisesRegex(TypeError, r"^convert_stream\(source, target, reader, writer\) takes the dialects first"):
+                hemakuliwi.convert_stream(*wrong)
+        self.assertEqual((reader.tell(), writer.getvalue()), (0, b""))
+        self.assertEqual(hemakuliwi.convert_stream(writer=writer, reader=reader, target="csvj", source="csv+"), len(writer.getvalue()))
 
 
 # ---- the library
