@@ -25,6 +25,7 @@ from __future__ import annotations
 import ctypes
 import enum
 import io
+import operator
 import os
 import threading
 from ctypes import POINTER, c_char_p, c_size_t, c_uint8, c_uint32
@@ -231,19 +232,27 @@ def text(characters: str) -> Cell:
     >>> text("Old Mint").content
     b'Old Mint'
     """
+    if not isinstance(characters, str):
+        raise TypeError(f"a text is a str, and no {type(characters).__name__}")
     return Cell(Kind.TEXT, characters.encode("utf-8", "surrogatepass"))
 
 
 def number(spelling: Union[str, int, Decimal]) -> Cell:
-    """A cell that is a number, spelt as JSON spells it; the spelling is kept.
+    """A cell that is a number: a str that spells it as JSON does, which is kept, an integer of any type, or a Decimal.
+
+    A float is refused, here and by `write`: 2.4 and 2.40 are the same float, and a number stays as it is spelt. A Decimal that is not
+    finite is a ValueError.
 
     >>> number("2.40").content
     b'2.40'
     """
-    return Cell(Kind.NUMBER, str(spelling).encode("utf-8", "surrogatepass"))
+    cell = _number_of(spelling)
+    if cell is None:
+        raise TypeError(f"a number is a str that spells it, an int or a Decimal, and no {type(spelling).__name__}: {_advice_on(spelling)}")
+    return cell
 
 
-AnyCell = Union[Cell, str, bytes, bool, int, Decimal, None]
+AnyCell = Union[Cell, str, bytes, bytearray, memoryview, bool, int, Decimal, None]
 
 
 class Table(NamedTuple):
@@ -302,9 +311,10 @@ def convert(source: AnyDialect, target: AnyDialect, data: Bytes) -> bytes:
 def write(dialect: AnyDialect, rows: Union[Table, Iterable[Sequence[AnyCell]]]) -> bytes:
     r"""The canonical text of a table: of one that was read, or of rows, of which the first is the header.
 
-    A text is a str, or its content as bytes; null is None, true and false are a bool, a number is an int or a Decimal, and any cell may
-    be a `Cell`. A float is none: `number` takes the spelling that is meant. A row that is shorter or longer than the first is a
-    ValueError; all else that is no table is refused.
+    A text is a str, or its content as bytes; null is None, true and false are a bool, a number is an integer of any type or a Decimal,
+    and any cell may be a `Cell`. A float is none: `number` takes the spelling that is meant. What is no cell is a TypeError or a
+    ValueError with its row and column, and a row that is shorter or longer than the first a ValueError; all else that is no table is
+    refused.
 
     >>> write("csvj", [["stop", "fare", "zone"], ["Harbour", number("2.40"), 1], ["Old Mint", None, True]])
     b'"stop","fare","zone"\n"Harbour",2.40,1\n"Old Mint",null,true\n'
@@ -490,28 +500,69 @@ def _records_of(rows: Iterable[Sequence[AnyCell]]) -> List[List[Cell]]:
         # These are sequences too, and never meant as a row.
         if isinstance(row, (str, bytes, Cell)):
             raise TypeError(f"a row is a sequence of cells, and no {type(row).__name__}")
-        records.append([_cell_of(cell) for cell in row])
+        records.append(_cells_of(len(records) + 1, row))
         if len(records[-1]) != len(records[0]):
             raise ValueError(f"row {len(records)} has {len(records[-1])} cells, and the first has {len(records[0])}")
     return records
 
 
+def _cells_of(place: int, row: Iterable[AnyCell]) -> List[Cell]:
+    """The cells of the row that is at this place, counted from 1."""
+    cells: List[Cell] = []
+    for cell in row:
+        try:
+            cells.append(_cell_of(cell))
+        except (TypeError, ValueError) as failure:
+            error = TypeError if isinstance(failure, TypeError) else ValueError
+            raise error(f"row {place}, column {len(cells) + 1}: {failure}") from None
+    return cells
+
+
 def _cell_of(cell: AnyCell) -> Cell:
     if isinstance(cell, Cell):
         return Cell(Kind(cell.kind), _bytes_of(cell.content))
+    if isinstance(cell, str):
+        return text(cell)
     if cell is None:
         return NULL
     if isinstance(cell, bool):
         return TRUE if cell else FALSE
-    if isinstance(cell, int):
-        return number(int(cell))
-    if isinstance(cell, Decimal):
-        return number(cell)
-    if isinstance(cell, str):
-        return text(cell)
-    if isinstance(cell, bytes):
-        return Cell(Kind.TEXT, cell)
-    raise TypeError(f"{cell!r} is no cell: write a number that is not whole as number('2.40')")
+    if isinstance(cell, (bytes, bytearray, memoryview)):
+        return Cell(Kind.TEXT, _bytes_of(cell))
+    found = _number_of(cell)
+    if found is None:
+        kinds = "a str, bytes, an int, a Decimal, a bool, None or a Cell"
+        raise TypeError(f"a cell is {kinds}, and no {type(cell).__name__}: {_advice_on(cell)}")
+    return found
+
+
+def _number_of(spelling: Any) -> Optional[Cell]:
+    """The number that is spelt so, or that this is; None for what is no number of one spelling. A bool is an int, but no number."""
+    if isinstance(spelling, str):
+        return Cell(Kind.NUMBER, spelling.encode("utf-8", "surrogatepass"))
+    if isinstance(spelling, Decimal):
+        if not spelling.is_finite():
+            raise ValueError(f"{spelling} is no number that a table can have")
+        return Cell(Kind.NUMBER, str(spelling).encode())
+    if isinstance(spelling, bool):
+        return None
+    try:
+        # An integer of another library has this, and may not be an int.
+        whole = operator.index(spelling)
+    except TypeError:
+        return None
+    return Cell(Kind.NUMBER, str(int(whole)).encode())
+
+
+def _advice_on(value: Any) -> str:
+    """What to write in place of a value that is no cell."""
+    if isinstance(value, float):
+        return "2.4 and 2.40 are the same float, so write number('2.40') or a Decimal"
+    if isinstance(value, bool):
+        return "write it as a cell without number()"
+    if hasattr(value, "isoformat"):
+        return "write its text, such as isoformat() gives"
+    return "write what it means, by str(), bool(), int() or number()"
 
 
 def _stretches(source: int, file: bytes) -> Tuple[Any, Any, Any, Any]:

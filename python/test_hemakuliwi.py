@@ -2,8 +2,10 @@
 
 import contextlib
 import copy
+import datetime
 import doctest
 import io
+import json
 import os
 import pickle
 import re
@@ -15,6 +17,7 @@ import threading
 import unittest
 from array import array
 from decimal import Decimal
+from fractions import Fraction
 from pathlib import Path
 
 import hemakuliwi
@@ -468,6 +471,86 @@ class Cells(unittest.TestCase):
         with self.assertRaisesRegex(ValueError, "^row 2 has 1 cells, and the first has 2$"):
             hemakuliwi.write("csvj", [["a", "b"], ["c"], ["d"]])
 
+    def test_an_integer_of_any_type_is_a_number(self):
+        class Int64:
+            """As the integers of numpy: no int."""
+
+            def __index__(self):
+                return -(2**63)
+
+        for integer, spelling in [(Int64(), b"-9223372036854775808"), (Kind.NULL, b"5"), (0, b"0"), (10**400, b"1" + b"0" * 400)]:
+            self.assertEqual(number(integer).content, spelling)
+            self.assertEqual(hemakuliwi.write("csvj", [["a"], [integer]]), b'"a"\n' + spelling + b"\n")
+        self.assertEqual(hemakuliwi.write("csvj", [["a"], [True], [False]]), b'"a"\ntrue\nfalse\n')
+
+    def test_a_buffer_of_bytes_is_a_text(self):
+        for cell in [b"a", bytearray(b"a"), memoryview(b"a"), memoryview(b"abc")[::-2][1:]]:
+            self.assertEqual(hemakuliwi.write("csvj", [[cell]]), b'"a"\n')
+
+    def test_what_is_no_cell_is_named_with_its_place_and_with_advice(self):
+        class Truth:
+            """As the booleans of numpy: neither a bool nor an integer."""
+
+            def __bool__(self):
+                return True
+
+        class Vector:
+            """As the arrays of numpy: an integer only if there is one."""
+
+            def __index__(self):
+                raise TypeError("only integer scalar arrays can be converted to a scalar index")
+
+        what_it_means = "write what it means, by str(), bool(), int() or number()"
+        no_float = "2.4 and 2.40 are the same float, so write number('2.40') or a Decimal"
+        for wrong, name, advice in [
+            (2.40, "float", no_float),
+            (3.0, "float", no_float),
+            (float("nan"), "float", no_float),
+            (datetime.date(2026, 11, 17), "date", "write its text, such as isoformat() gives"),
+            (datetime.datetime(2026, 11, 17), "datetime", "write its text, such as isoformat() gives"),
+            (Truth(), "Truth", what_it_means),
+            (Vector(), "Vector", what_it_means),
+            (Fraction(12, 5), "Fraction", what_it_means),
+            (2j, "complex", what_it_means),
+            (["a"], "list", what_it_means),
+            ({"a": 1}, "dict", what_it_means),
+            (array("B", b"a"), "array", what_it_means),
+        ]:
+            with self.assertRaises(TypeError, msg=name) as caught:
+                hemakuliwi.write(1, [["a", "b"], [1, 2], [1, wrong]])
+            kinds = "a str, bytes, an int, a Decimal, a bool, None or a Cell"
+            self.assertEqual(str(caught.exception), f"row 3, column 2: a cell is {kinds}, and no {name}: {advice}")
+            # What is no number for `write` is none for `number`.
+            with self.assertRaises(TypeError, msg=name) as caught:
+                number(wrong)
+            self.assertEqual(str(caught.exception), f"a number is a str that spells it, an int or a Decimal, and no {name}: {advice}")
+        for wrong in [True, None, b"2.40", text("2.40")]:
+            with self.assertRaisesRegex(TypeError, f"^a number is a str .* and no {type(wrong).__name__}: "):
+                number(wrong)
+        for wrong in [5, None, b"a"]:
+            with self.assertRaisesRegex(TypeError, f"^a text is a str, and no {type(wrong).__name__}$"):
+                text(wrong)
+        with self.assertRaisesRegex(ValueError, "^row 2, column 1: 9 is not a valid Kind$"):
+            hemakuliwi.write(1, [["a"], [Cell(9)]])
+        with self.assertRaisesRegex(TypeError, "^row 2, column 1: bytes are needed, or another buffer of them, and no str$"):
+            hemakuliwi.write(1, [["a"], [Cell(Kind.TEXT, "a")]])
+
+    def test_a_decimal_that_is_not_finite_is_refused_with_its_place(self):
+        for spelling in ["NaN", "-NaN", "sNaN", "NaN12", "Infinity", "-Infinity"]:
+            with self.assertRaisesRegex(ValueError, f"^row 2, column 3: {spelling} is no number that a table can have$"):
+                hemakuliwi.write("csvj", [["a", "b", "c"], [1, 2, Decimal(spelling)]])
+            with self.assertRaisesRegex(ValueError, f"^{spelling} is no number that a table can have$"):
+                number(Decimal(spelling))
+
+    def test_a_decimal_is_spelt_as_json_spells_it(self):
+        spellings = ["1E+2", "-1E+2", "1.50E+30", "1E-7", "0E-10", "0E+3", "-0", "-0.00", ".5", "5.", "1e999999", "1E-999999", "007", "2.40"]
+        decimals = [Decimal(spelling) for spelling in spellings]
+        read = hemakuliwi.read("csvj", hemakuliwi.write("csvj", [["a"], *[[decimal] for decimal in decimals]]))
+        for decimal, [cell] in zip(decimals, read.rows):
+            self.assertIs(cell.kind, Kind.NUMBER)
+            self.assertEqual(Decimal(cell.text).as_tuple(), decimal.as_tuple())
+            self.assertEqual(json.loads(cell.text, parse_float=Decimal, parse_int=Decimal).as_tuple(), decimal.as_tuple())
+
     def test_rows_may_be_any_iterable(self):
         self.assertEqual(hemakuliwi.write(1, ((name, name + "2") for name in "ab")), b'"a","a2"\n"b","b2"\n')
 
@@ -513,9 +596,6 @@ class Arguments(unittest.TestCase):
             ]:
                 with self.assertRaisesRegex(TypeError, "^a dialect is a Dialect, a name or a number"):
                     call()
-        for wrong in [2.40, object(), ["a"], bytearray(b"a")]:
-            with self.assertRaisesRegex(TypeError, "is no cell"):
-                hemakuliwi.write(1, [["a"], [wrong]])
         for wrong in ["ab", b"ab", text("ab")]:
             with self.assertRaisesRegex(TypeError, "^a row is a sequence of cells, and no "):
                 hemakuliwi.write(1, [wrong])
