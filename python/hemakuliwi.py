@@ -28,10 +28,11 @@ import io
 import operator
 import os
 import threading
+from collections.abc import Mapping, Reversible, Set
 from ctypes import POINTER, c_char_p, c_size_t, c_uint8, c_uint32
 from decimal import Decimal
 from pathlib import Path
-from typing import Any, BinaryIO, Iterable, Iterator, List, NamedTuple, Optional, Sequence, Tuple, Type, Union
+from typing import Any, BinaryIO, Iterable, Iterator, List, NamedTuple, Optional, SupportsIndex, Tuple, Type, Union
 
 __all__ = [
     "COLUMNS",
@@ -237,7 +238,7 @@ def text(characters: str) -> Cell:
     return Cell(Kind.TEXT, characters.encode("utf-8", "surrogatepass"))
 
 
-def number(spelling: Union[str, int, Decimal]) -> Cell:
+def number(spelling: Union[str, SupportsIndex, Decimal]) -> Cell:
     """A cell that is a number: a str that spells it as JSON does, which is kept, an integer of any type, or a Decimal.
 
     A float is refused, here and by `write`: 2.4 and 2.40 are the same float, and a number stays as it is spelt. A Decimal that is not
@@ -252,7 +253,8 @@ def number(spelling: Union[str, int, Decimal]) -> Cell:
     return cell
 
 
-AnyCell = Union[Cell, str, bytes, bytearray, memoryview, bool, int, Decimal, None]
+AnyCell = Union[Cell, str, bytes, bytearray, memoryview, bool, SupportsIndex, Decimal, None]
+AnyRow = Union[Iterable[AnyCell], Mapping[str, AnyCell]]
 
 
 class Table(NamedTuple):
@@ -308,16 +310,22 @@ def convert(source: AnyDialect, target: AnyDialect, data: Bytes) -> bytes:
     return _accepted(answer, room)
 
 
-def write(dialect: AnyDialect, rows: Union[Table, Iterable[Sequence[AnyCell]]]) -> bytes:
+def write(dialect: AnyDialect, rows: Union[Table, Iterable[AnyRow]]) -> bytes:
     r"""The canonical text of a table: of one that was read, or of rows, of which the first is the header.
+
+    A row is a sequence or another iterable of cells. After the header it may be a mapping too, as csv.DictWriter takes it: it has to have
+    each of the header's names and no other, in any order. The first row is never a mapping: the names are given first. A str, bytes and a
+    set, which has no order, are no rows.
 
     A text is a str, or its content as bytes; null is None, true and false are a bool, a number is an integer of any type or a Decimal,
     and any cell may be a `Cell`. A float is none: `number` takes the spelling that is meant. What is no cell is a TypeError or a
-    ValueError with its row and column, and a row that is shorter or longer than the first a ValueError; all else that is no table is
-    refused.
+    ValueError with its row and column, and so is what is no row, has more or fewer cells than the first, or other names; all else that
+    is no table is refused.
 
     >>> write("csvj", [["stop", "fare", "zone"], ["Harbour", number("2.40"), 1], ["Old Mint", None, True]])
     b'"stop","fare","zone"\n"Harbour",2.40,1\n"Old Mint",null,true\n'
+    >>> write("csvj", [["stop", "zone"], {"zone": 1, "stop": "Harbour"}])
+    b'"stop","zone"\n"Harbour",1\n'
     """
     target = _dialect_number(dialect)
     records = _records_of([rows.names, *rows.rows] if isinstance(rows, Table) else rows)
@@ -493,17 +501,59 @@ def _bytes_of(data: Bytes) -> bytes:
         raise TypeError(f"bytes are needed, or another buffer of them, and no {type(data).__name__}") from None
 
 
-def _records_of(rows: Iterable[Sequence[AnyCell]]) -> List[List[Cell]]:
-    """The rows' cells, as many in each as in the first."""
+def _records_of(rows: Iterable[AnyRow]) -> List[List[Cell]]:
+    """The rows' cells, as many in each as in the first, the header."""
+    if isinstance(rows, Mapping) or not _is_ordered(rows):
+        raise TypeError(f"a table is an iterable of rows, the first of them the header, and no {type(rows).__name__}")
     records: List[List[Cell]] = []
-    for row in rows:
-        # These are sequences too, and never meant as a row.
-        if isinstance(row, (str, bytes, Cell)):
-            raise TypeError(f"a row is a sequence of cells, and no {type(row).__name__}")
-        records.append(_cells_of(len(records) + 1, row))
+    names: Optional[List[str]] = None
+    for place, row in enumerate(rows, 1):
+        if isinstance(row, Mapping):
+            if not records:
+                raise TypeError(f"row 1 is the header, and no {type(row).__name__}: write the names first, [list(rows[0]), *rows]")
+            if names is None:
+                names = _names_of(records[0])
+            row = _in_order(place, row, names)
+        elif not _is_ordered(row):
+            raise TypeError(f"row {place}: a row is a sequence of cells, or a mapping from the header's names, and no {type(row).__name__}")
+        records.append(_cells_of(place, row))
         if len(records[-1]) != len(records[0]):
-            raise ValueError(f"row {len(records)} has {len(records[-1])} cells, and the first has {len(records[0])}")
+            raise ValueError(f"row {place} has {len(records[-1])} cells, and the first has {len(records[0])}")
     return records
+
+
+def _is_ordered(row: Any) -> bool:
+    """Whether it can be a row: what gives its cells in an order. Texts give characters or numbers, and are never meant as a row."""
+    if isinstance(row, (str, bytes, bytearray, memoryview, Cell)):
+        return False
+    # The keys of a dict are a set too, but have an order, and can be given the other way round.
+    if isinstance(row, Set) and not isinstance(row, Reversible):
+        return False
+    try:
+        iter(row)
+    except TypeError:
+        return False
+    return True
+
+
+def _names_of(header: List[Cell]) -> List[str]:
+    names: List[str] = []
+    for cell in header:
+        try:
+            names.append(cell.text)
+        except UnicodeDecodeError as failure:
+            raise ValueError(f"row 1, column {len(names) + 1}: {failure}") from None
+    return names
+
+
+def _in_order(place: int, row: Mapping[str, AnyCell], names: List[str]) -> List[AnyCell]:
+    """What a mapping has for each name of the header, in the header's order. It has to have no other name."""
+    missing = [name for name in names if name not in row]
+    if not missing and len(row) == len(set(names)):
+        return [row[name] for name in names]
+    unknown = [key for key in row if key not in names]
+    lists = [f"{what}: {', '.join(map(repr, keys))}" for what, keys in (("missing", missing), ("unknown", unknown)) if keys]
+    raise ValueError(f"row {place} has other names than the header ({'; '.join(lists) or 'a name is there twice'})")
 
 
 def _cells_of(place: int, row: Iterable[AnyCell]) -> List[Cell]:

@@ -1,5 +1,6 @@
 """The tests of hemakuliwi.py: python3 -m unittest discover python"""
 
+import collections
 import contextlib
 import copy
 import datetime
@@ -19,6 +20,7 @@ from array import array
 from decimal import Decimal
 from fractions import Fraction
 from pathlib import Path
+from types import MappingProxyType
 
 import hemakuliwi
 from hemakuliwi import FALSE, NULL, TRUE, Cell, Converter, Dialect, Fault, Kind, Refused, Report, number, text
@@ -552,7 +554,62 @@ class Cells(unittest.TestCase):
             self.assertEqual(json.loads(cell.text, parse_float=Decimal, parse_int=Decimal).as_tuple(), decimal.as_tuple())
 
     def test_rows_may_be_any_iterable(self):
-        self.assertEqual(hemakuliwi.write(1, ((name, name + "2") for name in "ab")), b'"a","a2"\n"b","b2"\n')
+        written = b'"a","a2"\n"b","b2"\n'
+        self.assertEqual(hemakuliwi.write(1, ((name, name + "2") for name in "ab")), written)
+        self.assertEqual(hemakuliwi.write(1, [iter([name, name + "2"]) for name in "ab"]), written)
+        row = {"a": "b", "a2": "b2"}
+        self.assertEqual(hemakuliwi.write(1, [row.keys(), row.values()]), written)
+        self.assertEqual(hemakuliwi.write(1, row.items()), b'"a","b"\n"a2","b2"\n')
+
+    def test_a_mapping_is_a_row_by_the_names_of_the_header(self):
+        written = b'"a","b"\n1,2\n3,null\n4,5\n'
+        for header in (["a", "b"], ("a", "b"), iter(["a", "b"]), [b"a", text("b")], {"a": 0, "b": 0}.keys()):
+            rows = [header, {"b": 2, "a": 1}, MappingProxyType({"a": 3, "b": None}), [4, 5]]
+            self.assertEqual(hemakuliwi.write("csvj", rows), written)
+        self.assertEqual(hemakuliwi.write("csvj", hemakuliwi.Table(["a", "b"], [{"b": 2, "a": 1}])), b'"a","b"\n1,2\n')
+        self.assertEqual(hemakuliwi.write("csvj", [[], {}]), b"\n\n")
+        # A name that is there by default is not there, and looking for it does not make it.
+        row = collections.defaultdict(int, {"a": 1})
+        with self.assertRaises(ValueError):
+            hemakuliwi.write("csvj", [["a", "b"], row])
+        self.assertEqual(row, {"a": 1})
+
+    def test_a_mapping_loses_no_value(self):
+        for row, what in [
+            ({"a": 1}, "missing: 'b'"),
+            ({}, "missing: 'a', 'b'"),
+            ({"a": 1, "b": 2, "c": 3}, "unknown: 'c'"),
+            # What csv.DictReader makes of a row that is too long.
+            ({"a": 1, "b": 2, None: ["3"]}, "unknown: None"),
+            ({"a": 1, "b": 2, 2.5: 3, (1, 2): 4}, "unknown: 2.5, (1, 2)"),
+            ({"A": 1, "b": 2}, "missing: 'a'; unknown: 'A'"),
+            ({b"a": 1, "b": 2}, "missing: 'a'; unknown: b'a'"),
+        ]:
+            with self.assertRaises(ValueError) as caught:
+                hemakuliwi.write("csvj", [["a", "b"], {"a": 1, "b": 2}, row])
+            self.assertEqual(str(caught.exception), f"row 3 has other names than the header ({what})")
+
+        class Twice(dict):
+            """As the headers of a mail: a name may be there more than once."""
+
+            def __len__(self):
+                return 2
+
+        with self.assertRaisesRegex(ValueError, r"^row 2 has other names than the header \(a name is there twice\)$"):
+            hemakuliwi.write("csvj", [["a"], Twice(a=1)])
+        with self.assertRaisesRegex(TypeError, "^row 2, column 2: a cell is .*, and no float: "):
+            hemakuliwi.write("csvj", [["a", "b"], {"b": 2.5, "a": 1}])
+        for rows in ([{"a": 1}], [{"a": 1}, {"a": 2}], [{}]):
+            with self.assertRaisesRegex(TypeError, r"^row 1 is the header, and no dict: write the names first, \[list\(rows\[0\]\), \*rows\]$"):
+                hemakuliwi.write("csvj", rows)
+        with self.assertRaisesRegex(TypeError, "^a table is an iterable of rows, the first of them the header, and no dict$"):
+            hemakuliwi.write("csvj", {("a", "b"): (1, 2)})
+        # Two columns of a name are refused, whatever a mapping has for it.
+        self.assertEqual(answer_of(hemakuliwi.write, "csvj", [["a", "a"], {"a": 1}]), (Report(6, 1, 2, 0), b""))
+        self.assertEqual(answer_of(hemakuliwi.write, "csvj", [["a", 1], {"a": 1, "1": 2}]), (Report(7, 1, 2, 0), b""))
+        with self.assertRaisesRegex(ValueError, "^row 1, column 2: 'utf-8' codec can't decode byte 0xff"):
+            hemakuliwi.write("csvj", [["a", b"\xff"], {"a": 1, "b": 2}])
+        self.assertEqual(hemakuliwi.write("csvj", [["\ud83d"], {"\ud83d": 1}]), b'"\\ud83d"\n1\n')
 
 
 # ---- arguments
@@ -596,11 +653,13 @@ class Arguments(unittest.TestCase):
             ]:
                 with self.assertRaisesRegex(TypeError, "^a dialect is a Dialect, a name or a number"):
                     call()
-        for wrong in ["ab", b"ab", text("ab")]:
-            with self.assertRaisesRegex(TypeError, "^a row is a sequence of cells, and no "):
-                hemakuliwi.write(1, [wrong])
-        with self.assertRaises(TypeError):
-            hemakuliwi.write(1, None)
+        for wrong in ["ab", b"ab", bytearray(b"ab"), memoryview(b"ab"), text("ab"), {"a", "b"}, frozenset("ab"), 5, None]:
+            name = type(wrong).__name__
+            for place, rows in [(1, [wrong]), (2, [["a", "b"], wrong])]:
+                with self.assertRaisesRegex(TypeError, f"^row {place}: a row is a sequence of cells, or a mapping .*, and no {name}$"):
+                    hemakuliwi.write(1, rows)
+            with self.assertRaisesRegex(TypeError, f"^a table is an iterable of rows, the first of them the header, and no {name}$"):
+                hemakuliwi.write(1, wrong)
         self.assertEqual(converter.feed(b'"a"\n'), b'"a"\n')
 
     def test_unknown_dialects(self):
