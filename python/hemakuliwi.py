@@ -58,6 +58,9 @@ __all__ = [
     "write",
 ]
 
+__version__ = "0.1.0"
+"""The version of the library that these declarations fit: HK_VERSION of hemakuliwi.h."""
+
 FILE_BYTES = 16_777_215
 """A file has at most so many bytes, and so has any text that is written."""
 RECORD_BYTES = 4_096

@@ -826,6 +826,10 @@ class Library(unittest.TestCase):
         self.assertIn("ImportError: Hemakuliwi's shared library can't be loaded. Build it with `make`", missing.stderr)
         self.assertIn(str(self.folder / "none.so"), missing.stderr)
 
+    def test_the_version_is_that_of_the_header(self):
+        header = (REPOSITORY / "include" / "hemakuliwi.h").read_text(encoding="utf-8")
+        self.assertEqual(re.findall(r'^#define HK_VERSION "(.*)"$', header, re.MULTILINE), [hemakuliwi.__version__])
+
     def test_another_library_is_no_library(self):
         other = self.imported(HEMAKULIWI_LIBRARY=shutil.which("true"))
         self.assertIn("ImportError: Hemakuliwi's shared library can't be loaded.", other.stderr)
