@@ -1,6 +1,9 @@
 # `make` builds the library, as an archive and as a shared library of the same objects. `make install PREFIX=..` installs both with the
 # header and the pkg-config file, and the command with its texts; `make uninstall` takes all of it away again. No library is built whose
 # proof does not pass.
+#
+# All rules are here. For make's own it would look at each source, which takes twenty times as long.
+MAKEFLAGS += --no-builtin-rules
 PREFIX ?= /usr/local
 libdir ?= $(PREFIX)/lib
 includedir ?= $(PREFIX)/include
@@ -19,8 +22,16 @@ links := target/staticlib/$(loader_name) target/staticlib/$(linker_name)
 .PHONY: all install install-library uninstall uninstall-library program
 all: $(library) $(shared) $(links)
 
-# Five object files, each with a lexer of its own: docs/DECISIONS.md, "Code".
-$(library): crates.txt $(shell find crates -name '*.rt' -o -name '*.antt')
+# The names of the sources are in a file that is newer only once one was added or deleted; beside it is when make looked for them last.
+names := target/staticlib/sources
+proved_sources := crates.txt $(shell mkdir -p target/staticlib && touch $(names).looked && \
+	find crates -name must-fail -prune -o \( -name '*.rt' -o -name '*.antt' \) -print | LC_ALL=C sort | tee $(names).found && \
+	{ cmp -s $(names).found $(names) || cp $(names).found $(names); })
+
+# Five object files, each with a lexer of its own: docs/DECISIONS.md, "Code". The library has the time at which its proof began, so that a
+# source that was changed meanwhile is newer.
+$(library): $(names) $(proved_sources)
+	touch $@.begun
 	rt staticlib c_files
 	rt staticlib c_convert
 	rt staticlib c_pieces
@@ -30,6 +41,7 @@ $(library): crates.txt $(shell find crates -name '*.rt' -o -name '*.antt')
 	rm -f $@
 	ar rcsD $@ target/staticlib/c_files.o target/staticlib/c_convert.o target/staticlib/c_pieces.o \
 		target/staticlib/c_ends.o target/staticlib/c_cells.o
+	touch -r $@.begun $@
 
 # The objects need no relocation in their code, and the linker refuses (-z text) if that changes. Before version 1.0.0 a minor version may
 # change structs while the loader's name stays: the version of the symbols is what keeps a program from a library that it doesn't fit.
@@ -44,7 +56,7 @@ $(links): $(shared)
 
 # The program that converts standard input: `./convert.sh FROM TO`.
 program: target/bin/program
-target/bin/program: crates.txt $(shell find crates -name '*.rt' -o -name '*.antt')
+target/bin/program: $(proved_sources)
 	rt check program
 	touch $@
 
@@ -68,10 +80,11 @@ uninstall-library:
 	rm -f $(patsubst %,'$(DESTDIR)$(libdir)/%',libhemakuliwi.a $(shared_name) $(loader_name) $(linker_name)) \
 		'$(DESTDIR)$(includedir)/hemakuliwi.h' '$(DESTDIR)$(pkgconfigdir)/hemakuliwi.pc'
 
-# The command: `./hemakuliwi`, which is installed with its man page and what shells complete it by.
+# The command: `./hemakuliwi`, which is installed with its man page and what shells complete it by. The script starts make only where it
+# finds a source newer itself; a test compares the two.
 command := target/release/hemakuliwi
 command_texts := rust/command/share
-command_sources := $(shell find rust/command/src rust/hemakuliwi/src -name '*.rs') rust/hemakuliwi/build.rs $(wildcard rust/*/Cargo.toml)
+command_sources := $(shell find rust/command/src rust/hemakuliwi/src) rust/hemakuliwi/build.rs $(wildcard rust/*/Cargo.toml)
 .PHONY: command install-command uninstall-command
 command: $(command)
 $(command): $(library) Cargo.toml Cargo.lock $(command_sources)

@@ -25,12 +25,14 @@ from __future__ import annotations
 import ctypes
 import enum
 import io
+import operator
 import os
 import threading
+from collections.abc import Mapping, Reversible, Set
 from ctypes import POINTER, c_char_p, c_size_t, c_uint8, c_uint32
 from decimal import Decimal
 from pathlib import Path
-from typing import Any, BinaryIO, Iterable, Iterator, List, NamedTuple, Optional, Sequence, Tuple, Type, Union
+from typing import Any, BinaryIO, Iterable, Iterator, List, NamedTuple, Optional, SupportsIndex, Tuple, Type, Union
 
 __all__ = [
     "COLUMNS",
@@ -55,6 +57,9 @@ __all__ = [
     "text",
     "write",
 ]
+
+__version__ = "0.1.0"
+"""The version of the library that these declarations fit: HK_VERSION of hemakuliwi.h."""
 
 FILE_BYTES = 16_777_215
 """A file has at most so many bytes, and so has any text that is written."""
@@ -231,19 +236,28 @@ def text(characters: str) -> Cell:
     >>> text("Old Mint").content
     b'Old Mint'
     """
+    if not isinstance(characters, str):
+        raise TypeError(f"a text is a str, and no {type(characters).__name__}")
     return Cell(Kind.TEXT, characters.encode("utf-8", "surrogatepass"))
 
 
-def number(spelling: Union[str, int, Decimal]) -> Cell:
-    """A cell that is a number, spelt as JSON spells it; the spelling is kept.
+def number(spelling: Union[str, SupportsIndex, Decimal]) -> Cell:
+    """A cell that is a number: a str that spells it as JSON does, which is kept, an integer of any type, or a Decimal.
+
+    A float is refused, here and by `write`: 2.4 and 2.40 are the same float, and a number stays as it is spelt. A Decimal that is not
+    finite is a ValueError.
 
     >>> number("2.40").content
     b'2.40'
     """
-    return Cell(Kind.NUMBER, str(spelling).encode("utf-8", "surrogatepass"))
+    cell = _number_of(spelling)
+    if cell is None:
+        raise TypeError(f"a number is a str that spells it, an int or a Decimal, and no {type(spelling).__name__}: {_advice_on(spelling)}")
+    return cell
 
 
-AnyCell = Union[Cell, str, bytes, bool, int, Decimal, None]
+AnyCell = Union[Cell, str, bytes, bytearray, memoryview, bool, SupportsIndex, Decimal, None]
+AnyRow = Union[Iterable[AnyCell], Mapping[str, AnyCell]]
 
 
 class Table(NamedTuple):
@@ -299,15 +313,22 @@ def convert(source: AnyDialect, target: AnyDialect, data: Bytes) -> bytes:
     return _accepted(answer, room)
 
 
-def write(dialect: AnyDialect, rows: Union[Table, Iterable[Sequence[AnyCell]]]) -> bytes:
+def write(dialect: AnyDialect, rows: Union[Table, Iterable[AnyRow]]) -> bytes:
     r"""The canonical text of a table: of one that was read, or of rows, of which the first is the header.
 
-    A text is a str, or its content as bytes; null is None, true and false are a bool, a number is an int or a Decimal, and any cell may
-    be a `Cell`. A float is none: `number` takes the spelling that is meant. A row that is shorter or longer than the first is a
-    ValueError; all else that is no table is refused.
+    A row is a sequence or another iterable of cells. After the header it may be a mapping too, as csv.DictWriter takes it: it has to have
+    each of the header's names and no other, in any order. The first row is never a mapping: the names are given first. A str, bytes and a
+    set, which has no order, are no rows.
+
+    A text is a str, or its content as bytes; null is None, true and false are a bool, a number is an integer of any type or a Decimal,
+    and any cell may be a `Cell`. A float is none: `number` takes the spelling that is meant. What is no cell is a TypeError or a
+    ValueError with its row and column, and so is what is no row, has more or fewer cells than the first, or other names; all else that
+    is no table is refused.
 
     >>> write("csvj", [["stop", "fare", "zone"], ["Harbour", number("2.40"), 1], ["Old Mint", None, True]])
     b'"stop","fare","zone"\n"Harbour",2.40,1\n"Old Mint",null,true\n'
+    >>> write("csvj", [["stop", "zone"], {"zone": 1, "stop": "Harbour"}])
+    b'"stop","zone"\n"Harbour",1\n'
     """
     target = _dialect_number(dialect)
     records = _records_of([rows.names, *rows.rows] if isinstance(rows, Table) else rows)
@@ -412,18 +433,24 @@ class Converter:
         self._prepare()
 
 
-def convert_stream(reader: BinaryIO, writer: BinaryIO, source: AnyDialect, target: AnyDialect) -> int:
+def convert_stream(source: AnyDialect, target: AnyDialect, reader: BinaryIO, writer: BinaryIO) -> int:
     r"""Converts what `reader` gives until its end, into `writer`, in constant memory; how many bytes were written.
 
     Each record is written as soon as the bytes that complete it were read. So when this raises, because the file is refused or the reader
     fails, the writer has every record that was completed before, and `Refused.written` is empty. Neither is flushed or closed.
 
     >>> out = io.BytesIO()
-    >>> convert_stream(io.BytesIO(b"stop,fare\nHarbour,2.40\n"), out, "csv+", "tdif")
+    >>> convert_stream("csv+", "tdif", io.BytesIO(b"stop,fare\nHarbour,2.40\n"), out)
     31
     >>> out.getvalue()
     b'"stop","fare"\n"Harbour","2.40"\n'
     """
+    for file, method in ((reader, "read"), (writer, "write")):
+        if not hasattr(file, method):
+            raise TypeError(
+                "convert_stream(source, target, reader, writer) takes the dialects first, then the files, "
+                f"and no {type(file).__name__}, which can't {method}"
+            )
     converter = Converter(source, target)
     # A buffered reader's `read` would wait for all of the bytes that it is asked for, and hold a complete record back.
     next_bytes = getattr(reader, "read1", None) or reader.read
@@ -477,35 +504,118 @@ def _bytes_of(data: Bytes) -> bytes:
         raise TypeError(f"bytes are needed, or another buffer of them, and no {type(data).__name__}") from None
 
 
-def _records_of(rows: Iterable[Sequence[AnyCell]]) -> List[List[Cell]]:
-    """The rows' cells, as many in each as in the first."""
+def _records_of(rows: Iterable[AnyRow]) -> List[List[Cell]]:
+    """The rows' cells, as many in each as in the first, the header."""
+    if isinstance(rows, Mapping) or not _is_ordered(rows):
+        raise TypeError(f"a table is an iterable of rows, the first of them the header, and no {type(rows).__name__}")
     records: List[List[Cell]] = []
-    for row in rows:
-        # These are sequences too, and never meant as a row.
-        if isinstance(row, (str, bytes, Cell)):
-            raise TypeError(f"a row is a sequence of cells, and no {type(row).__name__}")
-        records.append([_cell_of(cell) for cell in row])
+    names: Optional[List[str]] = None
+    for place, row in enumerate(rows, 1):
+        if isinstance(row, Mapping):
+            if not records:
+                raise TypeError(f"row 1 is the header, and no {type(row).__name__}: write the names first, [list(rows[0]), *rows]")
+            if names is None:
+                names = _names_of(records[0])
+            row = _in_order(place, row, names)
+        elif not _is_ordered(row):
+            raise TypeError(f"row {place}: a row is a sequence of cells, or a mapping from the header's names, and no {type(row).__name__}")
+        records.append(_cells_of(place, row))
         if len(records[-1]) != len(records[0]):
-            raise ValueError(f"row {len(records)} has {len(records[-1])} cells, and the first has {len(records[0])}")
+            raise ValueError(f"row {place} has {len(records[-1])} cells, and the first has {len(records[0])}")
     return records
+
+
+def _is_ordered(row: Any) -> bool:
+    """Whether it can be a row: what gives its cells in an order. Texts give characters or numbers, and are never meant as a row."""
+    if isinstance(row, (str, bytes, bytearray, memoryview, Cell)):
+        return False
+    # The keys of a dict are a set too, but have an order, and can be given the other way round.
+    if isinstance(row, Set) and not isinstance(row, Reversible):
+        return False
+    try:
+        iter(row)
+    except TypeError:
+        return False
+    return True
+
+
+def _names_of(header: List[Cell]) -> List[str]:
+    names: List[str] = []
+    for cell in header:
+        try:
+            names.append(cell.text)
+        except UnicodeDecodeError as failure:
+            raise ValueError(f"row 1, column {len(names) + 1}: {failure}") from None
+    return names
+
+
+def _in_order(place: int, row: Mapping[str, AnyCell], names: List[str]) -> List[AnyCell]:
+    """What a mapping has for each name of the header, in the header's order. It has to have no other name."""
+    missing = [name for name in names if name not in row]
+    if not missing and len(row) == len(set(names)):
+        return [row[name] for name in names]
+    unknown = [key for key in row if key not in names]
+    lists = [f"{what}: {', '.join(map(repr, keys))}" for what, keys in (("missing", missing), ("unknown", unknown)) if keys]
+    raise ValueError(f"row {place} has other names than the header ({'; '.join(lists) or 'a name is there twice'})")
+
+
+def _cells_of(place: int, row: Iterable[AnyCell]) -> List[Cell]:
+    """The cells of the row that is at this place, counted from 1."""
+    cells: List[Cell] = []
+    for cell in row:
+        try:
+            cells.append(_cell_of(cell))
+        except (TypeError, ValueError) as failure:
+            error = TypeError if isinstance(failure, TypeError) else ValueError
+            raise error(f"row {place}, column {len(cells) + 1}: {failure}") from None
+    return cells
 
 
 def _cell_of(cell: AnyCell) -> Cell:
     if isinstance(cell, Cell):
         return Cell(Kind(cell.kind), _bytes_of(cell.content))
+    if isinstance(cell, str):
+        return text(cell)
     if cell is None:
         return NULL
     if isinstance(cell, bool):
         return TRUE if cell else FALSE
-    if isinstance(cell, int):
-        return number(int(cell))
-    if isinstance(cell, Decimal):
-        return number(cell)
-    if isinstance(cell, str):
-        return text(cell)
-    if isinstance(cell, bytes):
-        return Cell(Kind.TEXT, cell)
-    raise TypeError(f"{cell!r} is no cell: write a number that is not whole as number('2.40')")
+    if isinstance(cell, (bytes, bytearray, memoryview)):
+        return Cell(Kind.TEXT, _bytes_of(cell))
+    found = _number_of(cell)
+    if found is None:
+        kinds = "a str, bytes, an int, a Decimal, a bool, None or a Cell"
+        raise TypeError(f"a cell is {kinds}, and no {type(cell).__name__}: {_advice_on(cell)}")
+    return found
+
+
+def _number_of(spelling: Any) -> Optional[Cell]:
+    """The number that is spelt so, or that this is; None for what is no number of one spelling. A bool is an int, but no number."""
+    if isinstance(spelling, str):
+        return Cell(Kind.NUMBER, spelling.encode("utf-8", "surrogatepass"))
+    if isinstance(spelling, Decimal):
+        if not spelling.is_finite():
+            raise ValueError(f"{spelling} is no number that a table can have")
+        return Cell(Kind.NUMBER, str(spelling).encode())
+    if isinstance(spelling, bool):
+        return None
+    try:
+        # An integer of another library has this, and may not be an int.
+        whole = operator.index(spelling)
+    except TypeError:
+        return None
+    return Cell(Kind.NUMBER, str(int(whole)).encode())
+
+
+def _advice_on(value: Any) -> str:
+    """What to write in place of a value that is no cell."""
+    if isinstance(value, float):
+        return "2.4 and 2.40 are the same float, so write number('2.40') or a Decimal"
+    if isinstance(value, bool):
+        return "write it as a cell without number()"
+    if hasattr(value, "isoformat"):
+        return "write its text, such as isoformat() gives"
+    return "write what it means, by str(), bool(), int() or number()"
 
 
 def _stretches(source: int, file: bytes) -> Tuple[Any, Any, Any, Any]:

@@ -1,9 +1,12 @@
 """The tests of hemakuliwi.py: python3 -m unittest discover python"""
 
+import collections
 import contextlib
 import copy
+import datetime
 import doctest
 import io
+import json
 import os
 import pickle
 import re
@@ -15,7 +18,9 @@ import threading
 import unittest
 from array import array
 from decimal import Decimal
+from fractions import Fraction
 from pathlib import Path
+from types import MappingProxyType
 
 import hemakuliwi
 from hemakuliwi import FALSE, NULL, TRUE, Cell, Converter, Dialect, Fault, Kind, Refused, Report, number, text
@@ -264,7 +269,7 @@ class Faults(unittest.TestCase):
             converted, sentence = io.BytesIO(), ""
             dialects = [int(word) if word.isdigit() else word for word in arguments.read_text().split()]
             try:
-                hemakuliwi.convert_stream(io.BytesIO(arguments.with_suffix(".in").read_bytes()), converted, *dialects)
+                hemakuliwi.convert_stream(*dialects, io.BytesIO(arguments.with_suffix(".in").read_bytes()), converted)
             except Refused as refused:
                 sentence = f"{refused}\n"
             self.assertEqual(sentence, said, arguments)
@@ -468,8 +473,143 @@ class Cells(unittest.TestCase):
         with self.assertRaisesRegex(ValueError, "^row 2 has 1 cells, and the first has 2$"):
             hemakuliwi.write("csvj", [["a", "b"], ["c"], ["d"]])
 
+    def test_an_integer_of_any_type_is_a_number(self):
+        class Int64:
+            """As the integers of numpy: no int."""
+
+            def __index__(self):
+                return -(2**63)
+
+        for integer, spelling in [(Int64(), b"-9223372036854775808"), (Kind.NULL, b"5"), (0, b"0"), (10**400, b"1" + b"0" * 400)]:
+            self.assertEqual(number(integer).content, spelling)
+            self.assertEqual(hemakuliwi.write("csvj", [["a"], [integer]]), b'"a"\n' + spelling + b"\n")
+        self.assertEqual(hemakuliwi.write("csvj", [["a"], [True], [False]]), b'"a"\ntrue\nfalse\n')
+
+    def test_a_buffer_of_bytes_is_a_text(self):
+        for cell in [b"a", bytearray(b"a"), memoryview(b"a"), memoryview(b"abc")[::-2][1:]]:
+            self.assertEqual(hemakuliwi.write("csvj", [[cell]]), b'"a"\n')
+
+    def test_what_is_no_cell_is_named_with_its_place_and_with_advice(self):
+        class Truth:
+            """As the booleans of numpy: neither a bool nor an integer."""
+
+            def __bool__(self):
+                return True
+
+        class Vector:
+            """As the arrays of numpy: an integer only if there is one."""
+
+            def __index__(self):
+                raise TypeError("only integer scalar arrays can be converted to a scalar index")
+
+        what_it_means = "write what it means, by str(), bool(), int() or number()"
+        no_float = "2.4 and 2.40 are the same float, so write number('2.40') or a Decimal"
+        for wrong, name, advice in [
+            (2.40, "float", no_float),
+            (3.0, "float", no_float),
+            (float("nan"), "float", no_float),
+            (datetime.date(2026, 11, 17), "date", "write its text, such as isoformat() gives"),
+            (datetime.datetime(2026, 11, 17), "datetime", "write its text, such as isoformat() gives"),
+            (Truth(), "Truth", what_it_means),
+            (Vector(), "Vector", what_it_means),
+            (Fraction(12, 5), "Fraction", what_it_means),
+            (2j, "complex", what_it_means),
+            (["a"], "list", what_it_means),
+            ({"a": 1}, "dict", what_it_means),
+            (array("B", b"a"), "array", what_it_means),
+        ]:
+            with self.assertRaises(TypeError, msg=name) as caught:
+                hemakuliwi.write(1, [["a", "b"], [1, 2], [1, wrong]])
+            kinds = "a str, bytes, an int, a Decimal, a bool, None or a Cell"
+            self.assertEqual(str(caught.exception), f"row 3, column 2: a cell is {kinds}, and no {name}: {advice}")
+            # What is no number for `write` is none for `number`.
+            with self.assertRaises(TypeError, msg=name) as caught:
+                number(wrong)
+            self.assertEqual(str(caught.exception), f"a number is a str that spells it, an int or a Decimal, and no {name}: {advice}")
+        for wrong in [True, None, b"2.40", text("2.40")]:
+            with self.assertRaisesRegex(TypeError, f"^a number is a str .* and no {type(wrong).__name__}: "):
+                number(wrong)
+        for wrong in [5, None, b"a"]:
+            with self.assertRaisesRegex(TypeError, f"^a text is a str, and no {type(wrong).__name__}$"):
+                text(wrong)
+        with self.assertRaisesRegex(ValueError, "^row 2, column 1: 9 is not a valid Kind$"):
+            hemakuliwi.write(1, [["a"], [Cell(9)]])
+        with self.assertRaisesRegex(TypeError, "^row 2, column 1: bytes are needed, or another buffer of them, and no str$"):
+            hemakuliwi.write(1, [["a"], [Cell(Kind.TEXT, "a")]])
+
+    def test_a_decimal_that_is_not_finite_is_refused_with_its_place(self):
+        for spelling in ["NaN", "-NaN", "sNaN", "NaN12", "Infinity", "-Infinity"]:
+            with self.assertRaisesRegex(ValueError, f"^row 2, column 3: {spelling} is no number that a table can have$"):
+                hemakuliwi.write("csvj", [["a", "b", "c"], [1, 2, Decimal(spelling)]])
+            with self.assertRaisesRegex(ValueError, f"^{spelling} is no number that a table can have$"):
+                number(Decimal(spelling))
+
+    def test_a_decimal_is_spelt_as_json_spells_it(self):
+        spellings = ["1E+2", "-1E+2", "1.50E+30", "1E-7", "0E-10", "0E+3", "-0", "-0.00", ".5", "5.", "1e999999", "1E-999999", "007", "2.40"]
+        decimals = [Decimal(spelling) for spelling in spellings]
+        read = hemakuliwi.read("csvj", hemakuliwi.write("csvj", [["a"], *[[decimal] for decimal in decimals]]))
+        for decimal, [cell] in zip(decimals, read.rows):
+            self.assertIs(cell.kind, Kind.NUMBER)
+            self.assertEqual(Decimal(cell.text).as_tuple(), decimal.as_tuple())
+            self.assertEqual(json.loads(cell.text, parse_float=Decimal, parse_int=Decimal).as_tuple(), decimal.as_tuple())
+
     def test_rows_may_be_any_iterable(self):
-        self.assertEqual(hemakuliwi.write(1, ((name, name + "2") for name in "ab")), b'"a","a2"\n"b","b2"\n')
+        written = b'"a","a2"\n"b","b2"\n'
+        self.assertEqual(hemakuliwi.write(1, ((name, name + "2") for name in "ab")), written)
+        self.assertEqual(hemakuliwi.write(1, [iter([name, name + "2"]) for name in "ab"]), written)
+        row = {"a": "b", "a2": "b2"}
+        self.assertEqual(hemakuliwi.write(1, [row.keys(), row.values()]), written)
+        self.assertEqual(hemakuliwi.write(1, row.items()), b'"a","b"\n"a2","b2"\n')
+
+    def test_a_mapping_is_a_row_by_the_names_of_the_header(self):
+        written = b'"a","b"\n1,2\n3,null\n4,5\n'
+        for header in (["a", "b"], ("a", "b"), iter(["a", "b"]), [b"a", text("b")], {"a": 0, "b": 0}.keys()):
+            rows = [header, {"b": 2, "a": 1}, MappingProxyType({"a": 3, "b": None}), [4, 5]]
+            self.assertEqual(hemakuliwi.write("csvj", rows), written)
+        self.assertEqual(hemakuliwi.write("csvj", hemakuliwi.Table(["a", "b"], [{"b": 2, "a": 1}])), b'"a","b"\n1,2\n')
+        self.assertEqual(hemakuliwi.write("csvj", [[], {}]), b"\n\n")
+        # A name that is there by default is not there, and looking for it does not make it.
+        row = collections.defaultdict(int, {"a": 1})
+        with self.assertRaises(ValueError):
+            hemakuliwi.write("csvj", [["a", "b"], row])
+        self.assertEqual(row, {"a": 1})
+
+    def test_a_mapping_loses_no_value(self):
+        for row, what in [
+            ({"a": 1}, "missing: 'b'"),
+            ({}, "missing: 'a', 'b'"),
+            ({"a": 1, "b": 2, "c": 3}, "unknown: 'c'"),
+            # What csv.DictReader makes of a row that is too long.
+            ({"a": 1, "b": 2, None: ["3"]}, "unknown: None"),
+            ({"a": 1, "b": 2, 2.5: 3, (1, 2): 4}, "unknown: 2.5, (1, 2)"),
+            ({"A": 1, "b": 2}, "missing: 'a'; unknown: 'A'"),
+            ({b"a": 1, "b": 2}, "missing: 'a'; unknown: b'a'"),
+        ]:
+            with self.assertRaises(ValueError) as caught:
+                hemakuliwi.write("csvj", [["a", "b"], {"a": 1, "b": 2}, row])
+            self.assertEqual(str(caught.exception), f"row 3 has other names than the header ({what})")
+
+        class Twice(dict):
+            """As the headers of a mail: a name may be there more than once."""
+
+            def __len__(self):
+                return 2
+
+        with self.assertRaisesRegex(ValueError, r"^row 2 has other names than the header \(a name is there twice\)$"):
+            hemakuliwi.write("csvj", [["a"], Twice(a=1)])
+        with self.assertRaisesRegex(TypeError, "^row 2, column 2: a cell is .*, and no float: "):
+            hemakuliwi.write("csvj", [["a", "b"], {"b": 2.5, "a": 1}])
+        for rows in ([{"a": 1}], [{"a": 1}, {"a": 2}], [{}]):
+            with self.assertRaisesRegex(TypeError, r"^row 1 is the header, and no dict: write the names first, \[list\(rows\[0\]\), \*rows\]$"):
+                hemakuliwi.write("csvj", rows)
+        with self.assertRaisesRegex(TypeError, "^a table is an iterable of rows, the first of them the header, and no dict$"):
+            hemakuliwi.write("csvj", {("a", "b"): (1, 2)})
+        # Two columns of a name are refused, whatever a mapping has for it.
+        self.assertEqual(answer_of(hemakuliwi.write, "csvj", [["a", "a"], {"a": 1}]), (Report(6, 1, 2, 0), b""))
+        self.assertEqual(answer_of(hemakuliwi.write, "csvj", [["a", 1], {"a": 1, "1": 2}]), (Report(7, 1, 2, 0), b""))
+        with self.assertRaisesRegex(ValueError, "^row 1, column 2: 'utf-8' codec can't decode byte 0xff"):
+            hemakuliwi.write("csvj", [["a", b"\xff"], {"a": 1, "b": 2}])
+        self.assertEqual(hemakuliwi.write("csvj", [["\ud83d"], {"\ud83d": 1}]), b'"\\ud83d"\n1\n')
 
 
 # ---- arguments
@@ -513,14 +653,13 @@ class Arguments(unittest.TestCase):
             ]:
                 with self.assertRaisesRegex(TypeError, "^a dialect is a Dialect, a name or a number"):
                     call()
-        for wrong in [2.40, object(), ["a"], bytearray(b"a")]:
-            with self.assertRaisesRegex(TypeError, "is no cell"):
-                hemakuliwi.write(1, [["a"], [wrong]])
-        for wrong in ["ab", b"ab", text("ab")]:
-            with self.assertRaisesRegex(TypeError, "^a row is a sequence of cells, and no "):
-                hemakuliwi.write(1, [wrong])
-        with self.assertRaises(TypeError):
-            hemakuliwi.write(1, None)
+        for wrong in ["ab", b"ab", bytearray(b"ab"), memoryview(b"ab"), text("ab"), {"a", "b"}, frozenset("ab"), 5, None]:
+            name = type(wrong).__name__
+            for place, rows in [(1, [wrong]), (2, [["a", "b"], wrong])]:
+                with self.assertRaisesRegex(TypeError, f"^row {place}: a row is a sequence of cells, or a mapping .*, and no {name}$"):
+                    hemakuliwi.write(1, rows)
+            with self.assertRaisesRegex(TypeError, f"^a table is an iterable of rows, the first of them the header, and no {name}$"):
+                hemakuliwi.write(1, wrong)
         self.assertEqual(converter.feed(b'"a"\n'), b'"a"\n')
 
     def test_unknown_dialects(self):
@@ -568,7 +707,7 @@ class Streams(unittest.TestCase):
     def test_a_file_goes_through(self):
         for source, target in PAIRS:
             for reader, writer in [(io.BytesIO(STOPS_IN[source]), io.BytesIO()), (Drip(STOPS_IN[source]), Drip())]:
-                count = hemakuliwi.convert_stream(reader, writer, source, target)
+                count = hemakuliwi.convert_stream(source, target, reader, writer)
                 self.assertEqual(writer.taken if isinstance(writer, Drip) else writer.getvalue(), STOPS_IN[target])
                 self.assertEqual(count, len(STOPS_IN[target]))
 
@@ -579,7 +718,7 @@ class Streams(unittest.TestCase):
             source.write_bytes(file)
             for buffering in (-1, 0):
                 with open(source, "rb", buffering) as reader, open(target, "wb", buffering) as writer:
-                    hemakuliwi.convert_stream(reader, writer, "csv+", "csvj")
+                    hemakuliwi.convert_stream("csv+", "csvj", reader, writer)
                 self.assertEqual(target.read_bytes(), hemakuliwi.convert("csv+", "csvj", file))
 
     def test_completed_records_are_written_before_a_fault(self):
@@ -587,14 +726,14 @@ class Streams(unittest.TestCase):
         for reader in (io.BytesIO(file), Drip(file)):
             writer = io.BytesIO()
             with self.assertRaises(Refused) as caught:
-                hemakuliwi.convert_stream(reader, writer, "csv+", "tdif")
+                hemakuliwi.convert_stream("csv+", "tdif", reader, writer)
             self.assertEqual(writer.getvalue(), b'"stop","fare"\n"Harbour","2.40"\n')
             self.assertEqual((caught.exception.report, caught.exception.written), ((5, 3, 0, 23), b""))
 
     def test_completed_records_are_written_before_the_reader_fails(self):
         writer = io.BytesIO()
         with self.assertRaisesRegex(OSError, "the line went dead"):
-            hemakuliwi.convert_stream(Drip(b"name\nHarbour\nOld M", OSError("the line went dead")), writer, "csv+", "tdif")
+            hemakuliwi.convert_stream("csv+", "tdif", Drip(b"name\nHarbour\nOld M", OSError("the line went dead")), writer)
         self.assertEqual(writer.getvalue(), b'"name"\n"Harbour"\n')
 
     def test_a_record_is_written_as_it_completes(self):
@@ -609,7 +748,7 @@ class Streams(unittest.TestCase):
 
         writer = Writer()
         with open(from_pipe, "rb") as reader, open(to_pipe, "wb", 0) as feeder:
-            convert = threading.Thread(target=hemakuliwi.convert_stream, args=(reader, writer, "csv+", "csvj"))
+            convert = threading.Thread(target=hemakuliwi.convert_stream, args=("csv+", "csvj", reader, writer))
             convert.start()
             feeder.write(b"name\nHar")
             self.assertTrue(written.wait(20), "the header is held back until the pipe ends")
@@ -621,13 +760,21 @@ class Streams(unittest.TestCase):
 
     def test_a_file_that_would_block_is_told(self):
         with self.assertRaises(BlockingIOError):
-            hemakuliwi.convert_stream(Blocked(), io.BytesIO(), 1, 1)
+            hemakuliwi.convert_stream(1, 1, Blocked(), io.BytesIO())
         with self.assertRaises(BlockingIOError):
-            hemakuliwi.convert_stream(io.BytesIO(b'"a"\n'), Blocked(), 1, 1)
+            hemakuliwi.convert_stream(1, 1, io.BytesIO(b'"a"\n'), Blocked())
 
     def test_characters_are_no_bytes(self):
         with self.assertRaisesRegex(TypeError, "^bytes are needed"):
-            hemakuliwi.convert_stream(io.StringIO("a\n"), io.BytesIO(), 3, 1)
+            hemakuliwi.convert_stream(3, 1, io.StringIO("a\n"), io.BytesIO())
+
+    def test_files_before_the_dialects_are_a_type_error(self):
+        reader, writer = io.BytesIO(b"name\nHarbour\n"), io.BytesIO()
+        for wrong in [(reader, writer, "csv+", "csvj"), (reader, writer, 3, 1), ("csv+", "csvj", "in", "out"), ("csv+", "csvj", reader, "out")]:
+            with self.assertRaisesRegex(TypeError, r"^convert_stream\(source, target, reader, writer\) takes the dialects first"):
+                hemakuliwi.convert_stream(*wrong)
+        self.assertEqual((reader.tell(), writer.getvalue()), (0, b""))
+        self.assertEqual(hemakuliwi.convert_stream(writer=writer, reader=reader, target="csvj", source="csv+"), len(writer.getvalue()))
 
 
 # ---- the library
@@ -678,6 +825,10 @@ class Library(unittest.TestCase):
         self.assertNotEqual(missing.returncode, 0)
         self.assertIn("ImportError: Hemakuliwi's shared library can't be loaded. Build it with `make`", missing.stderr)
         self.assertIn(str(self.folder / "none.so"), missing.stderr)
+
+    def test_the_version_is_that_of_the_header(self):
+        header = (REPOSITORY / "include" / "hemakuliwi.h").read_text(encoding="utf-8")
+        self.assertEqual(re.findall(r'^#define HK_VERSION "(.*)"$', header, re.MULTILINE), [hemakuliwi.__version__])
 
     def test_another_library_is_no_library(self):
         other = self.imported(HEMAKULIWI_LIBRARY=shutil.which("true"))
