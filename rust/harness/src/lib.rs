@@ -8,6 +8,7 @@ pub mod clauses;
 pub mod compare;
 pub mod conformance;
 pub mod counts;
+pub mod edit_logs;
 pub mod examples;
 pub mod figures;
 pub mod frames;
