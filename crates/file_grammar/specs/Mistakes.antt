@@ -14,7 +14,7 @@ use Rattle.file_grammar.specs.CsvPlus as plus
 use Rattle.file_grammar.specs.Stretches.{stretch, stretches}
 
 pub record FileMistakes : Type 0 where
-  -- an empty line in TDIF: LF where a line may stand (§4.6)
+  -- an empty line in TDIF: LF where a line may begin (§4.6)
   pub empty-line : (ls : List (Line Derived)) → ¬ tdif.Lines (0x0A ∷ []) ls
   -- a space beside a quoted CSV+ cell: ` "a"`, and `"a" ` (§5.8)
   pub space-before : (kind : Kind) (content : Bytes) → ¬ plus.Field standard (cell (0x20 ∷ 0x22 ∷ 0x61 ∷ 0x22 ∷ []) kind content)
