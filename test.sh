@@ -1,7 +1,8 @@
 #!/usr/bin/env bash
-# Passes the tests: the layout of the Rattle files, the proofs, the library that they allow, the vectors computed by the definitions,
-# and the tests of the program, of the command and of callers in Rust, C, C++ and, where it is installed, Python. Stops at the first
-# failure and says where. The last line is the verdict of `rt ci`, and stands there only if everything passed.
+# Passes the tests: the layout of the Rattle files, the proofs, what refused each must-fail edit, the library that the proofs allow, the
+# vectors computed by the definitions, and the tests of the program, of the command and of callers in Rust, C, C++ and, where it is
+# installed, Python. Stops at the first failure and says where. The last line is the verdict of `rt ci`, and stands there only if everything
+# passed.
 set -euo pipefail
 cd "$(dirname "$0")"
 
@@ -53,6 +54,12 @@ proofs() {
   rt ci 2>&1 | tee "$scratch/verdict"
 }
 
+# `rt ci` requires only that each edit is refused. Here a law, a contract or a fact of a proof has to refuse it. Built without optimization,
+# which takes a third of the time.
+refusals() {
+  cargo run --offline --quiet --package harness --no-default-features --bin edit_logs
+}
+
 # A repository of two crates: the definitions, and every vector as an equation that the prover computes. It stands outside this
 # repository, where `rt ci` would find crates that it does not know.
 vectors_by_definitions() {
@@ -91,6 +98,7 @@ callers() {
 
 part 'layout' layout
 part 'proofs' proofs
+part 'what refused the edits' refusals
 start_vectors
 part 'library' library
 part 'vectors computed by the definitions' end_vectors

@@ -1,3 +1,4 @@
+pub mod Absent
 pub mod TdifCells
 pub mod PlusCells
 pub mod CsvjCells

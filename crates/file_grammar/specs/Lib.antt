@@ -4,3 +4,4 @@ pub mod CsvPlus
 pub mod Derives
 pub mod Reading
 pub mod Stretches
+pub mod Mistakes

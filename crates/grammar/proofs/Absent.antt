@@ -1,135 +1,19 @@
--- The productions as they stand make none of the mistakes, shown by taking each apart; no automaton is asked. A production that is
--- widened to make one of them fails here first, at the law of that name.
-use Prim.Native.Nat.{ℕ, _+_, _≤_}
+-- None of the mistakes is made: at the productions by the laws of their crates, and beside them by taking what is required apart. No automaton
+-- takes part. It is checked before the theorems of this crate, so that a wider requirement is refused here, at the law of that name.
+use Prim.Native.Nat.{ℕ}
 use native.Mathlib.Omega.{arith}
-use mathlib.Core.Path.{_≡_, refl, ap, _∙_}
-use mathlib.Core.Logic.{_≢_}
-use mathlib.Core.List.{List, [], _∷_, _++_}
-use lib.ListN.{length, length-append, length-replicate}
-use Rattle.rfc_grammar.specs.Types.{Kind, Csvj}
-use Rattle.model.specs.Base.{Bytes}
-use Rattle.model.specs.Dialect.{standard}
-use Rattle.rfc_grammar.specs.Rfc5234.{_from_to_, LF}
-use Rattle.rfc_grammar.specs.Rfc3629.{c2-df, UTF8-3, e0, e1-ec, ed, ee-ef, f0, f1-f3, f4, UTF8-tail, tail, UTF8-data, of-two, of-three, of-four}
-use Rattle.rfc_grammar.specs.Rfc3629.{Octets, one-octet, two-octets, three-octets, four-octets}
-use Rattle.rfc_grammar.specs.Derived.{Derived, cell, Line, line, textIn, Every, every-none, every-cons}
+use mathlib.Core.Path.{_≡_, refl}
+use mathlib.Core.List.{List, [], _∷_}
+use lib.ListN.{length, length-replicate}
+use Rattle.rfc_grammar.specs.Types.{Csvj}
+use Rattle.rfc_grammar.specs.Derived.{Derived, line, Every, every-cons}
 use Rattle.rfc_grammar.specs.Rfc8259 as json
 use Rattle.file_grammar.specs.Csvj as csvj
-use Rattle.file_grammar.specs.Tdif as tdif
-use Rattle.file_grammar.specs.CsvPlus as plus
+use Rattle.rfc_grammar.proofs.Absent as rfcs
+use Rattle.file_grammar.proofs.Absent as files
 use Rattle.grammar.specs.Accepted.{a-name, WithinLimits, ChecksHold, checks-hold}
 use Rattle.grammar.specs.NextByte.{GoesOn}
-use Rattle.grammar.specs.Mistakes.{Mistakes, Misplacements, nameA, twoNames, tooLong}
-
--- ---- TDIF: a line begins with #, a quote or a backslash
-
-data Opens : Bytes → Type 0 where
-  with-hash : {xs : Bytes} → Opens (0x23 ∷ xs)
-  with-quote : {xs : Bytes} → Opens (0x22 ∷ xs)
-  with-backslash : {xs : Bytes} → Opens (0x5C ∷ xs)
-
-opens-on : {xs : Bytes} (ys : Bytes) → Opens xs → Opens (xs ++ ys)
-opens-on ys with-hash = with-hash
-opens-on ys with-quote = with-quote
-opens-on ys with-backslash = with-backslash
-
-field-opens : {raw content : Bytes} {kind : Kind} → tdif.Field (cell raw kind content) → Opens raw
-field-opens (tdif.a-null tdif.null) = with-backslash
-field-opens (tdif.a-value (tdif.value i)) = with-quote
-
-fields-open : {text : Bytes} {cells : List Derived} → tdif.Fields text cells → Opens text
-fields-open (tdif.field v) = field-opens v
-fields-open (tdif.fields {text} {b} v c f) = opens-on (b ∷ text) (field-opens v)
-
-record-opens : {bs : Bytes} {l : Line Derived} → tdif.Record bs l → Opens bs
-record-opens (tdif.ended {es} f e) = opens-on es (fields-open f)
-
-comment-opens : {cs : Bytes} → tdif.Comment cs → Opens cs
-comment-opens (tdif.comment tdif.hash m e) = with-hash
-
-data Lined : Bytes → Type 0 where
-  nothing : Lined []
-  a-line : {xs : Bytes} → Opens xs → Lined xs
-
-empty-line : {xs : Bytes} {ls : List (Line Derived)} → tdif.Lines xs ls → Lined xs
-empty-line tdif.no-line = nothing
-empty-line (tdif.a-comment {xs} c k) = a-line (opens-on xs (comment-opens c))
-empty-line (tdif.a-record {xs} r k) = a-line (opens-on xs (record-opens r))
-
-no-empty-line : Lined (0x0A ∷ []) → ⊥
-no-empty-line (a-line o) = elim o [ ]
-
--- ---- RFC 8259 and RFC 3629
-
-leading-zero : json.Int (0x30 ∷ 0x31 ∷ []) → ⊥
-leading-zero (json.nonzero (json.digit1-9 r) ds) = omega (arith, r)
-
-control-byte : json.Unescaped (0x01 ∷ []) → ⊥
-control-byte (json.below-quote r) = omega (arith, r)
-control-byte (json.below-backslash r) = omega (arith, r)
-control-byte (json.above-backslash r) = omega (arith, r)
-control-byte (json.above-ascii (of-two u)) = elim u [ ]
-control-byte (json.above-ascii (of-three u)) = elim u [ ]
-control-byte (json.above-ascii (of-four u)) = elim u [ ]
-
-raw-surrogate : UTF8-3 (0xED ∷ 0xA0 ∷ 0x80 ∷ []) → ⊥
-raw-surrogate (e1-ec r s t) = omega (arith, r)
-raw-surrogate (ed r t) = omega (arith, r)
-raw-surrogate (ee-ef r s t) = omega (arith, r)
-
--- ---- CSV+ has no mark
-
-mark-first : (xs : Bytes) (ls : List (Line Derived)) → plus.File standard (0xEF ∷ 0xBB ∷ 0xBF ∷ xs) ls → ⊥
-mark-first xs ls (plus.file n k) = n plus.mark
-
--- ---- pairs
-
-four-bytes : {cs : Bytes} → Octets 0x1F600 cs → length cs ≡ 4
-four-bytes (one-octet r) = let h : 0x1F600 ≤ 0x007F = r .high in absurd (omega arith)
-four-bytes (two-octets w x r e f) = let h : 0x1F600 ≤ 0x07FF = r .high in absurd (omega arith)
-four-bytes (three-octets w x y r e f g) = let h : 0x1F600 ≤ 0xFFFF = r .high in absurd (omega arith)
-four-bytes (four-octets w x y z r e f g h) = refl
-
-nothing-more : {ts : Bytes} → json.Content [] ts → length ts ≡ 0
-nothing-more json.nothing = refl
-
-halves-apart : {ts : Bytes} → json.Content (json.unit 0xD83D ∷ json.unit 0xDE00 ∷ []) ts → length ts ≡ 4
-halves-apart (json.paired {cs} {ts} p o k) = length-append cs ts ∙ (rw (four-bytes o, nothing-more k))
-halves-apart (json.single n o k) =
-    absurd (n (json.halves (record { low = omega arith; high = omega arith }) (record { low = omega arith; high = omega arith })))
-
--- ---- CSVJ: a line's text is all but its ending, and lines end
-
-terminator-short : {es : Bytes} → csvj.Line-terminator es → length es ≤ 2
-terminator-short csvj.lf = omega arith
-terminator-short csvj.crlf = omega arith
-
-blanks-uncounted : {bs : Bytes} {l : Line Derived} → csvj.Line bs l → length bs ≤ length (textIn l) + 2
-blanks-uncounted (csvj.ended {text} {es} t e) = let h = terminator-short e in rw (length-append text es) (omega arith)
-
--- the last byte, or b where there is none
-lastOf : ℕ → Bytes → ℕ
-lastOf b [] = b
-lastOf b (c ∷ cs) = lastOf c cs
-
-last-on : (b : ℕ) (xs ys : Bytes) → lastOf b (xs ++ ys) ≡ lastOf (lastOf b xs) ys
-unfolding lastOf
-last-on b [] ys = refl
-last-on b (c ∷ cs) ys = last-on c cs ys
-
-terminator-last : {es : Bytes} (b : ℕ) → csvj.Line-terminator es → lastOf b es ≡ LF
-unfolding lastOf
-terminator-last b csvj.lf = refl
-terminator-last b csvj.crlf = refl
-
-line-last : {bs : Bytes} {l : Line Derived} (b : ℕ) → csvj.Line bs l → lastOf b bs ≡ LF
-line-last b (csvj.ended {text} {es} t e) = last-on b text es ∙ terminator-last (lastOf b text) e
-
-missing-ending : {xs : Bytes} {ls : List (Line Derived)} → csvj.Data-lines xs ls → lastOf LF xs ≡ LF
-unfolding lastOf
-missing-ending csvj.no-line = refl
-missing-ending (csvj.a-line {bs} {xs} (csvj.data-line l) k) =
-    last-on LF bs xs ∙ ap (λ b. lastOf b xs) (line-last LF l) ∙ missing-ending k
+use Rattle.grammar.specs.Mistakes.{Mistakes, nameA, twoNames, tooLong}
 
 -- ---- record checks and limits
 
@@ -144,95 +28,6 @@ long-record w =
     let e : length tooLong ≡ 4097 = length-replicate {A = ℕ} 4097 0x61 in
     let h = first-of (w .records) in
     omega arith
-
--- ---- text that holds no quote
-
-data Clear : Bytes → Type 0 where
-  clear : {b : ℕ} {bs : Bytes} → b ≢ 0x22 → Every (λ b. b ≢ 0x22) bs → Clear (b ∷ bs)
-
-above : {b lo hi : ℕ} → 0x23 ≤ lo → b from lo to hi → b ≢ 0x22
-above {b} {lo} h r e = let k : lo ≤ b = r .low in omega arith
-
-tail-clear : {b : ℕ} → UTF8-tail b → b ≢ 0x22
-tail-clear (tail r) = above (omega arith) r
-
-one-clear : {b : ℕ} → UTF8-tail b → Every (λ b. b ≢ 0x22) (b ∷ [])
-one-clear t = every-cons (tail-clear t) every-none
-
-two-clear : {b c : ℕ} → UTF8-tail b → UTF8-tail c → Every (λ b. b ≢ 0x22) (b ∷ c ∷ [])
-two-clear t u = every-cons (tail-clear t) (one-clear u)
-
-beyond-clear : {cs : Bytes} → UTF8-data cs → Clear cs
-beyond-clear (of-two (c2-df r t)) = clear (above (omega arith) r) (one-clear t)
-beyond-clear (of-three (e0 r t)) = clear {b = 0xE0} (λ e. omega arith) (every-cons (above (omega arith) r) (one-clear t))
-beyond-clear (of-three (e1-ec r t u)) = clear (above (omega arith) r) (two-clear t u)
-beyond-clear (of-three (ed r t)) = clear {b = 0xED} (λ e. omega arith) (every-cons (above (omega arith) r) (one-clear t))
-beyond-clear (of-three (ee-ef r t u)) = clear (above (omega arith) r) (two-clear t u)
-beyond-clear (of-four (f0 r t u)) = clear {b = 0xF0} (λ e. omega arith) (every-cons (above (omega arith) r) (two-clear t u))
-beyond-clear (of-four (f1-f3 r t u v)) = clear (above (omega arith) r) (every-cons (tail-clear t) (two-clear u v))
-beyond-clear (of-four (f4 r t u)) = clear {b = 0xF4} (λ e. omega arith) (every-cons (above (omega arith) r) (two-clear t u))
-
--- ---- TDIF: two quotes stand for one
-
-textdata-clear : {cs : Bytes} → tdif.Textdata cs → Clear cs
-textdata-clear (tdif.below-quote {b} r) = let h : b ≤ 0x21 = r .high in clear {b = b} (λ e. omega arith) every-none
-textdata-clear (tdif.above-quote r) = clear (above (omega arith) r) every-none
-textdata-clear (tdif.text-beyond u) = beyond-clear u
-
--- such text is not nothing, and begins with no quote
-clear-some : {cs : Bytes} (bs : Bytes) → Clear cs → cs ++ bs ≢ []
-clear-some bs (clear n m) e = let z : _≡_ {A = ℕ} 0 1 = cc in omega arith
-
-clear-first : {cs : Bytes} (bs xs : Bytes) → Clear cs → cs ++ bs ≢ 0x22 ∷ xs
-clear-first bs xs (clear n m) e = n cc
-
-inner-none : {bs ts : Bytes} → tdif.Inner bs ts → bs ≡ [] → ts ≡ []
-inner-none tdif.nothing e = refl
-inner-none (tdif.textdata {bs} t i) e = absurd (clear-some bs (textdata-clear t) e)
-inner-none (tdif.two-quotes i) e = let z : _≡_ {A = ℕ} 0 1 = cc in absurd (omega arith)
-
-two-quotes : {bs ts : Bytes} → tdif.Inner bs ts → bs ≡ 0x22 ∷ 0x22 ∷ [] → ts ≡ 0x22 ∷ []
-two-quotes tdif.nothing e = let z : _≡_ {A = ℕ} 0 1 = cc in absurd (omega arith)
-two-quotes (tdif.textdata {bs} t i) e = absurd (clear-first bs (0x22 ∷ []) (textdata-clear t) e)
-two-quotes (tdif.two-quotes {bs} i) e = let z : bs ≡ [] = cc in ap (λ ts. 0x22 ∷ ts) (inner-none i z)
-
--- ---- CSV+: a field that holds a quote begins and ends with one
-
-escaped-first : {b : ℕ} {bs ts : Bytes} → plus.Escaped standard (b ∷ bs) ts → b ≡ 0x22
-escaped-first (plus.escaped plus.dquote i r) = refl
-
-escaped-last : {bs ts : Bytes} → plus.Escaped standard bs ts → lastOf 0x22 bs ≡ 0x22
-unfolding lastOf
-escaped-last (plus.escaped {bs} plus.dquote i plus.dquote) = last-on 0x22 bs (0x22 ∷ [])
-
-clear-on : {cs bs : Bytes} → Clear cs → Every (λ b. b ≢ 0x22) bs → Every (λ b. b ≢ 0x22) (cs ++ bs)
-clear-on {bs} (clear n m) k = every-cons n (go m)
-  where
-    go : {cs : Bytes} → Every (λ b. b ≢ 0x22) cs → Every (λ b. b ≢ 0x22) (cs ++ bs)
-    go every-none = k
-    go (every-cons n m) = every-cons n (go m)
-
-plain-clear : {bs : Bytes} → plus.Non-escaped standard bs → Every (λ b. b ≢ 0x22) bs
-plain-clear plus.no-textdata = every-none
-plain-clear (plus.textdata (plus.ascii r q c x y) m) = every-cons q (plain-clear m)
-plain-clear (plus.textdata (plus.utf8-data u) m) = clear-on (beyond-clear u) (plain-clear m)
-
--- ` "a"`
-space-before : {kind : Kind} {content : Bytes} → plus.Field standard (cell (0x20 ∷ 0x22 ∷ 0x61 ∷ 0x22 ∷ []) kind content) → ⊥
-space-before (plus.an-escaped e) = let h : _≡_ {A = ℕ} 0x20 0x22 = escaped-first e in omega arith
-space-before (plus.a-non-escaped m) = go (plain-clear m)
-  where
-    go : {b : ℕ} {bs : Bytes} → Every (λ b. b ≢ 0x22) (b ∷ 0x22 ∷ bs) → ⊥
-    go (every-cons n (every-cons m k)) = m refl
-
--- `"a" `
-space-after : {kind : Kind} {content : Bytes} → plus.Field standard (cell (0x22 ∷ 0x61 ∷ 0x22 ∷ 0x20 ∷ []) kind content) → ⊥
-unfolding lastOf
-space-after (plus.an-escaped e) = let h : _≡_ {A = ℕ} 0x20 0x22 = escaped-last e in omega arith
-space-after (plus.a-non-escaped m) = go (plain-clear m)
-  where
-    go : {bs : Bytes} → Every (λ b. b ≢ 0x22) (0x22 ∷ bs) → ⊥
-    go (every-cons n k) = n refl
 
 -- ---- a CSVJ file may begin with a quote: two of them and LF
 
@@ -253,28 +48,12 @@ begun n =
 
 -- ---- none of the mistakes
 
-blank-text : (l : Line Derived) → 3 ≤ length (textIn l) + 2 → textIn l ≢ []
-blank-text l h e = let k : length (textIn l) ≡ 0 = ap length e in omega arith
-
 pub absent : Mistakes
-unfolding lastOf
 absent =
     record {
-      empty-line = λ ls k. no-empty-line (empty-line k);
-      space-before = λ kind content f. space-before f;
-      space-after = λ kind content f. space-after f;
-      leading-zero = leading-zero;
-      control-byte = control-byte;
-      missing-ending = λ ls k. let h : _≡_ {A = ℕ} 0x22 0x0A = missing-ending k in omega arith;
-      raw-surrogate = raw-surrogate;
-      mark-first = λ ls k. mark-first (0x61 ∷ []) ls k;
-      halves-apart = λ ts k. halves-apart k;
-      two-quotes = λ ts k. two-quotes k refl;
-      blanks-uncounted = λ l k. blank-text l (blanks-uncounted k);
+      of-rfcs = rfcs.absent;
+      of-files = files.absent;
       repeated-name = repeated-name;
       long-record = long-record;
       begun = begun;
     }
-
-pub absent-places : Misplacements
-absent-places = record { equal-cells = λ n x a. refl }

@@ -29,7 +29,9 @@ use Rattle.file_grammar.specs.Tdif as tdif
 use Rattle.file_grammar.specs.CsvPlus as plus
 use Rattle.grammar.specs.Accepted.{no-names, a-name, WithinLimits, ChecksHold, checks-hold}
 use Rattle.grammar.specs.Exact.{Exact, ExactPlaces}
-use Rattle.grammar.specs.Mistakes.{Mistakes, Misplacements, nameA, twoNames, tooLong, threeLines, threeRecords, threeDerived}
+use Rattle.rfc_grammar.specs.Mistakes.{RfcMistakes}
+use Rattle.file_grammar.specs.Mistakes.{FileMistakes, Misplacements, threeLines, threeRecords, threeDerived}
+use Rattle.grammar.specs.Mistakes.{Mistakes, nameA, twoNames, tooLong}
 use Rattle.grammar.specs.NextByte.{GoesOn}
 use Rattle.file_grammar.specs.Stretches.{stretch, stretches}
 use Rattle.rfc_grammar.proofs.Ranges.{range}
@@ -236,24 +238,25 @@ module _ (exact : Exact) where
   unfolding computes
   begun n = stopped-going (sym (exact .next-byte Csvj none [] nothingRead 0x22 refl refl refl .refused .1 n .1))
 
-  pub refused : Mistakes
-  refused =
+  of-rfcs : RfcMistakes
+  of-rfcs =
+      record { leading-zero = leading-zero; control-byte = control-byte; raw-surrogate = raw-surrogate; halves-apart = halves-apart }
+
+  of-files : FileMistakes
+  of-files =
       record {
         empty-line = empty-line;
         space-before = space-before;
         space-after = space-after;
-        leading-zero = leading-zero;
-        control-byte = control-byte;
         missing-ending = missing-ending;
-        raw-surrogate = raw-surrogate;
         mark-first = mark-first;
-        halves-apart = halves-apart;
         two-quotes = two-quotes;
         blanks-uncounted = blanks-uncounted;
-        repeated-name = repeated-name;
-        long-record = long-record;
-        begun = begun;
       }
+
+  pub refused : Mistakes
+  refused =
+      record { of-rfcs = of-rfcs; of-files = of-files; repeated-name = repeated-name; long-record = long-record; begun = begun }
 
 -- ---- by stretches
 

@@ -30,7 +30,8 @@ use Rattle.file_grammar.proofs.PlusCells.{textdata-exact}
 use Rattle.file_grammar.proofs.CellGrammar.{cell-exact, derived-content}
 use Rattle.file_grammar.proofs.FileGrammar.{grammar-exact, unambiguous}
 use Rattle.grammar.specs.Exact.{Exact, ExactPlaces}
-use Rattle.grammar.specs.Mistakes.{Mistakes, Misplacements}
+use Rattle.file_grammar.specs.Mistakes.{Misplacements}
+use Rattle.grammar.specs.Mistakes.{Mistakes}
 use Rattle.grammar.proofs.Acceptance.{acceptance, accepted-records, reader-acceptance}
 use Rattle.file_grammar.proofs.Walks.{past-length}
 use Rattle.grammar.proofs.Placed.{same-stretches, reader-stretches}

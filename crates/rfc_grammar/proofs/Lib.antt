@@ -1,3 +1,4 @@
+pub mod Absent
 pub mod Ranges
 pub mod Chars
 pub mod Texts

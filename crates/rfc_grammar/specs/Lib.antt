@@ -3,3 +3,4 @@ pub mod Rfc5234
 pub mod Rfc3629
 pub mod Derived
 pub mod Rfc8259
+pub mod Mistakes

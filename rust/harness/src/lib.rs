@@ -1,5 +1,5 @@
-//! Runs the vectors, the CSVJ conformance set and random tests against the reference, holds the proved calls to the reference, and
-//! states the vectors for the prover.
+//! Runs the vectors, the CSVJ conformance set and random tests against the reference, holds the proved calls to the reference, states
+//! the vectors for the prover, and reads what refused each must-fail edit.
 
 pub mod antt;
 pub mod calls;
@@ -8,6 +8,7 @@ pub mod clauses;
 pub mod compare;
 pub mod conformance;
 pub mod counts;
+pub mod edit_logs;
 pub mod examples;
 pub mod figures;
 pub mod frames;
