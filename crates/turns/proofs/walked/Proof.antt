@@ -115,9 +115,10 @@ returns-2 c =
     let t = c .before .before .before .before .before .before .before .before .before .before .before .before .before .before .before .before .turned in
     let same = quick-nothing (c .before .before .before .before .before .before .before .before .before .before .before .before .before .before .before .before .before .before .before .before .before .before .before .before .before .before .before .before .before .before .before .before .before .data-record .ensures .0) (c .before .before .before .before .before .before .before .before .before .before .before .before .before .before .before .before .before .before .before .before .before .before .before .enum-told .given .1) in
     λ began done k first entered long z.
-    let w = since-still same (l .inv .7 began done k first z) .now in
+    let s = since-still same (l .inv .7 began done k first z) in
+    let w = s .now in
     subst (Goes (a .d) (into (a .t)) (a .piece .now) began done k (z .done′) first _ _ _) (sym (c .told2 .ensures))
-    (walk-stops w (subst (Turns (a .d) (into (a .t)) (a .piece .now) (l .i) (l .p) (w .done′) (w .k′) (l .o) _ _ _ _) (c .before .before .e .given .1) (t .ensures .1 (w .done′) (w .k′) (w .hold))) (z .done′))
+    (walk-stops w (subst (Turns (a .d) (into (a .t)) (a .piece .now) (l .i) (l .p) (w .done′) (w .k′) (l .o) _ _ _ _) (c .before .before .e .given .1) (t .ensures .1 (w .done′) (w .k′) (w .hold))) (z .done′) (s .grows))
 
 returns-3 : tie.Need-returns-3 Inv-loop μ-loop
 returns-3 c =
