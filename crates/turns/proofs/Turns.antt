@@ -94,7 +94,7 @@ module _ {d : Dialect} {t : Target} {piece : Bytes} {place : Place} {done : List
   walk-quickly g nothing z = let y : _≡_ {A = ℕ} 0 1 = cc in absurd (omega arith)
 
   pub walk-pends : {q : Place} {e : Report} {bytes′ ends′ out′ : List ℕ} → Turns d t piece i p (w .done′) (w .k′) o out bytes′ ends′ out′ (Pended q) → InBounds q ends′ → e ≡ accepted → (mid : List Rec) → Grows mid (w .done′) → Goes d t piece place done k mid out₀ bytes′ ends′ out′ (record { place = q; report = e; length = o })
-  walk-pends (turns-pended k″ r h v) b e mid g = goes-all (w .done′) k″ g (w .reads ∙ r) h b e (v ∙ w .text) (w .long)
+  walk-pends (turns-pended k″ r h z v) b e mid g = goes-all (w .done′) k″ g (w .reads ∙ r) h b e (v ∙ w .text) (w .long)
 
   -- the place given back is the one of the turn
   pub walk-stops : {e : Report} {bytes′ ends′ out′ : List ℕ} → Turns d t piece i p (w .done′) (w .k′) o out bytes′ ends′ out′ (Stopped e) → (mid : List Rec) → Grows mid (w .done′) → Goes d t piece place done k mid out₀ bytes′ ends′ out′ (record { place = p; report = e; length = o })
