@@ -9,7 +9,7 @@ use Rattle.demands.proofs.Leaving.{reader-leaves, decoder-leaves, conve
 use Rattle.demands.proofs.Telling.{reader-unknown, decoder-unknown, converter-unknown, writer-unknown, reader-tells, decoder-tells, converter-tells, writer-tells}
 use Rattle.demands.proofs.Accepting.{converted-exactly}
 use Rattle.demands.proofs.Limits.{converted-limit, written-limit, converted-room}
-use Rattle.demands.proofs.Calls.{every-list, refused, joined, whole-text, end-call, fault-is-whole, fault-of-every-file, room, ten}
+use Rattle.demands.proofs.Calls.{every-list, refused, joined, whole-text, end-call, fault-is-whole, fault-of-every-file, room, ten, shown, counted}
 
 pub demand-1 : Demand1
 demand-1 =
@@ -54,6 +54,9 @@ demand-3 =
       fault-of-every-file = fault-of-every-file new-carries;
       room = room new-carries;
       ten = ten new-carries;
+      shown = shown new-carries;
+      counted = counted new-carries;
+      any-state = λ s next c out out′ told x. (x .within, x .as-long);
     }
 
 pub demands : Demands

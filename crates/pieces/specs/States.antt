@@ -21,6 +21,16 @@ placeIn n =
       written = getD n 8 0;
     }
 
+-- how many bytes were consumed, how many columns the header has and how many records are complete, as a program may read them (§15.2)
+abbrev pub offsetIn : List ℕ → ℕ
+offsetIn n = getD n 1 0
+
+abbrev pub columnsIn : List ℕ → ℕ
+columnsIn n = getD n 6 0
+
+abbrev pub recordsIn : List ℕ → ℕ
+recordsIn n = getD n 7 0
+
 -- above 0 once an end was accepted (§15.6)
 abbrev pub endedIn : List ℕ → ℕ
 endedIn n = getD n 9 0
