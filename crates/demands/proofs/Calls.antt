@@ -25,7 +25,6 @@ use Rattle.model.proofs.MachineLaws.{joined-outputs}
 use Rattle.model.proofs.Pieces.{answer-fits, end-is-whole}
 use Rattle.numbers.specs.Named.{textAnswer}
 use Rattle.numbers.specs.declared.TextAnswer.{TextAnswer}
-use Rattle.pieces.specs.States.{offsetIn}
 use Rattle.pieces.specs.Carrying.{Shows}
 use Rattle.pieces.specs.Calling.{newConverter, Carries, Called}
 use Rattle.pieces.specs.declared.Converter.{Converter}
@@ -189,5 +188,5 @@ module _ (new-carries : (m n : ℕ) → Carries m n [] (newConverter m n)) where
     pub shown : (d t : Dialect) (made : List MadeCall) (s : Converter) → dialectOf m ≡ some d → dialectOf n ≡ some t → LedTo m n made s → Shows d t (consumedBy m n made) s
     shown d t made s p q led = shown-after (stands led .carries) d t p q
 
-    pub counted : (made : List MadeCall) (s : Converter) → LedTo m n made s → faultIn (entriesOf m n made) ≡ none → offsetIn (s .numbers) ≡ length (consumedBy m n made)
+    pub counted : (made : List MadeCall) (s : Converter) → LedTo m n made s → faultIn (entriesOf m n made) ≡ none → s .offset ≡ length (consumedBy m n made)
     counted made s led none-met = offset-after (stands led .carries) none-met

@@ -28,7 +28,6 @@ use Rattle.model.specs.Demands.{seenIn}
 use Rattle.model.specs.Trips.{RoundTrip, SameText, ConvertedBack, ConvertedOnce, ReaderDecodes}
 use Rattle.numbers.specs.Named.{textAnswer}
 use Rattle.numbers.specs.declared.TextAnswer.{TextAnswer}
-use Rattle.pieces.specs.States.{offsetIn}
 use Rattle.pieces.specs.Carrying.{Shows}
 use Rattle.pieces.specs.Calling.{newConverter, Called}
 use Rattle.pieces.specs.declared.Converter.{Converter}
@@ -217,7 +216,7 @@ pub record Demand3 : Type 0 where
   -- and how many bytes were consumed, as long as no fault was met (§15.2)
   pub counted :
       (m n : ℕ) (made : List MadeCall) (s : Converter) → LedTo m n made s → faultIn (entriesOf m n made) ≡ none →
-      offsetIn (s .numbers) ≡ length (consumedBy m n made)
+      s .offset ≡ length (consumedBy m n made)
   -- from any state, made by calls or not, the length is within the output, which is as long as it was (§15.9)
   pub any-state :
       (s next : Converter) (c : Call) (out out′ : List ℕ) (told : TextAnswer) → Called s c out told next out′ →

@@ -34,7 +34,7 @@ use Rattle.turn.specs.Holding.{readAt}
 use Rattle.turn.specs.Walking.{InBounds, handIn}
 use Rattle.turn.specs.Calls.{Named, Begun, Finished}
 use Rattle.walk.specs.Taking.{Took}
-use Rattle.pieces.specs.States.{placeIn, endedIn, faultIn}
+use Rattle.pieces.specs.States.{placeOf}
 use Rattle.pieces.specs.Carrying.{Shows, Takes, StageOf, stage-taking, stage-faulted, stage-ended, stage-no-source, stage-no-target, Models}
 use Rattle.pieces.specs.Calling.{Carries, Called}
 use Rattle.pieces.specs.declared.Converter.{Converter}
@@ -86,7 +86,7 @@ record Stepped (s : Converter) (c : Call) (out : List ℕ) (told : TextAnswer) (
 
 -- the check of a call, by the numbers of a state
 abbrev pub checkOf : Converter → Call → Check
-checkOf s c = checkNow (s .source) (s .target) (faultIn (s .numbers)) (endedIn (s .numbers)) (length (bytesOf c)) (roomOf c)
+checkOf s c = checkNow (s .source) (s .target) (s .fault) (s .ended) (length (bytesOf c)) (roomOf c)
 
 -- what holds of any state
 record Anyhow (s : Converter) (c : Call) (out : List ℕ) (told : TextAnswer) (next : Converter) (out′ : List ℕ) : Type 0 where
@@ -150,7 +150,7 @@ none-known o d p q = let z : _≡_ {A = ℕ} 0 1 = cc in absurd (omega arith)
 
 -- the numbers of a state tell its stage
 stage-tells :
-    {m n : ℕ} {consumed : Bytes} {w : ConverterStage} {s : Converter} (d t : Dialect) → dialectOf m ≡ some d → dialectOf n ≡ some t → StageOf m n consumed w s → Tells w (faultIn (s .numbers)) (endedIn (s .numbers))
+    {m n : ℕ} {consumed : Bytes} {w : ConverterStage} {s : Converter} (d t : Dialect) → dialectOf m ≡ some d → dialectOf n ≡ some t → StageOf m n consumed w s → Tells w (s .fault) (s .ended)
 stage-tells d t p q (stage-taking d′ t′ done k p′ q′ reads tells takes) = tells
 stage-tells d t p q (stage-faulted tells) = tells
 stage-tells d t p q (stage-ended tells) = tells
@@ -162,18 +162,18 @@ means :
     Means d t w c (checkOf s c)
 means s c m n d t w consumed p q h =
     subst
-    (λ (x : ℕ). Means d t w c (checkNow x (s .target) (faultIn (s .numbers)) (endedIn (s .numbers)) (length (bytesOf c)) (roomOf c)))
+    (λ (x : ℕ). Means d t w c (checkNow x (s .target) (s .fault) (s .ended) (length (bytesOf c)) (roomOf c)))
     (sym (h .source))
     (subst
-    (λ (y : ℕ). Means d t w c (checkNow m y (faultIn (s .numbers)) (endedIn (s .numbers)) (length (bytesOf c)) (roomOf c)))
+    (λ (y : ℕ). Means d t w c (checkNow m y (s .fault) (s .ended) (length (bytesOf c)) (roomOf c)))
     (sym (h .target))
-    (checks-mean m n d t w (faultIn (s .numbers)) (endedIn (s .numbers)) c p q (stage-tells d t p q (h .stage))))
+    (checks-mean m n d t w (s .fault) (s .ended) c p q (stage-tells d t p q (h .stage))))
 
 source-unknown : (s : Converter) (c : Call) (m n : ℕ) (w : ConverterStage) (consumed : Bytes) → dialectOf m ≡ none → Models consumed m n w s → checkOf s c ≡ checks.Refused (refusal 11)
-source-unknown s c m n w consumed p h = unknown-source (s .source) (s .target) (faultIn (s .numbers)) (endedIn (s .numbers)) (length (bytesOf c)) (roomOf c) (ap dialectOf (h .source) ∙ p)
+source-unknown s c m n w consumed p h = unknown-source (s .source) (s .target) (s .fault) (s .ended) (length (bytesOf c)) (roomOf c) (ap dialectOf (h .source) ∙ p)
 
 target-unknown : (s : Converter) (c : Call) (m n : ℕ) (w : ConverterStage) (consumed : Bytes) → dialectOf n ≡ none → Models consumed m n w s → checkOf s c ≡ checks.Refused (refusal 11)
-target-unknown s c m n w consumed q h = unknown-target (s .source) (s .target) (faultIn (s .numbers)) (endedIn (s .numbers)) (length (bytesOf c)) (roomOf c) (ap dialectOf (h .target) ∙ q)
+target-unknown s c m n w consumed q h = unknown-target (s .source) (s .target) (s .fault) (s .ended) (length (bytesOf c)) (roomOf c) (ap dialectOf (h .target) ∙ q)
 
 -- ---- a call that a check answers
 
@@ -237,7 +237,7 @@ taken-at d′ t′ (means-taken r z small) h = record { from = cc; to = cc; read
 record Holds (d t : Dialect) (consumed : Bytes) (s : Converter) (w : ConverterStage) : Type 0 where
   done : List Rec
   k : Kept
-  stands : w ≡ taking (readAt d (placeIn (s .numbers)) done k)
+  stands : w ≡ taking (readAt d (placeOf s) done k)
   takes : Takes d t consumed s done k
 
 holds :
@@ -253,7 +253,7 @@ holds {n = n} d t r p q z (stage-no-target none-n) = none-known (dialectOf n) t 
 
 module _ (s : Converter) (c : Call) (d t : Dialect) (h : checkOf s c ≡ checks.Taken d t) (out : List ℕ) (told : TextAnswer) (next : Converter) (out′ : List ℕ) where
   abbrev stood : (done : List Rec) → Kept → Read
-  stood done k = readAt d (placeIn (s .numbers)) done k
+  stood done k = readAt d (placeOf s) done k
 
   abbrev Comes : (m n : ℕ) (d t : Dialect) (consumed : Bytes) (w : ConverterStage) → Type 0
   Comes m n d t consumed w =
@@ -314,25 +314,25 @@ module _ (s : Converter) (c : Call) (d t : Dialect) (h : checkOf s c ≡ checks.
 
 module _ (s : Converter) (d t : Dialect) (out : List ℕ) where
   -- no calls made this state
-  pub lost-called : (c : Call) (told : TextAnswer) → checkOf s c ≡ checks.Taken d t → told .length ≤ length out → (InBounds (placeIn (s .numbers)) (handIn (placeIn (s .numbers)) (s .«name_ends») (s .ends)) → ⊥) → Called s c out told s out
+  pub lost-called : (c : Call) (told : TextAnswer) → checkOf s c ≡ checks.Taken d t → told .length ≤ length out → (InBounds (placeOf s) (handIn (placeOf s) (s .«name_ends») (s .ends)) → ⊥) → Called s c out told s out
   lost-called c told h within out-of = taken-called s c d t h out told s out (refl, refl) within refl λ m n consumed done k p q takes small. absurd (out-of (takes .bounds))
 
   module _ (r : call-taken.Taken) (ends′ name-ends′ bytes′ names′ out′ : List ℕ) (within : r .length ≤ length out) (as-long : length out′ ≡ length out) where
     pub piece-called :
         (bs : Bytes) → checkOf s (piece bs (length out)) ≡ checks.Taken d t →
-        ((before : Bytes) (done : List Rec) (k : Kept) → Begun d (into t) before bs (placeIn (s .numbers)) (s .names) (s .«name_ends») (s .bytes) (s .ends) out done k →
-        Took d (into t) before bs (placeIn (s .numbers)) done k out names′ name-ends′ bytes′ ends′ out′ r) →
+        ((before : Bytes) (done : List Rec) (k : Kept) → Begun d (into t) before bs (placeOf s) (s .names) (s .«name_ends») (s .bytes) (s .ends) out done k →
+        Took d (into t) before bs (placeOf s) done k out names′ name-ends′ bytes′ ends′ out′ r) →
         length names′ ≡ MAXRECORD → length name-ends′ ≡ MAXCOLUMNS → length bytes′ ≡ MAXRECORD → length ends′ ≡ MAXCOLUMNS →
         Called s (piece bs (length out)) out (toldOf r) (stateThen s r 0 ends′ name-ends′ bytes′ names′) out′
     piece-called bs h took long-names long-name-ends long-bytes long-ends =
         taken-called s (piece bs (length out)) d t h out (toldOf r) (stateThen s r 0 ends′ name-ends′ bytes′ names′) out′ (refl, refl) within as-long λ m n consumed done k p q takes small.
-        let x : Took d (into t) consumed bs (placeIn (s .numbers)) done k out names′ name-ends′ bytes′ ends′ out′ r = took consumed done k (begun-piece d t consumed s done k takes bs out small) in
+        let x : Took d (into t) consumed bs (placeOf s) done k out names′ name-ends′ bytes′ ends′ out′ r = took consumed done k (begun-piece d t consumed s done k takes bs out small) in
         (piece-says d t consumed s done k takes m n p q bs out r ends′ name-ends′ bytes′ names′ out′ x, piece-left d t consumed s done k takes m n p q bs out r ends′ name-ends′ bytes′ names′ out′ x long-names long-name-ends long-bytes long-ends)
 
     pub end-called :
         checkOf s (finish (length out)) ≡ checks.Taken d t →
-        ((before : Bytes) (done : List Rec) (k : Kept) → Begun d (into t) before [] (placeIn (s .numbers)) (s .names) (s .«name_ends») (s .bytes) (s .ends) out done k →
-        Finished d (into t) (placeIn (s .numbers)) done k out out′ r × Named before names′ name-ends′ done) →
+        ((before : Bytes) (done : List Rec) (k : Kept) → Begun d (into t) before [] (placeOf s) (s .names) (s .«name_ends») (s .bytes) (s .ends) out done k →
+        Finished d (into t) (placeOf s) done k out out′ r × Named before names′ name-ends′ done) →
         Called s (finish (length out)) out (toldOf r) (stateThen s r 1 ends′ name-ends′ bytes′ names′) out′
     end-called h finished =
         taken-called s (finish (length out)) d t h out (toldOf r) (stateThen s r 1 ends′ name-ends′ bytes′ names′) out′ (refl, refl) within as-long λ m n consumed done k p q takes small.

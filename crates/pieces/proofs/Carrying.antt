@@ -44,7 +44,7 @@ use Rattle.walk.specs.Taking.{Took, took-all, took-fault}
 use Rattle.turn.proofs.Turning.{first-holds, first-reads}
 use Rattle.turn.proofs.Writes.{reached-on}
 use Rattle.turn.proofs.Spelling.{named-grows}
-use Rattle.pieces.specs.States.{placeIn, offsetIn, columnsIn, recordsIn, numbersOf}
+use Rattle.pieces.specs.States.{placeIn, placeOf, numbersOf}
 use Rattle.pieces.specs.Carrying.{Shows, Unfaulted, Takes, StageOf, stage-taking, stage-faulted, stage-ended, stage-no-source, stage-no-target, Models}
 use Rattle.pieces.specs.Calling.{converterOf, newConverter, Carries}
 use Rattle.pieces.specs.declared.Converter.{Converter}
@@ -83,20 +83,20 @@ toldOf r = record { report = r .report; length = r .length }
 pub record Left (m n : ℕ) (d t : Dialect) (consumed : Bytes) (w : ConverterStage) (next : Converter) : Type 0 where
   pub stage : StageOf m n consumed w next
   pub shows : Shows d t consumed next
-  pub offset : Unfaulted w → offsetIn (next .numbers) ≡ length consumed
+  pub offset : Unfaulted w → next .offset ≡ length consumed
 
 -- what a state shows, by what its bytes come to
 shows-by :
-    {d t : Dialect} {consumed : Bytes} {s : Converter} (p : Progress) → readBytes d (some (into t)) consumed ≡ p → recordsIn (s .numbers) ≡ length (recordsOf p) →
-    columnsIn (s .numbers) ≡ columnsOf (recordsOf p) → Named consumed (s .names) (s .«name_ends») (recordsOf p) → Shows d t consumed s
+    {d t : Dialect} {consumed : Bytes} {s : Converter} (p : Progress) → readBytes d (some (into t)) consumed ≡ p → s .records ≡ length (recordsOf p) →
+    s .columns ≡ columnsOf (recordsOf p) → Named consumed (s .names) (s .«name_ends») (recordsOf p) → Shows d t consumed s
 shows-by p e records columns names = record { records = rw e records; columns = rw e columns; names = rw e names }
 
 module _ (d t : Dialect) (consumed : Bytes) (s : Converter) (done : List Rec) (k : Kept) (h : Takes d t consumed s done k) where
   abbrev stood : Read
-  stood = readAt d (placeIn (s .numbers)) done k
+  stood = readAt d (placeOf s) done k
 
   -- it has begun
-  begun : (bs out : Bytes) → length bs ≤ MAXPIECE → LEASTOUTPUT ≤ length out → Begun d (into t) consumed bs (placeIn (s .numbers)) (s .names) (s .«name_ends») (s .bytes) (s .ends) out done k
+  begun : (bs out : Bytes) → length bs ≤ MAXPIECE → LEASTOUTPUT ≤ length out → Begun d (into t) consumed bs (placeOf s) (s .names) (s .«name_ends») (s .bytes) (s .ends) out done k
   begun bs out short room =
       record {
         begins = record { hold = h .hold; reached = record { consumed = consumed; reads = h .reads }; short = short; room = room };
@@ -104,12 +104,12 @@ module _ (d t : Dialect) (consumed : Bytes) (s : Converter) (done : List Rec) (k
         heads = h .heads;
       }
 
-  pub begun-piece : (bs out : Bytes) → tooSmall (piece bs (length out)) ≡ false → Begun d (into t) consumed bs (placeIn (s .numbers)) (s .names) (s .«name_ends») (s .bytes) (s .ends) out done k
+  pub begun-piece : (bs out : Bytes) → tooSmall (piece bs (length out)) ≡ false → Begun d (into t) consumed bs (placeOf s) (s .names) (s .«name_ends») (s .bytes) (s .ends) out done k
   begun-piece bs out e =
       let x = or-none (ltb MAXPIECE (length bs)) (ltb (length out) LEASTOUTPUT) e in
       begun bs out (ltb-false MAXPIECE (length bs) (x .0)) (ltb-false (length out) LEASTOUTPUT (x .1))
 
-  pub begun-end : (out : Bytes) → tooSmall (finish (length out)) ≡ false → Begun d (into t) consumed [] (placeIn (s .numbers)) (s .names) (s .«name_ends») (s .bytes) (s .ends) out done k
+  pub begun-end : (out : Bytes) → tooSmall (finish (length out)) ≡ false → Begun d (into t) consumed [] (placeOf s) (s .names) (s .«name_ends») (s .bytes) (s .ends) out done k
   begun-end out e =
       let x = or-none (ltb MAXPIECE 0) (ltb (length out) LEASTOUTPUT) e in
       begun [] out (omega arith) (ltb-false (length out) LEASTOUTPUT (x .1))
@@ -128,14 +128,14 @@ module _ (d t : Dialect) (consumed : Bytes) (s : Converter) (done : List Rec) (k
     -- a piece
     module _ (bs out : Bytes) (r : Taken) (ends′ name-ends′ bytes′ names′ out′ : List ℕ) where
       pub piece-says :
-          Took d (into t) consumed bs (placeIn (s .numbers)) done k out names′ name-ends′ bytes′ ends′ out′ r →
+          Took d (into t) consumed bs (placeOf s) done k out names′ name-ends′ bytes′ ends′ out′ r →
           Says (toldOf r) out out′ (taken (into t) (tableText (into t) (rows done)) (readFrom d (some (into t)) (going stood) bs))
       unfolding newText
       piece-says (took-all done′ k′ reads hold heads b g w l) = rw reads (says (going (readAt d (r .place) done′ k′)) r out out′ g w l)
       piece-says (took-fault x z reads counts named g w l) = rw reads (says (stopped x z) r out out′ g w l)
 
       pub piece-left :
-          Took d (into t) consumed bs (placeIn (s .numbers)) done k out names′ name-ends′ bytes′ ends′ out′ r → length names′ ≡ MAXRECORD → length name-ends′ ≡ MAXCOLUMNS → length bytes′ ≡ MAXRECORD →
+          Took d (into t) consumed bs (placeOf s) done k out names′ name-ends′ bytes′ ends′ out′ r → length names′ ≡ MAXRECORD → length name-ends′ ≡ MAXCOLUMNS → length bytes′ ≡ MAXRECORD →
           length ends′ ≡ MAXCOLUMNS → Left m n d t (consumed ++ bs) (stageThen false (readFrom d (some (into t)) (going stood) bs)) (stateThen s r 0 ends′ name-ends′ bytes′ names′)
       piece-left (took-all done′ k′ reads hold heads b g w l) long-names long-name-ends long-bytes long-ends =
           let back : r .place ≡ placeIn (numbersOf (r .place) 0 (r .report)) = sym (place-back (r .place) 0 (r .report)) in
@@ -165,7 +165,7 @@ module _ (d t : Dialect) (consumed : Bytes) (s : Converter) (done : List Rec) (k
           })
 
     -- the end
-    module _ (out : Bytes) (r : Taken) (ends′ name-ends′ bytes′ names′ out′ : List ℕ) (f : Finished d (into t) (placeIn (s .numbers)) done k out out′ r) where
+    module _ (out : Bytes) (r : Taken) (ends′ name-ends′ bytes′ names′ out′ : List ℕ) (f : Finished d (into t) (placeOf s) done k out out′ r) where
       pub end-says : Says (toldOf r) out out′ (taken (into t) (tableText (into t) (rows done)) (readEnd d (some (into t)) (going stood)))
       unfolding newText
       end-says = says (readEnd d (some (into t)) (going stood)) r out out′ (f .reports) (f .text) (f .long)
@@ -255,7 +255,7 @@ not-faulted (stood-faulted f r z k e x) none-met = let z : _≡_ {A = ℕ} 0 1 =
 not-faulted (stood-ended r k e b x) none-met = tt
 
 -- and counts them as long as no fault was met
-pub offset-after : {m n : ℕ} {past : List Entry} {s : Converter} → Carries m n past s → ledger.faultIn past ≡ none → offsetIn (s .numbers) ≡ length (consumedIn past)
+pub offset-after : {m n : ℕ} {past : List Entry} {s : Converter} → Carries m n past s → ledger.faultIn past ≡ none → s .offset ≡ length (consumedIn past)
 offset-after (carries-known d t w p q stood model) none-met = model .offset (not-faulted stood none-met)
 offset-after (carries-source p model) none-met = model .offset tt
 offset-after (carries-target q model) none-met = model .offset tt

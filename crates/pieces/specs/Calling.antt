@@ -3,7 +3,7 @@ use Prim.Native.Nat.{ℕ, _≤_}
 use mathlib.Core.Path.{_≡_}
 use mathlib.Core.Bool.{true}
 use mathlib.Core.List.{List, [], _∷_, _++_}
-use lib.ListN.{length, replicate}
+use lib.ListN.{length, replicate, getD}
 use Rattle.model.specs.declared.Report.{Report}
 use Rattle.model.specs.Report.{MAXRECORD, MAXCOLUMNS}
 use Rattle.model.specs.Api.{unwritten}
@@ -17,9 +17,28 @@ use Rattle.pieces.specs.States.{endedIn, faultIn}
 use Rattle.pieces.specs.Carrying.{Models}
 use Rattle.pieces.specs.declared.Converter.{Converter}
 
+-- the state that is lent as these arrays: its numbers come in the order of the fields (§15.2)
 abbrev pub converterOf : (source target : ℕ) → (numbers ends name-ends bytes names : List ℕ) → Converter
 converterOf m n numbers ends name-ends bytes names =
-    record { source = m; target = n; numbers = numbers; ends = ends; «name_ends» = name-ends; bytes = bytes; names = names }
+    record {
+      source = m;
+      target = n;
+      state = getD numbers 0 0;
+      offset = getD numbers 1 0;
+      start = getD numbers 2 0;
+      size = getD numbers 3 0;
+      fill = getD numbers 4 0;
+      cells = getD numbers 5 0;
+      columns = getD numbers 6 0;
+      records = getD numbers 7 0;
+      written = getD numbers 8 0;
+      ended = endedIn numbers;
+      fault = faultIn numbers;
+      ends = ends;
+      «name_ends» = name-ends;
+      bytes = bytes;
+      names = names;
+    }
 
 -- before the first call (§15.1)
 abbrev pub newConverter : (source target : ℕ) → Converter
@@ -48,5 +67,5 @@ pub record Called (s : Converter) (c : Call) (out : List ℕ) (told : TextAnswer
   pub as-long : length out′ ≡ length out
   pub dialects : (next .source ≡ s .source) × (next .target ≡ s .target)
   pub checks :
-      (e : Report) → checkNow (s .source) (s .target) (faultIn (s .numbers)) (endedIn (s .numbers)) (length (bytesOf c)) (roomOf c) ≡ Refused e →
+      (e : Report) → checkNow (s .source) (s .target) (s .fault) (s .ended) (length (bytesOf c)) (roomOf c) ≡ Refused e →
       (told ≡ textAnswer (unwritten e)) × (next ≡ s) × (out′ ≡ out)

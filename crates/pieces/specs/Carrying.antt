@@ -16,7 +16,7 @@ use Rattle.carried.specs.Checks.{Tells}
 use Rattle.turn.specs.Holding.{readAt, columnsOf, Holding}
 use Rattle.turn.specs.Walking.{InBounds, handIn}
 use Rattle.turn.specs.Calls.{Named, Heads}
-use Rattle.pieces.specs.States.{placeIn, offsetIn, columnsIn, recordsIn, endedIn, faultIn}
+use Rattle.pieces.specs.States.{placeOf}
 use Rattle.pieces.specs.declared.Converter.{Converter}
 
 -- ---- what a state shows
@@ -25,8 +25,8 @@ use Rattle.pieces.specs.declared.Converter.{Converter}
 -- columns, and its names as they are spelt. After a fault or an accepted end it still does; a last record that only the end completes is
 -- not among them (§15.2)
 pub record Shows (d t : Dialect) (consumed : Bytes) (s : Converter) : Type 0 where
-  pub records : recordsIn (s .numbers) ≡ length (recordsOf (readBytes d (some (into t)) consumed))
-  pub columns : columnsIn (s .numbers) ≡ columnsOf (recordsOf (readBytes d (some (into t)) consumed))
+  pub records : s .records ≡ length (recordsOf (readBytes d (some (into t)) consumed))
+  pub columns : s .columns ≡ columnsOf (recordsOf (readBytes d (some (into t)) consumed))
   pub names : Named consumed (s .names) (s .«name_ends») (recordsOf (readBytes d (some (into t)) consumed))
 
 -- no fault was met (§15.5)
@@ -40,10 +40,10 @@ Unfaulted ended = Unit {0}
 -- a state that takes bytes, between these dialects, after the records `done` and with this kept of the record in hand (§15.2)
 pub record Takes (d t : Dialect) (consumed : Bytes) (s : Converter) (done : List Rec) (k : Kept) : Type 0 where
   pub hold :
-      Holding d (into t) (placeIn (s .numbers)) (handIn (placeIn (s .numbers)) (s .names) (s .bytes)) (handIn (placeIn (s .numbers)) (s .«name_ends») (s .ends)) done k
-  pub heads : Heads consumed (placeIn (s .numbers)) (s .names) (s .«name_ends») done k
-  pub bounds : InBounds (placeIn (s .numbers)) (handIn (placeIn (s .numbers)) (s .«name_ends») (s .ends))
-  pub reads : readBytes d (some (into t)) consumed ≡ going (readAt d (placeIn (s .numbers)) done k)
+      Holding d (into t) (placeOf s) (handIn (placeOf s) (s .names) (s .bytes)) (handIn (placeOf s) (s .«name_ends») (s .ends)) done k
+  pub heads : Heads consumed (placeOf s) (s .names) (s .«name_ends») done k
+  pub bounds : InBounds (placeOf s) (handIn (placeOf s) (s .«name_ends») (s .ends))
+  pub reads : readBytes d (some (into t)) consumed ≡ going (readAt d (placeOf s) done k)
   pub long-names : length (s .names) ≡ MAXRECORD
   pub long-name-ends : length (s .«name_ends») ≡ MAXCOLUMNS
   pub long-bytes : length (s .bytes) ≡ MAXRECORD
@@ -53,19 +53,20 @@ pub record Takes (d t : Dialect) (consumed : Bytes) (s : Converter) (done : List
 pub data StageOf (m n : ℕ) (consumed : Bytes) : ConverterStage → Converter → Type 0 where
   stage-taking :
       {s : Converter} {r : Read} (d t : Dialect) (done : List Rec) (k : Kept) → dialectOf m ≡ some d → dialectOf n ≡ some t →
-      r ≡ readAt d (placeIn (s .numbers)) done k → Tells (taking r) (faultIn (s .numbers)) (endedIn (s .numbers)) → Takes d t consumed s done k →
+      r ≡ readAt d (placeOf s) done k → Tells (taking r) (s .fault) (s .ended) → Takes d t consumed s done k →
       StageOf m n consumed (taking r) s
-  stage-faulted : {s : Converter} {e : Report} → Tells (faulted e) (faultIn (s .numbers)) (endedIn (s .numbers)) → StageOf m n consumed (faulted e) s
-  stage-ended : {s : Converter} → Tells ended (faultIn (s .numbers)) (endedIn (s .numbers)) → StageOf m n consumed ended s
+  stage-faulted : {s : Converter} {e : Report} → Tells (faulted e) (s .fault) (s .ended) → StageOf m n consumed (faulted e) s
+  stage-ended : {s : Converter} → Tells ended (s .fault) (s .ended) → StageOf m n consumed ended s
   stage-no-source : {s : Converter} → dialectOf m ≡ none → StageOf m n consumed ended s
   stage-no-target : {s : Converter} → dialectOf n ≡ none → StageOf m n consumed ended s
 
 -- A converter made with these two numbers stands at this stage after these bytes, and shows what they complete. As long as no fault was met
 -- it counts them. Nothing else is decided after a fault or an accepted end: not `bytes` and `ends`, not `names` and `name_ends` behind those
--- of the header, not the numbers 0, 2 to 5 and 8, after a fault not 1 and 9, and after an end not 11 to 13 (§15.2 §15.5 §15.6)
+-- of the header, not `state`, `start`, `size`, `fill`, `cells` and `written`, after a fault not `offset` and `ended`, and after an end of
+-- `fault` the number alone is (§15.2 §15.5 §15.6)
 pub record Models (consumed : Bytes) (m n : ℕ) (w : ConverterStage) (s : Converter) : Type 0 where
   pub source : s .source ≡ m
   pub target : s .target ≡ n
   pub stage : StageOf m n consumed w s
   pub shows : (d t : Dialect) → dialectOf m ≡ some d → dialectOf n ≡ some t → Shows d t consumed s
-  pub offset : Unfaulted w → offsetIn (s .numbers) ≡ length consumed
+  pub offset : Unfaulted w → s .offset ≡ length consumed

@@ -23,7 +23,7 @@ use Rattle.carried.specs.declared.place.Place.{Place}
 use Rattle.turn.specs.Walking.{InBounds, handIn}
 use Rattle.turn.specs.Calls.{Begun}
 use Rattle.walk.specs.Taking.{Took}
-use Rattle.pieces.specs.States.{placeIn, endedIn, numbersOf}
+use Rattle.pieces.specs.States.{endedIn, placeOf, numbersOf}
 use Rattle.pieces.specs.Calling.{converterOf, Called}
 use Rattle.pieces.specs.declared.Converter.{Converter}
 use Rattle.pieces.proofs.Carrying.{toldOf}
@@ -78,7 +78,7 @@ is-taken v = sym (check-is (checkedAt v)) ∙ v .before .before .before .before 
 abbrev placeAt : tie.After-is-in-bounds → Place
 placeAt v = v .before .before .before .before .before .place-in .result
 
-place-is : (v : tie.After-is-in-bounds) → placeAt v ≡ placeIn (stateAt (checkedAt v) .numbers)
+place-is : (v : tie.After-is-in-bounds) → placeAt v ≡ placeOf (stateAt (checkedAt v))
 place-is v = v .before .before .before .before .before .place-in .ensures
 
 lost-returns : tie.Need-returns
