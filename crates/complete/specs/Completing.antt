@@ -56,10 +56,6 @@ pub data Finishes (v : Verdict) (text : Bytes) (o : ℕ) (out out′ : List ℕ)
 abbrev pub keptValues : Dialect → Bytes → (ends : List ℕ) → List Value
 keptValues d bytes ends = valuesIn d bytes (startsBy 0 ends) ends
 
--- the arrays spell the cells of this record (§15.2)
-abbrev pub SpellsRecord : Dialect → (bytes ends : List ℕ) → Rec → Type 0
-SpellsRecord d bytes ends x = SameCells (keptValues d bytes (take (length (x .cells)) ends)) (x .cells)
-
 -- the same for a record whose cells are first asked whether they may be spelt
 pub data Ruled (d : Dialect) (t : Target) (p : Place) (bytes ends : List ℕ) (o : ℕ) (out out′ : List ℕ) (r : Done) : Type 0 where
   not-spelt : r ≡ Lost → (EdFollowed (take (endOf 0 ends) bytes) → ⊥) → out′ ≡ out → Ruled d t p bytes ends o out out′ r

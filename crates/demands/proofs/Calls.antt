@@ -25,8 +25,10 @@ use Rattle.model.proofs.MachineLaws.{joined-outputs}
 use Rattle.model.proofs.Pieces.{answer-fits, end-is-whole}
 use Rattle.numbers.specs.Named.{textAnswer}
 use Rattle.numbers.specs.declared.TextAnswer.{TextAnswer}
+use Rattle.pieces.specs.Carrying.{Shows}
 use Rattle.pieces.specs.Calling.{newConverter, Carries, Called}
 use Rattle.pieces.specs.declared.Converter.{Converter}
+use Rattle.pieces.proofs.Carrying.{shown-after, offset-after}
 use Rattle.demands.specs.Demands.{MadeCall, LedTo, fresh, one-more, callsOf, entriesOf, consumedBy, joinedOutputs}
 use Rattle.demands.proofs.LedgerLaws.{silent, only-sizes, reports-first, ended-whole, met-whole, OfEveryFile, piece-fault}
 
@@ -182,3 +184,9 @@ module _ (new-carries : (m n : ℕ) → Carries m n [] (newConverter m n)) where
     fault-of-every-file d t made s next bs out out′ told p q led k x h =
         let e : told .report ≡ answerNow m n (entriesOf m n made) (piece bs (length out)) .report = ap (λ (u : TextAnswer). u .report) (x .answer m n (entriesOf m n made) (stands led .carries)) in
         rw e (piece-fault m n d t p q (entriesOf m n made) bs (length out) k (rw e at h))
+
+    pub shown : (d t : Dialect) (made : List MadeCall) (s : Converter) → dialectOf m ≡ some d → dialectOf n ≡ some t → LedTo m n made s → Shows d t (consumedBy m n made) s
+    shown d t made s p q led = shown-after (stands led .carries) d t p q
+
+    pub counted : (made : List MadeCall) (s : Converter) → LedTo m n made s → faultIn (entriesOf m n made) ≡ none → s .offset ≡ length (consumedBy m n made)
+    counted made s led none-met = offset-after (stands led .carries) none-met

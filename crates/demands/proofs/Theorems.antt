@@ -13,7 +13,7 @@ use Rattle.demands.proofs.Layouts.{every-table, rows-come-back}
 use Rattle.demands.proofs.Deriving.{as-derived}
 use Rattle.demands.proofs.Filling.{accepted-exactly, too-few-places, filled-as-derived, decoded-as-derived}
 use Rattle.demands.proofs.Limits.{converted-limit, written-limit, converted-room}
-use Rattle.demands.proofs.Calls.{every-list, refused, joined, whole-text, end-call, fault-is-whole, fault-of-every-file, room, ten}
+use Rattle.demands.proofs.Calls.{every-list, refused, joined, whole-text, end-call, fault-is-whole, fault-of-every-file, room, ten, shown, counted}
 
 pub demand-1 : Demand1
 demand-1 =
@@ -68,6 +68,9 @@ demand-3 =
       fault-of-every-file = fault-of-every-file new-carries;
       room = room new-carries;
       ten = ten new-carries;
+      shown = shown new-carries;
+      counted = counted new-carries;
+      any-state = λ s next c out out′ told x. (x .within, x .as-long);
     }
 
 pub demands : Demands

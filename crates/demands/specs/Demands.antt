@@ -28,6 +28,7 @@ use Rattle.model.specs.Demands.{seenIn}
 use Rattle.model.specs.Trips.{meaning, SameRows, hasCells, Decodes, ReadsBack, RoundTrip, SameText, ConvertedBack, ConvertedOnce, ReaderDecodes}
 use Rattle.numbers.specs.Named.{textAnswer}
 use Rattle.numbers.specs.declared.TextAnswer.{TextAnswer}
+use Rattle.pieces.specs.Carrying.{Shows}
 use Rattle.pieces.specs.Calling.{newConverter, Called}
 use Rattle.pieces.specs.declared.Converter.{Converter}
 use Rattle.rfc_grammar.specs.Derived.{Derived, kindIn, contentIn, Line, cellsIn, Each}
@@ -341,6 +342,19 @@ pub record Demand3 : Type 0 where
   pub ten :
       (m n : ℕ) (made : List MadeCall) (s : Converter) → LedTo m n made s →
       All (λ (x : MadeCall). x .told .report .number ≡ 10 → tooSmall (x .call) ≡ true) made
+  -- the state shows the records that the bytes consumed complete before any fault, after a fault and an accepted end too: how many they are,
+  -- the header's columns, and its names as they are spelt in the file. A last record that only the end completes is not counted (§15.2)
+  pub shown :
+      (m n : ℕ) (d t : Dialect) (made : List MadeCall) (s : Converter) → dialectOf m ≡ some d → dialectOf n ≡ some t → LedTo m n made s →
+      Shows d t (consumedBy m n made) s
+  -- and how many bytes were consumed, as long as no fault was met (§15.2)
+  pub counted :
+      (m n : ℕ) (made : List MadeCall) (s : Converter) → LedTo m n made s → faultIn (entriesOf m n made) ≡ none →
+      s .offset ≡ length (consumedBy m n made)
+  -- from any state, made by calls or not, the length is within the output, which is as long as it was (§15.9)
+  pub any-state :
+      (s next : Converter) (c : Call) (out out′ : List ℕ) (told : TextAnswer) → Called s c out told next out′ →
+      (told .length ≤ length out) × (length out′ ≡ length out)
 
 pub record Demands : Type 0 where
   pub one : Demand1

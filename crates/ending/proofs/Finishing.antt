@@ -36,16 +36,16 @@ use Rattle.ending.proofs.Ending.{readLast, lastCells, lastValues, doneL
 -- ---- a call that writes nothing
 
 module _ (d : Dialect) (t : Target) (p : Place) (done : List Rec) (k : Kept) (out : List ℕ) (r : Taken) where
-  nothing-new : (q : Progress) → readLast d t p done k ≡ q → recordsOf q ≡ done → r .report ≡ reportOf q → r .length ≡ 0 → Finished d t p done k out out r
-  nothing-new q e f g l =
+  nothing-new : (q : Progress) → readLast d t p done k ≡ q → recordsOf q ≡ done → r .place ≡ p → r .report ≡ reportOf q → r .length ≡ 0 → Finished d t p done k out out r
+  nothing-new q e f s g l =
       let none : newText t done (recordsOf q) ≡ [] = ap (newText t done) f ∙ new-none t done in
-      record { reports = rw e g; text = rw (e, none); long = rw (e, none) l }
+      record { place = s; reports = rw e g; text = rw (e, none); long = rw (e, none) l }
 
-  pub finish-fault : (x : Fault) → readLast d t p done k ≡ stopped x (readAt d p done k) → r .report ≡ faultReport x (readAt d p done k) → r .length ≡ 0 → Finished d t p done k out out r
-  finish-fault x e g l = nothing-new (stopped x (readAt d p done k)) e refl g l
+  pub finish-fault : (x : Fault) → readLast d t p done k ≡ stopped x (readAt d p done k) → r .place ≡ p → r .report ≡ faultReport x (readAt d p done k) → r .length ≡ 0 → Finished d t p done k out out r
+  finish-fault x e s g l = nothing-new (stopped x (readAt d p done k)) e refl s g l
 
-  pub finish-clean : readLast d t p done k ≡ going (readAt d p done k) → r .report ≡ accepted → r .length ≡ 0 → Finished d t p done k out out r
-  finish-clean e g l = nothing-new (going (readAt d p done k)) e refl g l
+  pub finish-clean : readLast d t p done k ≡ going (readAt d p done k) → r .place ≡ p → r .report ≡ accepted → r .length ≡ 0 → Finished d t p done k out out r
+  finish-clean e s g l = nothing-new (going (readAt d p done k)) e refl s g l
 
 -- ---- the cell in hand joins the kept ones
 
@@ -82,6 +82,11 @@ last-order ends last fill h l =
 
 -- ---- a last record
 
+-- its text ends in the output, whatever state it is of
+pub last-room : {d : Dialect} {t : Target} {p : Place} {bytes ends out out′ : List ℕ} {end : ℕ} → Ruled d t p bytes ends 0 out out′ (Written end) → end ≤ length out
+last-room (not-spelt z w y) = let x : _≡_ {A = ℕ} 0 1 = cc in absurd (omega arith)
+last-room (ruled (is-written v l w e)) = omega arith
+
 module _ (d : Dialect) (t : Target) (p : Place) (bytes ends out : List ℕ) (done : List Rec) (k : Kept) (b : Begins d t [] p bytes ends out done k) (e : fileEnd d (p .state) ≡ Final) where
   abbrev hold : Holding d t p bytes ends done k
   hold = b .hold
@@ -89,14 +94,14 @@ module _ (d : Dialect) (t : Target) (p : Place) (bytes ends out : List ℕ) (don
   counted : length (lastCells d t p done k) ≡ p .cells + 1
   counted = omega (arith, length-append (k .cells) (record { from = k .opened; upto = p .offset; bytes = k .raw } ∷ []), hold .cells)
 
-  refuses : (x : Fault) (ws : List Value) (r : Taken) → SameCells ws (lastValues d t p done k) → faultAt d t p ws ≡ Faulty x → r .report ≡ report (numberOf x) (p .records + 1) (columnOf x) (p .start) → r .length ≡ 0 → Finished d t p done k out out r
-  refuses x ws r same q g l = finish-fault d t p done k out r x (last-faulty d t p done k hold e ws same x q) (g ∙ sym (last-reports d t p done k hold e ws same x q)) l
+  refuses : (x : Fault) (ws : List Value) (r : Taken) → SameCells ws (lastValues d t p done k) → faultAt d t p ws ≡ Faulty x → r .place ≡ p → r .report ≡ report (numberOf x) (p .records + 1) (columnOf x) (p .start) → r .length ≡ 0 → Finished d t p done k out out r
+  refuses x ws r same q s g l = finish-fault d t p done k out r x (last-faulty d t p done k hold e ws same x q) s (g ∙ sym (last-reports d t p done k hold e ws same x q)) l
 
-  pub finish-many : MAXCOLUMNS ≤ p .cells → (r : Taken) → r .report ≡ report (numberOf TooManyColumns) (p .records + 1) (columnOf TooManyColumns) (p .start) → r .length ≡ 0 → Finished d t p done k out out r
-  finish-many h r g l =
+  pub finish-many : MAXCOLUMNS ≤ p .cells → (r : Taken) → r .place ≡ p → r .report ≡ report (numberOf TooManyColumns) (p .records + 1) (columnOf TooManyColumns) (p .start) → r .length ≡ 0 → Finished d t p done k out out r
+  finish-many h r s g l =
       let ws : List Value = lastValues d t p done k in
       let m : length ws ≡ p .cells + 1 = length-map (lastCells d t p done k) (valueOf d) ∙ counted in
-      refuses TooManyColumns ws r (same-self ws) (too-many-fault d t p ws (omega arith)) g l
+      refuses TooManyColumns ws r (same-self ws) (too-many-fault d t p ws (omega arith)) s g l
 
   module _ (few : p .cells < MAXCOLUMNS) (long-ends : length ends ≡ MAXCOLUMNS) (ends′ : List ℕ) (is-set : ends′ ≡ set ends (p .cells) (p .fill)) where
     hand : InHand bytes (p .fill) ends′ (lastCells d t p done k) []
@@ -130,23 +135,24 @@ module _ (d : Dialect) (t : Target) (p : Place) (bytes ends out : List ℕ) (don
           let sum : length (tableText t (rows done)) + length (newText t done (doneLast d t p done k)) ≡ length (tableText t (rows (doneLast d t p done k))) = new-length t (grows-more t (record { start = k .start; size = p .size; cells = lastValues d t p done k }) (grows-none t done)) in
           omega (arith, ap length new)
 
-      written-last : (out′ : List ℕ) (r : Taken) → out′ ≡ written out 0 (textAt t p theirs) → r .length ≡ 0 + length (textAt t p theirs) → r .report ≡ accepted → Finished d t p done k out out′ r
-      written-last out′ r w l g =
+      written-last : (out′ : List ℕ) (r : Taken) → out′ ≡ written out 0 (textAt t p theirs) → r .length ≡ 0 + length (textAt t p theirs) → r .place ≡ p → r .report ≡ accepted → Finished d t p done k out out′ r
+      written-last out′ r w l s g =
           let z : 0 + length (textAt t p theirs) ≡ length (textAt t p theirs) = omega arith in
           record {
+            place = s;
             reports = rw reads g;
             text = rw (reads, new) (w ∙ written-first out (textAt t p theirs));
             long = rw (reads, new) (l ∙ z);
           }
 
     abbrev pub Told : List ℕ → Done → Taken → Type 0
-    Told out′ (Written end) r = (r .report ≡ accepted) × (r .length ≡ end)
-    Told out′ (Refused x) r = (r .report ≡ report (numberOf x) (p .records + 1) (columnOf x) (p .start)) × (r .length ≡ 0)
+    Told out′ (Written end) r = (r .report ≡ accepted) × (r .length ≡ end) × (r .place ≡ p)
+    Told out′ (Refused x) r = (r .report ≡ report (numberOf x) (p .records + 1) (columnOf x) (p .start)) × (r .length ≡ 0) × (r .place ≡ p)
     Told out′ Lost r = Unit {0}
 
     finishing : (out′ : List ℕ) (x : Done) (r : Taken) → Finishes (faultAt d t p theirs) (textAt t p theirs) 0 out out′ x → Told out′ x r → Finished d t p done k out out′ r
-    finishing out′ (Written end) r (is-written v l w q) g = written-last v out′ r w (g .1 ∙ q) (g .0)
-    finishing out′ (Refused x) r (is-refused v w) g = subst (λ (z : List ℕ). Finished d t p done k out z r) (sym w) (refuses x theirs r same-theirs v (g .0) (g .1))
+    finishing out′ (Written end) r (is-written v l w q) g = written-last v out′ r w (g .1 ∙ q) (g .2) (g .0)
+    finishing out′ (Refused x) r (is-refused v w) g = subst (λ (z : List ℕ). Finished d t p done k out z r) (sym w) (refuses x theirs r same-theirs v (g .2) (g .0) (g .1))
     finishing out′ Lost r (has-no-room v l w) g = absurd (omega (arith, fits v, b .room))
 
     pub finish-kept : (out′ : List ℕ) (x : Done) (r : Taken) → Ruled d t p bytes (take (p .cells + 1) ends′) 0 out out′ x → Told out′ x r → Finished d t p done k out out′ r

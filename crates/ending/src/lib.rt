@@ -3,6 +3,7 @@ ghost use mathlib.Core.Path.{_≡_};
 ghost use mathlib.Core.List.{List, []};
 ghost use Prim.Native.Nat.{_≤_};
 ghost use lib.ListN.{length};
+ghost use Rattle.model.specs.Base.{Bytes};
 ghost use Rattle.model.specs.Report.{MAXFILE};
 ghost use Rattle.model.specs.declared.Ending.the-variants.{Final};
 ghost use Rattle.model.specs.Dialect.{into};
@@ -10,7 +11,7 @@ ghost use Rattle.model.specs.File.{fileEnd};
 ghost use Rattle.model.specs.Records.{Rec};
 ghost use Rattle.model.specs.Scans.{Kept};
 ghost use Rattle.turn.specs.Walking.{Ready};
-ghost use Rattle.turn.specs.Calls.{Begins, ReadyPiece, Begun, failedAs, Finished};
+ghost use Rattle.turn.specs.Calls.{Begins, Named, ReadyPiece, Begun, failedAs, Finished};
 use carried::place::Place;
 use complete::Done;
 use model::Dialect;
@@ -43,6 +44,7 @@ fn last_record(
     requires { ⌜ Ready [] (p .offset) 0 p (now bytes) (now ends) (now out) 0 ⌝ }
     requires { ⌜ fileEnd d (p .state) ≡ Final ⌝ }
     ensures { λ r. ⌜ ((done : List Rec) (k : Kept) → Begins d (into t) [] p (now (bytes .entry)) (now (ends .entry)) (now (out .entry)) done k → Finished d (into t) p done k (now (out .entry)) (now (out .exit)) r) ⌝ }
+    ensures { λ r. ⌜ r .length ≤ length (now (out .entry)) ⌝ }
 {
     let last = p.cells;
     if MAX_COLUMNS <= last {
@@ -88,6 +90,7 @@ fn ended(
 ) -> Taken
     requires { ⌜ Ready [] (p .offset) 0 p (now bytes) (now ends) (now out) 0 ⌝ }
     ensures { λ r. ⌜ ((done : List Rec) (k : Kept) → Begins d (into t) [] p (now (bytes .entry)) (now (ends .entry)) (now (out .entry)) done k → Finished d (into t) p done k (now (out .entry)) (now (out .exit)) r) ⌝ }
+    ensures { λ r. ⌜ r .length ≤ length (now (out .entry)) ⌝ }
 {
     let f = p.state;
     match tokens::limits::file_end(d, f) {
@@ -106,7 +109,7 @@ fn ended(
     }
 }
 
-// The end. The header is kept where its names stay.
+// The end. The header is kept where its names stay, and once it is complete they are left as they are.
 pub fn finish(
     d: Dialect,
     t: Dialect,
@@ -118,7 +121,8 @@ pub fn finish(
     out: &mut [u8],
 ) -> Taken
     requires { ⌜ ReadyPiece p (now names) (now «name_ends») (now bytes) (now ends) ⌝ }
-    ensures { λ r. ⌜ ((done : List Rec) (k : Kept) → Begun d (into t) [] p (now (names .entry)) (now («name_ends» .entry)) (now (bytes .entry)) (now (ends .entry)) (now (out .entry)) done k → Finished d (into t) p done k (now (out .entry)) (now (out .exit)) r) ⌝ }
+    ensures { λ r. ⌜ ((before : Bytes) (done : List Rec) (k : Kept) → Begun d (into t) before [] p (now (names .entry)) (now («name_ends» .entry)) (now (bytes .entry)) (now (ends .entry)) (now (out .entry)) done k → Finished d (into t) p done k (now (out .entry)) (now (out .exit)) r × Named before (now (names .entry)) (now («name_ends» .exit)) done) ⌝ }
+    ensures { λ r. ⌜ r .length ≤ length (now (out .entry)) ⌝ }
 {
     if p.records == 0 {
         return ended(d, t, p, names, name_ends, out);

@@ -5,25 +5,29 @@ use native.Mathlib.Omega.{arith}
 use mathlib.Core.Path.{_≡_, refl, sym, ap, ap₂, subst, _∙_}
 use mathlib.Core.Bool.{Bool, true, false, _||_}
 use mathlib.Core.Option.{Option, none, some}
-use mathlib.Core.List.{List, [], _++_}
+use mathlib.Core.List.{List, [], _++_, append-nil}
 use lib.ListN.{length, replicate, length-replicate}
 use lib.Dec.{ltb}
 use borrow.Author.Tests.{ltb-false}
 use Rattle.model.specs.declared.Report.{Report}
 use Rattle.model.specs.declared.Dialect.{Dialect}
 use Rattle.model.specs.declared.Fault.{Fault}
+use Rattle.model.specs.declared.Target.{Target}
 use Rattle.model.specs.declared.FileState.{FileState}
 use Rattle.model.specs.Base.{if_then_else_, Bytes}
 use Rattle.model.specs.Dialect.{dialectOf, into}
 use Rattle.model.specs.Text.{tableText}
 use Rattle.model.specs.Report.{numberOf, MAXRECORD, MAXCOLUMNS, MAXPIECE, LEASTOUTPUT}
-use Rattle.model.specs.Records.{Rec, rows, Read, Progress, going, stopped, nothingRead, readBytes, readFrom, readEnd, reportOf, faultReport}
+use Rattle.model.specs.Records.{Rec, rows, Read, Progress, going, stopped, nothingRead, readBytes, readFrom, readEnd, reportOf, recordsOf, faultReport}
 use Rattle.model.specs.Api.{Written}
-use Rattle.model.specs.Ledger.{piece, finish, tooSmall, taken, callLeaves}
-use Rattle.model.specs.Machine.{taking, faulted, stageThen, newText, carries-known, carries-source, carries-target}
+use Rattle.model.specs.Laws.{all-none}
+use Rattle.model.specs.Ledger as ledger
+use Rattle.model.specs.Ledger.{Entry, piece, finish, consumedIn, tooSmall, taken, callLeaves}
+use Rattle.model.specs.Machine.{ConverterStage, taking, faulted, ended, stageThen, StandsAt, stood-taking, stood-faulted, stood-ended, newText, carries-known, carries-source, carries-target}
 use Rattle.model.specs.Scans.{Kept}
 use Rattle.model.proofs.Tests.{impossible, within-true}
 use Rattle.model.proofs.Histories.{fault-number}
+use Rattle.model.proofs.Reading.{read-append}
 use Rattle.model.proofs.MachineLaws.{machine}
 use Rattle.numbers.specs.Named.{textAnswer}
 use Rattle.numbers.specs.declared.TextAnswer.{TextAnswer}
@@ -33,16 +37,18 @@ use Rattle.carried.specs.Sound.{atStart, order-end}
 use Rattle.carried.specs.declared.place.Place.{Place}
 use Rattle.state_codes.proofs.Codes.{state-back}
 use Rattle.turn.specs.declared.Taken.{Taken}
-use Rattle.turn.specs.Holding.{readAt, Holding, keptNone}
+use Rattle.turn.specs.Holding.{readAt, columnsOf, Holding, keptNone}
 use Rattle.turn.specs.Walking.{InBounds, handIn}
-use Rattle.turn.specs.Calls.{Reached, Begun, Finished}
+use Rattle.turn.specs.Calls.{Named, Heads, Begun, Finished}
 use Rattle.walk.specs.Taking.{Took, took-all, took-fault}
 use Rattle.turn.proofs.Turning.{first-holds, first-reads}
 use Rattle.turn.proofs.Writes.{reached-on}
-use Rattle.pieces.specs.States.{placeIn, numbersOf}
-use Rattle.pieces.specs.Carrying.{Takes, StageOf, stage-taking, stage-faulted, stage-ended, stage-no-source, stage-no-target}
+use Rattle.turn.proofs.Spelling.{named-grows}
+use Rattle.pieces.specs.States.{placeIn, placeOf, numbersOf}
+use Rattle.pieces.specs.Carrying.{Shows, Unfaulted, Takes, StageOf, stage-taking, stage-faulted, stage-ended, stage-no-source, stage-no-target, Models}
 use Rattle.pieces.specs.Calling.{converterOf, newConverter, Carries}
 use Rattle.pieces.specs.declared.Converter.{Converter}
+use Rattle.pieces.proofs.Offsets.{offset-is}
 
 -- a place comes back from the numbers of a state
 pub place-back : (p : Place) (over : ℕ) (e : Report) → placeIn (numbersOf p over e) ≡ p
@@ -73,20 +79,37 @@ toldOf r = record { report = r .report; length = r .length }
 
 -- ---- a call that is taken
 
-module _ (d t : Dialect) (s : Converter) (done : List Rec) (k : Kept) (h : Takes d t s done k) where
+-- where the state stands after it, and what it shows
+pub record Left (m n : ℕ) (d t : Dialect) (consumed : Bytes) (w : ConverterStage) (next : Converter) : Type 0 where
+  pub stage : StageOf m n consumed w next
+  pub shows : Shows d t consumed next
+  pub offset : Unfaulted w → next .offset ≡ length consumed
+
+-- what a state shows, by what its bytes come to
+shows-by :
+    {d t : Dialect} {consumed : Bytes} {s : Converter} (p : Progress) → readBytes d (some (into t)) consumed ≡ p → s .records ≡ length (recordsOf p) →
+    s .columns ≡ columnsOf (recordsOf p) → Named consumed (s .names) (s .«name_ends») (recordsOf p) → Shows d t consumed s
+shows-by p e records columns names = record { records = rw e records; columns = rw e columns; names = rw e names }
+
+module _ (d t : Dialect) (consumed : Bytes) (s : Converter) (done : List Rec) (k : Kept) (h : Takes d t consumed s done k) where
   abbrev stood : Read
-  stood = readAt d (placeIn (s .numbers)) done k
+  stood = readAt d (placeOf s) done k
 
   -- it has begun
-  begun : (bs out : Bytes) → length bs ≤ MAXPIECE → LEASTOUTPUT ≤ length out → Begun d (into t) bs (placeIn (s .numbers)) (s .names) (s .«name_ends») (s .bytes) (s .ends) out done k
-  begun bs out short room = record { begins = record { hold = h .hold; reached = h .reached; short = short; room = room }; named = h .named }
+  begun : (bs out : Bytes) → length bs ≤ MAXPIECE → LEASTOUTPUT ≤ length out → Begun d (into t) consumed bs (placeOf s) (s .names) (s .«name_ends») (s .bytes) (s .ends) out done k
+  begun bs out short room =
+      record {
+        begins = record { hold = h .hold; reached = record { consumed = consumed; reads = h .reads }; short = short; room = room };
+        offset = offset-is d (some (into t)) consumed stood (h .reads);
+        heads = h .heads;
+      }
 
-  pub begun-piece : (bs out : Bytes) → tooSmall (piece bs (length out)) ≡ false → Begun d (into t) bs (placeIn (s .numbers)) (s .names) (s .«name_ends») (s .bytes) (s .ends) out done k
+  pub begun-piece : (bs out : Bytes) → tooSmall (piece bs (length out)) ≡ false → Begun d (into t) consumed bs (placeOf s) (s .names) (s .«name_ends») (s .bytes) (s .ends) out done k
   begun-piece bs out e =
       let x = or-none (ltb MAXPIECE (length bs)) (ltb (length out) LEASTOUTPUT) e in
       begun bs out (ltb-false MAXPIECE (length bs) (x .0)) (ltb-false (length out) LEASTOUTPUT (x .1))
 
-  pub begun-end : (out : Bytes) → tooSmall (finish (length out)) ≡ false → Begun d (into t) [] (placeIn (s .numbers)) (s .names) (s .«name_ends») (s .bytes) (s .ends) out done k
+  pub begun-end : (out : Bytes) → tooSmall (finish (length out)) ≡ false → Begun d (into t) consumed [] (placeOf s) (s .names) (s .«name_ends») (s .bytes) (s .ends) out done k
   begun-end out e =
       let x = or-none (ltb MAXPIECE 0) (ltb (length out) LEASTOUTPUT) e in
       begun [] out (omega arith) (ltb-false (length out) LEASTOUTPUT (x .1))
@@ -96,49 +119,76 @@ module _ (d t : Dialect) (s : Converter) (done : List Rec) (k : Kept) (h : Takes
       r .length ≡ length (taken (into t) (tableText (into t) (rows done)) q .text) → Says (toldOf r) out out′ (taken (into t) (tableText (into t) (rows done)) q)
   says q r out out′ g w l = record { answer = ap₂ (λ (x : Report) (n : ℕ). record { report = x; length = n }) g l; leaves = w }
 
+  -- what all bytes come to
+  reads-on : (bs : Bytes) → readBytes d (some (into t)) (consumed ++ bs) ≡ readFrom d (some (into t)) (going stood) bs
+  unfolding readBytes
+  reads-on bs = read-append d (some (into t)) (going nothingRead) consumed bs ∙ ap (λ (p : Progress). readFrom d (some (into t)) p bs) (h .reads)
+
   module _ (m n : ℕ) (p : dialectOf m ≡ some d) (q : dialectOf n ≡ some t) where
     -- a piece
     module _ (bs out : Bytes) (r : Taken) (ends′ name-ends′ bytes′ names′ out′ : List ℕ) where
       pub piece-says :
-          Took d (into t) bs (placeIn (s .numbers)) done k out names′ name-ends′ bytes′ ends′ out′ r →
+          Took d (into t) consumed bs (placeOf s) done k out names′ name-ends′ bytes′ ends′ out′ r →
           Says (toldOf r) out out′ (taken (into t) (tableText (into t) (rows done)) (readFrom d (some (into t)) (going stood) bs))
       unfolding newText
-      piece-says (took-all done′ k′ reads hold named b g w l) = rw reads (says (going (readAt d (r .place) done′ k′)) r out out′ g w l)
-      piece-says (took-fault x z reads g w l) = rw reads (says (stopped x z) r out out′ g w l)
+      piece-says (took-all done′ k′ reads hold heads b g w l) = rw reads (says (going (readAt d (r .place) done′ k′)) r out out′ g w l)
+      piece-says (took-fault x z reads counts named g w l) = rw reads (says (stopped x z) r out out′ g w l)
 
-      pub piece-stage :
-          Took d (into t) bs (placeIn (s .numbers)) done k out names′ name-ends′ bytes′ ends′ out′ r → length names′ ≡ MAXRECORD → length name-ends′ ≡ MAXCOLUMNS → length bytes′ ≡ MAXRECORD →
-          length ends′ ≡ MAXCOLUMNS → StageOf m n (stageThen false (readFrom d (some (into t)) (going stood) bs)) (stateThen s r 0 ends′ name-ends′ bytes′ names′)
-      piece-stage (took-all done′ k′ reads hold named b g w l) long-names long-name-ends long-bytes long-ends =
+      pub piece-left :
+          Took d (into t) consumed bs (placeOf s) done k out names′ name-ends′ bytes′ ends′ out′ r → length names′ ≡ MAXRECORD → length name-ends′ ≡ MAXCOLUMNS → length bytes′ ≡ MAXRECORD →
+          length ends′ ≡ MAXCOLUMNS → Left m n d t (consumed ++ bs) (stageThen false (readFrom d (some (into t)) (going stood) bs)) (stateThen s r 0 ends′ name-ends′ bytes′ names′)
+      piece-left (took-all done′ k′ reads hold heads b g w l) long-names long-name-ends long-bytes long-ends =
           let back : r .place ≡ placeIn (numbersOf (r .place) 0 (r .report)) = sym (place-back (r .place) 0 (r .report)) in
-          let on : Reached d (into t) (readAt d (r .place) done′ k′) = record { consumed = h .reached .consumed ++ bs; reads = reached-on d (into t) (h .reached .consumed) stood (h .reached .reads) bs (readAt d (r .place) done′ k′) reads } in
-          let takes : Takes d t (stateThen s r 0 ends′ name-ends′ bytes′ names′) done′ k′ = record {
+          let on : readBytes d (some (into t)) (consumed ++ bs) ≡ going (readAt d (r .place) done′ k′) = reached-on d (into t) consumed stood (h .reads) bs (readAt d (r .place) done′ k′) reads in
+          let takes : Takes d t (consumed ++ bs) (stateThen s r 0 ends′ name-ends′ bytes′ names′) done′ k′ = record {
             hold = subst (λ (x : Place). Holding d (into t) x (handIn x names′ bytes′) (handIn x name-ends′ ends′) done′ k′) back hold;
-            named = named;
+            heads = subst (λ (x : Place). Heads (consumed ++ bs) x names′ name-ends′ done′ k′) back heads;
             bounds = subst (λ (x : Place). InBounds x (handIn x name-ends′ ends′)) back b;
-            reached = subst (λ (x : Place). Reached d (into t) (readAt d x done′ k′)) back on;
+            reads = subst (λ (x : Place). readBytes d (some (into t)) (consumed ++ bs) ≡ going (readAt d x done′ k′)) back on;
             long-names = long-names;
             long-name-ends = long-name-ends;
             long-bytes = long-bytes;
             long-ends = long-ends;
           } in
-          rw reads (stage-taking d t done′ k′ p q (ap (λ (x : Place). readAt d x done′ k′) back) (tells-taking (ap (λ (e : Report). e .number) g)) takes)
-      piece-stage (took-fault x z reads g w l) long-names long-name-ends long-bytes long-ends =
-          rw reads (stage-faulted (subst (λ (e : Report). Tells (faulted (faultReport x z)) e 0) (sym g) (tells-faulted (numbered x z))))
+          rw reads
+          (record {
+            stage = stage-taking d t done′ k′ p q (ap (λ (x : Place). readAt d x done′ k′) back) (tells-taking (ap (λ (e : Report). e .number) g)) takes;
+            shows = shows-by (going (readAt d (r .place) done′ k′)) on (hold .records) (hold .columns) (heads .named);
+            offset = λ _. offset-is d (some (into t)) (consumed ++ bs) (readAt d (r .place) done′ k′) on;
+          })
+      piece-left (took-fault x z reads counts named g w l) long-names long-name-ends long-bytes long-ends =
+          rw reads
+          (record {
+            stage = stage-faulted (subst (λ (e : Report). Tells (faulted (faultReport x z)) e 0) (sym g) (tells-faulted (numbered x z)));
+            shows = shows-by (stopped x z) (reads-on bs ∙ reads) (counts .records) (counts .columns) named;
+            offset = λ v. absurd v;
+          })
 
     -- the end
-    module _ (out : Bytes) (r : Taken) (ends′ name-ends′ bytes′ names′ out′ : List ℕ) (f : Finished d (into t) (placeIn (s .numbers)) done k out out′ r) where
+    module _ (out : Bytes) (r : Taken) (ends′ name-ends′ bytes′ names′ out′ : List ℕ) (f : Finished d (into t) (placeOf s) done k out out′ r) where
       pub end-says : Says (toldOf r) out out′ (taken (into t) (tableText (into t) (rows done)) (readEnd d (some (into t)) (going stood)))
       unfolding newText
       end-says = says (readEnd d (some (into t)) (going stood)) r out out′ (f .reports) (f .text) (f .long)
 
       -- the flag is 1 where the end was accepted; after a fault it is not asked
-      pub end-stage : StageOf m n (stageThen true (readEnd d (some (into t)) (going stood))) (stateThen s r 1 ends′ name-ends′ bytes′ names′)
+      end-stage : StageOf m n (consumed ++ []) (stageThen true (readEnd d (some (into t)) (going stood))) (stateThen s r 1 ends′ name-ends′ bytes′ names′)
       end-stage = go (readEnd d (some (into t)) (going stood)) (f .reports)
         where
-          go : (z : Progress) → r .report ≡ reportOf z → StageOf m n (stageThen true z) (stateThen s r 1 ends′ name-ends′ bytes′ names′)
+          go : (z : Progress) → r .report ≡ reportOf z → StageOf m n (consumed ++ []) (stageThen true z) (stateThen s r 1 ends′ name-ends′ bytes′ names′)
           go (going y) g = let one : 0 < 1 = omega arith in stage-ended (tells-ended (ap (λ (e : Report). e .number) g) one)
           go (stopped x y) g = stage-faulted (subst (λ (e : Report). Tells (faulted (faultReport x y)) e 1) (sym g) (tells-faulted (numbered x y)))
+
+      -- the bytes consumed are as before, and so is the place
+      pub end-left : Named consumed names′ name-ends′ done → Left m n d t (consumed ++ []) (stageThen true (readEnd d (some (into t)) (going stood))) (stateThen s r 1 ends′ name-ends′ bytes′ names′)
+      unfolding readFrom
+      end-left named =
+          record {
+            stage = end-stage;
+            shows =
+                shows-by (going stood) (reads-on []) (ap (λ (x : Place). x .records) (f .place) ∙ h .hold .records) (ap (λ (x : Place). x .columns) (f .place) ∙ h .hold .columns)
+                (named-grows consumed [] names′ name-ends′ done named);
+            offset = λ _. ap (λ (x : Place). x .offset) (f .place) ∙ offset-is d (some (into t)) consumed stood (h .reads) ∙ ap length (sym (append-nil consumed));
+          }
 
 -- ---- a new converter
 
@@ -152,31 +202,60 @@ zeros n = length-replicate n 0
 -- nothing is read yet
 new-takes :
     (d t : Dialect) (m n : ℕ) (ends name-ends bytes names : List ℕ) → length names ≡ MAXRECORD → length name-ends ≡ MAXCOLUMNS → length bytes ≡ MAXRECORD →
-    length ends ≡ MAXCOLUMNS → Takes d t (converterOf m n (replicate 14 0) ends name-ends bytes names) [] (keptNone 0)
+    length ends ≡ MAXCOLUMNS → Takes d t [] (converterOf m n (replicate 14 0) ends name-ends bytes names) [] (keptNone 0)
 unfolding readBytes readFrom
 new-takes d t m n ends name-ends bytes names long-names long-name-ends long-bytes long-ends =
     let z : 0 ≤ 0 = omega arith in
     let bounds : InBounds atStart (handIn atStart name-ends ends) = record { size = omega arith; fill = z; offset = omega arith; written = omega arith; records = z; cells = z; ordered = λ _. order-end z; between = λ _. (refl, refl) } in
-    let reached : Reached d (into t) (readAt d atStart [] (keptNone 0)) = record { consumed = []; reads = ap going (sym (first-reads d)) } in
+    let heads : Heads [] atStart names name-ends [] (keptNone 0) = record { named = tt; kept = λ _. record { raw = refl; forward = z; within = z; cells = all-none } } in
+    let reads : readBytes d (some (into t)) [] ≡ going (readAt d atStart [] (keptNone 0)) = ap going (sym (first-reads d)) in
     record {
       hold = subst (λ (x : Place). Holding d (into t) x (handIn x names bytes) (handIn x name-ends ends) [] (keptNone 0)) (sym first-place) (first-holds d (into t) (handIn atStart names bytes) (handIn atStart name-ends ends));
-      named = tt;
+      heads = subst (λ (x : Place). Heads [] x names name-ends [] (keptNone 0)) (sym first-place) heads;
       bounds = subst (λ (x : Place). InBounds x (handIn x name-ends ends)) (sym first-place) bounds;
-      reached = subst (λ (x : Place). Reached d (into t) (readAt d x [] (keptNone 0))) (sym first-place) reached;
+      reads = subst (λ (x : Place). readBytes d (some (into t)) [] ≡ going (readAt d x [] (keptNone 0))) (sym first-place) reads;
       long-names = long-names;
       long-name-ends = long-name-ends;
       long-bytes = long-bytes;
       long-ends = long-ends;
     }
 
+-- nothing is shown yet
+new-shows : (d t : Dialect) (m n : ℕ) → Shows d t [] (newConverter m n)
+unfolding readBytes readFrom nothingRead
+new-shows d t m n = record { records = refl; columns = refl; names = tt }
+
 -- a new converter has answered no calls
 pub new-carries : (m n : ℕ) → Carries m n [] (newConverter m n)
+unfolding consumedIn
 new-carries m n = go (dialectOf m) (dialectOf n) refl refl
   where
+    new-models : (w : ConverterStage) → StageOf m n [] w (newConverter m n) → Models [] m n w (newConverter m n)
+    new-models w stage = record { source = refl; target = refl; stage = stage; shows = λ d t _ _. new-shows d t m n; offset = λ _. refl }
+
     go : (x y : Option Dialect) → dialectOf m ≡ x → dialectOf n ≡ y → Carries m n [] (newConverter m n)
-    go none y p q = carries-source p (record { source = refl; target = refl; stage = stage-no-source p })
-    go (some d) none p q = carries-target q (record { source = refl; target = refl; stage = stage-no-target q })
+    go none y p q = carries-source p (new-models ended (stage-no-source p))
+    go (some d) none p q = carries-target q (new-models ended (stage-no-target q))
     go (some d) (some t) p q =
-        let takes : Takes d t (newConverter m n) [] (keptNone 0) = new-takes d t m n (replicate MAXCOLUMNS 0) (replicate MAXCOLUMNS 0) (replicate MAXRECORD 0) (replicate MAXRECORD 0) (zeros MAXRECORD) (zeros MAXCOLUMNS) (zeros MAXRECORD) (zeros MAXCOLUMNS) in
+        let takes : Takes d t [] (newConverter m n) [] (keptNone 0) = new-takes d t m n (replicate MAXCOLUMNS 0) (replicate MAXCOLUMNS 0) (replicate MAXRECORD 0) (replicate MAXRECORD 0) (zeros MAXRECORD) (zeros MAXCOLUMNS) (zeros MAXRECORD) (zeros MAXCOLUMNS) in
         let reads : nothingRead ≡ readAt d (placeIn (replicate 14 0)) [] (keptNone 0) = sym (first-reads d) ∙ ap (λ (x : Place). readAt d x [] (keptNone 0)) (sym first-place) in
-        carries-known d t (taking nothingRead) p q (machine m n d t p q .new) (record { source = refl; target = refl; stage = stage-taking d t [] (keptNone 0) p q reads (tells-taking refl) takes })
+        carries-known d t (taking nothingRead) p q (machine m n d t p q .new) (new-models (taking nothingRead) (stage-taking d t [] (keptNone 0) p q reads (tells-taking refl) takes))
+
+-- ---- after any calls
+
+-- a state shows what the bytes consumed complete
+pub shown-after : {m n : ℕ} {past : List Entry} {s : Converter} → Carries m n past s → (d t : Dialect) → dialectOf m ≡ some d → dialectOf n ≡ some t → Shows d t (consumedIn past) s
+shown-after (carries-known d t w p q stood model) = model .shows
+shown-after (carries-source p model) = model .shows
+shown-after (carries-target q model) = model .shows
+
+not-faulted : {d : Dialect} {t : Target} {past : List Entry} {w : ConverterStage} → StandsAt d t past w → ledger.faultIn past ≡ none → Unfaulted w
+not-faulted (stood-taking k e b x) none-met = tt
+not-faulted (stood-faulted f r z k e x) none-met = let z : _≡_ {A = ℕ} 0 1 = cc in absurd (omega arith)
+not-faulted (stood-ended r k e b x) none-met = tt
+
+-- and counts them as long as no fault was met
+pub offset-after : {m n : ℕ} {past : List Entry} {s : Converter} → Carries m n past s → ledger.faultIn past ≡ none → s .offset ≡ length (consumedIn past)
+offset-after (carries-known d t w p q stood model) none-met = model .offset (not-faulted stood none-met)
+offset-after (carries-source p model) none-met = model .offset tt
+offset-after (carries-target q model) none-met = model .offset tt

@@ -1,2 +1,3 @@
+mod Offsets
 pub mod Carrying
 pub mod Calling

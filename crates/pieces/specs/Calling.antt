@@ -1,13 +1,13 @@
 -- What the piece and end calls promise, by the calls that a converter has answered before.
-use Prim.Native.Nat.{ℕ}
+use Prim.Native.Nat.{ℕ, _≤_}
 use mathlib.Core.Path.{_≡_}
 use mathlib.Core.Bool.{true}
 use mathlib.Core.List.{List, [], _∷_, _++_}
-use lib.ListN.{length, replicate}
+use lib.ListN.{length, replicate, getD}
 use Rattle.model.specs.declared.Report.{Report}
 use Rattle.model.specs.Report.{MAXRECORD, MAXCOLUMNS}
 use Rattle.model.specs.Api.{unwritten}
-use Rattle.model.specs.Ledger.{Call, bytesOf, roomOf, Entry, answerNow, checked, callLeaves}
+use Rattle.model.specs.Ledger.{Call, bytesOf, roomOf, Entry, consumedIn, answerNow, checked, callLeaves}
 use Rattle.model.specs.Machine as machine
 use Rattle.numbers.specs.Named.{textAnswer}
 use Rattle.numbers.specs.declared.TextAnswer.{TextAnswer}
@@ -17,18 +17,38 @@ use Rattle.pieces.specs.States.{endedIn, faultIn}
 use Rattle.pieces.specs.Carrying.{Models}
 use Rattle.pieces.specs.declared.Converter.{Converter}
 
+-- the state that is lent as these arrays: its numbers come in the order of the fields (§15.2)
 abbrev pub converterOf : (source target : ℕ) → (numbers ends name-ends bytes names : List ℕ) → Converter
 converterOf m n numbers ends name-ends bytes names =
-    record { source = m; target = n; numbers = numbers; ends = ends; «name_ends» = name-ends; bytes = bytes; names = names }
+    record {
+      source = m;
+      target = n;
+      state = getD numbers 0 0;
+      offset = getD numbers 1 0;
+      start = getD numbers 2 0;
+      size = getD numbers 3 0;
+      fill = getD numbers 4 0;
+      cells = getD numbers 5 0;
+      columns = getD numbers 6 0;
+      records = getD numbers 7 0;
+      written = getD numbers 8 0;
+      ended = endedIn numbers;
+      fault = faultIn numbers;
+      ends = ends;
+      «name_ends» = name-ends;
+      bytes = bytes;
+      names = names;
+    }
 
 -- before the first call (§15.1)
 abbrev pub newConverter : (source target : ℕ) → Converter
 newConverter m n =
     converterOf m n (replicate 14 0) (replicate MAXCOLUMNS 0) (replicate MAXCOLUMNS 0) (replicate MAXRECORD 0) (replicate MAXRECORD 0)
 
--- a converter made with these two numbers has answered these calls (§15.3)
+-- a converter made with these two numbers has answered these calls, and shows what the bytes that they consumed complete. After a fault or
+-- an accepted end that is all it has to keep: its other bytes are undecided (§15.2 §15.3)
 abbrev pub Carries : (source target : ℕ) → (past : List Entry) → Converter → Type 0
-Carries = machine.Carries Models
+Carries m n past = machine.Carries (Models (consumedIn past)) m n past
 
 -- the contract of a call, with this output before it and that after it (§15.3 §15.8 §16.3)
 pub record Called (s : Converter) (c : Call) (out : List ℕ) (told : TextAnswer) (next : Converter) (out′ : List ℕ) : Type 0 where
@@ -41,8 +61,11 @@ pub record Called (s : Converter) (c : Call) (out : List ℕ) (told : TextAnswer
       (m n : ℕ) (past : List Entry) → Carries m n past s → Carries m n (past ++ (record { call = c; answer = answerNow m n past c } ∷ [])) next
   -- one of the four checks leaves the state as it was
   pub unchanged : (m n : ℕ) (past : List Entry) → Carries m n past s → checked m n past c ≡ true → next ≡ s
-  -- what holds of any state, made by calls or not: it keeps its dialects, and the four checks go by its numbers (§15.9)
+  -- what holds of any state, made by calls or not: the length is within the output, which is as long as it was; the state keeps its
+  -- dialects, and the four checks go by its numbers (§15.9)
+  pub within : told .length ≤ length out
+  pub as-long : length out′ ≡ length out
   pub dialects : (next .source ≡ s .source) × (next .target ≡ s .target)
   pub checks :
-      (e : Report) → checkNow (s .source) (s .target) (faultIn (s .numbers)) (endedIn (s .numbers)) (length (bytesOf c)) (roomOf c) ≡ Refused e →
+      (e : Report) → checkNow (s .source) (s .target) (s .fault) (s .ended) (length (bytesOf c)) (roomOf c) ≡ Refused e →
       (told ≡ textAnswer (unwritten e)) × (next ≡ s) × (out′ ≡ out)

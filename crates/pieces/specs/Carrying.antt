@@ -1,4 +1,4 @@
--- The stage of model's Machine at which a converter stands, by what it carries.
+-- The stage of model's Machine at which a converter stands, by what it carries, and what it shows of the bytes consumed.
 use Prim.Native.Nat.{ℕ}
 use mathlib.Core.Path.{_≡_}
 use mathlib.Core.Option.{none, some}
@@ -6,42 +6,67 @@ use mathlib.Core.List.{List}
 use lib.ListN.{length}
 use Rattle.model.specs.declared.Report.{Report}
 use Rattle.model.specs.declared.Dialect.{Dialect}
+use Rattle.model.specs.Base.{Bytes}
 use Rattle.model.specs.Dialect.{dialectOf, into}
 use Rattle.model.specs.Report.{MAXRECORD, MAXCOLUMNS}
-use Rattle.model.specs.Records.{Rec, Read}
+use Rattle.model.specs.Records.{Rec, Read, going, readBytes, recordsOf}
 use Rattle.model.specs.Scans.{Kept}
 use Rattle.model.specs.Machine.{ConverterStage, taking, faulted, ended}
 use Rattle.carried.specs.Checks.{Tells}
-use Rattle.turn.specs.Holding.{readAt, Holding}
+use Rattle.turn.specs.Holding.{readAt, columnsOf, Holding}
 use Rattle.turn.specs.Walking.{InBounds, handIn}
-use Rattle.turn.specs.Calls.{Reached, Named}
-use Rattle.pieces.specs.States.{placeIn, endedIn, faultIn}
+use Rattle.turn.specs.Calls.{Named, Heads}
+use Rattle.pieces.specs.States.{placeOf}
 use Rattle.pieces.specs.declared.Converter.{Converter}
 
+-- ---- what a state shows
+
+-- Once these bytes were consumed a state shows the records that they complete before any fault, the header too: their number, the header's
+-- columns, and its names as they are spelt. After a fault or an accepted end it still does; a last record that only the end completes is
+-- not among them (§15.2)
+pub record Shows (d t : Dialect) (consumed : Bytes) (s : Converter) : Type 0 where
+  pub records : s .records ≡ length (recordsOf (readBytes d (some (into t)) consumed))
+  pub columns : s .columns ≡ columnsOf (recordsOf (readBytes d (some (into t)) consumed))
+  pub names : Named consumed (s .names) (s .«name_ends») (recordsOf (readBytes d (some (into t)) consumed))
+
+-- no fault was met (§15.5)
+abbrev pub Unfaulted : ConverterStage → Type 0
+Unfaulted (taking r) = Unit {0}
+Unfaulted (faulted e) = ⊥
+Unfaulted ended = Unit {0}
+
+-- ---- where it stands
+
 -- a state that takes bytes, between these dialects, after the records `done` and with this kept of the record in hand (§15.2)
-pub record Takes (d t : Dialect) (s : Converter) (done : List Rec) (k : Kept) : Type 0 where
+pub record Takes (d t : Dialect) (consumed : Bytes) (s : Converter) (done : List Rec) (k : Kept) : Type 0 where
   pub hold :
-      Holding d (into t) (placeIn (s .numbers)) (handIn (placeIn (s .numbers)) (s .names) (s .bytes)) (handIn (placeIn (s .numbers)) (s .«name_ends») (s .ends)) done k
-  pub named : Named d (s .names) (s .«name_ends») done
-  pub bounds : InBounds (placeIn (s .numbers)) (handIn (placeIn (s .numbers)) (s .«name_ends») (s .ends))
-  pub reached : Reached d (into t) (readAt d (placeIn (s .numbers)) done k)
+      Holding d (into t) (placeOf s) (handIn (placeOf s) (s .names) (s .bytes)) (handIn (placeOf s) (s .«name_ends») (s .ends)) done k
+  pub heads : Heads consumed (placeOf s) (s .names) (s .«name_ends») done k
+  pub bounds : InBounds (placeOf s) (handIn (placeOf s) (s .«name_ends») (s .ends))
+  pub reads : readBytes d (some (into t)) consumed ≡ going (readAt d (placeOf s) done k)
   pub long-names : length (s .names) ≡ MAXRECORD
   pub long-name-ends : length (s .«name_ends») ≡ MAXCOLUMNS
   pub long-bytes : length (s .bytes) ≡ MAXRECORD
   pub long-ends : length (s .ends) ≡ MAXCOLUMNS
 
 -- the stage of a converter that was made with its own two numbers; with a number that is no dialect it stands as after an end (§15.4)
-pub data StageOf (m n : ℕ) : ConverterStage → Converter → Type 0 where
+pub data StageOf (m n : ℕ) (consumed : Bytes) : ConverterStage → Converter → Type 0 where
   stage-taking :
       {s : Converter} {r : Read} (d t : Dialect) (done : List Rec) (k : Kept) → dialectOf m ≡ some d → dialectOf n ≡ some t →
-      r ≡ readAt d (placeIn (s .numbers)) done k → Tells (taking r) (faultIn (s .numbers)) (endedIn (s .numbers)) → Takes d t s done k → StageOf m n (taking r) s
-  stage-faulted : {s : Converter} {e : Report} → Tells (faulted e) (faultIn (s .numbers)) (endedIn (s .numbers)) → StageOf m n (faulted e) s
-  stage-ended : {s : Converter} → Tells ended (faultIn (s .numbers)) (endedIn (s .numbers)) → StageOf m n ended s
-  stage-no-source : {s : Converter} → dialectOf m ≡ none → StageOf m n ended s
-  stage-no-target : {s : Converter} → dialectOf n ≡ none → StageOf m n ended s
+      r ≡ readAt d (placeOf s) done k → Tells (taking r) (s .fault) (s .ended) → Takes d t consumed s done k →
+      StageOf m n consumed (taking r) s
+  stage-faulted : {s : Converter} {e : Report} → Tells (faulted e) (s .fault) (s .ended) → StageOf m n consumed (faulted e) s
+  stage-ended : {s : Converter} → Tells ended (s .fault) (s .ended) → StageOf m n consumed ended s
+  stage-no-source : {s : Converter} → dialectOf m ≡ none → StageOf m n consumed ended s
+  stage-no-target : {s : Converter} → dialectOf n ≡ none → StageOf m n consumed ended s
 
--- a converter made with these two numbers stands at this stage
-pub record Models (m n : ℕ) (w : ConverterStage) (s : Converter) : Type 0 where
+-- A converter made with these two numbers stands at this stage after these bytes, and shows what they complete. As long as no fault was met
+-- it counts them. Nothing else is decided after a fault or an accepted end: not `bytes` and `ends`, not `names` and `name_ends` behind those
+-- of the header, not `state`, `start`, `size`, `fill`, `cells` and `written`, after a fault not `offset` and `ended`, and after an end of
+-- `fault` the number alone is (§15.2 §15.5 §15.6)
+pub record Models (consumed : Bytes) (m n : ℕ) (w : ConverterStage) (s : Converter) : Type 0 where
   pub source : s .source ≡ m
   pub target : s .target ≡ n
-  pub stage : StageOf m n w s
+  pub stage : StageOf m n consumed w s
+  pub shows : (d t : Dialect) → dialectOf m ≡ some d → dialectOf n ≡ some t → Shows d t consumed s
+  pub offset : Unfaulted w → s .offset ≡ length consumed

@@ -1,10 +1,11 @@
--- The numbers of a state, as what they stand for.
+-- The numbers of a state, in a list or as its fields, as what they stand for.
 use Prim.Native.Nat.{ℕ}
 use mathlib.Core.List.{List, [], _∷_}
 use lib.ListN.{getD}
 use Rattle.model.specs.declared.Report.{Report}
 use Rattle.state_codes.specs.Codes.{stateNumber, stateFrom}
 use Rattle.carried.specs.declared.place.Place.{Place}
+use Rattle.pieces.specs.declared.Converter.{Converter}
 
 -- where the conversion stands (§15.2)
 abbrev pub placeIn : List ℕ → Place
@@ -28,6 +29,21 @@ endedIn n = getD n 9 0
 -- the report of the fault that was met; its number is 0 before (§15.5)
 abbrev pub faultIn : List ℕ → Report
 faultIn n = record { number = getD n 10 0; record_number = getD n 11 0; column = getD n 12 0; offset = getD n 13 0 }
+
+-- where the conversion stands, by the fields (§15.2)
+abbrev pub placeOf : Converter → Place
+placeOf s =
+    record {
+      state = stateFrom (s .state);
+      offset = s .offset;
+      start = s .start;
+      size = s .size;
+      fill = s .fill;
+      cells = s .cells;
+      columns = s .columns;
+      records = s .records;
+      written = s .written;
+    }
 
 abbrev pub numbersOf : Place → (ended : ℕ) → Report → List ℕ
 numbersOf p ended e =

@@ -7,6 +7,7 @@ ghost use mathlib.Core.Path.{_≡_};
 ghost use lib.ListN.{length};
 ghost use Rattle.model.specs.Ledger.{piece, finish};
 ghost use Rattle.pieces.specs.Calling.{newConverter, Called};
+use model::Report;
 use numbers::TextAnswer;
 
 pub mod lent;
@@ -18,8 +19,23 @@ pub struct Converter {
     // The dialect numbers that it was made with.
     pub source: u32,
     pub target: u32,
-    // Where the conversion stands (`state`).
-    pub numbers: [usize; 14],
+    // Where the conversion stands: reading, by the number of its state, and how many bytes were consumed.
+    pub state: usize,
+    pub offset: usize,
+    // The record in hand: where it starts, how many of its bytes count, how many bytes of its cells are kept in `bytes`, and how many of
+    // its cells are complete.
+    pub start: usize,
+    pub size: usize,
+    pub fill: usize,
+    pub cells: usize,
+    // The header's cells, the complete records, and the bytes written so far.
+    pub columns: usize,
+    pub records: usize,
+    pub written: usize,
+    // 1 once an end was accepted.
+    pub ended: usize,
+    // The report of a fault that was met. All 0 before.
+    pub fault: Report,
     // Where the complete cells of the record in hand end in `bytes`, and the header's names in `names`.
     pub ends: [usize; 64],
     pub name_ends: [usize; 64],
@@ -42,7 +58,22 @@ impl Converter {
         Converter {
             source,
             target,
-            numbers: [0usize; 14],
+            state: 0,
+            offset: 0,
+            start: 0,
+            size: 0,
+            fill: 0,
+            cells: 0,
+            columns: 0,
+            records: 0,
+            written: 0,
+            ended: 0,
+            fault: Report {
+                number: 0,
+                record_number: 0,
+                column: 0,
+                offset: 0,
+            },
             ends: [0usize; 64],
             name_ends: [0usize; 64],
             bytes: [0u8; 4096],
@@ -56,7 +87,23 @@ impl Converter {
     {
         let source = self.source;
         let target = self.target;
-        let mut numbers = self.numbers;
+        let before = self.fault;
+        let mut numbers = [
+            self.state,
+            self.offset,
+            self.start,
+            self.size,
+            self.fill,
+            self.cells,
+            self.columns,
+            self.records,
+            self.written,
+            self.ended,
+            before.number,
+            before.record_number,
+            before.column,
+            before.offset,
+        ];
         let mut ends = self.ends;
         let mut name_ends = self.name_ends;
         let mut bytes = self.bytes;
@@ -77,7 +124,22 @@ impl Converter {
             next: Converter {
                 source,
                 target,
-                numbers,
+                state: numbers[state::STATE],
+                offset: numbers[state::OFFSET],
+                start: numbers[state::START],
+                size: numbers[state::SIZE],
+                fill: numbers[state::FILL],
+                cells: numbers[state::CELLS],
+                columns: numbers[state::COLUMNS],
+                records: numbers[state::RECORDS],
+                written: numbers[state::WRITTEN],
+                ended: numbers[state::ENDED],
+                fault: Report {
+                    number: numbers[state::FAULT],
+                    record_number: numbers[state::FAULT + 1],
+                    column: numbers[state::FAULT + 2],
+                    offset: numbers[state::FAULT + 3],
+                },
                 ends,
                 name_ends,
                 bytes,
@@ -92,7 +154,23 @@ impl Converter {
     {
         let source = self.source;
         let target = self.target;
-        let mut numbers = self.numbers;
+        let before = self.fault;
+        let mut numbers = [
+            self.state,
+            self.offset,
+            self.start,
+            self.size,
+            self.fill,
+            self.cells,
+            self.columns,
+            self.records,
+            self.written,
+            self.ended,
+            before.number,
+            before.record_number,
+            before.column,
+            before.offset,
+        ];
         let mut ends = self.ends;
         let mut name_ends = self.name_ends;
         let mut bytes = self.bytes;
@@ -112,7 +190,22 @@ impl Converter {
             next: Converter {
                 source,
                 target,
-                numbers,
+                state: numbers[state::STATE],
+                offset: numbers[state::OFFSET],
+                start: numbers[state::START],
+                size: numbers[state::SIZE],
+                fill: numbers[state::FILL],
+                cells: numbers[state::CELLS],
+                columns: numbers[state::COLUMNS],
+                records: numbers[state::RECORDS],
+                written: numbers[state::WRITTEN],
+                ended: numbers[state::ENDED],
+                fault: Report {
+                    number: numbers[state::FAULT],
+                    record_number: numbers[state::FAULT + 1],
+                    column: numbers[state::FAULT + 2],
+                    offset: numbers[state::FAULT + 3],
+                },
                 ends,
                 name_ends,
                 bytes,

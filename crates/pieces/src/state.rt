@@ -1,4 +1,5 @@
-// The numbers of a state: where the conversion stands, whether its end was accepted, and the report of a fault that was met.
+// The numbers of a state that is lent, in the order and layout of the fields of a `Converter`: where the conversion stands, whether its end
+// was accepted, and the report of a fault that was met.
 ghost use mathlib.Core.Path.{_≡_};
 ghost use Rattle.pieces.specs.States.{placeIn, faultIn, numbersOf};
 use carried::place::Place;

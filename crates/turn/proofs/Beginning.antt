@@ -20,7 +20,7 @@ pub second-in-hand : (p : Place) (a b : List ℕ) → (p .records ≡ 0 → ⊥)
 unfolding if_then_else_
 second-in-hand p a b e = rw (ne-eqb (p .records) 0 e)
 
-module _ {d : Dialect} {t : Target} {piece : Bytes} {p : Place} {names name-ends bytes ends out : List ℕ} {done : List Rec} {k : Kept} (b : Begun d t piece p names name-ends bytes ends out done k) where
+module _ {d : Dialect} {t : Target} {before piece : Bytes} {p : Place} {names name-ends bytes ends out : List ℕ} {done : List Rec} {k : Kept} (b : Begun d t before piece p names name-ends bytes ends out done k) where
   pub begun-header : p .records ≡ 0 → Begins d t piece p names name-ends out done k
   begun-header e = rw (first-in-hand p names bytes e, first-in-hand p name-ends ends e) at (b .begins)
 

@@ -3,6 +3,7 @@ pub mod Scanning
 pub mod Faults
 pub mod Turning
 pub mod Keeping
+pub mod Spelling
 pub mod Showing
 pub mod Walking
 pub mod Writes

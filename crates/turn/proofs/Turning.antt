@@ -30,6 +30,7 @@ use Rattle.carried.specs.Sound.{atStart}
 use Rattle.turn.specs.Types.{Dialect, Target, Fresh, FileState, Fault, Sound, Faulty}
 use Rattle.carried.specs.declared.place.Place.{Place}
 use Rattle.turn.specs.Holding.{no-bytes, IsWhole, scanAt, readAt, columnsOf, Shown, Holding, columnsWith, placeAfter, keptNone, startFrom, placePending}
+use Rattle.turn.specs.Walking.{Follows}
 use Rattle.complete.specs.Completing.{faultAt, textAt}
 use Rattle.turn.proofs.Faults.{fault-start, report-start, report-byte, is-first, fault-of, text-of}
 use Rattle.turn.proofs.Scanning.{keptOf, Keeps, KeepsTo, keeps-pends, keeps-completes, scan-keeps, FaultsAt, faults-fails, scan-faults}
@@ -177,6 +178,12 @@ module _ (u : Turn) where
     stands-on : ScanResultIn piece scanned
     stands-on = stretches d (MAXFILE - n) piece (fresh (p .state) (p .size) i) (record { raw = part-none piece i; forward = omega arith; within = inside; cells = all-none })
 
+    -- the scan of the whole file
+    file-on : (file : Bytes) → Follows file piece i p k → ScanResultIn file (joinedTo k (n + i) (movedTo n scanned))
+    file-on file g =
+        let z : ScanResultIn file (scan d MAXFILE (scanAt p k) (drop (p .offset) file)) = stretches d MAXFILE file (scanAt p k) (g .kept) in
+        subst (ScanResultIn file) (ap (scan d MAXFILE (scanAt p k)) (g .rest) ∙ scans-on) z
+
     -- ---- the part ends
 
     module _ (s : Scan) (e : scanned ≡ pends s) where
@@ -188,6 +195,10 @@ module _ (u : Turn) where
 
       pub pend-reads : (fill : ℕ) → readOn ≡ going (readAt d (placePending p n i fill s) done (keptOf (inFile s)))
       pend-reads fill = reads-on ∙ ap (λ x. resume d (some t) done (joinedTo k (n + i) (movedTo n x))) e
+
+      -- what is kept then is spelt as in the file
+      pub pend-stands : (file : Bytes) → Follows file piece i p k → ScanIn file (inFile s)
+      pend-stands file g = pended-in (subst (λ x. ScanResultIn file (joinedTo k (n + i) (movedTo n x))) e (file-on file g)) .stand
 
       pub pend-holds :
           (fill : ℕ) (bytes′ ends′ : List ℕ) →
@@ -233,6 +244,9 @@ module _ (u : Turn) where
 
       pub complete-whole : All (IsWhole d) (allCells cs)
       complete-whole = complete-keeps .0
+
+      pub complete-stands : (file : Bytes) → Follows file piece i p k → All (StretchIn file) (allCells cs)
+      complete-stands file g = ended-in (subst (λ x. ScanResultIn file (joinedTo k (n + i) (movedTo n x))) e (file-on file g)) .stand
 
       abbrev pub valuesNow : List Value
       valuesNow = map (valueOf d) (allCells cs)

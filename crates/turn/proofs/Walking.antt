@@ -17,7 +17,7 @@ use Rattle.model.specs.Records.{Rec, going, readFrom, _orElse_, when, headerFau
 use Rattle.model.specs.Laws.{all-none}
 use Rattle.model.specs.Trips.{SameCells, no-cells, and-cell}
 use Rattle.model.specs.Scans.{RawCell, Scan, ScanResult, pends, fails, completes, scanStep, scan, valueOf, readOf, inRecord, Kept, movedCell, joinedCell, fresh}
-use Rattle.model.specs.Places.{ScanResultIn, keptBytes, keptEnds}
+use Rattle.model.specs.Places.{ScanIn, ScanResultIn, keptBytes, keptEnds}
 use Rattle.model.proofs.Tests.{split}
 use Rattle.model.proofs.Verdicts.{else-sound, target-sound}
 use Rattle.model.proofs.Meanings.{same-length}
@@ -32,15 +32,16 @@ use Rattle.carried.specs.declared.place.Place.{Place}
 use Rattle.turn.specs.Types.{Dialect, Target, FileState, Outside, Passed, OfCell, Between, Tail, Ends, Step, To, Reject, Fault, TooManyColumns, Verdict, Sound, Faulty}
 use Rattle.complete.specs.declared.Done.{Done}
 use Rattle.complete.specs.declared.Done.the-variants.{Written, Refused, Lost}
-use Rattle.turn.specs.Holding.{readAt, Shown, Holding, placeAfter, keptNone, startFrom, placePending}
-use Rattle.complete.specs.Completing.{faultAt, textAt, Finishes, is-written, is-refused, has-no-room, SpellsRecord, Ruled, not-spelt, ruled, keptValues}
+use Rattle.turn.specs.Holding.{scanAt, readAt, Shown, Holding, placeAfter, keptNone, startFrom, placePending}
+use Rattle.complete.specs.Completing.{faultAt, textAt, Finishes, is-written, is-refused, has-no-room, Ruled, not-spelt, ruled, keptValues}
 use Rattle.turn.specs.declared.Turn.the-variants.{Stopped, Pended}
-use Rattle.turn.specs.Walking.{InBounds, Lists, Completes, too-many, from-kept, pendedPlace, Pends, too-many-yet, kept-on, Ready, turnOf, Fitting, TurnBounds, next-bounds, pended-bounds, stopped-bounds, nowhere-bounds, Turns, turns-next, turns-pended, turns-stopped, turns-nowhere}
+use Rattle.turn.specs.Walking.{InBounds, Lists, Completes, too-many, from-kept, pendedPlace, Pends, too-many-yet, kept-on, Ready, turnOf, Fitting, TurnBounds, next-bounds, pended-bounds, stopped-bounds, nowhere-bounds, Spelt, Follows, Turns, turns-next, turns-pended, turns-stopped, turns-nowhere}
 use Rattle.tokens.specs.declared.record_state.RecordState.{RecordState}
 use Rattle.turn.proofs.Keeping.{order-then, order-more}
 use Rattle.turn.proofs.Scanning.{keptOf, Within, WithinTo, within-pends, within-fails, within-completes, scan-within}
 use Rattle.turn.proofs.Turning as turning
-use Rattle.turn.proofs.Turning.{EndsIn, ended-in, PendsIn, pended-in, pend-reads, pend-holds, fail-reads, fail-reports, part-none, allCells, inFile, complete-whole, valuesNow, doneThen, faulty-reads, faulty-reports, placeThen, sound-reads, text-here, sound-holds}
+use Rattle.turn.proofs.Turning.{EndsIn, ended-in, PendsIn, pended-in, pend-reads, pend-stands, pend-holds, fail-reads, fail-reports, part-none, allCells, inFile, complete-whole, complete-stands, valuesNow, doneThen, faulty-reads, faulty-reports, placeThen, sound-reads, text-here, sound-holds}
+use Rattle.turn.proofs.Spelling.{spelt-kept}
 use Rattle.turn.proofs.Showing.{CompletedAs, PendedAs, FailedAs, room-pended, none-pended, shown-of, hand-then, lists-show, room-done, in-hand-of, joined-hand, goes-on, kept-same, kept-followed}
 
 none-bytes : length (keptBytes []) ≡ 0
@@ -248,8 +249,11 @@ module _ (d : Dialect) (piece : Bytes) (n i : ℕ) (p : Place) (bytes ends out :
         abbrev this : Rec
         this = record { start = inFile u (a .s) .start; size = a .s .size; cells = map (valueOf d) (allCells u (a .cs)) }
 
+        abbrev Spells : Type 0
+        Spells = (file : Bytes) → Follows file piece i p k → Spelt file bytes′ 0 ends′ (this .cells)
+
         written-on :
-            (end : ℕ) (ws : List Value) → SpellsRecord d bytes′ ends′ this → SameCells ws (valuesNow u hold (ready .at) under (ready .inside) (a .s) (a .cs) f next (a .left) (a .came)) → faultAt d t p ws ≡ Sound → length ws ≡ p .cells + cells →
+            (end : ℕ) (ws : List Value) → Spells → SameCells ws (valuesNow u hold (ready .at) under (ready .inside) (a .s) (a .cs) f next (a .left) (a .came)) → faultAt d t p ws ≡ Sound → length ws ≡ p .cells + cells →
             out′ ≡ written out o (textAt t p ws) → end ≡ o + length (textAt t p ws) → Then (Written end)
         written-on end ws spelt same q m w e =
             let text = text-here u hold (ready .at) under (ready .inside) (a .s) (a .cs) f next (a .left) (a .came) ws same q in
@@ -272,7 +276,7 @@ module _ (d : Dialect) (piece : Bytes) (n i : ℕ) (p : Place) (bytes ends out :
             refl
             (rw text at l)
 
-        finishing : (x : Done) (ws : List Value) → SpellsRecord d bytes′ ends′ this → SameCells ws (valuesNow u hold (ready .at) under (ready .inside) (a .s) (a .cs) f next (a .left) (a .came)) → length ws ≡ p .cells + cells → Finishes (faultAt d t p ws) (textAt t p ws) o out out′ x → Then x
+        finishing : (x : Done) (ws : List Value) → Spells → SameCells ws (valuesNow u hold (ready .at) under (ready .inside) (a .s) (a .cs) f next (a .left) (a .came)) → length ws ≡ p .cells + cells → Finishes (faultAt d t p ws) (textAt t p ws) o out out′ x → Then x
         finishing (Written end) ws spelt same m (is-written v l w e) = written-on end ws spelt same v m w e
         finishing (Refused x) ws spelt same m (is-refused v w) = refused x ws same v w
         finishing Lost ws spelt same m (has-no-room v l w) = no-room ws same v l
@@ -293,8 +297,7 @@ module _ (d : Dialect) (piece : Bytes) (n i : ℕ) (p : Place) (bytes ends out :
                 absurd (w (rw counted at (kept-followed z d (complete-whole u hold (ready .at) under (ready .inside) (a .s) (a .cs) f next (a .left) (a .came)))))
             ruling h z (ruled y) =
                 let same : SameCells (keptValues d bytes′ (take (p .cells + cells) ends′)) (map (valueOf d) (allCells u (a .cs))) = rw counted at (kept-same z d) in
-                let count : length (this .cells) ≡ p .cells + cells = length-map (allCells u (a .cs)) (valueOf d) ∙ counted in
-                let spelt : SpellsRecord d bytes′ ends′ this = rw count same in
+                let spelt : Spells = λ file g. spelt-kept z d file (complete-stands u hold (ready .at) under (ready .inside) (a .s) (a .cs) f next (a .left) (a .came) file g) in
                 finishing r (keptValues d bytes′ (take (p .cells + cells) ends′)) spelt same (same-length same ∙ length-map (allCells u (a .cs)) (valueOf d) ∙ counted) y
 
             go : Completes d t p cs (p .cells + cells) bytes ends o out bytes′ ends′ out′ r → Then r
@@ -450,6 +453,7 @@ module _ (d : Dialect) (piece : Bytes) (n i : ℕ) (p : Place) (bytes ends out :
             turns-pended k′
             (subst (λ (x : Place). readFrom d (some t) (going (readAt d p done k)) (drop i piece) ≡ going (readAt d x done k′)) same (pend-reads v hold (ready .at) under (ready .inside) s (a .came) fill))
             (subst (λ (x : Place). Holding d t x bytes′ ends′ done k′) same (pend-holds v hold (ready .at) under (ready .inside) s (a .came) fill bytes′ ends′ shown))
+            (subst (λ (x : Place). (file : Bytes) → Follows file piece i p k → ScanIn file (scanAt x k′)) same (pend-stands v hold (ready .at) under (ready .inside) s (a .came)))
             refl
 
         pub turns-pended-on : Pends p n i f h piece cs (p .cells + h .cells) bytes ends bytes′ ends′ r → Turns d t piece i p done k o out bytes′ ends′ out (Pended r)

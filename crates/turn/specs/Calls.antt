@@ -8,13 +8,13 @@ use Rattle.model.specs.Base.{Bytes, over}
 use Rattle.model.specs.Report.{report, numberOf, columnOf, MAXRECORD, MAXCOLUMNS, MAXPIECE, LEASTOUTPUT}
 use Rattle.model.specs.Records.{Rec, Read, going, readBytes, readEnd, reportOf, recordsOf}
 use Rattle.model.specs.Scans.{Kept}
+use Rattle.model.specs.Places.{ScanIn}
 use Rattle.model.specs.Machine.{newText}
 use Rattle.carried.specs.declared.place.Place.{Place}
-use Rattle.complete.specs.Completing.{SpellsRecord}
 use Rattle.turn.specs.Types.{Dialect, Target, Fault}
 use Rattle.turn.specs.declared.Taken.{Taken}
-use Rattle.turn.specs.Holding.{readAt, Holding}
-use Rattle.turn.specs.Walking.{InBounds, handIn}
+use Rattle.turn.specs.Holding.{scanAt, readAt, columnsOf, Holding}
+use Rattle.turn.specs.Walking.{InBounds, handIn, Spelt}
 
 -- some bytes were read up to here
 pub record Reached (d : Dialect) (t : Target) (r : Read) : Type 0 where
@@ -30,10 +30,20 @@ pub record Begins (d : Dialect) (t : Target) (piece : Bytes) (p : Place) (bytes 
 
 -- ---- the header's names
 
--- the first record is the header: these arrays spell its names (§15.2)
-abbrev pub Named : Dialect → (names name-ends : List ℕ) → List Rec → Type 0
-Named d names ends [] = Unit {0}
-Named d names ends (h ∷ rs) = SpellsRecord d names ends h
+-- the first record is the header: these arrays hold its names as they are spelt in the file (§15.2)
+abbrev pub Named : (file : Bytes) → (names name-ends : List ℕ) → List Rec → Type 0
+Named file names ends [] = Unit {0}
+Named file names ends (h ∷ rs) = Spelt file names 0 ends (h .cells)
+
+-- the names once the header is complete, and before that its cells so far; `file` is all that was consumed (§15.2)
+pub record Heads (file : Bytes) (p : Place) (names name-ends : List ℕ) (done : List Rec) (k : Kept) : Type 0 where
+  pub named : Named file names name-ends done
+  pub kept : length done ≡ 0 → ScanIn file (scanAt p k)
+
+-- the place counts these records, and the columns of their header (§15.2)
+pub record Counts (p : Place) (done : List Rec) : Type 0 where
+  pub records : p .records ≡ length done
+  pub columns : p .columns ≡ columnsOf done
 
 -- what a call may rely on: it stays in bounds from this place
 pub record ReadyPiece (p : Place) (names name-ends bytes ends : List ℕ) : Type 0 where
@@ -43,10 +53,11 @@ pub record ReadyPiece (p : Place) (names name-ends bytes ends : List ℕ) : Type
   pub long-bytes : length bytes ≡ MAXRECORD
   pub long-ends : length ends ≡ MAXCOLUMNS
 
--- a call begins, with the header's cells in the first two arrays, and those of another record in the other two
-pub record Begun (d : Dialect) (t : Target) (piece : Bytes) (p : Place) (names name-ends bytes ends out : List ℕ) (done : List Rec) (k : Kept) : Type 0 where
+-- a call begins after the bytes `before`, with the header's cells in the first two arrays, and those of another record in the other two
+pub record Begun (d : Dialect) (t : Target) (before piece : Bytes) (p : Place) (names name-ends bytes ends out : List ℕ) (done : List Rec) (k : Kept) : Type 0 where
   pub begins : Begins d t piece p (handIn p names bytes) (handIn p name-ends ends) out done k
-  pub named : Named d names name-ends done
+  pub offset : p .offset ≡ length before
+  pub heads : Heads before p names name-ends done k
 
 -- ---- the end
 
@@ -54,8 +65,9 @@ pub record Begun (d : Dialect) (t : Target) (piece : Bytes) (p : Place) (names n
 abbrev pub failedAs : Place → Fault → (at : ℕ) → Taken
 failedAs p e at = record { place = p; report = report (numberOf e) (p .records + 1) (columnOf e) at; length = 0 }
 
--- the report on the file's end, and the text of a last record
+-- the report on the file's end, and the text of a last record; the place is as it was
 pub record Finished (d : Dialect) (t : Target) (p : Place) (done : List Rec) (k : Kept) (out out′ : List ℕ) (r : Taken) : Type 0 where
+  pub place : r .place ≡ p
   pub reports : r .report ≡ reportOf (readEnd d (some t) (going (readAt d p done k)))
   pub text : out′ ≡ over (newText t done (recordsOf (readEnd d (some t) (going (readAt d p done k))))) out
   pub long : r .length ≡ length (newText t done (recordsOf (readEnd d (some t) (going (readAt d p done k)))))

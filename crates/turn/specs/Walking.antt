@@ -6,11 +6,12 @@ use mathlib.Core.Option.{some}
 use mathlib.Core.List.{List, [], _∷_, _++_}
 use lib.ListN.{length, take, drop}
 use Rattle.model.specs.Base.{if_then_else_, _is_, Bytes, isEmpty}
-use Rattle.model.specs.Text.{recordText, ending}
+use Rattle.model.specs.Text.{Value, recordText, ending}
 use Rattle.model.specs.Report.{report, numberOf, columnOf, MAXFILE, MAXRECORD, MAXCOLUMNS}
 use Rattle.model.specs.Records.{Rec, Read, going, stopped, readFrom, faultReport}
 use Rattle.model.specs.Scans.{RawCell, inRecord, Kept}
-use Rattle.model.specs.Places.{keptBytes, keptEnds}
+use Rattle.model.specs.Api.{slice}
+use Rattle.model.specs.Places.{ScanIn, keptBytes, keptEnds}
 use Rattle.buffers.specs.Wrote.{written}
 use Rattle.carried.specs.Hand.{Stand, rawCellsAt}
 use Rattle.tokens.specs.declared.record_state.RecordState.{RecordState}
@@ -20,9 +21,9 @@ use Rattle.complete.specs.declared.Done.{Done}
 use Rattle.complete.specs.declared.Done.the-variants.{Written, Refused, Lost}
 use Rattle.turn.specs.declared.Turn.{Turn}
 use Rattle.turn.specs.declared.Turn.the-variants.{Next, Pended, Stopped, Nowhere}
-use Rattle.turn.specs.Holding.{readAt, Holding, startFrom, placeAfter}
+use Rattle.turn.specs.Holding.{scanAt, readAt, Holding, startFrom, placeAfter}
 use Rattle.carried.specs.Sound.{InOrder}
-use Rattle.complete.specs.Completing.{SpellsRecord, Ruled}
+use Rattle.complete.specs.Completing.{Ruled}
 
 -- ---- staying in bounds
 
@@ -121,15 +122,28 @@ pub data TurnBounds (piece : Bytes) (n i : ℕ) (ends′ out : List ℕ) : Turn 
   stopped-bounds : {e : Report} → TurnBounds piece n i ends′ out (Stopped e)
   nowhere-bounds : TurnBounds piece n i ends′ out Nowhere
 
+-- the bytes hold these cells one after the other, the first from `at` on, each up to its end: as they are spelt in the file (§10.3 §15.2)
+pub data Spelt (file bytes : Bytes) : (at : ℕ) → (ends : List ℕ) → List Value → Type 0 where
+  all-spelt : {at : ℕ} {ends : List ℕ} → Spelt file bytes at ends []
+  next-spelt :
+      {at end : ℕ} {ends : List ℕ} {v : Value} {vs : List Value} → at ≤ end → end ≤ length bytes → v .from ≤ v .upto → v .upto ≤ length file →
+      slice bytes at end ≡ slice file (v .from) (v .upto) → Spelt file bytes end ends vs → Spelt file bytes at (end ∷ ends) (v ∷ vs)
+
+-- the piece from i on is the rest of the file at this place, and what is kept of the record in hand is spelt as in the file (§10.3 §15.2)
+pub record Follows (file piece : Bytes) (i : ℕ) (p : Place) (k : Kept) : Type 0 where
+  pub rest : drop (p .offset) file ≡ drop i piece
+  pub kept : ScanIn file (scanAt p k)
+
 -- what a turn comes to, where reading stands at its place after the records `done`
 pub data Turns (d : Dialect) (t : Target) (piece : Bytes) (i : ℕ) (p : Place) (done : List Rec) (k : Kept) (o : ℕ) (out bytes′ ends′ out′ : List ℕ) : Turn → Type 0 where
   turns-next :
       {q : Place} {at end : ℕ} (x : Rec) (k′ : Kept) →
       readFrom d (some t) (going (readAt d p done k)) (drop i piece) ≡ readFrom d (some t) (going (readAt d q (done ++ (x ∷ [])) k′)) (drop at piece) →
-      Holding d t q bytes′ ends′ (done ++ (x ∷ [])) k′ → SpellsRecord d bytes′ ends′ x → out′ ≡ written out o (recordText t (isEmpty done) (x .cells) ++ ending (t .dialect)) →
+      Holding d t q bytes′ ends′ (done ++ (x ∷ [])) k′ → ((file : Bytes) → Follows file piece i p k → Spelt file bytes′ 0 ends′ (x .cells)) → out′ ≡ written out o (recordText t (isEmpty done) (x .cells) ++ ending (t .dialect)) →
       end ≡ o + length (recordText t (isEmpty done) (x .cells) ++ ending (t .dialect)) → Turns d t piece i p done k o out bytes′ ends′ out′ (Next q at end)
   turns-pended :
-      {q : Place} (k′ : Kept) → readFrom d (some t) (going (readAt d p done k)) (drop i piece) ≡ going (readAt d q done k′) → Holding d t q bytes′ ends′ done k′ → out′ ≡ out →
+      {q : Place} (k′ : Kept) → readFrom d (some t) (going (readAt d p done k)) (drop i piece) ≡ going (readAt d q done k′) → Holding d t q bytes′ ends′ done k′ →
+      ((file : Bytes) → Follows file piece i p k → ScanIn file (scanAt q k′)) → out′ ≡ out →
       Turns d t piece i p done k o out bytes′ ends′ out′ (Pended q)
   turns-stopped :
       {e : Report} (x : Fault) (r : Read) → readFrom d (some t) (going (readAt d p done k)) (drop i piece) ≡ stopped x r → r .done ≡ done → e ≡ faultReport x r → out′ ≡ out →

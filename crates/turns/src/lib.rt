@@ -1,7 +1,7 @@
 // Turn after turn over a piece, from record to record, up to its end or a fault.
 ghost use mathlib.Core.Path.{_≡_};
 ghost use mathlib.Core.List.{List};
-ghost use Prim.Native.Nat.{ℕ};
+ghost use Prim.Native.Nat.{ℕ, _≤_};
 ghost use lib.ListN.{length};
 ghost use Rattle.model.specs.Dialect.{into};
 ghost use Rattle.model.specs.Records.{Rec};
@@ -54,6 +54,7 @@ pub fn walked(
     requires { ⌜ Ready (now piece) n from place (now bytes) (now ends) (now out) at ⌝ }
     requires { ⌜ Scratch (now starts) (now stops) (now kinds) ⌝ }
     ensures { λ r. ⌜ ((began : Place) (done : List Rec) (k : Kept) (out₀ : List ℕ) → Entered d (into t) (now (piece .entry)) began done k out₀ → length (now (out .entry)) ≡ length out₀ → (w : Walked d (into t) (now (piece .entry)) began done k out₀ from place (now (bytes .entry)) (now (ends .entry)) (now (out .entry)) at) → Goes d (into t) (now (piece .entry)) began done k (w .done′) out₀ (now (bytes .exit)) (now (ends .exit)) (now (out .exit)) r) ⌝ }
+    ensures { λ r. ⌜ r .length ≤ length (now (out .entry)) ⌝ }
 {
     let mut p = place;
     let mut i = from;

@@ -3,7 +3,8 @@ use Prim.Native.Nat.{ℕ, _+_, _≤_, _<_}
 use native.Mathlib.Omega.{arith}
 use mathlib.Core.Path.{_≡_, refl, sym, ap, subst, _∙_}
 use mathlib.Core.List.{List, [], _∷_, _++_}
-use lib.ListN.{length, take, length-append}
+use lib.ListN.{length, take, drop, length-append}
+use lib.Seq.{drop-append-seam}
 use Rattle.model.specs.Base.{Bytes, over}
 use Rattle.model.specs.Report.{accepted, MAXRECORD, MAXCOLUMNS}
 use Rattle.model.specs.Records.{Rec}
@@ -12,15 +13,15 @@ use Rattle.model.specs.Scans.{Kept}
 use Rattle.model.specs.Machine.{newText}
 use Rattle.carried.specs.declared.place.Place.{Place}
 use Rattle.carried.specs.Sound.{order-end}
-use Rattle.complete.specs.Completing.{SpellsRecord}
 use Rattle.turn.specs.Types.{Report, Dialect, Target}
 use Rattle.turn.specs.declared.Taken.{Taken}
 use Rattle.turn.specs.declared.Turn.the-variants.{Next, Pended, Stopped}
-use Rattle.turn.specs.Holding.{allKept, Holding}
-use Rattle.turn.specs.Walking.{InBounds, Ready, TurnBounds, next-bounds, Turns, turns-next, turns-pended, turns-stopped}
-use Rattle.turn.specs.Calls.{Begins, Named, Begun}
+use Rattle.turn.specs.Holding.{allKept, scanAt, Holding}
+use Rattle.turn.specs.Walking.{InBounds, Ready, TurnBounds, next-bounds, Spelt, Follows, Turns, turns-next, turns-pended, turns-stopped}
+use Rattle.turn.specs.Calls.{Begins, Named, Counts, Begun}
 use Rattle.turn.proofs.Beginning.{first-in-hand, second-in-hand, begun-later}
 use Rattle.turn.proofs.Writes.{grows-none}
+use Rattle.turn.proofs.Spelling.{named-none, scan-grows, named-grows}
 use Rattle.cell_pieces.specs.CellPieces.{InCell, all-kept, not-told}
 use Rattle.cell_pieces.specs.declared.CellPiece.{CellPiece}
 use Rattle.cell_pieces.specs.declared.CellPiece.the-variants as cell
@@ -101,74 +102,83 @@ entered-of b = record { reached = b .reached; short = b .short; room = b .room }
 
 -- ---- a whole call
 
-named-none : (d : Dialect) (names ends : List ℕ) (rs : List Rec) → length rs ≡ 0 → Named d names ends rs
-named-none d names ends [] e = tt
-named-none d names ends (x ∷ rs) e = absurd (omega arith)
+named-first : (file : Bytes) (names ends : List ℕ) (x : Rec) (rs : List Rec) → length rs ≡ 0 → Spelt file names 0 ends (x .cells) → Named file names ends (rs ++ (x ∷ []))
+named-first file names ends x [] e n = n
+named-first file names ends x (y ∷ rs) e n = absurd (omega arith)
 
-named-first : (d : Dialect) (names ends : List ℕ) (x : Rec) (rs : List Rec) → length rs ≡ 0 → SpellsRecord d names ends x → Named d names ends (rs ++ (x ∷ []))
-named-first d names ends x [] e n = n
-named-first d names ends x (y ∷ rs) e n = absurd (omega arith)
+named-on : (file : Bytes) (names ends : List ℕ) (mid : List Rec) {rs : List Rec} → 1 ≤ length mid → Named file names ends mid → Grows mid rs → Named file names ends rs
+named-on file names ends [] l n g = absurd (omega arith)
+named-on file names ends (x ∷ mid) l n g = subst (Named file names ends) (sym (g .sum)) n
 
-named-on : (d : Dialect) (names ends : List ℕ) (mid : List Rec) {rs : List Rec} → 1 ≤ length mid → Named d names ends mid → Grows mid rs → Named d names ends rs
-named-on d names ends [] l n g = absurd (omega arith)
-named-on d names ends (x ∷ mid) l n g = subst (Named d names ends) (sym (g .sum)) n
+-- until the header is complete, what is kept of it is spelt as in the file
+pub begun-follows :
+    {d : Dialect} {t : Target} {before piece : Bytes} {p : Place} {names name-ends bytes ends out : List ℕ} {done : List Rec} {k : Kept} → Begun d t before piece p names name-ends bytes ends out done k → p .records ≡ 0 →
+    Follows (before ++ piece) piece 0 p k
+begun-follows {before = before} {piece = piece} {p = p} {k = k} b none =
+    record {
+      rest = ap (λ (n : ℕ). drop n (before ++ piece)) (b .offset) ∙ drop-append-seam before piece;
+      kept = scan-grows before piece (scanAt p k) (b .heads .kept (sym (b .begins .hold .records) ∙ none));
+    }
 
 -- a turn behind the header, whose names are where they stay
-pub record Headed (d : Dialect) (t : Target) (piece : Bytes) (place : Place) (done : List Rec) (k : Kept) (out₀ names name-ends : List ℕ) (i : ℕ) (p : Place) (bytes ends out : List ℕ) (o : ℕ) : Type 0 where
+pub record Headed (file : Bytes) (d : Dialect) (t : Target) (piece : Bytes) (place : Place) (done : List Rec) (k : Kept) (out₀ names name-ends : List ℕ) (i : ℕ) (p : Place) (bytes ends out : List ℕ) (o : ℕ) : Type 0 where
   pub now : Walked d t piece place done k out₀ i p bytes ends out o
   pub behind : 1 ≤ length (now .done′)
-  pub named : Named d names name-ends (now .done′)
+  pub named : Named file names name-ends (now .done′)
 
 pub headed-begins :
-    {d : Dialect} {t : Target} {piece : Bytes} {p : Place} {names name-ends bytes ends out : List ℕ} {done : List Rec} {k : Kept} → Begun d t piece p names name-ends bytes ends out done k → 0 < p .records →
-    Headed d t piece p done k out names name-ends 0 p bytes ends out 0
+    {d : Dialect} {t : Target} {before piece : Bytes} {p : Place} {names name-ends bytes ends out : List ℕ} {done : List Rec} {k : Kept} → Begun d t before piece p names name-ends bytes ends out done k → 0 < p .records →
+    Headed (before ++ piece) d t piece p done k out names name-ends 0 p bytes ends out 0
 unfolding walk-begins
-headed-begins b more =
+headed-begins {before = before} {piece = piece} {names = names} {name-ends = name-ends} {done = done} b more =
     let begins = begun-later b (λ e. omega arith) in
-    record { now = walk-begins begins; behind = omega (arith, begins .hold .records); named = b .named }
+    record { now = walk-begins begins; behind = omega (arith, begins .hold .records); named = named-grows before piece names name-ends done (b .heads .named) }
 
 module _ {d : Dialect} {t : Target} {piece : Bytes} {place : Place} {names name-ends out : List ℕ} {done : List Rec} {k : Kept} (b : Begins d t piece place names name-ends out done k) where
   pub headed-next :
-      {q : Place} {at end : ℕ} {names′ name-ends′ out′ : List ℕ} → place .records ≡ 0 → Turns d t piece 0 place done k 0 out names′ name-ends′ out′ (Next q at end) → (q .fill ≡ 0) × (q .cells ≡ 0) →
-      (bytes ends : List ℕ) → Headed d t piece place done k out names′ name-ends′ at q bytes ends out′ end
+      {file : Bytes} {q : Place} {at end : ℕ} {names′ name-ends′ out′ : List ℕ} → Follows file piece 0 place k → place .records ≡ 0 → Turns d t piece 0 place done k 0 out names′ name-ends′ out′ (Next q at end) → (q .fill ≡ 0) × (q .cells ≡ 0) →
+      (bytes ends : List ℕ) → Headed file d t piece place done k out names′ name-ends′ at q bytes ends out′ end
   unfolding walk-begins walk-more walk-on
-  headed-next {q} {at} {end} {names′} {name-ends′} {out′} first (turns-next x k″ r h n v e) none bytes ends =
+  headed-next {file} {q} {at} {end} {names′} {name-ends′} {out′} f first (turns-next x k″ r h n v e) none bytes ends =
       let turn : Turns d t piece 0 place done k 0 out names′ name-ends′ out′ (Next q at end) = turns-next x k″ r h n v e in
       let since : Since done d t piece place done k out at q names′ name-ends′ out′ end = walk-on (walk-begins b) (grows-none t done) turn in
       let w : Walked d t piece place done k out at q names′ name-ends′ out′ end = since .now in
       record {
         now = record { done′ = done ++ (x ∷ []); k′ = k″; hold = hold-anywhere h none bytes ends; grown = w .grown; reads = w .reads; text = w .text; long = w .long };
         behind = omega (arith, length-append done (x ∷ []));
-        named = named-first d names′ name-ends′ x done (sym (b .hold .records) ∙ first) n;
+        named = named-first file names′ name-ends′ x done (sym (b .hold .records) ∙ first) (n file f);
       }
 
   pub took-pended :
-      {q : Place} {e : Report} {names′ name-ends′ out′ : List ℕ} → place .records ≡ 0 → Turns d t piece 0 place done k 0 out names′ name-ends′ out′ (Pended q) → InBounds q name-ends′ → e ≡ accepted →
-      (bytes ends : List ℕ) → Took d t piece place done k out names′ name-ends′ bytes ends out′ (record { place = q; report = e; length = 0 })
+      {before : Bytes} {q : Place} {e : Report} {names′ name-ends′ out′ : List ℕ} → Follows (before ++ piece) piece 0 place k → place .records ≡ 0 → Turns d t piece 0 place done k 0 out names′ name-ends′ out′ (Pended q) →
+      InBounds q name-ends′ → e ≡ accepted → (bytes ends : List ℕ) → Took d t before piece place done k out names′ name-ends′ bytes ends out′ (record { place = q; report = e; length = 0 })
   unfolding walk-begins
-  took-pended {q} {names′ = names′} {name-ends′ = name-ends′} first (turns-pended k″ r h v) i e bytes ends =
+  took-pended {before} {q} {names′ = names′} {name-ends′ = name-ends′} f first (turns-pended k″ r h z v) i e bytes ends =
       let w = walk-begins b in
       let none : length done ≡ 0 = sym (b .hold .records) ∙ first in
       let header : q .records ≡ 0 = h .records ∙ none in
-      took-all done k″ r (rw (first-in-hand q names′ bytes header, first-in-hand q name-ends′ ends header) h) (named-none d names′ name-ends′ done none) (rw (first-in-hand q name-ends′ ends header) i) e (v ∙ w .text) (w .long)
+      took-all done k″ r (rw (first-in-hand q names′ bytes header, first-in-hand q name-ends′ ends header) h) (record { named = named-none (before ++ piece) names′ name-ends′ done none; kept = λ _. z (before ++ piece) f }) (rw (first-in-hand q name-ends′ ends header) i) e (v ∙ w .text) (w .long)
 
   pub took-stopped :
-      {q : Place} {e : Report} {names′ name-ends′ out′ : List ℕ} → Turns d t piece 0 place done k 0 out names′ name-ends′ out′ (Stopped e) →
-      (bytes ends : List ℕ) → Took d t piece place done k out names′ name-ends′ bytes ends out′ (record { place = q; report = e; length = 0 })
+      {before : Bytes} {e : Report} {names′ name-ends′ out′ : List ℕ} → place .records ≡ 0 → Turns d t piece 0 place done k 0 out names′ name-ends′ out′ (Stopped e) →
+      (bytes ends : List ℕ) → Took d t before piece place done k out names′ name-ends′ bytes ends out′ (record { place = place; report = e; length = 0 })
   unfolding walk-begins
-  took-stopped (turns-stopped x q r f e v) bytes ends =
+  took-stopped {before} {names′ = names′} {name-ends′ = name-ends′} first (turns-stopped x q r f e v) bytes ends =
       let w = walk-begins b in
-      took-fault x q r e (v ∙ w .text ∙ ap (λ (l : List Rec). over (newText t done l) out) (sym f)) (w .long ∙ ap (λ (l : List Rec). length (newText t done l)) (sym f))
+      let none : length (q .done) ≡ 0 = ap length f ∙ sym (b .hold .records) ∙ first in
+      took-fault x q r (subst (Counts place) (sym f) (record { records = b .hold .records; columns = b .hold .columns })) (named-none (before ++ piece) names′ name-ends′ (q .done) none) e (v ∙ w .text ∙ ap (λ (l : List Rec). over (newText t done l) out) (sym f)) (w .long ∙ ap (λ (l : List Rec). length (newText t done l)) (sym f))
 
 -- the turns behind the header leave its names as they are
 pub took-later :
-    {d : Dialect} {t : Target} {piece : Bytes} {place : Place} {done : List Rec} {k : Kept} {out₀ names name-ends : List ℕ} {i : ℕ} {p : Place} {bytes ends out : List ℕ} {o : ℕ} {bytes′ ends′ out′ : List ℕ} {r : Taken}
-    (h : Headed d t piece place done k out₀ names name-ends i p bytes ends out o) → Goes d t piece place done k (h .now .done′) out₀ bytes′ ends′ out′ r → Took d t piece place done k out₀ names name-ends bytes′ ends′ out′ r
-took-later {d} {names = names} {name-ends = name-ends} {bytes′ = bytes′} {ends′ = ends′} {r = r} h (goes-all done′ k′ g reads hold bounds told text long) =
+    {d : Dialect} {t : Target} {before piece : Bytes} {place : Place} {done : List Rec} {k : Kept} {out₀ names name-ends : List ℕ} {i : ℕ} {p : Place} {bytes ends out : List ℕ} {o : ℕ} {bytes′ ends′ out′ : List ℕ} {r : Taken}
+    (h : Headed (before ++ piece) d t piece place done k out₀ names name-ends i p bytes ends out o) → Goes d t piece place done k (h .now .done′) out₀ bytes′ ends′ out′ r → Took d t before piece place done k out₀ names name-ends bytes′ ends′ out′ r
+took-later {before = before} {piece = piece} {names = names} {name-ends = name-ends} {bytes′ = bytes′} {ends′ = ends′} {r = r} h (goes-all done′ k′ g reads hold bounds told text long) =
     let m : length done′ ≡ length (h .now .done′) + length (g .added) = ap length (g .sum) ∙ length-append (h .now .done′) (g .added) in
     let records : r .place .records ≡ length done′ = hold .records in
     let behind : 1 ≤ length (h .now .done′) = h .behind in
     let later : r .place .records ≡ 0 → ⊥ = λ e. omega arith in
-    took-all done′ k′ reads (rw (second-in-hand (r .place) names bytes′ later, second-in-hand (r .place) name-ends ends′ later) hold) (named-on d names name-ends (h .now .done′) behind (h .named) g)
+    took-all done′ k′ reads (rw (second-in-hand (r .place) names bytes′ later, second-in-hand (r .place) name-ends ends′ later) hold)
+    (record { named = named-on (before ++ piece) names name-ends (h .now .done′) behind (h .named) g; kept = λ e. absurd (omega arith) })
     (rw (second-in-hand (r .place) name-ends ends′ later) bounds) told text long
-took-later h (goes-fault x q reads told text long) = took-fault x q reads told text long
+took-later {before = before} {piece = piece} {names = names} {name-ends = name-ends} h (goes-fault x q g reads counts told text long) =
+    took-fault x q reads counts (named-on (before ++ piece) names name-ends (h .now .done′) (h .behind) (h .named) g) told text long

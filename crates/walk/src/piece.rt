@@ -1,5 +1,8 @@
 // A piece: inside a cell, or turn after turn.
 ghost use mathlib.Core.List.{List};
+ghost use Prim.Native.Nat.{_≤_};
+ghost use lib.ListN.{length};
+ghost use Rattle.model.specs.Base.{Bytes};
 ghost use Rattle.model.specs.Dialect.{into};
 ghost use Rattle.model.specs.Records.{Rec};
 ghost use Rattle.model.specs.Scans.{Kept};
@@ -28,6 +31,7 @@ fn later(
 ) -> Taken
     requires { ⌜ Ready (now piece) (place .offset) 0 place (now bytes) (now ends) (now out) 0 ⌝ }
     ensures { λ r. ⌜ ((done : List Rec) (k : Kept) → Entered d (into t) (now (piece .entry)) place done k (now (out .entry)) → (w : Walked d (into t) (now (piece .entry)) place done k (now (out .entry)) 0 place (now (bytes .entry)) (now (ends .entry)) (now (out .entry)) 0) → Goes d (into t) (now (piece .entry)) place done k (w .done′) (now (out .entry)) (now (bytes .exit)) (now (ends .exit)) (now (out .exit)) r) ⌝ }
+    ensures { λ r. ⌜ r .length ≤ length (now (out .entry)) ⌝ }
 {
     if let CellPiece::Kept(q) = cell_pieces::kept(d, piece, place, bytes, ends) {
         return told(q, numbers::on_call(numbers::ACCEPTED), 0);
@@ -65,7 +69,8 @@ pub fn take(
     out: &mut [u8],
 ) -> Taken
     requires { ⌜ ReadyPiece place (now names) (now «name_ends») (now bytes) (now ends) ⌝ }
-    ensures { λ r. ⌜ ((done : List Rec) (k : Kept) → Begun d (into t) (now (piece .entry)) place (now (names .entry)) (now («name_ends» .entry)) (now (bytes .entry)) (now (ends .entry)) (now (out .entry)) done k → Took d (into t) (now (piece .entry)) place done k (now (out .entry)) (now (names .exit)) (now («name_ends» .exit)) (now (bytes .exit)) (now (ends .exit)) (now (out .exit)) r) ⌝ }
+    ensures { λ r. ⌜ ((before : Bytes) (done : List Rec) (k : Kept) → Begun d (into t) before (now (piece .entry)) place (now (names .entry)) (now («name_ends» .entry)) (now (bytes .entry)) (now (ends .entry)) (now (out .entry)) done k → Took d (into t) before (now (piece .entry)) place done k (now (out .entry)) (now (names .exit)) (now («name_ends» .exit)) (now (bytes .exit)) (now (ends .exit)) (now (out .exit)) r) ⌝ }
+    ensures { λ r. ⌜ r .length ≤ length (now (out .entry)) ⌝ }
 {
     if 0 < place.records {
         return later(d, t, piece, place, bytes, ends, out);

@@ -20,27 +20,35 @@ returns : tie.Need-returns
 returns c =
     let a = c .before .before .before .before .before .before .before .before .before .args in
     let f = sym (c .before .before .before .before .before .file-end .ensures) ∙ c .before .before .before .enum-told2 .given .1 in
-    λ done k b. finish-fault (a .d) (into (a .t)) (a .p) done k (a .out .now) _ NoRecord (none-reads (a .d) (into (a .t)) (a .p) done k (b .hold) f (c .before .if1 .taken))
-    (ap (λ (x : Taken). x .report) (c .failed2 .ensures) ∙ sym (none-reports (a .d) (into (a .t)) (a .p) done k (b .hold)))
-    (ap (λ (x : Taken). x .length) (c .failed2 .ensures))
+    let none = ap (λ (x : Taken). x .length) (c .failed2 .ensures) in (
+      λ done k b. finish-fault (a .d) (into (a .t)) (a .p) done k (a .out .now) _ NoRecord (none-reads (a .d) (into (a .t)) (a .p) done k (b .hold) f (c .before .if1 .taken))
+          (ap (λ (x : Taken). x .place) (c .failed2 .ensures))
+          (ap (λ (x : Taken). x .report) (c .failed2 .ensures) ∙ sym (none-reports (a .d) (into (a .t)) (a .p) done k (b .hold)))
+          none,
+      omega arith,
+    )
 
 returns-2 : tie.Need-returns-2
 returns-2 c =
     let a = c .before .before .before .before .before .before .before .args in
     let f = sym (c .before .before .before .file-end .ensures) ∙ c .before .enum-told .given .1 in
-    λ done k b. finish-fault (a .d) (into (a .t)) (a .p) done k (a .out .now) _ CutShort (cut-reads (a .d) (into (a .t)) (a .p) done k (b .hold) f)
-    (ap (λ (x : Taken). x .report) (c .failed .ensures) ∙ sym (cut-reports (a .d) (into (a .t)) (a .p) done k (b .hold)))
-    (ap (λ (x : Taken). x .length) (c .failed .ensures))
+    let none = ap (λ (x : Taken). x .length) (c .failed .ensures) in (
+      λ done k b. finish-fault (a .d) (into (a .t)) (a .p) done k (a .out .now) _ CutShort (cut-reads (a .d) (into (a .t)) (a .p) done k (b .hold) f)
+          (ap (λ (x : Taken). x .place) (c .failed .ensures))
+          (ap (λ (x : Taken). x .report) (c .failed .ensures) ∙ sym (cut-reports (a .d) (into (a .t)) (a .p) done k (b .hold)))
+          none,
+      omega arith,
+    )
 
 returns-3 : tie.Need-returns-3
 returns-3 c =
     let a = c .before .before .before .before .before .before .before .before .before .args in
     let f = sym (c .before .before .before .before .before .file-end .ensures) ∙ c .before .before .before .enum-told2 .given .1 in
     let no = c .before .if1 .left in
-    λ done k b. finish-clean (a .d) (into (a .t)) (a .p) done k (a .out .now) _ (clean-reads (a .d) (into (a .t)) (a .p) done k (b .hold) f (omega arith)) (c .on-call .ensures) refl
+    (λ done k b. finish-clean (a .d) (into (a .t)) (a .p) done k (a .out .now) _ (clean-reads (a .d) (into (a .t)) (a .p) done k (b .hold) f (omega arith)) refl (c .on-call .ensures) refl, omega arith)
 
 returns-4 : tie.Need-returns-4
-returns-4 c = λ done k b. c .before .before .before .before .last-record .ensures done k b
+returns-4 c = c .before .before .before .before .last-record .ensures
 
 last-record-requires : tie.Need-last-record-requires
 last-record-requires c κs = (c .before .before .before .before .before .before .before .before .pre, sym (c .before .before .before .before .file-end .ensures) ∙ c .before .before .enum-told3 .given .1)

@@ -9,7 +9,7 @@ use Rattle.complete.specs.declared.Done.the-variants.{Written, Refused, Lost}
 use Rattle.turn.specs.declared.Taken.{Taken}
 use Rattle.complete.specs.Completing.{Ruled}
 use Rattle.turn.proofs.Keeping.{order-more}
-use Rattle.ending.proofs.Finishing.{last-order, finish-many, finish-kept}
+use Rattle.ending.proofs.Finishing.{last-room, last-order, finish-many, finish-kept}
 use Rattle.ending.proofs.last_record.Statement.{statement}
 use Rattle.ending.proofs.last_record.Tie as tie
 
@@ -20,7 +20,10 @@ returns : tie.Need-returns
 returns c =
     let s = c .before .before .before .before .before in
     let a = s .args in
-    λ done k b. finish-many (a .d) (into (a .t)) (a .p) (a .bytes .now) (a .ends .now) (a .out .now) done k b (s .pre .1) (c .before .if1 .taken) _ (ap (λ (x : Taken). x .report) (c .failed .ensures)) (ap (λ (x : Taken). x .length) (c .failed .ensures))
+    let none = ap (λ (x : Taken). x .length) (c .failed .ensures) in (
+      λ done k b. finish-many (a .d) (into (a .t)) (a .p) (a .bytes .now) (a .ends .now) (a .out .now) done k b (s .pre .1) (c .before .if1 .taken) _ (ap (λ (x : Taken). x .place) (c .failed .ensures)) (ap (λ (x : Taken). x .report) (c .failed .ensures)) none,
+      omega arith,
+    )
 
 slice-reshare-prefix-kept : tie.Need-slice-reshare-prefix-kept
 slice-reshare-prefix-kept c =
@@ -63,24 +66,25 @@ returns-2 c =
     let s = c .before .before .before .before .before .before .before .before .before .before .before .before .before .before .before .before .before in
     let a = s .args in
     let q = c .before .before .before .before .before .before .before .before .kept in
-    λ done k b. finish-kept (a .d) (into (a .t)) (a .p) (a .bytes .now) (a .ends .now) (a .out .now) done k b (s .pre .1) (c .before .before .before .before .before .before .before .before .before .before .before .before .before .if1 .left) (s .pre .0 .long-ends) (set (a .ends .now) (a .p .cells) (a .p .fill)) refl _ (Written _) _
-    (subst (Ruled (a .d) (into (a .t)) (a .p) (a .bytes .now) (take (a .p .cells + 1) (set (a .ends .now) (a .p .cells) (a .p .fill))) 0 (a .out .now) _) (c .before .before .end .given .1) (q .ensures)) (c .on-call .ensures, refl)
+    let ruling = subst (Ruled (a .d) (into (a .t)) (a .p) (a .bytes .now) (take (a .p .cells + 1) (set (a .ends .now) (a .p .cells) (a .p .fill))) 0 (a .out .now) _) (c .before .before .end .given .1) (q .ensures) in
+    (λ done k b. finish-kept (a .d) (into (a .t)) (a .p) (a .bytes .now) (a .ends .now) (a .out .now) done k b (s .pre .1) (c .before .before .before .before .before .before .before .before .before .before .before .before .before .if1 .left) (s .pre .0 .long-ends) (set (a .ends .now) (a .p .cells) (a .p .fill)) refl _ (Written _) _ ruling (c .on-call .ensures, refl, refl), last-room ruling)
 
 returns-3 : tie.Need-returns-3
 returns-3 c =
     let s = c .before .before .before .before .before .before .before .before .before .before .before .before .before .before .before .before .before in
     let a = s .args in
     let q = c .before .before .before .before .before .before .before .before .kept in
-    λ done k b. finish-kept (a .d) (into (a .t)) (a .p) (a .bytes .now) (a .ends .now) (a .out .now) done k b (s .pre .1) (c .before .before .before .before .before .before .before .before .before .before .before .before .before .if1 .left) (s .pre .0 .long-ends) (set (a .ends .now) (a .p .cells) (a .p .fill)) refl _ (Refused _) _
-    (subst (Ruled (a .d) (into (a .t)) (a .p) (a .bytes .now) (take (a .p .cells + 1) (set (a .ends .now) (a .p .cells) (a .p .fill))) 0 (a .out .now) _) (c .before .before .e .given .1) (q .ensures)) (ap (λ (x : Taken). x .report) (c .failed2 .ensures), ap (λ (x : Taken). x .length) (c .failed2 .ensures))
+    let none = ap (λ (x : Taken). x .length) (c .failed2 .ensures) in
+    let ruling = subst (Ruled (a .d) (into (a .t)) (a .p) (a .bytes .now) (take (a .p .cells + 1) (set (a .ends .now) (a .p .cells) (a .p .fill))) 0 (a .out .now) _) (c .before .before .e .given .1) (q .ensures) in
+    (λ done k b. finish-kept (a .d) (into (a .t)) (a .p) (a .bytes .now) (a .ends .now) (a .out .now) done k b (s .pre .1) (c .before .before .before .before .before .before .before .before .before .before .before .before .before .if1 .left) (s .pre .0 .long-ends) (set (a .ends .now) (a .p .cells) (a .p .fill)) refl _ (Refused _) _ ruling (ap (λ (x : Taken). x .report) (c .failed2 .ensures), none, ap (λ (x : Taken). x .place) (c .failed2 .ensures)), omega arith)
 
 returns-4 : tie.Need-returns-4
 returns-4 c =
     let s = c .before .before .before .before .before .before .before .before .before .before .before .before .before .before .before .before in
     let a = s .args in
     let q = c .before .before .before .before .before .before .before .kept in
-    λ done k b. finish-kept (a .d) (into (a .t)) (a .p) (a .bytes .now) (a .ends .now) (a .out .now) done k b (s .pre .1) (c .before .before .before .before .before .before .before .before .before .before .before .before .if1 .left) (s .pre .0 .long-ends) (set (a .ends .now) (a .p .cells) (a .p .fill)) refl _ Lost _
-    (subst (Ruled (a .d) (into (a .t)) (a .p) (a .bytes .now) (take (a .p .cells + 1) (set (a .ends .now) (a .p .cells) (a .p .fill))) 0 (a .out .now) _) (c .before .enum-told .given .1) (q .ensures)) tt
+    let ruling = subst (Ruled (a .d) (into (a .t)) (a .p) (a .bytes .now) (take (a .p .cells + 1) (set (a .ends .now) (a .p .cells) (a .p .fill))) 0 (a .out .now) _) (c .before .enum-told .given .1) (q .ensures) in
+    (λ done k b. finish-kept (a .d) (into (a .t)) (a .p) (a .bytes .now) (a .ends .now) (a .out .now) done k b (s .pre .1) (c .before .before .before .before .before .before .before .before .before .before .before .before .if1 .left) (s .pre .0 .long-ends) (set (a .ends .now) (a .p .cells) (a .p .fill)) refl _ Lost _ ruling tt, omega arith)
 
 pub last-record-spec : {M : Type 1} → statement M
 last-record-spec =

@@ -1,7 +1,7 @@
 -- At each turn the place is ready and in bounds, and where reading stood at the place that was given it stands now at this one.
 use Prim.Native.Nat.{ℕ, _-_}
 use native.Mathlib.Omega.{arith}
-use mathlib.Core.Path.{_≡_, refl, sym, subst, _∙_}
+use mathlib.Core.Path.{_≡_, refl, sym, ap, subst, _∙_}
 use mathlib.Core.List.{List}
 use lib.ListN.{length}
 use borrow.Author.Needs.{needs}
@@ -9,6 +9,7 @@ use Rattle.model.specs.Dialect.{into}
 use Rattle.model.specs.Records.{Rec}
 use Rattle.model.specs.Scans.{Kept}
 use Rattle.carried.specs.declared.place.Place.{Place}
+use Rattle.turn.specs.declared.Taken.{Taken}
 use Rattle.turn.specs.Walking.{Ready, TurnBounds, Turns}
 use Rattle.turns.specs.Turns.{Walked, Goes}
 use Rattle.turns.proofs.Turns.{Since, since-begins, walk-on, walk-pends, walk-stops, walk-nowhere, walk-quickly, quick-behind, quick-nothing, quick-ready, ready-quickly, ready-still, since-still, ready-on, goes-forward, pended-in-bounds}
@@ -102,11 +103,16 @@ returns c =
     let t = c .before .before .before .before .before .before .before .before .before .before .before .before .before .before .before .before .before .turned in
     let same = quick-nothing (c .before .before .before .before .before .before .before .before .before .before .before .before .before .before .before .before .before .before .before .before .before .before .before .before .before .before .before .before .before .before .before .before .before .before .data-record .ensures .0) (c .before .before .before .before .before .before .before .before .before .before .before .before .before .before .before .before .before .before .before .before .before .before .before .before .enum-told .given .1) in
     let b = pended-in-bounds (subst (TurnBounds (a .piece .now) (a .n) (l .i) _ _) (c .before .before .before .q3 .given .1) (t .ensures .0)) in
-    λ began done k first entered long z.
-    let s = since-still same (l .inv .7 began done k first z) in
-    let w = s .now in
-    subst (Goes (a .d) (into (a .t)) (a .piece .now) began done k (z .done′) first _ _ _) (sym (c .told .ensures))
-    (walk-pends w (subst (Turns (a .d) (into (a .t)) (a .piece .now) (l .i) (l .p) (w .done′) (w .k′) (l .o) _ _ _ _) (c .before .before .before .q3 .given .1) (t .ensures .1 (w .done′) (w .k′) (w .hold))) b (c .before .on-call .ensures) (z .done′) (s .grows))
+    let length-is = ap (λ (x : Taken). x .length) (c .told .ensures) in
+    let room = l .inv .0 .room in
+    let as-long = l .inv .3 in (
+      λ began done k first entered long z.
+          let s = since-still same (l .inv .7 began done k first z) in
+          let w = s .now in
+          subst (Goes (a .d) (into (a .t)) (a .piece .now) began done k (z .done′) first _ _ _) (sym (c .told .ensures))
+          (walk-pends w (subst (Turns (a .d) (into (a .t)) (a .piece .now) (l .i) (l .p) (w .done′) (w .k′) (l .o) _ _ _ _) (c .before .before .before .q3 .given .1) (t .ensures .1 (w .done′) (w .k′) (w .hold))) b (c .before .on-call .ensures) (z .done′) (s .grows)),
+      omega arith,
+    )
 
 returns-2 : tie.Need-returns-2 Inv-loop μ-loop
 returns-2 c =
@@ -114,10 +120,16 @@ returns-2 c =
     let a = c .before .before .before .before .before .before .before .before .before .before .before .before .before .before .before .before .before .before .before .before .before .before .before .before .before .before .before .before .before .before .before .before .before .before .before .before .before .before .before .before .before .before .before .before .before .before .args in
     let t = c .before .before .before .before .before .before .before .before .before .before .before .before .before .before .before .before .turned in
     let same = quick-nothing (c .before .before .before .before .before .before .before .before .before .before .before .before .before .before .before .before .before .before .before .before .before .before .before .before .before .before .before .before .before .before .before .before .before .data-record .ensures .0) (c .before .before .before .before .before .before .before .before .before .before .before .before .before .before .before .before .before .before .before .before .before .before .before .enum-told .given .1) in
-    λ began done k first entered long z.
-    let w = since-still same (l .inv .7 began done k first z) .now in
-    subst (Goes (a .d) (into (a .t)) (a .piece .now) began done k (z .done′) first _ _ _) (sym (c .told2 .ensures))
-    (walk-stops w (subst (Turns (a .d) (into (a .t)) (a .piece .now) (l .i) (l .p) (w .done′) (w .k′) (l .o) _ _ _ _) (c .before .before .e .given .1) (t .ensures .1 (w .done′) (w .k′) (w .hold))) (z .done′))
+    let length-is = ap (λ (x : Taken). x .length) (c .told2 .ensures) in
+    let room = l .inv .0 .room in
+    let as-long = l .inv .3 in (
+      λ began done k first entered long z.
+          let s = since-still same (l .inv .7 began done k first z) in
+          let w = s .now in
+          subst (Goes (a .d) (into (a .t)) (a .piece .now) began done k (z .done′) first _ _ _) (sym (c .told2 .ensures))
+          (walk-stops w (subst (Turns (a .d) (into (a .t)) (a .piece .now) (l .i) (l .p) (w .done′) (w .k′) (l .o) _ _ _ _) (c .before .before .e .given .1) (t .ensures .1 (w .done′) (w .k′) (w .hold))) (z .done′) (s .grows)),
+      omega arith,
+    )
 
 returns-3 : tie.Need-returns-3 Inv-loop μ-loop
 returns-3 c =
@@ -125,9 +137,14 @@ returns-3 c =
     let a = c .before .before .before .before .before .before .before .before .before .before .before .before .before .before .before .before .before .before .before .before .before .before .before .before .before .before .before .before .before .before .before .before .before .before .before .before .before .before .before .before .before .before .before .before .before .before .args in
     let t = c .before .before .before .before .before .before .before .before .before .before .before .before .before .before .before .before .turned in
     let same = quick-nothing (c .before .before .before .before .before .before .before .before .before .before .before .before .before .before .before .before .before .before .before .before .before .before .before .before .before .before .before .before .before .before .before .before .before .data-record .ensures .0) (c .before .before .before .before .before .before .before .before .before .before .before .before .before .before .before .before .before .before .before .before .before .before .before .enum-told .given .1) in
-    λ began done k first entered long z.
-    let w = since-still same (l .inv .7 began done k first z) .now in
-    walk-nowhere w entered (c .before .before .before .before .before .before .before .before .before .before .before .before .before .before .before .before .before .before .before .before .before .before .before .before .before .before .before .before .before .before .before .before .out .given ∙ l .inv .3 ∙ long) (subst (Turns (a .d) (into (a .t)) (a .piece .now) (l .i) (l .p) (w .done′) (w .k′) (l .o) _ _ _ _) (c .before .before .enum-told2 .given .1) (t .ensures .1 (w .done′) (w .k′) (w .hold)))
+    let length-is = ap (λ (x : Taken). x .length) (c .told3 .ensures) in
+    let room = l .inv .0 .room in
+    let as-long = l .inv .3 in (
+      λ began done k first entered long z.
+          let w = since-still same (l .inv .7 began done k first z) .now in
+          walk-nowhere w entered (c .before .before .before .before .before .before .before .before .before .before .before .before .before .before .before .before .before .before .before .before .before .before .before .before .before .before .before .before .before .before .before .before .out .given ∙ l .inv .3 ∙ long) (subst (Turns (a .d) (into (a .t)) (a .piece .now) (l .i) (l .p) (w .done′) (w .k′) (l .o) _ _ _ _) (c .before .before .enum-told2 .given .1) (t .ensures .1 (w .done′) (w .k′) (w .hold))),
+      omega arith,
+    )
 
 pub walked-spec : {M : Type 1} → statement M
 walked-spec =

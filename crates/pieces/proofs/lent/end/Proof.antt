@@ -1,13 +1,15 @@
 -- `pieces::lent::end` meets its contract. The check by the numbers of the state is the one that the contract names. Where it refuses,
 -- nothing changes. Where the call is taken, a state out of bounds is one that no calls made; and the walk's answer is the machine's.
-use Prim.Native.Nat.{ℕ}
-use mathlib.Core.Path.{_≡_, sym, subst, _∙_}
+use Prim.Native.Nat.{ℕ, _≤_}
+use native.Mathlib.Omega.{arith}
+use mathlib.Core.Path.{_≡_, sym, ap, subst, _∙_}
 use mathlib.Core.List.{List, []}
 use lib.ListN.{length}
 use borrow.Author.Needs.{needs}
 use borrow.Author.Tests.{not-true, not-false}
 use Rattle.model.specs.declared.Report.{Report}
 use Rattle.model.specs.declared.Dialect.{Dialect}
+use Rattle.model.specs.Base.{Bytes}
 use Rattle.model.specs.Dialect.{into}
 use Rattle.model.specs.Records.{Rec}
 use Rattle.model.specs.Ledger.{Call, finish}
@@ -18,8 +20,8 @@ use Rattle.carried.specs.Checks.{checkNow}
 use Rattle.carried.specs.declared.checks.Check.the-variants as checks
 use Rattle.carried.specs.declared.place.Place.{Place}
 use Rattle.turn.specs.Walking.{InBounds, handIn}
-use Rattle.turn.specs.Calls.{Begun, Finished}
-use Rattle.pieces.specs.States.{placeIn, endedIn, numbersOf}
+use Rattle.turn.specs.Calls.{Named, Begun, Finished}
+use Rattle.pieces.specs.States.{endedIn, placeOf, numbersOf}
 use Rattle.pieces.specs.Calling.{converterOf, Called}
 use Rattle.pieces.specs.declared.Converter.{Converter}
 use Rattle.pieces.proofs.Carrying.{toldOf}
@@ -74,14 +76,16 @@ is-taken v = sym (check-is (checkedAt v)) ∙ v .before .before .before .before 
 abbrev placeAt : tie.After-is-in-bounds → Place
 placeAt v = v .before .before .before .before .before .place-in .result
 
-place-is : (v : tie.After-is-in-bounds) → placeAt v ≡ placeIn (stateAt (checkedAt v) .numbers)
+place-is : (v : tie.After-is-in-bounds) → placeAt v ≡ placeOf (stateAt (checkedAt v))
 place-is v = v .before .before .before .before .before .place-in .ensures
 
 lost-returns : tie.Need-returns
 lost-returns c =
     let v = c .before .before .before in
     let s = stateAt (checkedAt v) in
-    lost-called s (source v) (target v) (checkedAt v .before .before .before .before .args .out .now) (callAt (checkedAt v)) (c .refused2 .result) (is-taken v) λ inside.
+    let none = ap (λ (x : TextAnswer). x .length) (c .refused2 .ensures) in
+    let within : c .refused2 .result .length ≤ length (checkedAt v .before .before .before .before .args .out .now) = omega arith in
+    lost-called s (source v) (target v) (checkedAt v .before .before .before .before .args .out .now) (callAt (checkedAt v)) (c .refused2 .result) (is-taken v) within λ inside.
     let inside-here = subst (λ (p : Place). InBounds p (handIn p (s .«name_ends») (s .ends))) (sym (place-is v)) inside in
     impossible (sym (not-true (v .is-in-bounds .result) (c .before .before .if1 .taken)) ∙ v .is-in-bounds .ensures .1 inside-here)
 
@@ -105,12 +109,13 @@ finished-returns c =
     let name-ends′ : List ℕ = w .last .1 .1 .1 .1 .0 in
     let ends′ : List ℕ = w .last .1 .1 .1 .1 .1 .1 .0 in
     let out′ : List ℕ = w .last .1 .1 .1 .1 .1 .1 .1 .0 in
-    let finished = subst (λ (p : Place). (done : List Rec) (k : Kept) → Begun (source v) (into (target v)) [] p (a .names .now) (a .name-ends .now) (a .bytes .now) (a .ends .now) (a .out .now) done k → Finished (source v) (into (target v)) p done k (a .out .now) out′ (w .result)) (place-is v) (w .ensures) in
+    let finished = subst (λ (p : Place). (before : Bytes) (done : List Rec) (k : Kept) → Begun (source v) (into (target v)) before [] p (a .names .now) (a .name-ends .now) (a .bytes .now) (a .ends .now) (a .out .now) done k → Finished (source v) (into (target v)) p done k (a .out .now) out′ (w .result) × Named before (a .names .now) name-ends′ done) (place-is v) (w .ensures .0) in
+    let as-long : length out′ ≡ length (a .out .now) = w .kept .1 .1 .1 .1 .1 .1 .1 .0 in
     let after : c .numbers-of .result ≡ numbersOf (w .result .place) 1 (w .result .report) = c .numbers-of .ensures in
     subst
     (λ (n : List ℕ). Called (stateAt u) (callAt u) (a .out .now) (toldOf (w .result)) (converterOf (a .source) (a .target) n ends′ name-ends′ (a .bytes .now) (a .names .now)) out′)
     (sym after)
-    (end-called (stateAt u) (source v) (target v) (a .out .now) (w .result) ends′ name-ends′ (a .bytes .now) (a .names .now) out′ (is-taken v) finished)
+    (end-called (stateAt u) (source v) (target v) (a .out .now) (w .result) ends′ name-ends′ (a .bytes .now) (a .names .now) out′ (w .ensures .1) as-long (is-taken v) finished)
 
 pub end-spec : {M : Type 1} → statement M
 end-spec =

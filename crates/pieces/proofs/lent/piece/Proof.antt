@@ -1,13 +1,15 @@
 -- `pieces::lent::piece` meets its contract. The check by the numbers of the state is the one that the contract names. Where it refuses,
 -- nothing changes. Where the call is taken, a state out of bounds is one that no calls made; and the walk's answer is the machine's.
-use Prim.Native.Nat.{ℕ}
-use mathlib.Core.Path.{_≡_, sym, subst, _∙_}
+use Prim.Native.Nat.{ℕ, _≤_}
+use native.Mathlib.Omega.{arith}
+use mathlib.Core.Path.{_≡_, sym, ap, subst, _∙_}
 use mathlib.Core.List.{List}
 use lib.ListN.{length}
 use borrow.Author.Needs.{needs}
 use borrow.Author.Tests.{not-true, not-false}
 use Rattle.model.specs.declared.Report.{Report}
 use Rattle.model.specs.declared.Dialect.{Dialect}
+use Rattle.model.specs.Base.{Bytes}
 use Rattle.model.specs.Dialect.{into}
 use Rattle.model.specs.Report.{MAXRECORD, MAXCOLUMNS}
 use Rattle.model.specs.Records.{Rec}
@@ -21,7 +23,7 @@ use Rattle.carried.specs.declared.place.Place.{Place}
 use Rattle.turn.specs.Walking.{InBounds, handIn}
 use Rattle.turn.specs.Calls.{Begun}
 use Rattle.walk.specs.Taking.{Took}
-use Rattle.pieces.specs.States.{placeIn, endedIn, numbersOf}
+use Rattle.pieces.specs.States.{endedIn, placeOf, numbersOf}
 use Rattle.pieces.specs.Calling.{converterOf, Called}
 use Rattle.pieces.specs.declared.Converter.{Converter}
 use Rattle.pieces.proofs.Carrying.{toldOf}
@@ -76,14 +78,16 @@ is-taken v = sym (check-is (checkedAt v)) ∙ v .before .before .before .before 
 abbrev placeAt : tie.After-is-in-bounds → Place
 placeAt v = v .before .before .before .before .before .place-in .result
 
-place-is : (v : tie.After-is-in-bounds) → placeAt v ≡ placeIn (stateAt (checkedAt v) .numbers)
+place-is : (v : tie.After-is-in-bounds) → placeAt v ≡ placeOf (stateAt (checkedAt v))
 place-is v = v .before .before .before .before .before .place-in .ensures
 
 lost-returns : tie.Need-returns
 lost-returns c =
     let v = c .before .before .before in
     let s = stateAt (checkedAt v) in
-    lost-called s (source v) (target v) (checkedAt v .before .before .before .before .before .args .out .now) (callAt (checkedAt v)) (c .refused2 .result) (is-taken v) λ inside.
+    let none = ap (λ (x : TextAnswer). x .length) (c .refused2 .ensures) in
+    let within : c .refused2 .result .length ≤ length (checkedAt v .before .before .before .before .before .args .out .now) = omega arith in
+    lost-called s (source v) (target v) (checkedAt v .before .before .before .before .before .args .out .now) (callAt (checkedAt v)) (c .refused2 .result) (is-taken v) within λ inside.
     let inside-here = subst (λ (p : Place). InBounds p (handIn p (s .«name_ends») (s .ends))) (sym (place-is v)) inside in
     impossible (sym (not-true (v .is-in-bounds .result) (c .before .before .if1 .taken)) ∙ v .is-in-bounds .ensures .1 inside-here)
 
@@ -109,16 +113,17 @@ took-returns c =
     let bytes′ : List ℕ = w .last .1 .1 .1 .1 .1 .1 .0 in
     let ends′ : List ℕ = w .last .1 .1 .1 .1 .1 .1 .1 .0 in
     let out′ : List ℕ = w .last .1 .1 .1 .1 .1 .1 .1 .1 .0 in
-    let took = subst (λ (p : Place). (done : List Rec) (k : Kept) → Begun (source v) (into (target v)) (a .input .now) p (a .names .now) (a .name-ends .now) (a .bytes .now) (a .ends .now) (a .out .now) done k → Took (source v) (into (target v)) (a .input .now) p done k (a .out .now) names′ name-ends′ bytes′ ends′ out′ (w .result)) (place-is v) (w .ensures) in
+    let took = subst (λ (p : Place). (before : Bytes) (done : List Rec) (k : Kept) → Begun (source v) (into (target v)) before (a .input .now) p (a .names .now) (a .name-ends .now) (a .bytes .now) (a .ends .now) (a .out .now) done k → Took (source v) (into (target v)) before (a .input .now) p done k (a .out .now) names′ name-ends′ bytes′ ends′ out′ (w .result)) (place-is v) (w .ensures .0) in
     let long-names : length names′ ≡ MAXRECORD = w .kept .1 .1 .1 .1 .0 ∙ c .before .before .before .before .before .before .before .before .before .take-arg .given .0 .1 in
     let long-name-ends : length name-ends′ ≡ MAXCOLUMNS = w .kept .1 .1 .1 .1 .1 .0 ∙ c .before .before .before .before .before .before .before .before .take-arg2 .given .0 .1 in
     let long-bytes : length bytes′ ≡ MAXRECORD = w .kept .1 .1 .1 .1 .1 .1 .0 ∙ c .before .before .before .before .before .before .before .take-arg3 .given .0 .1 in
     let long-ends : length ends′ ≡ MAXCOLUMNS = w .kept .1 .1 .1 .1 .1 .1 .1 .0 ∙ c .before .before .before .before .before .before .take-arg4 .given .0 .1 in
+    let as-long : length out′ ≡ length (a .out .now) = w .kept .1 .1 .1 .1 .1 .1 .1 .1 .0 in
     let after : c .numbers-of .result ≡ numbersOf (w .result .place) 0 (w .result .report) = c .numbers-of .ensures in
     subst
     (λ (n : List ℕ). Called (stateAt u) (callAt u) (a .out .now) (toldOf (w .result)) (converterOf (a .source) (a .target) n ends′ name-ends′ bytes′ names′) out′)
     (sym after)
-    (piece-called (stateAt u) (source v) (target v) (a .out .now) (w .result) ends′ name-ends′ bytes′ names′ out′ (a .input .now) (is-taken v) took long-names long-name-ends long-bytes long-ends)
+    (piece-called (stateAt u) (source v) (target v) (a .out .now) (w .result) ends′ name-ends′ bytes′ names′ out′ (w .ensures .1) as-long (a .input .now) (is-taken v) took long-names long-name-ends long-bytes long-ends)
 
 pub piece-spec : {M : Type 1} → statement M
 piece-spec =

@@ -1,9 +1,11 @@
 -- A piece inside a cell has no turns; where that is not told, nothing was kept, and the turns begin as they would have.
 use Prim.Native.Nat.{ℕ}
-use mathlib.Core.Path.{refl, sym, subst}
+use native.Mathlib.Omega.{arith}
+use mathlib.Core.Path.{refl, sym, ap, subst}
 use mathlib.Core.List.{List}
 use borrow.Author.Needs.{needs}
 use Rattle.model.specs.Dialect.{into}
+use Rattle.turn.specs.declared.Taken.{Taken}
 use Rattle.turn.specs.Walking.{Ready}
 use Rattle.turns.specs.Turns.{Goes}
 use Rattle.walk.proofs.Taking.{cell-kept, cell-nothing, still-goes}
@@ -16,9 +18,12 @@ kept-requires c κs = let r = c .before .before .before .before .before .before 
 returns : tie.Need-returns
 returns c =
     let a = c .before .before .before .before .before .before .before .before .before .before .before .before .before .before .args in
-    λ done k entered w.
-    subst (Goes (a .d) (into (a .t)) (a .piece .now) (a .place) done k (w .done′) (a .out .now) _ (a .ends .now) (a .out .now)) (sym (c .told .ensures))
-    (cell-kept w (c .before .before .before .before .before .before .before .kept .ensures) (c .before .before .before .q .given .1) (c .before .on-call .ensures))
+    let none = ap (λ (x : Taken). x .length) (c .told .ensures) in (
+      λ done k entered w.
+          subst (Goes (a .d) (into (a .t)) (a .piece .now) (a .place) done k (w .done′) (a .out .now) _ (a .ends .now) (a .out .now)) (sym (c .told .ensures))
+          (cell-kept w (c .before .before .before .before .before .before .before .kept .ensures) (c .before .before .before .q .given .1) (c .before .on-call .ensures)),
+      omega arith,
+    )
 
 walked-requires : tie.Need-walked-requires
 walked-requires c κs =
@@ -31,7 +36,8 @@ returns-2 : tie.Need-returns-2
 returns-2 c =
     let a = c .before .before .before .before .before .before .before .before .before .before .before .before .before .before .before .before .before .before .before .before .before .before .before .before .before .before .before .args in
     let same = cell-nothing (c .before .before .before .before .before .before .before .before .before .before .before .before .before .before .before .before .before .before .before .before .kept .ensures) (c .before .before .before .before .before .before .before .before .before .before .before .before .before .before .before .before .enum-told .given .1) in
-    λ done k entered. still-goes same (λ w. c .before .before .before .before .before .before .before .before .before .walked .ensures (a .place) done k (a .out .now) entered refl w)
+    let r = c .before .before .before .before .before .before .before .before .before .walked .ensures in
+    (λ done k entered. still-goes same (λ w. r .0 (a .place) done k (a .out .now) entered refl w), r .1)
 
 pub later-spec : {M : Type 1} → statement M
 later-spec =

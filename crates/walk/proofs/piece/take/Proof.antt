@@ -1,14 +1,15 @@
 -- Until the header is complete a turn goes over its own arrays; the turns behind it go over the others, and leave the names as they are.
 use Prim.Native.Nat.{_≤_, _<_}
 use native.Mathlib.Omega.{arith}
-use mathlib.Core.Path.{_≡_, refl, sym, subst, _∙_}
+use mathlib.Core.Path.{_≡_, refl, sym, ap, subst, _∙_}
 use borrow.Author.Needs.{needs}
 use Rattle.model.specs.Dialect.{into}
+use Rattle.turn.specs.declared.Taken.{Taken}
 use Rattle.turn.specs.Walking.{TurnBounds, Turns}
 use Rattle.walk.specs.Taking.{Took}
 use Rattle.turn.proofs.Beginning.{begun-header, begun-later, ready-header, ready-later}
 use Rattle.turns.proofs.Turns.{walk-begins, walk-nowhere, pended-in-bounds}
-use Rattle.walk.proofs.Taking.{none-in-hand, entered-of, ready-behind, headed-begins, headed-next, took-later, took-pended, took-stopped}
+use Rattle.walk.proofs.Taking.{begun-follows, none-in-hand, entered-of, ready-behind, headed-begins, headed-next, took-later, took-pended, took-stopped}
 use Rattle.walk.proofs.piece.take.Statement.{statement}
 use Rattle.walk.proofs.piece.take.Tie as tie
 
@@ -21,9 +22,12 @@ returns : tie.Need-returns
 returns c =
     let a = c .before .before .before .before .before .before .before .before .before .before .before .before .before .before .before .before .before .before .args in
     let more : 0 < a .place .records = omega (arith, c .before .before .before .before .before .before .before .before .before .before .if1 .taken) in
-    λ done k b.
-    let h = headed-begins b more in
-    took-later h (c .before .before .before .before .before .before .later .ensures done k (entered-of (begun-later b (λ e. omega arith))) (h .now))
+    let r = c .before .before .before .before .before .before .later .ensures in (
+      λ before done k b.
+          let h = headed-begins b more in
+          took-later h (r .0 done k (entered-of (begun-later b (λ e. omega arith))) (h .now)),
+      r .1,
+    )
 
 turned-requires : tie.Need-turned-requires
 turned-requires c κs =
@@ -46,11 +50,16 @@ returns-2 c =
     let left : a .place .records ≤ 0 = c .before .before .before .before .before .before .before .before .before .before .before .before .before .before .before .before .before .before .before .before .before .before .before .before .before .before .before .before .before .before .before .before .before .before .before .if1 .left in
     let none : a .place .records ≡ 0 = omega arith in
     let bounds = subst (TurnBounds (a .piece .now) (a .place .offset) 0 _ (a .out .now)) (c .before .before .before .before .before .before .before .before .before .before .before .before .before .before .before .before .before .q .given .1) (t .ensures .0) in
-    λ done k b.
-    let begins = begun-header b none in
-    let turn = subst (Turns (a .d) (into (a .t)) (a .piece .now) 0 (a .place) done k 0 (a .out .now) _ _ _) (c .before .before .before .before .before .before .before .before .before .before .before .before .before .before .before .before .before .q .given .1) (t .ensures .1 done k (begins .hold)) in
-    let h = headed-next begins none turn (none-in-hand bounds) (a .bytes .now) (a .ends .now) in
-    took-later h (c .before .before .before .before .before .before .before .before .before .walked .ensures (a .place) done k (a .out .now) (entered-of begins) (c .before .before .before .before .before .before .before .before .before .before .before .before .before .before .before .before .before .before .before .before .before .before .before .out2 .given) (h .now))
+    let r = c .before .before .before .before .before .before .before .before .before .walked .ensures in
+    let as-long = c .before .before .before .before .before .before .before .before .before .before .before .before .before .before .before .before .before .before .before .before .before .before .before .out2 .given in
+    let room = r .1 in (
+      λ before done k b.
+          let begins = begun-header b none in
+          let turn = subst (Turns (a .d) (into (a .t)) (a .piece .now) 0 (a .place) done k 0 (a .out .now) _ _ _) (c .before .before .before .before .before .before .before .before .before .before .before .before .before .before .before .before .before .q .given .1) (t .ensures .1 done k (begins .hold)) in
+          let h = headed-next begins (begun-follows b none) none turn (none-in-hand bounds) (a .bytes .now) (a .ends .now) in
+          took-later h (r .0 (a .place) done k (a .out .now) (entered-of begins) as-long (h .now)),
+      omega arith,
+    )
 
 returns-3 : tie.Need-returns-3
 returns-3 c =
@@ -59,11 +68,14 @@ returns-3 c =
     let left : a .place .records ≤ 0 = c .before .before .before .before .before .before .before .before .before .before .before .before .before .before .before .before .before .before .before .before .before .if1 .left in
     let none : a .place .records ≡ 0 = omega arith in
     let bounds = subst (TurnBounds (a .piece .now) (a .place .offset) 0 _ (a .out .now)) (c .before .before .before .q2 .given .1) (t .ensures .0) in
-    λ done k b.
-    let begins = begun-header b none in
-    let turn = subst (Turns (a .d) (into (a .t)) (a .piece .now) 0 (a .place) done k 0 (a .out .now) _ _ _) (c .before .before .before .q2 .given .1) (t .ensures .1 done k (begins .hold)) in
-    subst (Took (a .d) (into (a .t)) (a .piece .now) (a .place) done k (a .out .now) _ _ (a .bytes .now) (a .ends .now) _) (sym (c .told .ensures))
-    (took-pended begins none turn (pended-in-bounds bounds) (c .before .on-call .ensures) (a .bytes .now) (a .ends .now))
+    let length-is = ap (λ (x : Taken). x .length) (c .told .ensures) in (
+      λ before done k b.
+          let begins = begun-header b none in
+          let turn = subst (Turns (a .d) (into (a .t)) (a .piece .now) 0 (a .place) done k 0 (a .out .now) _ _ _) (c .before .before .before .q2 .given .1) (t .ensures .1 done k (begins .hold)) in
+          subst (Took (a .d) (into (a .t)) before (a .piece .now) (a .place) done k (a .out .now) _ _ (a .bytes .now) (a .ends .now) _) (sym (c .told .ensures))
+          (took-pended begins (begun-follows b none) none turn (pended-in-bounds bounds) (c .before .on-call .ensures) (a .bytes .now) (a .ends .now)),
+      omega arith,
+    )
 
 returns-4 : tie.Need-returns-4
 returns-4 c =
@@ -71,11 +83,14 @@ returns-4 c =
     let t = c .before .before .before .before .before .before .before .before .before .before .before .before .before .turned in
     let left : a .place .records ≤ 0 = c .before .before .before .before .before .before .before .before .before .before .before .before .before .before .before .before .before .before .before .before .if1 .left in
     let none : a .place .records ≡ 0 = omega arith in
-    λ done k b.
-    let begins = begun-header b none in
-    let turn = subst (Turns (a .d) (into (a .t)) (a .piece .now) 0 (a .place) done k 0 (a .out .now) _ _ _) (c .before .before .e .given .1) (t .ensures .1 done k (begins .hold)) in
-    subst (Took (a .d) (into (a .t)) (a .piece .now) (a .place) done k (a .out .now) _ _ (a .bytes .now) (a .ends .now) _) (sym (c .told2 .ensures))
-    (took-stopped begins turn (a .bytes .now) (a .ends .now))
+    let length-is = ap (λ (x : Taken). x .length) (c .told2 .ensures) in (
+      λ before done k b.
+          let begins = begun-header b none in
+          let turn = subst (Turns (a .d) (into (a .t)) (a .piece .now) 0 (a .place) done k 0 (a .out .now) _ _ _) (c .before .before .e .given .1) (t .ensures .1 done k (begins .hold)) in
+          subst (Took (a .d) (into (a .t)) before (a .piece .now) (a .place) done k (a .out .now) _ _ (a .bytes .now) (a .ends .now) _) (sym (c .told2 .ensures))
+          (took-stopped begins none turn (a .bytes .now) (a .ends .now)),
+      omega arith,
+    )
 
 returns-5 : tie.Need-returns-5
 unfolding walk-begins
@@ -84,10 +99,13 @@ returns-5 c =
     let t = c .before .before .before .before .before .before .before .before .before .before .before .before .before .turned in
     let left : a .place .records ≤ 0 = c .before .before .before .before .before .before .before .before .before .before .before .before .before .before .before .before .before .before .before .before .if1 .left in
     let none : a .place .records ≡ 0 = omega arith in
-    λ done k b.
-    let begins = begun-header b none in
-    let turn = subst (Turns (a .d) (into (a .t)) (a .piece .now) 0 (a .place) done k 0 (a .out .now) _ _ _) (c .before .before .enum-told .given .1) (t .ensures .1 done k (begins .hold)) in
-    walk-nowhere (walk-begins begins) (entered-of begins) refl turn
+    let length-is = ap (λ (x : Taken). x .length) (c .told3 .ensures) in (
+      λ before done k b.
+          let begins = begun-header b none in
+          let turn = subst (Turns (a .d) (into (a .t)) (a .piece .now) 0 (a .place) done k 0 (a .out .now) _ _ _) (c .before .before .enum-told .given .1) (t .ensures .1 done k (begins .hold)) in
+          walk-nowhere (walk-begins begins) (entered-of begins) refl turn,
+      omega arith,
+    )
 
 pub take-spec : {M : Type 1} → statement M
 take-spec =
