@@ -8,7 +8,7 @@
 ghost use mathlib.Core.Path.{_≡_};
 ghost use lib.ListN.{length};
 ghost use Rattle.model.specs.Api.{decoder, decoderLeaves, writer, writerLeaves};
-ghost use Rattle.decoder.specs.Answer.{toAnswer, givenAnswer};
+ghost use Rattle.decoder.specs.Answer.{decoderAnswer, givenAnswer};
 ghost use Rattle.numbers.specs.Named.{textAnswer};
 ghost use Rattle.table.specs.Given.{given};
 ghost use Rattle.c_cells.specs.Answer.{structAnswer};
@@ -52,7 +52,7 @@ fn answer_of(d: Decoded) -> DecodeAnswer
 // The raw bytes of one cell to its content, in `room`.
 #[no_mangle]
 pub extern "C" fn hk_decode(dialect: u32, raw: &[u8], room: &mut [u8]) -> DecodeAnswer
-    ensures answer { λ r. ⌜ structAnswer r ≡ toAnswer (decoder dialect (now (raw .entry)) (length (now (room .entry)))) ⌝ }
+    ensures answer { λ r. ⌜ structAnswer r ≡ decoderAnswer (decoder dialect (now (raw .entry)) (length (now (room .entry)))) ⌝ }
     ensures leaves { λ r. ⌜ now (room .exit) ≡ decoderLeaves dialect (now (raw .entry)) (now (room .entry)) ⌝ }
 {
     answer_of(decoder::decode(dialect, raw, room))

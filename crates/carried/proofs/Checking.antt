@@ -14,7 +14,7 @@ use Rattle.model.specs.Records.{Read}
 use Rattle.model.specs.Ledger.{Call, bytesOf, roomOf, tooSmall}
 use Rattle.model.specs.Machine.{ConverterStage, taking, faulted, ended, answerAt, stageAfter}
 use Rattle.carried.specs.declared.checks.Check.the-variants.{Refused, Taken}
-use Rattle.carried.specs.Checks.{checkBetween, checkNamed, checkNow, Tells, tells-taking, tells-faulted, tells-ended, Means, means-refused, means-taken, ChecksMean}
+use Rattle.carried.specs.Checks.{checkBetween, checkNamed, checkNow, StageEncoded, tells-taking, tells-faulted, tells-ended, Means, means-refused, means-taken, ChecksMean}
 
 -- ---- dialects
 
@@ -41,7 +41,7 @@ module _ (d t : Dialect) (c : Call) where
   by-size r true e = means-refused {e = refusal 10} (rw e) e (rw e)
   by-size r false e = means-taken r refl e
 
-  between : (w : ConverterStage) (fault : Report) (over : ℕ) → Tells w fault over → Means d t w c (checkBetween d t fault over (length (bytesOf c)) (roomOf c))
+  between : (w : ConverterStage) (fault : Report) (over : ℕ) → StageEncoded w fault over → Means d t w c (checkBetween d t fault over (length (bytesOf c)) (roomOf c))
   unfolding checkBetween answerAt stageAfter if_then_else_
   between (taking r) fault over (tells-taking e) = rw e (by-size r (tooSmall c) refl)
   between (faulted e) fault over (tells-faulted h) = rw (lt-ltb 0 (e .number) h) (means-refused refl refl refl)

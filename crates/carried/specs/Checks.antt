@@ -39,10 +39,10 @@ checkNow m n fault over piece room = checkNamed (dialectOf m) (dialectOf n) faul
 -- ---- the stage of a converter
 
 -- these two tell the stage: a fault that was met has a number, and the flag is 0 until an end is accepted
-pub data Tells : ConverterStage → (fault : Report) → (ended : ℕ) → Type 0 where
-  tells-taking : {r : Read} {fault : Report} → fault .number ≡ 0 → Tells (taking r) fault 0
-  tells-faulted : {e : Report} {over : ℕ} → 0 < e .number → Tells (faulted e) e over
-  tells-ended : {fault : Report} {over : ℕ} → fault .number ≡ 0 → 0 < over → Tells ended fault over
+pub data StageEncoded : ConverterStage → (fault : Report) → (ended : ℕ) → Type 0 where
+  tells-taking : {r : Read} {fault : Report} → fault .number ≡ 0 → StageEncoded (taking r) fault 0
+  tells-faulted : {e : Report} {over : ℕ} → 0 < e .number → StageEncoded (faulted e) e over
+  tells-ended : {fault : Report} {over : ℕ} → fault .number ≡ 0 → 0 < over → StageEncoded ended fault over
 
 -- what a check means for a call at this stage: the machine's answer, from which it does not move; or the call is taken
 pub data Means (d t : Dialect) (w : ConverterStage) (c : Call) : Check → Type 0 where
@@ -54,4 +54,4 @@ pub data Means (d t : Dialect) (w : ConverterStage) (c : Call) : Check → Type 
 abbrev pub ChecksMean : Type 0
 ChecksMean =
     (m n : ℕ) (d t : Dialect) (w : ConverterStage) (fault : Report) (over : ℕ) (c : Call) → dialectOf m ≡ some d → dialectOf n ≡ some t →
-    Tells w fault over → Means d t w c (checkNow m n fault over (length (bytesOf c)) (roomOf c))
+    StageEncoded w fault over → Means d t w c (checkNow m n fault over (length (bytesOf c)) (roomOf c))

@@ -17,12 +17,12 @@ use Rattle.model.specs.Decode.{kindOf, contentOf, validateCell}
 use Rattle.model.specs.Api as api
 use Rattle.decoder.specs.declared.Decoded.{Decoded}
 use Rattle.decoder.specs.declared.Decoded.the-variants.{Content, Refused}
-use Rattle.decoder.specs.Answer.{givenAnswer, toAnswer, soundCell, anyCell}
+use Rattle.decoder.specs.Answer.{givenAnswer, decoderAnswer, soundCell, anyCell}
 use Rattle.decoder.proofs.Validating.{no-column}
 
 -- the answer r and a room that held old and holds new are what the definition answers
 abbrev pub Decodes : api.Decoded → Decoded → (old new : Bytes) → Type 0
-Decodes a r old new = (givenAnswer r ≡ toAnswer a) × (new ≡ over (a .content) old)
+Decodes a r old new = (givenAnswer r ≡ decoderAnswer a) × (new ≡ over (a .content) old)
 
 -- a refusal leaves the room as it was
 refused : (e f : Report) (old : Bytes) → e ≡ f → Decodes (api.notDecoded f) (Refused e) old old
@@ -52,16 +52,16 @@ module _ (d : Dialect) (raw old : Bytes) where
 
 module _ (n : ℕ) (raw old : Bytes) where
   answers : (a : api.Decoded) (r : Decoded) (new : Bytes) → api.decoder n raw (length old) ≡ a → Decodes a r old new
-      → (givenAnswer r ≡ toAnswer (api.decoder n raw (length old))) × (new ≡ api.decoderLeaves n raw old)
+      → (givenAnswer r ≡ decoderAnswer (api.decoder n raw (length old))) × (new ≡ api.decoderLeaves n raw old)
   unfolding api.decoderLeaves
-  answers a r new e p = (p .0 ∙ ap toAnswer (sym e), p .1 ∙ ap (λ (x : api.Decoded). over (x .content) old) (sym e))
+  answers a r new e p = (p .0 ∙ ap decoderAnswer (sym e), p .1 ∙ ap (λ (x : api.Decoded). over (x .content) old) (sym e))
 
   pub known : (d : Dialect) (r : Decoded) (new : Bytes) → some d ≡ dialectOf n → Decodes (anyCell d raw (length old)) r old new
-      → (givenAnswer r ≡ toAnswer (api.decoder n raw (length old))) × (new ≡ api.decoderLeaves n raw old)
+      → (givenAnswer r ≡ decoderAnswer (api.decoder n raw (length old))) × (new ≡ api.decoderLeaves n raw old)
   unfolding api.decoder
   known d r new e p = answers (anyCell d raw (length old)) r new (rw (← e, api.decoder)) p
 
   pub unknown : (e : Report) → none ≡ dialectOf n → e ≡ refusal 11
-      → (givenAnswer (Refused e) ≡ toAnswer (api.decoder n raw (length old))) × (old ≡ api.decoderLeaves n raw old)
+      → (givenAnswer (Refused e) ≡ decoderAnswer (api.decoder n raw (length old))) × (old ≡ api.decoderLeaves n raw old)
   unfolding api.decoder
   unknown e f h = answers (api.notDecoded (refusal 11)) (Refused e) old (rw (← f, api.decoder)) (refused e (refusal 11) old h)

@@ -23,8 +23,8 @@ givenAnswer (Content n k) = record { report = accepted; kind = kindNumber k; siz
 givenAnswer (Refused e) = record { report = e; kind = 0; size = 0 }
 
 -- the definition's answer, with its content by length; the content itself is what the room holds
-abbrev pub toAnswer : api.Decoded → CellAnswer
-toAnswer a = record { report = a .report; kind = a .kind; size = length (a .content) }
+abbrev pub decoderAnswer : api.Decoded → CellAnswer
+decoderAnswer a = record { report = a .report; kind = a .kind; size = length (a .content) }
 
 -- the definition of a call that knows its dialect, for a cell that is known to be sound and for any
 abbrev pub soundCell : Dialect → Bytes → (room : ℕ) → api.Decoded

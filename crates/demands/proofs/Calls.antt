@@ -25,8 +25,8 @@ use Rattle.model.proofs.MachineLaws.{joined-outputs}
 use Rattle.model.proofs.Pieces.{answer-fits, end-is-whole}
 use Rattle.numbers.specs.Named.{textAnswer}
 use Rattle.numbers.specs.declared.TextAnswer.{TextAnswer}
-use Rattle.pieces.specs.Carrying.{Shows}
-use Rattle.pieces.specs.Calling.{newConverter, Carries, Called}
+use Rattle.pieces.specs.Carrying.{StateShows}
+use Rattle.pieces.specs.Calling.{newConverter, Represents, Called}
 use Rattle.pieces.specs.declared.Converter.{Converter}
 use Rattle.pieces.proofs.Carrying.{shown-after, offset-after}
 use Rattle.demands.specs.Demands.{MadeCall, LedTo, fresh, one-more, callsOf, entriesOf, consumedBy, joinedOutputs}
@@ -78,7 +78,7 @@ each-wrote (one-call {x} {y} a each) = ap₂ (λ (u us : Bytes). u ++ us) (wrote
 
 -- after these calls: the state has answered the ledger's entries, and each call told and left what they say
 record Stands (m n : ℕ) (made : List MadeCall) (s : Converter) : Type 0 where
-  carries : Carries m n (entriesOf m n made) s
+  carries : Represents m n (entriesOf m n made) s
   each : EachAnswered made (entriesOf m n made)
 
 -- the entries with one call more
@@ -86,11 +86,11 @@ entries-snoc : (m n : ℕ) (made : List MadeCall) (x : MadeCall) → entriesOf m
 entries-snoc m n made x = ap (λ (cs : List Call). history m n cs) (map-append (λ (y : MadeCall). y .call) made (x ∷ [])) ∙ history-snoc m n [] (callsOf made) (x .call)
 
 -- the ledger answers it, by its contract
-answered : (m n : ℕ) (past : List Entry) {s next : Converter} (x : MadeCall) → Carries m n past s → Called s (x .call) (x .before) (x .told) next (x .after) → Answered x (answerNow m n past (x .call))
+answered : (m n : ℕ) (past : List Entry) {s next : Converter} (x : MadeCall) → Represents m n past s → Called s (x .call) (x .before) (x .told) next (x .after) → Answered x (answerNow m n past (x .call))
 answered m n past x k c = record { told = c .answer m n past k; left = c .leaves m n past k }
 
 -- a new converter has answered no call
-module _ (new-carries : (m n : ℕ) → Carries m n [] (newConverter m n)) where
+module _ (new-carries : (m n : ℕ) → Represents m n [] (newConverter m n)) where
   stands : {m n : ℕ} {made : List MadeCall} {s : Converter} → LedTo m n made s → Stands m n made s
   unfolding historyFrom
   stands {m = m} {n = n} fresh = record { carries = new-carries m n; each = no-call }
@@ -98,7 +98,7 @@ module _ (new-carries : (m n : ℕ) → Carries m n [] (newConverter m n)) where
       let b = stands led in
       let past : List Entry = entriesOf m n made in
       let e : entriesOf m n (made ++ (x ∷ [])) ≡ after m n past (x .call) = entries-snoc m n made x in
-      let k : Carries m n (after m n past (x .call)) next = c .carries m n past (b .carries) in
+      let k : Represents m n (after m n past (x .call)) next = c .carries m n past (b .carries) in
       let a : EachAnswered (made ++ (x ∷ [])) (after m n past (x .call)) = each-snoc (record { call = x .call; answer = answerNow m n past (x .call) }) (b .each) (answered m n past x (b .carries) c) in
       record { carries = rw e k; each = rw e a }
 
@@ -115,7 +115,7 @@ module _ (new-carries : (m n : ℕ) → Carries m n [] (newConverter m n)) where
         Called s c out told next out′ → checked m n (entriesOf m n made) c ≡ true → (next ≡ s) × (out′ ≡ out)
     refused made s next c out out′ told led x h =
         let past : List Entry = entriesOf m n made in
-        let k : Carries m n past s = stands led .carries in
+        let k : Represents m n past s = stands led .carries in
         let nothing : callLeaves (answerNow m n past c) out ≡ out = ap (λ (bs : Bytes). bs ++ drop (length bs) out) (silent m n past c h) in
         (x .unchanged m n past k h, x .leaves m n past k ∙ nothing)
 
@@ -185,7 +185,7 @@ module _ (new-carries : (m n : ℕ) → Carries m n [] (newConverter m n)) where
         let e : told .report ≡ answerNow m n (entriesOf m n made) (piece bs (length out)) .report = ap (λ (u : TextAnswer). u .report) (x .answer m n (entriesOf m n made) (stands led .carries)) in
         rw e (piece-fault m n d t p q (entriesOf m n made) bs (length out) k (rw e at h))
 
-    pub shown : (d t : Dialect) (made : List MadeCall) (s : Converter) → dialectOf m ≡ some d → dialectOf n ≡ some t → LedTo m n made s → Shows d t (consumedBy m n made) s
+    pub shown : (d t : Dialect) (made : List MadeCall) (s : Converter) → dialectOf m ≡ some d → dialectOf n ≡ some t → LedTo m n made s → StateShows d t (consumedBy m n made) s
     shown d t made s p q led = shown-after (stands led .carries) d t p q
 
     pub counted : (made : List MadeCall) (s : Converter) → LedTo m n made s → faultIn (entriesOf m n made) ≡ none → s .offset ≡ length (consumedBy m n made)

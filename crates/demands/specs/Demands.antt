@@ -28,7 +28,7 @@ use Rattle.model.specs.Demands.{seenIn}
 use Rattle.model.specs.Trips.{meaning, SameRows, hasCells, Decodes, ReadsBack, RoundTrip, SameText, ConvertedBack, ConvertedOnce, ReaderDecodes}
 use Rattle.numbers.specs.Named.{textAnswer}
 use Rattle.numbers.specs.declared.TextAnswer.{TextAnswer}
-use Rattle.pieces.specs.Carrying.{Shows}
+use Rattle.pieces.specs.Carrying.{StateShows}
 use Rattle.pieces.specs.Calling.{newConverter, Called}
 use Rattle.pieces.specs.declared.Converter.{Converter}
 use Rattle.rfc_grammar.specs.Derived.{Derived, kindIn, contentIn, Line, cellsIn, Each}
@@ -346,7 +346,7 @@ pub record Demand3 : Type 0 where
   -- the header's columns, and its names as they are spelt in the file. A last record that only the end completes is not counted (§15.2)
   pub shown :
       (m n : ℕ) (d t : Dialect) (made : List MadeCall) (s : Converter) → dialectOf m ≡ some d → dialectOf n ≡ some t → LedTo m n made s →
-      Shows d t (consumedBy m n made) s
+      StateShows d t (consumedBy m n made) s
   -- and how many bytes were consumed, as long as no fault was met (§15.2)
   pub counted :
       (m n : ℕ) (made : List MadeCall) (s : Converter) → LedTo m n made s → faultIn (entriesOf m n made) ≡ none →

@@ -26,7 +26,7 @@ use Rattle.complete.specs.declared.Done.the-variants.{Written, Refused, Lost}
 use Rattle.turn.specs.declared.Taken.{Taken}
 use Rattle.turn.specs.Holding.{readAt, Holding}
 use Rattle.complete.specs.Completing.{faultAt, textAt, Finishes, is-written, is-refused, has-no-room, Ruled, not-spelt, ruled, keptValues}
-use Rattle.turn.specs.Calls.{Begins, Finished}
+use Rattle.turn.specs.Calls.{CallStart, Finished}
 use Rattle.turn.proofs.Writes.{end-room, new-length, new-none, new-more, grows-none, grows-more}
 use Rattle.turn.proofs.Keeping.{order-append}
 use Rattle.turn.proofs.Showing.{in-hand-of, kept-same, kept-followed}
@@ -87,7 +87,7 @@ pub last-room : {d : Dialect} {t : Target} {p : Place} {bytes ends out out′ : 
 last-room (not-spelt z w y) = let x : _≡_ {A = ℕ} 0 1 = cc in absurd (omega arith)
 last-room (ruled (is-written v l w e)) = omega arith
 
-module _ (d : Dialect) (t : Target) (p : Place) (bytes ends out : List ℕ) (done : List Rec) (k : Kept) (b : Begins d t [] p bytes ends out done k) (e : fileEnd d (p .state) ≡ Final) where
+module _ (d : Dialect) (t : Target) (p : Place) (bytes ends out : List ℕ) (done : List Rec) (k : Kept) (b : CallStart d t [] p bytes ends out done k) (e : fileEnd d (p .state) ≡ Final) where
   abbrev hold : Holding d t p bytes ends done k
   hold = b .hold
 

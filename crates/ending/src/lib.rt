@@ -11,7 +11,7 @@ ghost use Rattle.model.specs.File.{fileEnd};
 ghost use Rattle.model.specs.Records.{Rec};
 ghost use Rattle.model.specs.Scans.{Kept};
 ghost use Rattle.turn.specs.Walking.{Ready};
-ghost use Rattle.turn.specs.Calls.{Begins, Named, ReadyPiece, Begun, failedAs, Finished};
+ghost use Rattle.turn.specs.Calls.{CallStart, Named, ReadyPiece, Begun, failedAs, Finished};
 use carried::place::Place;
 use complete::Done;
 use model::Dialect;
@@ -43,7 +43,7 @@ fn last_record(
 ) -> Taken
     requires { ⌜ Ready [] (p .offset) 0 p (now bytes) (now ends) (now out) 0 ⌝ }
     requires { ⌜ fileEnd d (p .state) ≡ Final ⌝ }
-    ensures { λ r. ⌜ ((done : List Rec) (k : Kept) → Begins d (into t) [] p (now (bytes .entry)) (now (ends .entry)) (now (out .entry)) done k → Finished d (into t) p done k (now (out .entry)) (now (out .exit)) r) ⌝ }
+    ensures { λ r. ⌜ ((done : List Rec) (k : Kept) → CallStart d (into t) [] p (now (bytes .entry)) (now (ends .entry)) (now (out .entry)) done k → Finished d (into t) p done k (now (out .entry)) (now (out .exit)) r) ⌝ }
     ensures { λ r. ⌜ r .length ≤ length (now (out .entry)) ⌝ }
 {
     let last = p.cells;
@@ -89,7 +89,7 @@ fn ended(
     out: &mut [u8],
 ) -> Taken
     requires { ⌜ Ready [] (p .offset) 0 p (now bytes) (now ends) (now out) 0 ⌝ }
-    ensures { λ r. ⌜ ((done : List Rec) (k : Kept) → Begins d (into t) [] p (now (bytes .entry)) (now (ends .entry)) (now (out .entry)) done k → Finished d (into t) p done k (now (out .entry)) (now (out .exit)) r) ⌝ }
+    ensures { λ r. ⌜ ((done : List Rec) (k : Kept) → CallStart d (into t) [] p (now (bytes .entry)) (now (ends .entry)) (now (out .entry)) done k → Finished d (into t) p done k (now (out .entry)) (now (out .exit)) r) ⌝ }
     ensures { λ r. ⌜ r .length ≤ length (now (out .entry)) ⌝ }
 {
     let f = p.state;

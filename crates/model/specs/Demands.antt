@@ -89,7 +89,7 @@ KeepsLedger {S} Carries =
     map (λ (x : Entry). x .answer) made ≡ ledger m n (map (λ (x : Entry). x .call) made)
 
 -- the demands that the definitions alone can meet; for the calls of a converter each comes with its contract (§19.3 §19.4)
-pub record Demands : Type 1 where
+pub record ModelDemands : Type 1 where
   pub round-trip : RoundTrip
   pub joined-outputs : JoinedOutputs
   pub fits : OutputFits

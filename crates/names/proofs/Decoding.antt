@@ -17,7 +17,7 @@ use Rattle.model.specs.Api as api
 use Rattle.model.proofs.Lengths.{content-length}
 use Rattle.decoder.specs.declared.Decoded.{Decoded}
 use Rattle.decoder.specs.declared.Decoded.the-variants.{Content, Refused}
-use Rattle.decoder.specs.Answer.{CellAnswer, givenAnswer, toAnswer, soundCell}
+use Rattle.decoder.specs.Answer.{CellAnswer, givenAnswer, decoderAnswer, soundCell}
 
 some-kind : (k : Kind) → 0 ≡ kindNumber k → ⊥
 some-kind Text e = omega arith
@@ -33,16 +33,16 @@ module _ (d : Dialect) (raw old : Bytes) (h : length raw ≤ length old) where
       let k : length (contentOf d raw) ≤ length old = omega (arith, content-length d raw) in
       rw (le-ltb (length old) (length (contentOf d raw)) k)
 
-  pub never-refused : {A : Type 0} (r : Decoded) (e : Report) → r ≡ Refused e → givenAnswer r ≡ toAnswer (soundCell d raw (length old)) → A
+  pub never-refused : {A : Type 0} (r : Decoded) (e : Report) → r ≡ Refused e → givenAnswer r ≡ decoderAnswer (soundCell d raw (length old)) → A
   never-refused r e told ensured =
-      let z : 0 ≡ kindNumber (kindOf d raw) = ap (λ (s : CellAnswer). s .kind) (sym (ap givenAnswer told) ∙ ensured ∙ ap toAnswer fits) in
+      let z : 0 ≡ kindNumber (kindOf d raw) = ap (λ (s : CellAnswer). s .kind) (sym (ap givenAnswer told) ∙ ensured ∙ ap decoderAnswer fits) in
       absurd (some-kind (kindOf d raw) z)
 
   pub decoded : (r : Decoded) (n : ℕ) (k : Kind) (new : Bytes) → r ≡ Content n k
-      → (givenAnswer r ≡ toAnswer (soundCell d raw (length old))) × (new ≡ over (soundCell d raw (length old) .content) old)
+      → (givenAnswer r ≡ decoderAnswer (soundCell d raw (length old))) × (new ≡ over (soundCell d raw (length old) .content) old)
       → (n ≡ length (contentOf d raw)) × (new ≡ over (contentOf d raw) old)
   decoded r n k new told ensured = (
-    ap (λ (s : CellAnswer). s .size) (sym (ap givenAnswer told) ∙ ensured .0 ∙ ap toAnswer fits),
+    ap (λ (s : CellAnswer). s .size) (sym (ap givenAnswer told) ∙ ensured .0 ∙ ap decoderAnswer fits),
     ensured .1 ∙ ap (λ (a : api.Decoded). over (a .content) old) fits,
   )
 

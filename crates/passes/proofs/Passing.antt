@@ -25,7 +25,7 @@ use Rattle.file_records.specs.declared.Event.the-variants.{Completed, LastRecor
 use Rattle.tokens.proofs.Placing.{length-stored-from}
 use Rattle.file_records.proofs.Reading.{stays, reads-on}
 use Rattle.passes.specs.declared.Pass.the-variants.{Accepted, Refused}
-use Rattle.passes.specs.Passes.{Holds, Outcome, accepted, refused, Passes}
+use Rattle.passes.specs.Passes.{Holds, Outcome, accepted, refused, PassSound}
 use Rattle.tokens.proofs.Filling.{stored-from-append}
 use Rattle.file_records.proofs.Complete.{report-start, report-byte, data-fault, recOf, complete-sound, complete-faulty}
 use Rattle.file_records.proofs.Events.{on-record, on-last, on-fault, on-finish}
@@ -193,7 +193,7 @@ module _ (call : Call) where
                       (sound-record h (x .ds) (at .r) g o t (at .done) (sym validated-here ∙ z));
                 }
 
-        pub record-refused : (x : Fault) → u ≡ Faulty x → (t : Report) → t ≡ report (numberOf x) (records + 2) (columnOf x) start → Passes d file from first columns room s₀ e₀ k₀ (Refused t) s′ e′ k′
+        pub record-refused : (x : Fault) → u ≡ Faulty x → (t : Report) → t ≡ report (numberOf x) (records + 2) (columnOf x) start → PassSound d file from first columns room s₀ e₀ k₀ (Refused t) s′ e′ k′
         record-refused x z t te =
             record { vs = y .vs ++ Here .cells; lists = now-held; outcome = λ h q. out h q (y .turn h q); few = tt }
           where
@@ -219,7 +219,7 @@ module _ (call : Call) where
         last-validated : u ≡ dataFault columns (Here .cells)
         last-validated = j (Here .cells) last-counts
 
-        pub last-refused : (x : Fault) → u ≡ Faulty x → (t : Report) → t ≡ report (numberOf x) (records + 2) (columnOf x) start → Passes d file from first columns room s₀ e₀ k₀ (Refused t) s′ e′ k′
+        pub last-refused : (x : Fault) → u ≡ Faulty x → (t : Report) → t ≡ report (numberOf x) (records + 2) (columnOf x) start → PassSound d file from first columns room s₀ e₀ k₀ (Refused t) s′ e′ k′
         last-refused x z t te =
             record { vs = y .vs ++ Here .cells; lists = now-held; outcome = λ h q. out h q (y .turn h q); few = tt }
           where
@@ -230,7 +230,7 @@ module _ (call : Call) where
                 let p : restOf d none file (h ∷ []) first from ≡ stopped x (at .r) = a .rest ∙ at .rest ∙ both .0 in
                 rw (p, both .1) (refused x (at .r))
 
-        pub last-accepted : u ≡ Sound → Passes d file from first columns room s₀ e₀ k₀ (Accepted (records + 1) (cells + n)) s′ e′ k′
+        pub last-accepted : u ≡ Sound → PassSound d file from first columns room s₀ e₀ k₀ (Accepted (records + 1) (cells + n)) s′ e′ k′
         last-accepted z =
             let a : length file ≤ MAXFILE = last-fits .0 in
             let b : cells + n ≤ length file + 1 = last-fits .1 in
@@ -251,7 +251,7 @@ module _ (call : Call) where
 
       -- ---- a fault, and the end of the file
 
-      pub fault-refused : (x : Fault) (o : ℕ) → v ≡ Failed x o → (t : Report) → t ≡ report (numberOf x) (records + 2) (columnOf x) o → Passes d file from first columns room s₀ e₀ k₀ (Refused t) s′ e′ k′
+      pub fault-refused : (x : Fault) (o : ℕ) → v ≡ Failed x o → (t : Report) → t ≡ report (numberOf x) (records + 2) (columnOf x) o → PassSound d file from first columns room s₀ e₀ k₀ (Refused t) s′ e′ k′
       fault-refused x o w t te =
           record { vs = y .vs ++ Here .cells; lists = now-held; outcome = λ h q. out h q (y .turn h q); few = tt }
         where
@@ -262,7 +262,7 @@ module _ (call : Call) where
               let z : t ≡ faultReport x (at .r) = te ∙ ap (λ (m : ℕ). report (numberOf x) m (columnOf x) o) (sym two-more) ∙ ap (λ (m : ℕ). report (numberOf x) (suc (suc records)) (columnOf x) m) (sym (at .place)) ∙ (report-byte x (at .r) (suc records) (at .byte) (number (at .r) h (a .ds) (at .done) (a .count))) in
               rw (p, z) (refused x (at .r))
 
-      pub finish-accepted : (o : ℕ) → v ≡ Finished o → Passes d file from first columns room s₀ e₀ k₀ (Accepted records cells) s′ e′ k′
+      pub finish-accepted : (o : ℕ) → v ≡ Finished o → PassSound d file from first columns room s₀ e₀ k₀ (Accepted records cells) s′ e′ k′
       finish-accepted o w =
           record { vs = y .vs ++ Here .cells; lists = now-held; outcome = λ h q. out h q (y .turn h q); few = small }
         where

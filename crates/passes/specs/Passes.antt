@@ -34,7 +34,7 @@ abbrev pub Few : Pass → Type 0
 Few (Accepted records cells) = cells ≤ MAXFILE + 1
 Few (Refused e) = Unit {0}
 
-pub record Passes (d : Dialect) (file : Bytes) (from : ℕ) (f : FileState) (columns room : ℕ) (starts₀ ends₀ kinds₀ : List ℕ) (p : Pass) (starts ends kinds : List ℕ) : Type 0 where
+pub record PassSound (d : Dialect) (file : Bytes) (from : ℕ) (f : FileState) (columns room : ℕ) (starts₀ ends₀ kinds₀ : List ℕ) (p : Pass) (starts ends kinds : List ℕ) : Type 0 where
   pub vs : List Value
   pub lists : Holds room vs starts₀ ends₀ kinds₀ starts ends kinds
   pub outcome : (h : Rec) → length (h .cells) ≡ columns → Outcome h vs (restOf d none file (h ∷ []) f from) p

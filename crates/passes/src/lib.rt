@@ -2,7 +2,7 @@
 ghost use Prim.Native.Nat.{_≤_};
 ghost use lib.ListN.{length};
 ghost use Rattle.model.specs.Report.{MAXFILE};
-ghost use Rattle.passes.specs.Passes.{Passes};
+ghost use Rattle.passes.specs.Passes.{PassSound};
 use file_records::Event;
 use model::Dialect;
 use model::FileState;
@@ -32,7 +32,7 @@ pub fn data_records(
 ) -> Pass
     requires { ⌜ (from ≤ length (now file)) × (from ≤ MAXFILE) ⌝ }
     requires { ⌜ (room ≤ length (now starts)) × (room ≤ length (now ends)) × (room ≤ length (now kinds)) ⌝ }
-    ensures { λ r. ⌜ Passes d (now (file .entry)) from first columns room (now (starts .entry)) (now (ends .entry)) (now (kinds .entry)) r (now (starts .exit)) (now (ends .exit)) (now (kinds .exit)) ⌝ }
+    ensures { λ r. ⌜ PassSound d (now (file .entry)) from first columns room (now (starts .entry)) (now (ends .entry)) (now (kinds .entry)) r (now (starts .exit)) (now (ends .exit)) (now (kinds .exit)) ⌝ }
 {
     let mut state = first;
     let mut i = from;

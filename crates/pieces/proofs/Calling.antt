@@ -25,7 +25,7 @@ use Rattle.model.proofs.MachineLaws.{machine, unknown}
 use Rattle.model.proofs.Tests.{split-on, impossible}
 use Rattle.numbers.specs.Named.{textAnswer}
 use Rattle.numbers.specs.declared.TextAnswer.{TextAnswer}
-use Rattle.carried.specs.Checks.{checkNow, Tells, Means, means-refused, means-taken}
+use Rattle.carried.specs.Checks.{checkNow, StageEncoded, Means, means-refused, means-taken}
 use Rattle.carried.specs.declared.checks.Check.{Check}
 use Rattle.carried.specs.declared.checks.Check.the-variants as checks
 use Rattle.carried.proofs.Checking.{unknown-source, unknown-target, checks-mean}
@@ -35,8 +35,8 @@ use Rattle.turn.specs.Walking.{InBounds, handIn}
 use Rattle.turn.specs.Calls.{Named, Begun, Finished}
 use Rattle.walk.specs.Taking.{Took}
 use Rattle.pieces.specs.States.{placeOf}
-use Rattle.pieces.specs.Carrying.{Shows, Takes, StageOf, stage-taking, stage-faulted, stage-ended, stage-no-source, stage-no-target, Models}
-use Rattle.pieces.specs.Calling.{Carries, Called}
+use Rattle.pieces.specs.Carrying.{StateShows, Takes, StageOf, stage-taking, stage-faulted, stage-ended, stage-no-source, stage-no-target, Models}
+use Rattle.pieces.specs.Calling.{Represents, Called}
 use Rattle.pieces.specs.declared.Converter.{Converter}
 use Rattle.pieces.proofs.Carrying.{Says, stateThen, toldOf, Left, begun-piece, begun-end, piece-says, piece-left, end-says, end-left}
 
@@ -99,24 +99,24 @@ module _ (s : Converter) (c : Call) (out : List ℕ) (told : TextAnswer) (next :
   -- the ledger's answer, and the next state has answered it
   record Now (m n : ℕ) (past : List Entry) : Type 0 where
     says : Says told out out′ (answerNow m n past c)
-    carries : Carries m n (past ++ entry c (answerNow m n past c)) next
+    carries : Represents m n (past ++ entry c (answerNow m n past c)) next
     same : checked m n past c ≡ true → next ≡ s
 
   -- by a number that is no dialect's nothing changes
   idle :
       (m n : ℕ) (past : List Entry) → UnknownLaws m n → Says told out out′ (unwritten (refusal 11)) → next ≡ s →
-      (Models (consumedIn (past ++ entry c (unwritten (refusal 11)))) m n ended s → Carries m n (past ++ entry c (unwritten (refusal 11))) s) →
+      (Models (consumedIn (past ++ entry c (unwritten (refusal 11)))) m n ended s → Represents m n (past ++ entry c (unwritten (refusal 11))) s) →
       Models (consumedIn past) m n ended s → Now m n past
   idle m n past u says z carry model =
       let a : answerNow m n past c ≡ unwritten (refusal 11) = u .answers past c in
       let model′ : Models (consumedIn (past ++ entry c (unwritten (refusal 11)))) m n ended s = subst (λ (x : Bytes). Models x m n ended s) (sym (consumed-unknown past c)) model in
       record {
         says = subst (λ (x : Written). Says told out out′ x) (sym a) says;
-        carries = subst (λ (x : Written). Carries m n (past ++ entry c x) next) (sym a) (subst (λ (x : Converter). Carries m n (past ++ entry c (unwritten (refusal 11))) x) (sym z) (carry model′));
+        carries = subst (λ (x : Written). Represents m n (past ++ entry c x) next) (sym a) (subst (λ (x : Converter). Represents m n (past ++ entry c (unwritten (refusal 11))) x) (sym z) (carry model′));
         same = λ _. z;
       }
 
-  now : (m n : ℕ) (past : List Entry) → Carries m n past s → Now m n past
+  now : (m n : ℕ) (past : List Entry) → Represents m n past s → Now m n past
   now m n past (carries-known d t w p q stood model) =
       let l = machine m n d t p q in
       let x = g .known m n d t w (consumedIn past) p q model in
@@ -124,7 +124,7 @@ module _ (s : Converter) (c : Call) (out : List ℕ) (told : TextAnswer) (next :
       let model′ : Models (consumedIn (past ++ entry c (answerAt d (into t) w c))) m n (stageAfter d (into t) w c) next = subst (λ (y : Bytes). Models y m n (stageAfter d (into t) w c) next) (sym (consumed-then d (into t) past w c stood)) (x .1) in
       record {
         says = subst (λ (y : Written). Says told out out′ y) (sym a) (x .0);
-        carries = subst (λ (y : Written). Carries m n (past ++ entry c y) next) (sym a) (carries-known d t (stageAfter d (into t) w c) p q (l .moves past w c stood) model′);
+        carries = subst (λ (y : Written). Represents m n (past ++ entry c y) next) (sym a) (carries-known d t (stageAfter d (into t) w c) p q (l .moves past w c stood) model′);
         same = λ k. x .2 (sym (l .checks past w c stood) ∙ k);
       }
   now m n past (carries-source p model) = let x = g .source m n (consumedIn past) p model in idle m n past (unknown .source m n p) (x .0) (x .1) (λ h. carries-source p h) model
@@ -150,7 +150,7 @@ none-known o d p q = let z : _≡_ {A = ℕ} 0 1 = cc in absurd (omega arith)
 
 -- the numbers of a state tell its stage
 stage-tells :
-    {m n : ℕ} {consumed : Bytes} {w : ConverterStage} {s : Converter} (d t : Dialect) → dialectOf m ≡ some d → dialectOf n ≡ some t → StageOf m n consumed w s → Tells w (s .fault) (s .ended)
+    {m n : ℕ} {consumed : Bytes} {w : ConverterStage} {s : Converter} (d t : Dialect) → dialectOf m ≡ some d → dialectOf n ≡ some t → StageOf m n consumed w s → StageEncoded w (s .fault) (s .ended)
 stage-tells d t p q (stage-taking d′ t′ done k p′ q′ reads tells takes) = tells
 stage-tells d t p q (stage-faulted tells) = tells
 stage-tells d t p q (stage-ended tells) = tells
@@ -276,7 +276,7 @@ module _ (s : Converter) (c : Call) (d t : Dialect) (h : checkOf s c ≡ checks.
           shows = λ d′ t′ p′ q′.
               let from : d ≡ d′ = cc in
               let to : t ≡ t′ = cc in
-              subst (λ (y : Dialect). Shows y t′ bs next) from (subst (λ (y : Dialect). Shows d y bs next) to (x .shows));
+              subst (λ (y : Dialect). StateShows y t′ bs next) from (subst (λ (y : Dialect). StateShows d y bs next) to (x .shows));
           offset = x .offset;
         }
 

@@ -31,7 +31,7 @@ use Rattle.model.proofs.Reading.{read-append}
 use Rattle.model.proofs.MachineLaws.{machine}
 use Rattle.numbers.specs.Named.{textAnswer}
 use Rattle.numbers.specs.declared.TextAnswer.{TextAnswer}
-use Rattle.carried.specs.Checks.{Tells, tells-taking, tells-faulted, tells-ended}
+use Rattle.carried.specs.Checks.{StageEncoded, tells-taking, tells-faulted, tells-ended}
 use Rattle.state_codes.specs.Codes.{stateFrom, fixedState}
 use Rattle.carried.specs.Sound.{atStart, order-end}
 use Rattle.carried.specs.declared.place.Place.{Place}
@@ -45,8 +45,8 @@ use Rattle.turn.proofs.Turning.{first-holds, first-reads}
 use Rattle.turn.proofs.Writes.{reached-on}
 use Rattle.turn.proofs.Spelling.{named-grows}
 use Rattle.pieces.specs.States.{placeIn, placeOf, numbersOf}
-use Rattle.pieces.specs.Carrying.{Shows, Unfaulted, Takes, StageOf, stage-taking, stage-faulted, stage-ended, stage-no-source, stage-no-target, Models}
-use Rattle.pieces.specs.Calling.{converterOf, newConverter, Carries}
+use Rattle.pieces.specs.Carrying.{StateShows, Unfaulted, Takes, StageOf, stage-taking, stage-faulted, stage-ended, stage-no-source, stage-no-target, Models}
+use Rattle.pieces.specs.Calling.{converterOf, newConverter, Represents}
 use Rattle.pieces.specs.declared.Converter.{Converter}
 use Rattle.pieces.proofs.Offsets.{offset-is}
 
@@ -82,13 +82,13 @@ toldOf r = record { report = r .report; length = r .length }
 -- where the state stands after it, and what it shows
 pub record Left (m n : ℕ) (d t : Dialect) (consumed : Bytes) (w : ConverterStage) (next : Converter) : Type 0 where
   pub stage : StageOf m n consumed w next
-  pub shows : Shows d t consumed next
+  pub shows : StateShows d t consumed next
   pub offset : Unfaulted w → next .offset ≡ length consumed
 
 -- what a state shows, by what its bytes come to
 shows-by :
     {d t : Dialect} {consumed : Bytes} {s : Converter} (p : Progress) → readBytes d (some (into t)) consumed ≡ p → s .records ≡ length (recordsOf p) →
-    s .columns ≡ columnsOf (recordsOf p) → Named consumed (s .names) (s .«name_ends») (recordsOf p) → Shows d t consumed s
+    s .columns ≡ columnsOf (recordsOf p) → Named consumed (s .names) (s .«name_ends») (recordsOf p) → StateShows d t consumed s
 shows-by p e records columns names = record { records = rw e records; columns = rw e columns; names = rw e names }
 
 module _ (d t : Dialect) (consumed : Bytes) (s : Converter) (done : List Rec) (k : Kept) (h : Takes d t consumed s done k) where
@@ -159,7 +159,7 @@ module _ (d t : Dialect) (consumed : Bytes) (s : Converter) (done : List Rec) (k
       piece-left (took-fault x z reads counts named g w l) long-names long-name-ends long-bytes long-ends =
           rw reads
           (record {
-            stage = stage-faulted (subst (λ (e : Report). Tells (faulted (faultReport x z)) e 0) (sym g) (tells-faulted (numbered x z)));
+            stage = stage-faulted (subst (λ (e : Report). StageEncoded (faulted (faultReport x z)) e 0) (sym g) (tells-faulted (numbered x z)));
             shows = shows-by (stopped x z) (reads-on bs ∙ reads) (counts .records) (counts .columns) named;
             offset = λ v. absurd v;
           })
@@ -176,7 +176,7 @@ module _ (d t : Dialect) (consumed : Bytes) (s : Converter) (done : List Rec) (k
         where
           go : (z : Progress) → r .report ≡ reportOf z → StageOf m n (consumed ++ []) (stageThen true z) (stateThen s r 1 ends′ name-ends′ bytes′ names′)
           go (going y) g = let one : 0 < 1 = omega arith in stage-ended (tells-ended (ap (λ (e : Report). e .number) g) one)
-          go (stopped x y) g = stage-faulted (subst (λ (e : Report). Tells (faulted (faultReport x y)) e 1) (sym g) (tells-faulted (numbered x y)))
+          go (stopped x y) g = stage-faulted (subst (λ (e : Report). StageEncoded (faulted (faultReport x y)) e 1) (sym g) (tells-faulted (numbered x y)))
 
       -- the bytes consumed are as before, and so is the place
       pub end-left : Named consumed names′ name-ends′ done → Left m n d t (consumed ++ []) (stageThen true (readEnd d (some (into t)) (going stood))) (stateThen s r 1 ends′ name-ends′ bytes′ names′)
@@ -221,19 +221,19 @@ new-takes d t m n ends name-ends bytes names long-names long-name-ends long-byte
     }
 
 -- nothing is shown yet
-new-shows : (d t : Dialect) (m n : ℕ) → Shows d t [] (newConverter m n)
+new-shows : (d t : Dialect) (m n : ℕ) → StateShows d t [] (newConverter m n)
 unfolding readBytes readFrom nothingRead
 new-shows d t m n = record { records = refl; columns = refl; names = tt }
 
 -- a new converter has answered no calls
-pub new-carries : (m n : ℕ) → Carries m n [] (newConverter m n)
+pub new-carries : (m n : ℕ) → Represents m n [] (newConverter m n)
 unfolding consumedIn
 new-carries m n = go (dialectOf m) (dialectOf n) refl refl
   where
     new-models : (w : ConverterStage) → StageOf m n [] w (newConverter m n) → Models [] m n w (newConverter m n)
     new-models w stage = record { source = refl; target = refl; stage = stage; shows = λ d t _ _. new-shows d t m n; offset = λ _. refl }
 
-    go : (x y : Option Dialect) → dialectOf m ≡ x → dialectOf n ≡ y → Carries m n [] (newConverter m n)
+    go : (x y : Option Dialect) → dialectOf m ≡ x → dialectOf n ≡ y → Represents m n [] (newConverter m n)
     go none y p q = carries-source p (new-models ended (stage-no-source p))
     go (some d) none p q = carries-target q (new-models ended (stage-no-target q))
     go (some d) (some t) p q =
@@ -244,7 +244,7 @@ new-carries m n = go (dialectOf m) (dialectOf n) refl refl
 -- ---- after any calls
 
 -- a state shows what the bytes consumed complete
-pub shown-after : {m n : ℕ} {past : List Entry} {s : Converter} → Carries m n past s → (d t : Dialect) → dialectOf m ≡ some d → dialectOf n ≡ some t → Shows d t (consumedIn past) s
+pub shown-after : {m n : ℕ} {past : List Entry} {s : Converter} → Represents m n past s → (d t : Dialect) → dialectOf m ≡ some d → dialectOf n ≡ some t → StateShows d t (consumedIn past) s
 shown-after (carries-known d t w p q stood model) = model .shows
 shown-after (carries-source p model) = model .shows
 shown-after (carries-target q model) = model .shows
@@ -255,7 +255,7 @@ not-faulted (stood-faulted f r z k e x) none-met = let z : _≡_ {A = ℕ} 0 1 =
 not-faulted (stood-ended r k e b x) none-met = tt
 
 -- and counts them as long as no fault was met
-pub offset-after : {m n : ℕ} {past : List Entry} {s : Converter} → Carries m n past s → ledger.faultIn past ≡ none → s .offset ≡ length (consumedIn past)
+pub offset-after : {m n : ℕ} {past : List Entry} {s : Converter} → Represents m n past s → ledger.faultIn past ≡ none → s .offset ≡ length (consumedIn past)
 offset-after (carries-known d t w p q stood model) none-met = model .offset (not-faulted stood none-met)
 offset-after (carries-source p model) none-met = model .offset tt
 offset-after (carries-target q model) none-met = model .offset tt

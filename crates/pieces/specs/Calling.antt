@@ -13,7 +13,7 @@ use Rattle.numbers.specs.Named.{textAnswer}
 use Rattle.numbers.specs.declared.TextAnswer.{TextAnswer}
 use Rattle.carried.specs.Checks.{checkNow}
 use Rattle.carried.specs.declared.checks.Check.the-variants.{Refused}
-use Rattle.pieces.specs.States.{endedIn, faultIn}
+use Rattle.pieces.specs.States.{storedEnd, storedFault}
 use Rattle.pieces.specs.Carrying.{Models}
 use Rattle.pieces.specs.declared.Converter.{Converter}
 
@@ -32,8 +32,8 @@ converterOf m n numbers ends name-ends bytes names =
       columns = getD numbers 6 0;
       records = getD numbers 7 0;
       written = getD numbers 8 0;
-      ended = endedIn numbers;
-      fault = faultIn numbers;
+      ended = storedEnd numbers;
+      fault = storedFault numbers;
       ends = ends;
       «name_ends» = name-ends;
       bytes = bytes;
@@ -47,20 +47,20 @@ newConverter m n =
 
 -- a converter made with these two numbers has answered these calls, and shows what the bytes that they consumed complete. After a fault or
 -- an accepted end that is all it has to keep: its other bytes are undecided (§15.2 §15.3)
-abbrev pub Carries : (source target : ℕ) → (past : List Entry) → Converter → Type 0
-Carries m n past = machine.Carries (Models (consumedIn past)) m n past
+abbrev pub Represents : (source target : ℕ) → (past : List Entry) → Converter → Type 0
+Represents m n past = machine.Carries (Models (consumedIn past)) m n past
 
 -- the contract of a call, with this output before it and that after it (§15.3 §15.8 §16.3)
 pub record Called (s : Converter) (c : Call) (out : List ℕ) (told : TextAnswer) (next : Converter) (out′ : List ℕ) : Type 0 where
   -- report and length are the ledger's
-  pub answer : (m n : ℕ) (past : List Entry) → Carries m n past s → told ≡ textAnswer (answerNow m n past c)
+  pub answer : (m n : ℕ) (past : List Entry) → Represents m n past s → told ≡ textAnswer (answerNow m n past c)
   -- each byte of the output is of the ledger's text or as it was
-  pub leaves : (m n : ℕ) (past : List Entry) → Carries m n past s → out′ ≡ callLeaves (answerNow m n past c) out
+  pub leaves : (m n : ℕ) (past : List Entry) → Represents m n past s → out′ ≡ callLeaves (answerNow m n past c) out
   -- the next state has answered this call too
   pub carries :
-      (m n : ℕ) (past : List Entry) → Carries m n past s → Carries m n (past ++ (record { call = c; answer = answerNow m n past c } ∷ [])) next
+      (m n : ℕ) (past : List Entry) → Represents m n past s → Represents m n (past ++ (record { call = c; answer = answerNow m n past c } ∷ [])) next
   -- one of the four checks leaves the state as it was
-  pub unchanged : (m n : ℕ) (past : List Entry) → Carries m n past s → checked m n past c ≡ true → next ≡ s
+  pub unchanged : (m n : ℕ) (past : List Entry) → Represents m n past s → checked m n past c ≡ true → next ≡ s
   -- what holds of any state, made by calls or not: the length is within the output, which is as long as it was; the state keeps its
   -- dialects, and the four checks go by its numbers (§15.9)
   pub within : told .length ≤ length out

@@ -12,7 +12,7 @@ use Rattle.model.specs.Report.{MAXRECORD, MAXCOLUMNS}
 use Rattle.model.specs.Records.{Rec, Read, going, readBytes, recordsOf}
 use Rattle.model.specs.Scans.{Kept}
 use Rattle.model.specs.Machine.{ConverterStage, taking, faulted, ended}
-use Rattle.carried.specs.Checks.{Tells}
+use Rattle.carried.specs.Checks.{StageEncoded}
 use Rattle.turn.specs.Holding.{readAt, columnsOf, Holding}
 use Rattle.turn.specs.Walking.{InBounds, handIn}
 use Rattle.turn.specs.Calls.{Named, Heads}
@@ -24,7 +24,7 @@ use Rattle.pieces.specs.declared.Converter.{Converter}
 -- Once these bytes were consumed a state shows the records that they complete before any fault, the header too: their number, the header's
 -- columns, and its names as they are spelt. After a fault or an accepted end it still does; a last record that only the end completes is
 -- not among them (§15.2)
-pub record Shows (d t : Dialect) (consumed : Bytes) (s : Converter) : Type 0 where
+pub record StateShows (d t : Dialect) (consumed : Bytes) (s : Converter) : Type 0 where
   pub records : s .records ≡ length (recordsOf (readBytes d (some (into t)) consumed))
   pub columns : s .columns ≡ columnsOf (recordsOf (readBytes d (some (into t)) consumed))
   pub names : Named consumed (s .names) (s .«name_ends») (recordsOf (readBytes d (some (into t)) consumed))
@@ -53,10 +53,10 @@ pub record Takes (d t : Dialect) (consumed : Bytes) (s : Converter) (done : List
 pub data StageOf (m n : ℕ) (consumed : Bytes) : ConverterStage → Converter → Type 0 where
   stage-taking :
       {s : Converter} {r : Read} (d t : Dialect) (done : List Rec) (k : Kept) → dialectOf m ≡ some d → dialectOf n ≡ some t →
-      r ≡ readAt d (placeOf s) done k → Tells (taking r) (s .fault) (s .ended) → Takes d t consumed s done k →
+      r ≡ readAt d (placeOf s) done k → StageEncoded (taking r) (s .fault) (s .ended) → Takes d t consumed s done k →
       StageOf m n consumed (taking r) s
-  stage-faulted : {s : Converter} {e : Report} → Tells (faulted e) (s .fault) (s .ended) → StageOf m n consumed (faulted e) s
-  stage-ended : {s : Converter} → Tells ended (s .fault) (s .ended) → StageOf m n consumed ended s
+  stage-faulted : {s : Converter} {e : Report} → StageEncoded (faulted e) (s .fault) (s .ended) → StageOf m n consumed (faulted e) s
+  stage-ended : {s : Converter} → StageEncoded ended (s .fault) (s .ended) → StageOf m n consumed ended s
   stage-no-source : {s : Converter} → dialectOf m ≡ none → StageOf m n consumed ended s
   stage-no-target : {s : Converter} → dialectOf n ≡ none → StageOf m n consumed ended s
 
@@ -68,5 +68,5 @@ pub record Models (consumed : Bytes) (m n : ℕ) (w : ConverterStage) (s : Conve
   pub source : s .source ≡ m
   pub target : s .target ≡ n
   pub stage : StageOf m n consumed w s
-  pub shows : (d t : Dialect) → dialectOf m ≡ some d → dialectOf n ≡ some t → Shows d t consumed s
+  pub shows : (d t : Dialect) → dialectOf m ≡ some d → dialectOf n ≡ some t → StateShows d t consumed s
   pub offset : Unfaulted w → s .offset ≡ length consumed

@@ -23,12 +23,12 @@ placeIn n =
     }
 
 -- above 0 once an end was accepted (§15.6)
-abbrev pub endedIn : List ℕ → ℕ
-endedIn n = getD n 9 0
+abbrev pub storedEnd : List ℕ → ℕ
+storedEnd n = getD n 9 0
 
 -- the report of the fault that was met; its number is 0 before (§15.5)
-abbrev pub faultIn : List ℕ → Report
-faultIn n = record { number = getD n 10 0; record_number = getD n 11 0; column = getD n 12 0; offset = getD n 13 0 }
+abbrev pub storedFault : List ℕ → Report
+storedFault n = record { number = getD n 10 0; record_number = getD n 11 0; column = getD n 12 0; offset = getD n 13 0 }
 
 -- where the conversion stands, by the fields (§15.2)
 abbrev pub placeOf : Converter → Place

@@ -26,7 +26,7 @@ pub fn piece(
     match checks::checked(
         source,
         target,
-        state::fault_in(before),
+        state::stored_fault(before),
         before[state::ENDED],
         input.len(),
         out.len(),
@@ -66,7 +66,7 @@ pub fn end(
     match checks::checked(
         source,
         target,
-        state::fault_in(before),
+        state::stored_fault(before),
         before[state::ENDED],
         0,
         out.len(),

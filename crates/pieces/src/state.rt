@@ -1,7 +1,7 @@
 // The numbers of a state that is lent, in the order and layout of the fields of a `Converter`: where the conversion stands, whether its end
 // was accepted, and the report of a fault that was met.
 ghost use mathlib.Core.Path.{_≡_};
-ghost use Rattle.pieces.specs.States.{placeIn, faultIn, numbersOf};
+ghost use Rattle.pieces.specs.States.{placeIn, storedFault, numbersOf};
 use carried::place::Place;
 use model::Report;
 
@@ -43,8 +43,8 @@ pub fn place_in(n: [usize; 14]) -> Place
     }
 }
 
-pub fn fault_in(n: [usize; 14]) -> Report
-    ensures { λ r. ⌜ r ≡ faultIn n ⌝ }
+pub fn stored_fault(n: [usize; 14]) -> Report
+    ensures { λ r. ⌜ r ≡ storedFault n ⌝ }
 {
     Report {
         number: n[FAULT],

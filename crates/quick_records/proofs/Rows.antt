@@ -48,7 +48,7 @@ use Rattle.tokens.proofs.Placing.{not-put, length-put-if}
 use Rattle.tokens.proofs.Coming.{metOf, cell-comes, cell-lies, byte-comes}
 use Rattle.scanner.proofs.Scanning.{Call, Scanning, Asked, Stepping, Out, begins, by-byte, by-cell, step-on, step-over, lengths}
 use Rattle.cell_ends.specs.Ends.{EndsFrom, CleanCell}
-use Rattle.quick_records.specs.Quickly.{Begins, here, after-cr, after-pair, unknown, nextFound, Stores, Clean, Quickly, is-found, is-odd, Closes, at-once, by-pair, nowhere}
+use Rattle.quick_records.specs.Quickly.{FirstCellAt, here, after-cr, after-pair, unknown, nextFound, Stores, Clean, Quickly, is-found, is-odd, Closes, at-once, by-pair, nowhere}
 use Rattle.quick_records.specs.declared.Quick.the-variants.{Record, Odd}
 use Rattle.quick_records.specs.declared.Closing.the-variants as closing
 use Rattle.quick_records.proofs.Endings.{nextCell, after-delimiter}
@@ -215,7 +215,7 @@ callOf d part first limit from room base starts₀ ends₀ kinds₀ =
 
 -- ---- the first cell
 
-pub begins-on : (first : FileState) (part : Bytes) (from start : ℕ) → Begins first part from start → from ≤ length part → from ≤ start
+pub begins-on : (first : FileState) (part : Bytes) (from start : ℕ) → FirstCellAt first part from start → from ≤ length part → from ≤ start
 begins-on first part from start (here e) l = omega arith
 begins-on first part from start (after-cr e q) l = omega arith
 begins-on first part from start (after-pair e k q) l = omega arith
@@ -244,7 +244,7 @@ module _ (d : Dialect) (part : Bytes) (limit from room base : ℕ) (starts₀ en
       let x : 0 ≡ from + 1 - (from + 1) = omega arith in
       step-on k v Begin Passed refl false refl starts₀ ends₀ kinds₀ (not-put false room (base + 0) from starts₀ refl, (not-put false room (base + 0) from ends₀ refl, not-put false room (base + 0) _ kinds₀ refl)) (hand (from + 1) (from + 1) 0) (ap (λ (n : ℕ). record { start = from + 1; size = n; opened = from + 1; cells = 0 }) (sym x)) false refl refl
 
-  pub rest-begins : (first : FileState) {start : ℕ} → Begins first part from start → start < length part → start < limit → Rest (From first) start start 0 starts₀ ends₀ kinds₀
+  pub rest-begins : (first : FileState) {start : ℕ} → FirstCellAt first part from start → start < length part → start < limit → Rest (From first) start start 0 starts₀ ends₀ kinds₀
   rest-begins first (here e) i u = record { state = first; opening = subst (λ (f : FileState). Opening d (getD part from 0) f) (sym e) at-begin; scanning = at-from first }
   rest-begins first (after-cr e q) i u = record { state = first; opening = subst (λ (f : FileState). Opening d (getD part from 0) f) (sym e) (at-ended q); scanning = at-from first }
   rest-begins first (after-pair e k q) i u =
@@ -261,10 +261,10 @@ module _ (d : Dialect) (part : Bytes) (limit from room base : ℕ) (starts₀ en
     pub long : (length starts ≡ length starts₀) × (length ends ≡ length ends₀) × (length kinds ≡ length kinds₀)
     pub roomy : (room ≤ length starts₀) × (room ≤ length ends₀) × (room ≤ length kinds₀)
     pub cleans : clean ≡ true → Clean d part room base n starts ends
-    pub rest : (first : FileState) → Begins first part from start → Rest (callOf d part first limit from room base starts₀ ends₀ kinds₀) start at n starts ends kinds
+    pub rest : (first : FileState) → FirstCellAt first part from start → Rest (callOf d part first limit from room base starts₀ ends₀ kinds₀) start at n starts ends kinds
 
   module _ {clean : Bool} {at n : ℕ} {starts ends kinds : List ℕ} (r : Row clean at n starts ends kinds) (on : at < stop) {e : ℕ} (ends-at : EndsFrom d part stop Fresh at e) where
-    pub cell-lies-in : (first : FileState) → Begins first part from start → (at ≤ e) × (e < length part) × (e < limit)
+    pub cell-lies-in : (first : FileState) → FirstCellAt first part from start → (at ≤ e) × (e < length part) × (e < limit)
     cell-lies-in first b =
         let y = r .rest first b in
         let i : stop ≤ length part = r .bounds .inside in
@@ -334,7 +334,7 @@ module _ (d : Dialect) (part : Bytes) (limit from room base : ℕ) (starts₀ en
         record { scanning = w; inside = i; under = u; fits = rw q (no-and (leb MAXRECORD (h .size))); lies = s; comes = byte-comes d limit part Cr (e + 1) (h .size) i u (To Begin (Ends false)) s }
 
     -- after an ending the record is complete
-    pub last-cell : e < stop → {f : FileState} {next : ℕ} → Closes d part e stop (closing.After f next) → {tells : Bool} → (tells ≡ true → CleanCell d (slice part at e)) → {starts′ ends′ kinds′ : List ℕ} → Puts d part room base n at e starts ends kinds starts′ ends′ kinds′ → (first : FileState) → Begins first part from start → Quickly d limit part from first room base starts₀ ends₀ kinds₀ starts′ ends′ kinds′ (Record start (n + 1) f next (clean && tells))
+    pub last-cell : e < stop → {f : FileState} {next : ℕ} → Closes d part e stop (closing.After f next) → {tells : Bool} → (tells ≡ true → CleanCell d (slice part at e)) → {starts′ ends′ kinds′ : List ℕ} → Puts d part room base n at e starts ends kinds starts′ ends′ kinds′ → (first : FileState) → FirstCellAt first part from start → Quickly d limit part from first room base starts₀ ends₀ kinds₀ starts′ ends′ kinds′ (Record start (n + 1) f next (clean && tells))
     unfolding oneMore if_then_else_
     last-cell before {f} (at-once s) {tells} x {starts′} {ends′} {kinds′} y first b =
         let k : Call = callOf d part first limit from room base starts₀ ends₀ kinds₀ in
@@ -375,7 +375,7 @@ module _ (d : Dialect) (part : Bytes) (limit from room base : ℕ) (starts₀ en
   holds at-fresh e c = in-hand refl
   holds (at-wanting x) e c = in-hand refl
 
-  pub odd : {clean : Bool} {at n : ℕ} {starts ends kinds : List ℕ} → Row clean at n starts ends kinds → (first : FileState) → Begins first part from start → Quickly d limit part from first room base starts₀ ends₀ kinds₀ starts ends kinds Odd
+  pub odd : {clean : Bool} {at n : ℕ} {starts ends kinds : List ℕ} → Row clean at n starts ends kinds → (first : FileState) → FirstCellAt first part from start → Quickly d limit part from first room base starts₀ ends₀ kinds₀ starts ends kinds Odd
   unfolding joinedPlace joinedRaw if_then_else_
   odd {at = at} {n = n} r first b =
       let g = r .rest first b in

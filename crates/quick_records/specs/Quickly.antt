@@ -27,11 +27,11 @@ use Rattle.quick_records.specs.declared.Quick.the-variants.{Record, Odd}
 -- ---- the start of a record
 
 -- where the first cell of a record starts, if one may be told: here, or after the LF of a CRLF whose CR ended the record before
-pub data Begins (first : FileState) (part : Bytes) (from : ℕ) : ℕ → Type 0 where
-  here : first ≡ Begin → Begins first part from from
-  after-cr : first ≡ Ended → (getD part from 0 is LF) ≡ false → Begins first part from from
-  after-pair : first ≡ Ended → from < length part → getD part from 0 ≡ LF → Begins first part from (from + 1)
-  unknown : Begins first part from (length part)
+pub data FirstCellAt (first : FileState) (part : Bytes) (from : ℕ) : ℕ → Type 0 where
+  here : first ≡ Begin → FirstCellAt first part from from
+  after-cr : first ≡ Ended → (getD part from 0 is LF) ≡ false → FirstCellAt first part from from
+  after-pair : first ≡ Ended → from < length part → getD part from 0 ≡ LF → FirstCellAt first part from (from + 1)
+  unknown : FirstCellAt first part from (length part)
 
 -- ---- the end of a record
 

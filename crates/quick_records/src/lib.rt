@@ -14,7 +14,7 @@ ghost use Rattle.model.specs.declared.Step.the-variants.{To};
 ghost use Rattle.model.specs.Dialect.{delimiterOf};
 ghost use Rattle.model.specs.File.{afterCell};
 ghost use Rattle.model.specs.Report.{MAXFILE};
-ghost use Rattle.quick_records.specs.Quickly.{Begins, Closes, Quickly};
+ghost use Rattle.quick_records.specs.Quickly.{FirstCellAt, Closes, Quickly};
 use model::Dialect;
 use model::FileState;
 use numbers::MAX_RECORD;
@@ -40,7 +40,7 @@ pub enum Quick {
 // Where a record starts, after a CR that ended the one before.
 fn after_cr(part: &[u8], from: usize) -> usize
     requires { ⌜ from ≤ length (now part) ⌝ }
-    ensures { λ r. ⌜ Begins Ended (now (part .entry)) from r ⌝ }
+    ensures { λ r. ⌜ FirstCellAt Ended (now (part .entry)) from r ⌝ }
 {
     if part.len() <= from {
         return part.len();
@@ -54,7 +54,7 @@ fn after_cr(part: &[u8], from: usize) -> usize
 // Where the first cell of a record starts; the part's end: not told, as in the mark, in comments and after blanks.
 fn record_start(first: FileState, part: &[u8], from: usize) -> usize
     requires { ⌜ from ≤ length (now part) ⌝ }
-    ensures { λ r. ⌜ Begins first (now (part .entry)) from r ⌝ }
+    ensures { λ r. ⌜ FirstCellAt first (now (part .entry)) from r ⌝ }
 {
     match first {
         FileState::Begin => from,

@@ -30,7 +30,7 @@ use Rattle.visitor.proofs.Visiting.{Met, record-counts, record-visited}
 use Rattle.visitor.proofs.Walking.{came}
 use Rattle.quick_visits.specs.declared.Told.{Told}
 use Rattle.quick_visits.specs.declared.Told.the-variants as told
-use Rattle.quick_visits.specs.Tells.{Finds, sound, unsure, Tells, a-record, nothing}
+use Rattle.quick_visits.specs.Tells.{Finds, sound, unsure, FastNextSound, a-record, nothing}
 
 -- after some records the next is no header
 pub no-header : (done : ℕ) → (done ≡ 0 → ⊥) → false ≡ eqb done 0
@@ -66,7 +66,7 @@ module _ {d : Dialect} {file : Bytes} {f : FileState} {i : ℕ} {s₀ e₀ k₀ 
   pub clean-cells : {start cells next : ℕ} {g : FileState} {clean : Bool} → q ≡ quick.Record start cells g next clean → cells ≤ MAXCOLUMNS → clean ≡ true → CleanIn d file (take cells s) (take cells e)
   clean-cells z few c = clean-in few (told-clean d file f i MAXCOLUMNS 0 t z c)
 
-  pub tells : (aim : Aim) (rs : List Rec) (done : ℕ) → length rs ≡ done → (done ≡ 0 → ⊥) → {start cells next : ℕ} {g : FileState} {clean : Bool} → q ≡ quick.Record start cells g next clean → {r : Told} → Finds d aim rs (nextRecord d (between-records [] f i) (drop i file) .cells) start g next clean r → Tells d aim file rs f i s e k r
+  pub tells : (aim : Aim) (rs : List Rec) (done : ℕ) → length rs ≡ done → (done ≡ 0 → ⊥) → {start cells next : ℕ} {g : FileState} {clean : Bool} → q ≡ quick.Record start cells g next clean → {r : Told} → Finds d aim rs (nextRecord d (between-records [] f i) (drop i file) .cells) start g next clean r → FastNextSound d aim file rs f i s e k r
   tells aim rs done l n z unsure = nothing
   tells aim rs done c₀ n₀ {start} {cells} {next} {g} {clean} z (sound (visits.sound {n = n} {w = w} fault l few text short)) =
       let m = met z in
@@ -85,7 +85,7 @@ pub record DataRecord (d : Dialect) (aim : Aim) (file : Bytes) (rs : List Rec) (
   pub next : visits.Next d aim file rs f i s e k v
   pub cleans : clean ≡ true → CleanIn d file (take (v .cells) s) (take (v .cells) e)
 
-pub data-came : {d : Dialect} {aim : Aim} {file : Bytes} {rs : List Rec} {f : FileState} {i : ℕ} {s e k : List ℕ} {r : Told} {v : Visited} {clean : Bool} → Tells d aim file rs f i s e k r → r ≡ told.Record v clean → DataRecord d aim file rs f i s e k v clean
+pub data-came : {d : Dialect} {aim : Aim} {file : Bytes} {rs : List Rec} {f : FileState} {i : ℕ} {s e k : List ℕ} {r : Told} {v : Visited} {clean : Bool} → FastNextSound d aim file rs f i s e k r → r ≡ told.Record v clean → DataRecord d aim file rs f i s e k v clean
 data-came {d} {aim} {file} {rs} {f} {i} {s} {e} {k} {v = v} {clean = clean} (a-record {v = w} {clean = b} l n c) q =
     let y : w ≡ v = cc in
     let z : b ≡ clean = cc in

@@ -23,8 +23,8 @@ pub data Finds (d : Dialect) (aim : Aim) (rs : List Rec) (vs : List Value) (star
   unsure : Finds d aim rs vs start f o clean Nothing
 
 -- what is told of the record from i on, after the records rs
-pub data Tells (d : Dialect) (aim : Aim) (file : Bytes) (rs : List Rec) (f : FileState) (i : ℕ) (starts ends kinds : List ℕ) : Told → Type 0 where
+pub data FastNextSound (d : Dialect) (aim : Aim) (file : Bytes) (rs : List Rec) (f : FileState) (i : ℕ) (starts ends kinds : List ℕ) : Told → Type 0 where
   a-record :
       {v : Visited} {clean : Bool} → isEmpty rs ≡ false → Next d aim file rs f i starts ends kinds v →
-      (clean ≡ true → CleanIn d file (take (v .cells) starts) (take (v .cells) ends)) → Tells d aim file rs f i starts ends kinds (Record v clean)
-  nothing : Tells d aim file rs f i starts ends kinds Nothing
+      (clean ≡ true → CleanIn d file (take (v .cells) starts) (take (v .cells) ends)) → FastNextSound d aim file rs f i starts ends kinds (Record v clean)
+  nothing : FastNextSound d aim file rs f i starts ends kinds Nothing

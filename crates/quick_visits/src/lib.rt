@@ -13,7 +13,7 @@ ghost use Rattle.decoder.specs.declared.source.Source.the-variants.{File};
 ghost use Rattle.decoder.specs.Sources.{cellsIn, Cells};
 ghost use Rattle.tokens.specs.Tokens.{outer};
 ghost use Rattle.visitor.specs.Visits.{After, Ruled, Long, Kept, Shows};
-ghost use Rattle.quick_visits.specs.Tells.{Finds, Tells};
+ghost use Rattle.quick_visits.specs.Tells.{Finds, FastNextSound};
 use model::Dialect;
 use model::FileState;
 use model::Verdict;
@@ -130,7 +130,7 @@ pub fn data_record(
     requires { ⌜ (from ≤ length (now file)) × (from ≤ MAXFILE) × (outer state ≡ true) ⌝ }
     requires { ⌜ (done ≤ from) × (written ≤ MAXFILE) ⌝ }
     requires { ⌜ Long (now starts) (now ends) (now kinds) ⌝ }
-    ensures { λ r. ⌜ ((rs : List Rec) → After aim done columns written rs → Tells d aim (now (file .entry)) rs state from (now (starts .exit)) (now (ends .exit)) (now (kinds .exit)) r) ⌝ }
+    ensures { λ r. ⌜ ((rs : List Rec) → After aim done columns written rs → FastNextSound d aim (now (file .entry)) rs state from (now (starts .exit)) (now (ends .exit)) (now (kinds .exit)) r) ⌝ }
     ensures { λ r. ⌜ Kept (now (starts .entry)) (now (ends .entry)) (now (kinds .entry)) (now (starts .exit)) (now (ends .exit)) (now (kinds .exit)) ⌝ }
 {
     if done == 0 {

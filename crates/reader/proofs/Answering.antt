@@ -27,10 +27,10 @@ use Rattle.numbers.proofs.Least.{least-first, least-second}
 use Rattle.reader.specs.declared.Answer.{Answer}
 use Rattle.passes.specs.declared.Pass.{Pass}
 use Rattle.passes.specs.declared.Pass.the-variants.{Accepted, Refused}
-use Rattle.reader.specs.Answers.{callAnswer, toAnswer, answerIn}
+use Rattle.reader.specs.Answers.{callAnswer, readerAnswer, answerIn}
 use Rattle.passes.specs.Passes as passes
-use Rattle.passes.specs.Passes.{Outcome, Passes}
-use Rattle.reader.specs.Headers.{firstOf, Begins}
+use Rattle.passes.specs.Passes.{Outcome, PassSound}
+use Rattle.reader.specs.Headers.{firstOf, HeaderRead}
 use Rattle.tokens.proofs.Filling.{stored-from-none, stored-from-over}
 use Rattle.visitor.specs.declared.Aim.the-variants.{Reading}
 use Rattle.visitor.specs.declared.Visited.{Visited}
@@ -42,13 +42,13 @@ use Rattle.visitor.proofs.Walking.{whole-rest, came, at-end, at-fault}
 
 -- the answer, and the lists after it
 pub record Answered (a : api.Answer) (r : Answer) (s₀ e₀ k₀ s e k : List ℕ) : Type 0 where
-  pub answer : r ≡ toAnswer a
+  pub answer : r ≡ readerAnswer a
   pub at-starts : s ≡ over (startsOf (a .cells)) s₀
   pub at-ends : e ≡ over (endsOf (a .cells)) e₀
   pub at-kinds : k ≡ over (kindsOf (a .cells)) k₀
 
 -- a refusal that leaves the lists
-pub refusing : (a : api.Answer) (t : Report) (r : Answer) (s₀ e₀ k₀ s e k : List ℕ) → a ≡ api.noAnswer t → r ≡ toAnswer (api.noAnswer t) → s ≡ s₀ → e ≡ e₀ → k ≡ k₀ → Answered a r s₀ e₀ k₀ s e k
+pub refusing : (a : api.Answer) (t : Report) (r : Answer) (s₀ e₀ k₀ s e k : List ℕ) → a ≡ api.noAnswer t → r ≡ readerAnswer (api.noAnswer t) → s ≡ s₀ → e ≡ e₀ → k ≡ k₀ → Answered a r s₀ e₀ k₀ s e k
 refusing a t r s₀ e₀ k₀ s e k q z x y w =
     subst (λ (b : api.Answer). Answered b r s₀ e₀ k₀ s e k) (sym q) (record { answer = z; at-starts = x; at-ends = y; at-kinds = w })
 
@@ -153,18 +153,18 @@ same-cells h vs g p r ds (passes.refused x t) same done = let z : _≡_ {A = ℕ
 
 module _ {d : Dialect} {file : Bytes} {n : ℕ} {f : FileState} {next : ℕ} {s₀ e₀ k₀ s₁ e₁ k₁ : List ℕ} {p : Pass} where
   -- a pass with no room stores nothing
-  pub unchanged : Passes d file next f n 0 s₀ e₀ k₀ p s₁ e₁ k₁ → (s₁ ≡ s₀) × (e₁ ≡ e₀) × (k₁ ≡ k₀)
+  pub unchanged : PassSound d file next f n 0 s₀ e₀ k₀ p s₁ e₁ k₁ → (s₁ ≡ s₀) × (e₁ ≡ e₀) × (k₁ ≡ k₀)
   unchanged y = (y .lists .at-starts ∙ stored-from-none 0 (startsOf (y .vs)) s₀, y .lists .at-ends ∙ stored-from-none 0 (endsOf (y .vs)) e₀, y .lists .at-kinds ∙ stored-from-none 0 (kindsOf (y .vs)) k₀)
 
-  pub few-cells : {room records c : ℕ} → Passes d file next f n room s₀ e₀ k₀ p s₁ e₁ k₁ → p ≡ Accepted records c → c ≤ MAXFILE + 1
+  pub few-cells : {room records c : ℕ} → PassSound d file next f n room s₀ e₀ k₀ p s₁ e₁ k₁ → p ≡ Accepted records c → c ≤ MAXFILE + 1
   few-cells y q = subst (λ (x : Pass). passes.Few x) q (y .few)
 
 -- after a first pass that left the lists as they were
-module _ (room : ℕ) {d : Dialect} {file : Bytes} {n : ℕ} {f : FileState} {next : ℕ} (head : Begins d file n f next) {m : ℕ} {s₀ e₀ k₀ s₁ e₁ k₁ : List ℕ} {p : Pass} (y : Passes d file next f n m s₀ e₀ k₀ p s₁ e₁ k₁) (kept : (s₁ ≡ s₀) × (e₁ ≡ e₀) × (k₁ ≡ k₀)) where
+module _ (room : ℕ) {d : Dialect} {file : Bytes} {n : ℕ} {f : FileState} {next : ℕ} (head : HeaderRead d file n f next) {m : ℕ} {s₀ e₀ k₀ s₁ e₁ k₁ : List ℕ} {p : Pass} (y : PassSound d file next f n m s₀ e₀ k₀ p s₁ e₁ k₁) (kept : (s₁ ≡ s₀) × (e₁ ≡ e₀) × (k₁ ≡ k₀)) where
   outcome : Outcome (head .h) (y .vs) (restOf d none file (head .h ∷ []) f next) p
   outcome = y .outcome (head .h) (head .count)
 
-  pub data-refused : (t : Report) → p ≡ Refused t → (r : Answer) → r ≡ toAnswer (api.noAnswer t) → Answered (answerIn d file room) r s₀ e₀ k₀ s₁ e₁ k₁
+  pub data-refused : (t : Report) → p ≡ Refused t → (r : Answer) → r ≡ readerAnswer (api.noAnswer t) → Answered (answerIn d file room) r s₀ e₀ k₀ s₁ e₁ k₁
   data-refused t q r re =
       let o : Outcome (head .h) (y .vs) (restOf d none file (head .h ∷ []) f next) (Refused t) = subst (λ (x : Pass). Outcome (head .h) (y .vs) (restOf d none file (head .h ∷ []) f next) x) q outcome in
       refusing (answerIn d file room) t r s₀ e₀ k₀ s₁ e₁ k₁ (ap (λ (g : Progress). api.readAnswer g room) (head .rest) ∙ refused-by o .answer room) re (kept .0) (kept .1) (kept .2)
@@ -182,13 +182,13 @@ module _ (room : ℕ) {d : Dialect} {file : Bytes} {n : ℕ} {f : FileState} {ne
         ∙ ap (λ (m : ℕ). m + length (concat (rows (by .ds)))) (head .count)
         ∙ ap (λ (m : ℕ). n + m) (ap length (by .cells) ∙ by .sized)
 
-    pub data-crowded : room < n + c → (t : Report) → t ≡ refusal 10 → (r : Answer) → r ≡ toAnswer (api.noAnswer t) → Answered (answerIn d file room) r s₀ e₀ k₀ s₁ e₁ k₁
+    pub data-crowded : room < n + c → (t : Report) → t ≡ refusal 10 → (r : Answer) → r ≡ readerAnswer (api.noAnswer t) → Answered (answerIn d file room) r s₀ e₀ k₀ s₁ e₁ k₁
     data-crowded l t te r re =
         refusing (answerIn d file room) (refusal 10) r s₀ e₀ k₀ s₁ e₁ k₁
-        (crowded d file room (n + c) (head .h) (by .ds) (by .r) all (by .done) total l) (re ∙ ap (λ (z : Report). toAnswer (api.noAnswer z)) te) (kept .0) (kept .1) (kept .2)
+        (crowded d file room (n + c) (head .h) (by .ds) (by .r) all (by .done) total l) (re ∙ ap (λ (z : Report). readerAnswer (api.noAnswer z)) te) (kept .0) (kept .1) (kept .2)
 
     -- the header fills its places, and a second pass those that follow
-    module _ (fit : (room ≤ length s₀) × (room ≤ length e₀) × (room ≤ length k₀)) (l : n + c ≤ room) {s₂ e₂ k₂ : List ℕ} (ps : s₂ ≡ storedFrom room 0 (startsOf (firstOf d file .cells)) s₁) (pe : e₂ ≡ storedFrom room 0 (endsOf (firstOf d file .cells)) e₁) (pk : k₂ ≡ storedFrom room 0 (kindsOf (firstOf d file .cells)) k₁) {p₂ : Pass} {s₃ e₃ k₃ : List ℕ} (z : Passes d file next f n (room - n) (PartFrom n s₂) (PartFrom n e₂) (PartFrom n k₂) p₂ s₃ e₃ k₃) where
+    module _ (fit : (room ≤ length s₀) × (room ≤ length e₀) × (room ≤ length k₀)) (l : n + c ≤ room) {s₂ e₂ k₂ : List ℕ} (ps : s₂ ≡ storedFrom room 0 (startsOf (firstOf d file .cells)) s₁) (pe : e₂ ≡ storedFrom room 0 (endsOf (firstOf d file .cells)) e₁) (pk : k₂ ≡ storedFrom room 0 (kindsOf (firstOf d file .cells)) k₁) {p₂ : Pass} {s₃ e₃ k₃ : List ℕ} (z : PassSound d file next f n (room - n) (PartFrom n s₂) (PartFrom n e₂) (PartFrom n k₂) p₂ s₃ e₃ k₃) where
       again : concat (rows (by .ds)) ≡ z .vs
       again = same-cells (head .h) (z .vs) (restOf d none file (head .h ∷ []) f next) p₂ (by .r) (by .ds) (z .outcome (head .h) (head .count)) (by .same) (by .done)
 
@@ -214,12 +214,12 @@ module _ (room : ℕ) {d : Dialect} {file : Bytes} {n : ℕ} {f : FileState} {ne
 -- ---- a file of a dialect
 
 module _ {d : Dialect} {file : Bytes} {s e k : List ℕ} {o : visitor.Outcome} (v : Visits d Reading file [] Top 0 s e k o) where
-  pub begins : {x : Visited} → o ≡ outcomes.Record x → Begins d file (x .cells) (x .state) (x .next)
+  pub begins : {x : Visited} → o ≡ outcomes.Record x → HeaderRead d file (x .cells) (x .state) (x .next)
   begins q =
       let n = came v q in
       record { h = n .rec; first = n .found; count = n .after .headed; rest = whole-rest d Reading file ∙ n .rest; few = n .few; inside = n .inside; under = n .under }
 
-  module _ (room : ℕ) (s₀ e₀ k₀ : List ℕ) (t : Report) (r : Answer) (re : r ≡ toAnswer (api.noAnswer t)) where
+  module _ (room : ℕ) (s₀ e₀ k₀ : List ℕ) (t : Report) (r : Answer) (re : r ≡ readerAnswer (api.noAnswer t)) where
     pub no-header : o ≡ outcomes.Refused t → Answered (answerIn d file room) r s₀ e₀ k₀ s₀ e₀ k₀
     no-header q =
         let a = at-fault v q in
@@ -251,7 +251,7 @@ Calls n file s₀ e₀ k₀ r s e k =
 
 abbrev Fills : (a : api.Answer) (s₀ e₀ k₀ : List ℕ) → Answer → (s e k : List ℕ) → Type 0
 Fills a s₀ e₀ k₀ r s e k =
-    (r ≡ toAnswer a) × ((s ≡ over (startsOf (a .cells)) s₀) × ((e ≡ over (endsOf (a .cells)) e₀) × (k ≡ over (kindsOf (a .cells)) k₀)))
+    (r ≡ readerAnswer a) × ((s ≡ over (startsOf (a .cells)) s₀) × ((e ≡ over (endsOf (a .cells)) e₀) × (k ≡ over (kindsOf (a .cells)) k₀)))
 
 abbrev Room : (s₀ e₀ k₀ : List ℕ) → ℕ
 Room s₀ e₀ k₀ = api.least (length s₀) (api.least (length e₀) (length k₀))
@@ -264,7 +264,7 @@ pub known : (n : ℕ) (d : Dialect) → some d ≡ dialectOf n → (file s₀ e�
 unfolding api.reader
 known n d q file s₀ e₀ k₀ r s e k t = by-answer n file s₀ e₀ k₀ (answerIn d file (Room s₀ e₀ k₀)) r s e k (rw (← q, api.reader)) t
 
-pub unknown : (n : ℕ) → none ≡ dialectOf n → (file s₀ e₀ k₀ : List ℕ) (t : Report) (r : Answer) → t ≡ refusal 11 → r ≡ toAnswer (api.noAnswer t) → Calls n file s₀ e₀ k₀ r s₀ e₀ k₀
+pub unknown : (n : ℕ) → none ≡ dialectOf n → (file s₀ e₀ k₀ : List ℕ) (t : Report) (r : Answer) → t ≡ refusal 11 → r ≡ readerAnswer (api.noAnswer t) → Calls n file s₀ e₀ k₀ r s₀ e₀ k₀
 unfolding api.reader
 unknown n q file s₀ e₀ k₀ t r te re =
-    by-answer n file s₀ e₀ k₀ (api.noAnswer (refusal 11)) r s₀ e₀ k₀ (rw (← q, api.reader)) (re ∙ ap (λ (z : Report). toAnswer (api.noAnswer z)) te, (refl, (refl, refl)))
+    by-answer n file s₀ e₀ k₀ (api.noAnswer (refusal 11)) r s₀ e₀ k₀ (rw (← q, api.reader)) (re ∙ ap (λ (z : Report). readerAnswer (api.noAnswer z)) te, (refl, (refl, refl)))

@@ -13,8 +13,8 @@ abbrev pub callAnswer : api.ReadCall → Answer
 callAnswer c = record { report = c .report; columns = c .columns; records = c .records; cells = c .cells }
 
 -- the same of an answer that has its cells
-abbrev pub toAnswer : api.Answer → Answer
-toAnswer a = record { report = a .report; columns = a .columns; records = a .records; cells = length (a .cells) }
+abbrev pub readerAnswer : api.Answer → Answer
+readerAnswer a = record { report = a .report; columns = a .columns; records = a .records; cells = length (a .cells) }
 
 -- the answer for a file of this dialect
 abbrev pub answerIn : Dialect → Bytes → (room : ℕ) → api.Answer

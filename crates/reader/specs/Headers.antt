@@ -18,7 +18,7 @@ abbrev pub firstOf : Dialect → Bytes → Next
 firstOf d file = nextRecord d (between-records [] Top 0) (drop 0 file)
 
 -- the header of a file has so many cells, and reading goes on from after it
-pub record Begins (d : Dialect) (file : Bytes) (columns : ℕ) (f : FileState) (next : ℕ) : Type 0 where
+pub record HeaderRead (d : Dialect) (file : Bytes) (columns : ℕ) (f : FileState) (next : ℕ) : Type 0 where
   pub h : Rec
   pub first : h .cells ≡ firstOf d file .cells
   pub count : length (h .cells) ≡ columns

@@ -13,7 +13,7 @@ use Rattle.model.specs.Base.{Bytes, if_then_else_}
 use Rattle.model.specs.Utf8.{Wide, gap, ed, lone, inner, settle, wideStep, wideFrom}
 use Rattle.model.proofs.Utf8.{ascii-whole}
 use Rattle.buffers.proofs.Writing.{drop-next}
-use Rattle.table.specs.Content.{stepIn, contentFrom, Passes}
+use Rattle.table.specs.Content.{stepIn, contentFrom, SameContentState}
 
 -- ---- after ED
 
@@ -62,10 +62,10 @@ ascii-step : (b : ℕ) → b ≤ 0x7F → wideStep (gap false) b ≡ some (gap f
 unfolding wideStep if_then_else_
 ascii-step b h = rw (ne-eqb b 0xED λ e. omega arith) (ap settle (ascii-whole b h))
 
-pub passes-none : {o : Option Wide} {s : Bytes} {i : ℕ} → i ≤ length s → Passes o s i i
+pub passes-none : {o : Option Wide} {s : Bytes} {i : ℕ} → i ≤ length s → SameContentState o s i i
 passes-none h = record { on = omega arith; inside = h; same = refl }
 
-pub passes-ascii : {s : Bytes} {i j : ℕ} → Passes (some (gap false)) s i j → j < length s → getD s j 0 ≤ 0x7F → Passes (some (gap false)) s i (j + 1)
+pub passes-ascii : {s : Bytes} {i j : ℕ} → SameContentState (some (gap false)) s i j → j < length s → getD s j 0 ≤ 0x7F → SameContentState (some (gap false)) s i (j + 1)
 passes-ascii {s} {i} {j} p h b =
     record {
       on = omega (arith, p .on);
@@ -78,7 +78,7 @@ passes-ascii {s} {i} {j} p h b =
     }
 
 -- a step, and what passes after it
-pub step-passes : (o : Option Wide) {w : Option Wide} {s : Bytes} {i j : ℕ} → i < length s → w ≡ stepIn o (getD s i 0) → Passes w s (i + 1) j → contentFrom o (drop i s) ≡ contentFrom w (drop j s)
+pub step-passes : (o : Option Wide) {w : Option Wide} {s : Bytes} {i j : ℕ} → i < length s → w ≡ stepIn o (getD s i 0) → SameContentState w s (i + 1) j → contentFrom o (drop i s) ≡ contentFrom w (drop j s)
 step-passes o {w} {s} {i} {j} h e p =
     ap (contentFrom o) (drop-next s i (i + 1) h refl)
     ∙ content-next o (getD s i 0) (drop (i + 1) s)

@@ -28,7 +28,7 @@ contentFrom none bs = false
 contentFrom (some w) bs = wideFrom w bs
 
 -- the bytes from place i up to j leave content where it stands
-pub record Passes (o : Option Wide) (s : Bytes) (i j : ℕ) : Type 0 where
+pub record SameContentState (o : Option Wide) (s : Bytes) (i j : ℕ) : Type 0 where
   pub on : i ≤ j
   pub inside : j ≤ length s
   pub same : contentFrom o (drop i s) ≡ contentFrom o (drop j s)

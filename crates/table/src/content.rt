@@ -7,7 +7,7 @@ ghost use mathlib.Core.Option.{some};
 ghost use Prim.Native.Nat.{_≤_};
 ghost use lib.ListN.{length};
 ghost use Rattle.model.specs.Utf8.{gap, ed, lone, inner, settle, wideStep, isContent};
-ghost use Rattle.table.specs.Content.{wideIn, stepIn, contentFrom, Passes};
+ghost use Rattle.table.specs.Content.{wideIn, stepIn, contentFrom, SameContentState};
 use model::Advance;
 use model::Char;
 use model::Inner;
@@ -113,7 +113,7 @@ fn may_end(p: Place) -> bool
 // How far ASCII goes from `at`, where content stands between characters.
 fn ascii_end(s: &[u8], at: usize) -> usize
     requires { ⌜ at ≤ length (now s) ⌝ }
-    ensures { λ r. ⌜ Passes (some (gap false)) (now (s .entry)) at r ⌝ }
+    ensures { λ r. ⌜ SameContentState (some (gap false)) (now (s .entry)) at r ⌝ }
 {
     let mut i = at;
     while i < s.len() {
@@ -128,7 +128,7 @@ fn ascii_end(s: &[u8], at: usize) -> usize
 // The same from any place. Directly after a high surrogate the next byte goes by a step.
 fn run_on(p: Place, s: &[u8], at: usize) -> usize
     requires { ⌜ at ≤ length (now s) ⌝ }
-    ensures { λ r. ⌜ Passes (wideIn p) (now (s .entry)) at r ⌝ }
+    ensures { λ r. ⌜ SameContentState (wideIn p) (now (s .entry)) at r ⌝ }
 {
     let Place::Gap { high } = p else {
         return at;

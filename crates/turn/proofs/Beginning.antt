@@ -10,7 +10,7 @@ use Rattle.model.specs.Scans.{Kept}
 use Rattle.carried.specs.declared.place.Place.{Place}
 use Rattle.turn.specs.Types.{Dialect, Target}
 use Rattle.turn.specs.Walking.{handIn, Ready}
-use Rattle.turn.specs.Calls.{Begins, ReadyPiece, Begun}
+use Rattle.turn.specs.Calls.{CallStart, ReadyPiece, Begun}
 
 pub first-in-hand : (p : Place) (a b : List ℕ) → p .records ≡ 0 → handIn p a b ≡ a
 unfolding if_then_else_
@@ -21,10 +21,10 @@ unfolding if_then_else_
 second-in-hand p a b e = rw (ne-eqb (p .records) 0 e)
 
 module _ {d : Dialect} {t : Target} {before piece : Bytes} {p : Place} {names name-ends bytes ends out : List ℕ} {done : List Rec} {k : Kept} (b : Begun d t before piece p names name-ends bytes ends out done k) where
-  pub begun-header : p .records ≡ 0 → Begins d t piece p names name-ends out done k
+  pub begun-header : p .records ≡ 0 → CallStart d t piece p names name-ends out done k
   begun-header e = rw (first-in-hand p names bytes e, first-in-hand p name-ends ends e) at (b .begins)
 
-  pub begun-later : (p .records ≡ 0 → ⊥) → Begins d t piece p bytes ends out done k
+  pub begun-later : (p .records ≡ 0 → ⊥) → CallStart d t piece p bytes ends out done k
   begun-later e = rw (second-in-hand p names bytes e, second-in-hand p name-ends ends e) at (b .begins)
 
 module _ {p : Place} {names name-ends bytes ends : List ℕ} (r : ReadyPiece p names name-ends bytes ends) where

@@ -16,20 +16,20 @@ use Rattle.model.specs.Places.{StretchIn, ScanIn, keptBytes, keptEnds}
 use Rattle.model.proofs.Stretches.{part-is}
 use Rattle.carried.specs.Hand.{InHand}
 use Rattle.turn.specs.Types.{Dialect}
-use Rattle.turn.specs.Walking.{Spelt, all-spelt, next-spelt}
+use Rattle.turn.specs.Walking.{SpeltInFile, all-spelt, next-spelt}
 use Rattle.turn.specs.Calls.{Named}
 
 -- ---- cells that are kept
 
 -- more ends may follow
-spelt-more : {file bytes : Bytes} {at : ℕ} {ends : List ℕ} {vs : List Value} (more : List ℕ) → Spelt file bytes at ends vs → Spelt file bytes at (ends ++ more) vs
+spelt-more : {file bytes : Bytes} {at : ℕ} {ends : List ℕ} {vs : List Value} (more : List ℕ) → SpeltInFile file bytes at ends vs → SpeltInFile file bytes at (ends ++ more) vs
 spelt-more more all-spelt = all-spelt
 spelt-more more (next-spelt on room forward inside same rest) = next-spelt on room forward inside same (spelt-more more rest)
 
 module _ (file : Bytes) (d : Dialect) where
   spelt-from :
       (cs : List RawCell) (pre post : Bytes) (at : ℕ) → length pre ≡ at → All (StretchIn file) cs →
-      Spelt file (pre ++ (keptBytes cs ++ post)) at (keptEnds at cs) (map (valueOf d) cs)
+      SpeltInFile file (pre ++ (keptBytes cs ++ post)) at (keptEnds at cs) (map (valueOf d) cs)
   unfolding keptBytes keptEnds
   spelt-from [] pre post at e all = all-spelt
   spelt-from (c ∷ cs) pre post at e (all-cons h hs) =
@@ -40,19 +40,19 @@ module _ (file : Bytes) (d : Dialect) where
       let room : at + length (c .bytes) ≤ length (pre ++ c .bytes ++ (keptBytes cs ++ post)) = omega arith in
       let on : at ≤ at + length (c .bytes) = omega arith in
       let here : slice (pre ++ (c .bytes ++ (keptBytes cs ++ post))) at (at + length (c .bytes)) ≡ c .bytes = part-is pre (c .bytes) (keptBytes cs ++ post) at (at + length (c .bytes)) e refl in
-      let rest : Spelt file (pre ++ c .bytes ++ (keptBytes cs ++ post)) (at + length (c .bytes)) (keptEnds (at + length (c .bytes)) cs) (map (valueOf d) cs) = spelt-from cs (pre ++ c .bytes) post (at + length (c .bytes)) long hs in
+      let rest : SpeltInFile file (pre ++ c .bytes ++ (keptBytes cs ++ post)) (at + length (c .bytes)) (keptEnds (at + length (c .bytes)) cs) (map (valueOf d) cs) = spelt-from cs (pre ++ c .bytes) post (at + length (c .bytes)) long hs in
       rw one (next-spelt on (rw two at room) (h .forward) (h .within) (here ∙ h .raw) (rw two at rest))
 
 -- the arrays in hand spell the cells that are kept
 pub spelt-kept :
     {bytes : Bytes} {fill : ℕ} {ends : List ℕ} {cells : List RawCell} {raw : Bytes} → InHand bytes fill ends cells raw → (d : Dialect) (file : Bytes) → All (StretchIn file) cells →
-    Spelt file bytes 0 ends (map (valueOf d) cells)
+    SpeltInFile file bytes 0 ends (map (valueOf d) cells)
 spelt-kept {bytes} {fill} {ends} {cells} {raw} h d file all =
     let whole : keptBytes cells ++ (raw ++ drop fill bytes) ≡ bytes = sym (append-assoc (keptBytes cells) raw (drop fill bytes)) ∙ ap (λ (l : Bytes). l ++ drop fill bytes) (sym (h .held)) ∙ take-append-drop fill bytes in
     let all-ends : keptEnds 0 cells ++ drop (length cells) ends ≡ ends = ap (λ (l : List ℕ). l ++ drop (length cells) ends) (sym (h .ended)) ∙ take-append-drop (length cells) ends in
-    let z : Spelt file (keptBytes cells ++ (raw ++ drop fill bytes)) 0 (keptEnds 0 cells) (map (valueOf d) cells) = spelt-from file d cells [] (raw ++ drop fill bytes) 0 refl all in
-    subst (λ (l : List ℕ). Spelt file bytes 0 l (map (valueOf d) cells)) all-ends
-    (spelt-more (drop (length cells) ends) (subst (λ (b : Bytes). Spelt file b 0 (keptEnds 0 cells) (map (valueOf d) cells)) whole z))
+    let z : SpeltInFile file (keptBytes cells ++ (raw ++ drop fill bytes)) 0 (keptEnds 0 cells) (map (valueOf d) cells) = spelt-from file d cells [] (raw ++ drop fill bytes) 0 refl all in
+    subst (λ (l : List ℕ). SpeltInFile file bytes 0 l (map (valueOf d) cells)) all-ends
+    (spelt-more (drop (length cells) ends) (subst (λ (b : Bytes). SpeltInFile file b 0 (keptEnds 0 cells) (map (valueOf d) cells)) whole z))
 
 -- before the header is complete there is no name
 pub named-none : (file : Bytes) (names ends : List ℕ) (done : List Rec) → length done ≡ 0 → Named file names ends done
@@ -79,7 +79,7 @@ module _ (file more : Bytes) where
   scan-grows s h =
       record { raw = h .raw ∙ sym (slice-grows file more (s .opened) (s .offset) (h .forward) (h .within)); forward = h .forward; within = omega (arith, h .within, length-append file more); cells = cells-grow (s .cells) (h .cells) }
 
-  spelt-grows : {bytes : Bytes} {at : ℕ} {ends : List ℕ} {vs : List Value} → Spelt file bytes at ends vs → Spelt (file ++ more) bytes at ends vs
+  spelt-grows : {bytes : Bytes} {at : ℕ} {ends : List ℕ} {vs : List Value} → SpeltInFile file bytes at ends vs → SpeltInFile (file ++ more) bytes at ends vs
   spelt-grows all-spelt = all-spelt
   spelt-grows (next-spelt {v = v} on room forward inside same rest) =
       next-spelt on room forward (omega (arith, length-append file more)) (same ∙ sym (slice-grows file more (v .from) (v .upto) forward inside)) (spelt-grows rest)

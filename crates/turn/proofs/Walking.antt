@@ -35,7 +35,7 @@ use Rattle.complete.specs.declared.Done.the-variants.{Written, Refused, Lost}
 use Rattle.turn.specs.Holding.{scanAt, readAt, Shown, Holding, placeAfter, keptNone, startFrom, placePending}
 use Rattle.complete.specs.Completing.{faultAt, textAt, Finishes, is-written, is-refused, has-no-room, Ruled, not-spelt, ruled, keptValues}
 use Rattle.turn.specs.declared.Turn.the-variants.{Stopped, Pended}
-use Rattle.turn.specs.Walking.{InBounds, Lists, Completes, too-many, from-kept, pendedPlace, Pends, too-many-yet, kept-on, Ready, turnOf, Fitting, TurnBounds, next-bounds, pended-bounds, stopped-bounds, nowhere-bounds, Spelt, Follows, Turns, turns-next, turns-pended, turns-stopped, turns-nowhere}
+use Rattle.turn.specs.Walking.{InBounds, Lists, Completes, too-many, from-kept, pendedPlace, Pends, too-many-yet, kept-on, Ready, turnOf, Fitting, TurnBounds, next-bounds, pended-bounds, stopped-bounds, nowhere-bounds, SpeltInFile, Follows, Turns, turns-next, turns-pended, turns-stopped, turns-nowhere}
 use Rattle.tokens.specs.declared.record_state.RecordState.{RecordState}
 use Rattle.turn.proofs.Keeping.{order-then, order-more}
 use Rattle.turn.proofs.Scanning.{keptOf, Within, WithinTo, within-pends, within-fails, within-completes, scan-within}
@@ -250,7 +250,7 @@ module _ (d : Dialect) (piece : Bytes) (n i : ℕ) (p : Place) (bytes ends out :
         this = record { start = inFile u (a .s) .start; size = a .s .size; cells = map (valueOf d) (allCells u (a .cs)) }
 
         abbrev Spells : Type 0
-        Spells = (file : Bytes) → Follows file piece i p k → Spelt file bytes′ 0 ends′ (this .cells)
+        Spells = (file : Bytes) → Follows file piece i p k → SpeltInFile file bytes′ 0 ends′ (this .cells)
 
         written-on :
             (end : ℕ) (ws : List Value) → Spells → SameCells ws (valuesNow u hold (ready .at) under (ready .inside) (a .s) (a .cs) f next (a .left) (a .came)) → faultAt d t p ws ≡ Sound → length ws ≡ p .cells + cells →

@@ -14,7 +14,7 @@ use Rattle.carried.specs.declared.place.Place.{Place}
 use Rattle.turn.specs.Types.{Dialect, Target, Fault}
 use Rattle.turn.specs.declared.Taken.{Taken}
 use Rattle.turn.specs.Holding.{scanAt, readAt, columnsOf, Holding}
-use Rattle.turn.specs.Walking.{InBounds, handIn, Spelt}
+use Rattle.turn.specs.Walking.{InBounds, handIn, SpeltInFile}
 
 -- some bytes were read up to here
 pub record Reached (d : Dialect) (t : Target) (r : Read) : Type 0 where
@@ -22,7 +22,7 @@ pub record Reached (d : Dialect) (t : Target) (r : Read) : Type 0 where
   pub reads : readBytes d (some t) consumed ≡ going r
 
 -- a call begins where earlier calls have come to, with a piece and an output of the sizes that are taken
-pub record Begins (d : Dialect) (t : Target) (piece : Bytes) (p : Place) (bytes ends out : List ℕ) (done : List Rec) (k : Kept) : Type 0 where
+pub record CallStart (d : Dialect) (t : Target) (piece : Bytes) (p : Place) (bytes ends out : List ℕ) (done : List Rec) (k : Kept) : Type 0 where
   pub hold : Holding d t p bytes ends done k
   pub reached : Reached d t (readAt d p done k)
   pub short : length piece ≤ MAXPIECE
@@ -33,7 +33,7 @@ pub record Begins (d : Dialect) (t : Target) (piece : Bytes) (p : Place) (bytes 
 -- the first record is the header: these arrays hold its names as they are spelt in the file (§15.2)
 abbrev pub Named : (file : Bytes) → (names name-ends : List ℕ) → List Rec → Type 0
 Named file names ends [] = Unit {0}
-Named file names ends (h ∷ rs) = Spelt file names 0 ends (h .cells)
+Named file names ends (h ∷ rs) = SpeltInFile file names 0 ends (h .cells)
 
 -- the names once the header is complete, and before that its cells so far; `file` is all that was consumed (§15.2)
 pub record Heads (file : Bytes) (p : Place) (names name-ends : List ℕ) (done : List Rec) (k : Kept) : Type 0 where
@@ -41,7 +41,7 @@ pub record Heads (file : Bytes) (p : Place) (names name-ends : List ℕ) (done :
   pub kept : length done ≡ 0 → ScanIn file (scanAt p k)
 
 -- the place counts these records, and the columns of their header (§15.2)
-pub record Counts (p : Place) (done : List Rec) : Type 0 where
+pub record CountsRecords (p : Place) (done : List Rec) : Type 0 where
   pub records : p .records ≡ length done
   pub columns : p .columns ≡ columnsOf done
 
@@ -55,7 +55,7 @@ pub record ReadyPiece (p : Place) (names name-ends bytes ends : List ℕ) : Type
 
 -- a call begins after the bytes `before`, with the header's cells in the first two arrays, and those of another record in the other two
 pub record Begun (d : Dialect) (t : Target) (before piece : Bytes) (p : Place) (names name-ends bytes ends out : List ℕ) (done : List Rec) (k : Kept) : Type 0 where
-  pub begins : Begins d t piece p (handIn p names bytes) (handIn p name-ends ends) out done k
+  pub begins : CallStart d t piece p (handIn p names bytes) (handIn p name-ends ends) out done k
   pub offset : p .offset ≡ length before
   pub heads : Heads before p names name-ends done k
 

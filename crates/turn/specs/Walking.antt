@@ -123,11 +123,11 @@ pub data TurnBounds (piece : Bytes) (n i : ℕ) (ends′ out : List ℕ) : Turn 
   nowhere-bounds : TurnBounds piece n i ends′ out Nowhere
 
 -- the bytes hold these cells one after the other, the first from `at` on, each up to its end: as they are spelt in the file (§10.3 §15.2)
-pub data Spelt (file bytes : Bytes) : (at : ℕ) → (ends : List ℕ) → List Value → Type 0 where
-  all-spelt : {at : ℕ} {ends : List ℕ} → Spelt file bytes at ends []
+pub data SpeltInFile (file bytes : Bytes) : (at : ℕ) → (ends : List ℕ) → List Value → Type 0 where
+  all-spelt : {at : ℕ} {ends : List ℕ} → SpeltInFile file bytes at ends []
   next-spelt :
       {at end : ℕ} {ends : List ℕ} {v : Value} {vs : List Value} → at ≤ end → end ≤ length bytes → v .from ≤ v .upto → v .upto ≤ length file →
-      slice bytes at end ≡ slice file (v .from) (v .upto) → Spelt file bytes end ends vs → Spelt file bytes at (end ∷ ends) (v ∷ vs)
+      slice bytes at end ≡ slice file (v .from) (v .upto) → SpeltInFile file bytes end ends vs → SpeltInFile file bytes at (end ∷ ends) (v ∷ vs)
 
 -- the piece from i on is the rest of the file at this place, and what is kept of the record in hand is spelt as in the file (§10.3 §15.2)
 pub record Follows (file piece : Bytes) (i : ℕ) (p : Place) (k : Kept) : Type 0 where
@@ -139,7 +139,7 @@ pub data Turns (d : Dialect) (t : Target) (piece : Bytes) (i : ℕ) (p : Place) 
   turns-next :
       {q : Place} {at end : ℕ} (x : Rec) (k′ : Kept) →
       readFrom d (some t) (going (readAt d p done k)) (drop i piece) ≡ readFrom d (some t) (going (readAt d q (done ++ (x ∷ [])) k′)) (drop at piece) →
-      Holding d t q bytes′ ends′ (done ++ (x ∷ [])) k′ → ((file : Bytes) → Follows file piece i p k → Spelt file bytes′ 0 ends′ (x .cells)) → out′ ≡ written out o (recordText t (isEmpty done) (x .cells) ++ ending (t .dialect)) →
+      Holding d t q bytes′ ends′ (done ++ (x ∷ [])) k′ → ((file : Bytes) → Follows file piece i p k → SpeltInFile file bytes′ 0 ends′ (x .cells)) → out′ ≡ written out o (recordText t (isEmpty done) (x .cells) ++ ending (t .dialect)) →
       end ≡ o + length (recordText t (isEmpty done) (x .cells) ++ ending (t .dialect)) → Turns d t piece i p done k o out bytes′ ends′ out′ (Next q at end)
   turns-pended :
       {q : Place} (k′ : Kept) → readFrom d (some t) (going (readAt d p done k)) (drop i piece) ≡ going (readAt d q done k′) → Holding d t q bytes′ ends′ done k′ →

@@ -20,7 +20,7 @@ use Rattle.turn.specs.Types.{Report, Dialect, Target}
 use Rattle.turn.specs.declared.Turn.the-variants.{Next, Pended, Stopped, Nowhere}
 use Rattle.turn.specs.Holding.{readAt, Holding}
 use Rattle.turn.specs.Walking.{InBounds, Ready, TurnBounds, next-bounds, pended-bounds, Turns, turns-next, turns-pended, turns-stopped, turns-nowhere}
-use Rattle.turn.specs.Calls.{Begins, Counts}
+use Rattle.turn.specs.Calls.{CallStart, CountsRecords}
 use Rattle.quick_turns.specs.declared.QuickTurn.{QuickTurn}
 use Rattle.quick_turns.specs.declared.QuickTurn.the-variants as quick
 use Rattle.quick_turns.specs.QuickTurns.{QuickReady, QuickBounds, next-in-bounds, nothing-in-bounds, QuickTurns, a-record, nothing}
@@ -36,7 +36,7 @@ written-over new old text =
 
 -- ---- a turn after another
 
-unfoldable pub walk-begins : {d : Dialect} {t : Target} {piece : Bytes} {place : Place} {bytes ends out : List ℕ} {done : List Rec} {k : Kept} → Begins d t piece place bytes ends out done k → Walked d t piece place done k out 0 place bytes ends out 0
+unfoldable pub walk-begins : {d : Dialect} {t : Target} {piece : Bytes} {place : Place} {bytes ends out : List ℕ} {done : List Rec} {k : Kept} → CallStart d t piece place bytes ends out done k → Walked d t piece place done k out 0 place bytes ends out 0
 walk-begins {t = t} {out = out} {done = done} {k = k} b =
     record {
       done′ = done;
@@ -99,7 +99,7 @@ module _ {d : Dialect} {t : Target} {piece : Bytes} {place : Place} {done : List
   -- the place given back is the one of the turn
   pub walk-stops : {e : Report} {bytes′ ends′ out′ : List ℕ} → Turns d t piece i p (w .done′) (w .k′) o out bytes′ ends′ out′ (Stopped e) → (mid : List Rec) → Grows mid (w .done′) → Goes d t piece place done k mid out₀ bytes′ ends′ out′ (record { place = p; report = e; length = o })
   walk-stops (turns-stopped x q r f e v) mid g =
-      goes-fault x q (subst (Grows mid) (sym f) g) (w .reads ∙ r) (subst (Counts p) (sym f) (record { records = w .hold .records; columns = w .hold .columns })) e (v ∙ w .text ∙ ap (λ (l : List Rec). over (newText t done l) out₀) (sym f)) (w .long ∙ ap (λ (l : List Rec). length (newText t done l)) (sym f))
+      goes-fault x q (subst (Grows mid) (sym f) g) (w .reads ∙ r) (subst (CountsRecords p) (sym f) (record { records = w .hold .records; columns = w .hold .columns })) e (v ∙ w .text ∙ ap (λ (l : List Rec). over (newText t done l) out₀) (sym f)) (w .long ∙ ap (λ (l : List Rec). length (newText t done l)) (sym f))
 
   -- there is always room
   pub walk-nowhere : {A : Type 0} {bytes′ ends′ out′ : List ℕ} → Entered d t piece place done k out₀ → length out ≡ length out₀ → Turns d t piece i p (w .done′) (w .k′) o out bytes′ ends′ out′ Nowhere → A

@@ -15,7 +15,7 @@ use Rattle.turn.specs.Types.{Dialect, Target, Fault}
 use Rattle.turn.specs.declared.Taken.{Taken}
 use Rattle.turn.specs.Holding.{readAt, Holding}
 use Rattle.turn.specs.Walking.{InBounds}
-use Rattle.turn.specs.Calls.{Reached, Counts}
+use Rattle.turn.specs.Calls.{Reached, CountsRecords}
 
 -- what holds at a turn of a call that began with this output: where reading stands, and what was written
 pub record Walked (d : Dialect) (t : Target) (piece : Bytes) (place : Place) (done : List Rec) (k : Kept) (out₀ : Bytes) (i : ℕ) (p : Place) (bytes ends out : List ℕ) (o : ℕ) : Type 0 where
@@ -41,5 +41,5 @@ pub data Goes (d : Dialect) (t : Target) (piece : Bytes) (place : Place) (done :
       Holding d t (r .place) bytes′ ends′ done′ k′ → InBounds (r .place) ends′ → r .report ≡ accepted → out′ ≡ over (newText t done done′) out₀ →
       r .length ≡ length (newText t done done′) → Goes d t piece place done k mid out₀ bytes′ ends′ out′ r
   goes-fault :
-      (x : Fault) (q : Read) → Grows mid (q .done) → readFrom d (some t) (going (readAt d place done k)) piece ≡ stopped x q → Counts (r .place) (q .done) →
+      (x : Fault) (q : Read) → Grows mid (q .done) → readFrom d (some t) (going (readAt d place done k)) piece ≡ stopped x q → CountsRecords (r .place) (q .done) →
       r .report ≡ faultReport x q → out′ ≡ over (newText t done (q .done)) out₀ → r .length ≡ length (newText t done (q .done)) → Goes d t piece place done k mid out₀ bytes′ ends′ out′ r

@@ -17,8 +17,8 @@ use Rattle.turn.specs.Types.{Report, Dialect, Target}
 use Rattle.turn.specs.declared.Taken.{Taken}
 use Rattle.turn.specs.declared.Turn.the-variants.{Next, Pended, Stopped}
 use Rattle.turn.specs.Holding.{allKept, scanAt, Holding}
-use Rattle.turn.specs.Walking.{InBounds, Ready, TurnBounds, next-bounds, Spelt, Follows, Turns, turns-next, turns-pended, turns-stopped}
-use Rattle.turn.specs.Calls.{Begins, Named, Counts, Begun}
+use Rattle.turn.specs.Walking.{InBounds, Ready, TurnBounds, next-bounds, SpeltInFile, Follows, Turns, turns-next, turns-pended, turns-stopped}
+use Rattle.turn.specs.Calls.{CallStart, Named, CountsRecords, Begun}
 use Rattle.turn.proofs.Beginning.{first-in-hand, second-in-hand, begun-later}
 use Rattle.turn.proofs.Writes.{grows-none}
 use Rattle.turn.proofs.Spelling.{named-none, scan-grows, named-grows}
@@ -97,12 +97,12 @@ pub ready-behind :
 ready-behind {ends = ends} (next-bounds b a on in-piece room none) x y z =
     record { bounds = bounds-anywhere b (none .1) ends; at = a; inside = in-piece; room = omega arith; long-bytes = x; long-ends = y }
 
-pub entered-of : {d : Dialect} {t : Target} {piece : Bytes} {p : Place} {bytes ends out : List ℕ} {done : List Rec} {k : Kept} → Begins d t piece p bytes ends out done k → Entered d t piece p done k out
+pub entered-of : {d : Dialect} {t : Target} {piece : Bytes} {p : Place} {bytes ends out : List ℕ} {done : List Rec} {k : Kept} → CallStart d t piece p bytes ends out done k → Entered d t piece p done k out
 entered-of b = record { reached = b .reached; short = b .short; room = b .room }
 
 -- ---- a whole call
 
-named-first : (file : Bytes) (names ends : List ℕ) (x : Rec) (rs : List Rec) → length rs ≡ 0 → Spelt file names 0 ends (x .cells) → Named file names ends (rs ++ (x ∷ []))
+named-first : (file : Bytes) (names ends : List ℕ) (x : Rec) (rs : List Rec) → length rs ≡ 0 → SpeltInFile file names 0 ends (x .cells) → Named file names ends (rs ++ (x ∷ []))
 named-first file names ends x [] e n = n
 named-first file names ends x (y ∷ rs) e n = absurd (omega arith)
 
@@ -134,7 +134,7 @@ headed-begins {before = before} {piece = piece} {names = names} {name-ends = nam
     let begins = begun-later b (λ e. omega arith) in
     record { now = walk-begins begins; behind = omega (arith, begins .hold .records); named = named-grows before piece names name-ends done (b .heads .named) }
 
-module _ {d : Dialect} {t : Target} {piece : Bytes} {place : Place} {names name-ends out : List ℕ} {done : List Rec} {k : Kept} (b : Begins d t piece place names name-ends out done k) where
+module _ {d : Dialect} {t : Target} {piece : Bytes} {place : Place} {names name-ends out : List ℕ} {done : List Rec} {k : Kept} (b : CallStart d t piece place names name-ends out done k) where
   pub headed-next :
       {file : Bytes} {q : Place} {at end : ℕ} {names′ name-ends′ out′ : List ℕ} → Follows file piece 0 place k → place .records ≡ 0 → Turns d t piece 0 place done k 0 out names′ name-ends′ out′ (Next q at end) → (q .fill ≡ 0) × (q .cells ≡ 0) →
       (bytes ends : List ℕ) → Headed file d t piece place done k out names′ name-ends′ at q bytes ends out′ end
@@ -166,7 +166,7 @@ module _ {d : Dialect} {t : Target} {piece : Bytes} {place : Place} {names name-
   took-stopped {before} {names′ = names′} {name-ends′ = name-ends′} first (turns-stopped x q r f e v) bytes ends =
       let w = walk-begins b in
       let none : length (q .done) ≡ 0 = ap length f ∙ sym (b .hold .records) ∙ first in
-      took-fault x q r (subst (Counts place) (sym f) (record { records = b .hold .records; columns = b .hold .columns })) (named-none (before ++ piece) names′ name-ends′ (q .done) none) e (v ∙ w .text ∙ ap (λ (l : List Rec). over (newText t done l) out) (sym f)) (w .long ∙ ap (λ (l : List Rec). length (newText t done l)) (sym f))
+      took-fault x q r (subst (CountsRecords place) (sym f) (record { records = b .hold .records; columns = b .hold .columns })) (named-none (before ++ piece) names′ name-ends′ (q .done) none) e (v ∙ w .text ∙ ap (λ (l : List Rec). over (newText t done l) out) (sym f)) (w .long ∙ ap (λ (l : List Rec). length (newText t done l)) (sym f))
 
 -- the turns behind the header leave its names as they are
 pub took-later :

@@ -14,7 +14,7 @@ use Rattle.turn.specs.Types.{Dialect, Target, Fault}
 use Rattle.turn.specs.declared.Taken.{Taken}
 use Rattle.turn.specs.Holding.{readAt, Holding}
 use Rattle.turn.specs.Walking.{InBounds, handIn}
-use Rattle.turn.specs.Calls.{Named, Heads, Counts}
+use Rattle.turn.specs.Calls.{Named, Heads, CountsRecords}
 
 -- as the turns over the piece, with the header's names where they stay, also at a fault
 pub data Took (d : Dialect) (t : Target) (before piece : Bytes) (p : Place) (done : List Rec) (k : Kept) (out names′ name-ends′ bytes′ ends′ out′ : List ℕ) (r : Taken) : Type 0 where
@@ -25,6 +25,6 @@ pub data Took (d : Dialect) (t : Target) (before piece : Bytes) (p : Place) (don
       InBounds (r .place) (handIn (r .place) name-ends′ ends′) → r .report ≡ accepted → out′ ≡ over (newText t done done′) out →
       r .length ≡ length (newText t done done′) → Took d t before piece p done k out names′ name-ends′ bytes′ ends′ out′ r
   took-fault :
-      (x : Fault) (q : Read) → readFrom d (some t) (going (readAt d p done k)) piece ≡ stopped x q → Counts (r .place) (q .done) →
+      (x : Fault) (q : Read) → readFrom d (some t) (going (readAt d p done k)) piece ≡ stopped x q → CountsRecords (r .place) (q .done) →
       Named (before ++ piece) names′ name-ends′ (q .done) → r .report ≡ faultReport x q → out′ ≡ over (newText t done (q .done)) out →
       r .length ≡ length (newText t done (q .done)) → Took d t before piece p done k out names′ name-ends′ bytes′ ends′ out′ r

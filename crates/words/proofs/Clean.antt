@@ -11,7 +11,7 @@ use Rattle.model.proofs.Tests.{split-on}
 use Rattle.words.specs.Words.{cleanAscii, ONES, asciiStop, Flags}
 use Rattle.words.proofs.Tops.{Top}
 use Rattle.words.proofs.Flags.{flags-same}
-use Rattle.words.proofs.Telling.{digitOf, Tells, tell-both, tell-flags, top-by, tell-ascii}
+use Rattle.words.proofs.Telling.{digitOf, FlagsBytes, tell-both, tell-flags, top-by, tell-ascii}
 use Rattle.words.proofs.Flagging.{stop-hit, stop-missed, stop-bits, below-bits, ascii-small, ascii-same}
 
 -- ---- the tests
@@ -22,13 +22,13 @@ stop-top x c true h k e = stop-hit x c k (eqb-true x c e)
 stop-top x c false h k e = stop-missed x c h k (eqb-false x c e)
 
 module _ (w : ℕ) (h : w < 0x100 ^ 8) where
-  tell-stop : (c : ℕ) → c < 0x80 → Tells w (0x8080808080808080 - bitXor (bitAnd w 0x7F7F7F7F7F7F7F7F) (c * ONES)) (λ b. not (bitAnd b 0x7F is c))
+  tell-stop : (c : ℕ) → c < 0x80 → FlagsBytes w (0x8080808080808080 - bitXor (bitAnd w 0x7F7F7F7F7F7F7F7F) (c * ONES)) (λ b. not (bitAnd b 0x7F is c))
   tell-stop c k = record { each = λ b. 0x80 - bitXor (bitAnd b 0x7F) c; word = stop-bits w h c k; told = λ b l. stop-top (bitAnd b 0x7F) c (bitAnd b 0x7F is c) (small b) k refl }
     where
       small : (b : ℕ) → bitAnd b 0x7F < 0x80
       small b = omega (arith, and-le-r b 0x7F)
 
-  tell-from-20 : Tells w (0x9F9F9F9F9F9F9F9F - bitAnd w 0x7F7F7F7F7F7F7F7F) (λ b. leb 0x20 (bitAnd b 0x7F))
+  tell-from-20 : FlagsBytes w (0x9F9F9F9F9F9F9F9F - bitAnd w 0x7F7F7F7F7F7F7F7F) (λ b. leb 0x20 (bitAnd b 0x7F))
   tell-from-20 = record { each = λ b. 0x9F - bitAnd b 0x7F; word = below-bits w h; told = λ b l. here (bitAnd b 0x7F) (and-le-r b 0x7F) }
     where
       here : (x : ℕ) → x ≤ 0x7F → Top (0x9F - x) (digitOf (leb 0x20 x))
@@ -66,7 +66,7 @@ cleanWord w first second =
 
 pub clean-flags : (w p q first second : ℕ) → w < 0x100 ^ 8 → first ≡ asciiStop p * ONES → second ≡ asciiStop q * ONES → Flags (cleanAscii p q) w (cleanWord w first second)
 clean-flags w p q first second h ep eq =
-    let tells : Tells w _ (λ b. together p q b (bitAnd b 0x7F)) =
+    let tells : FlagsBytes w _ (λ b. together p q b (bitAnd b 0x7F)) =
     tell-both (tell-both (tell-both (tell-both (tell-ascii w h) (tell-stop w h (asciiStop p) (ascii-small p))) (tell-stop w h (asciiStop q) (ascii-small q))) (tell-stop w h 0x5C (omega arith))) (tell-from-20 w h)
     in
     rw (ep, eq) (flags-same (tell-flags tells) (clean-same p q))

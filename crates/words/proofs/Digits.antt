@@ -13,13 +13,13 @@ use Rattle.words.proofs.Bytewise.{all-bytes, eight-times, add-bytes, su
 use Rattle.words.proofs.Tops.{Top}
 use Rattle.words.proofs.Flags.{flags-same}
 use Rattle.words.proofs.Flagging.{low-bits}
-use Rattle.words.proofs.Telling.{digitOf, Tells, tell-both, tell-flags, top-by, tell-ascii}
+use Rattle.words.proofs.Telling.{digitOf, FlagsBytes, tell-both, tell-flags, top-by, tell-ascii}
 
 small : (b : ℕ) → bitAnd b 0x7F ≤ 0x7F
 small b = and-le-r b 0x7F
 
 module _ (w : ℕ) (h : w < 0x100 ^ 8) where
-  tell-upto-39 : Tells w (bitAnd w 0x7F7F7F7F7F7F7F7F + 0x4646464646464646) (λ b. leb (bitAnd b 0x7F) 0x39)
+  tell-upto-39 : FlagsBytes w (bitAnd w 0x7F7F7F7F7F7F7F7F + 0x4646464646464646) (λ b. leb (bitAnd b 0x7F) 0x39)
   tell-upto-39 =
       record {
         each = λ b. bitAnd b 0x7F + 0x46;
@@ -33,7 +33,7 @@ module _ (w : ℕ) (h : w < 0x100 ^ 8) where
       here : (x : ℕ) → x ≤ 0x7F → Top (x + 0x46) (digitOf (leb x 0x39))
       here x l = top-by (x + 0x46) (leb x 0x39) (omega arith) (λ t. omega (arith, leb-true x 0x39 t)) (λ t. omega (arith, leb-false x 0x39 t))
 
-  tell-from-30 : Tells w (0xAFAFAFAFAFAFAFAF - bitAnd w 0x7F7F7F7F7F7F7F7F) (λ b. leb 0x30 (bitAnd b 0x7F))
+  tell-from-30 : FlagsBytes w (0xAFAFAFAFAFAFAFAF - bitAnd w 0x7F7F7F7F7F7F7F7F) (λ b. leb 0x30 (bitAnd b 0x7F))
   tell-from-30 =
       record {
         each = λ b. 0xAF - bitAnd b 0x7F;
@@ -60,5 +60,5 @@ digit-same b =
 pub digit-flags : (w : ℕ) → w < 0x100 ^ 8
     → Flags isDigit w (bitAnd (bitOr (bitOr w (bitAnd w 0x7F7F7F7F7F7F7F7F + 0x4646464646464646)) (0xAFAFAFAFAFAFAFAF - bitAnd w 0x7F7F7F7F7F7F7F7F)) 0x8080808080808080)
 digit-flags w h =
-    let tells : Tells w _ (λ b. ltb b 0x80 && leb (bitAnd b 0x7F) 0x39 && leb 0x30 (bitAnd b 0x7F)) = tell-both (tell-both (tell-ascii w h) (tell-upto-39 w h)) (tell-from-30 w h) in
+    let tells : FlagsBytes w _ (λ b. ltb b 0x80 && leb (bitAnd b 0x7F) 0x39 && leb 0x30 (bitAnd b 0x7F)) = tell-both (tell-both (tell-ascii w h) (tell-upto-39 w h)) (tell-from-30 w h) in
     flags-same (tell-flags tells) digit-same

@@ -17,7 +17,7 @@ unfoldable pub digitOf : Bool → ℕ
 digitOf t = if t then 0 else 1
 
 -- the top digit of each byte is 1 where the byte does not pass
-pub record Tells (w x : ℕ) (passes : ℕ → Bool) : Type 0 where
+pub record FlagsBytes (w x : ℕ) (passes : ℕ → Bool) : Type 0 where
   pub each : ℕ → ℕ
   pub word : Bytewise (bytesOf 8 w) x each
   pub told : (b : ℕ) → b < 0x100 → Top (each b) (digitOf (passes b))
@@ -29,7 +29,7 @@ both true false = refl
 both false true = refl
 both false false = refl
 
-pub tell-both : {w x y : ℕ} {t u : ℕ → Bool} → Tells w x t → Tells w y u → Tells w (bitOr x y) (λ b. t b && u b)
+pub tell-both : {w x y : ℕ} {t u : ℕ → Bool} → FlagsBytes w x t → FlagsBytes w y u → FlagsBytes w (bitOr x y) (λ b. t b && u b)
 tell-both {w} {x} {y} {t} {u} a c =
     record {
       each = λ b. bitOr (a .each b) (c .each b);
@@ -42,7 +42,7 @@ unfolding digitOf if_then_else_
 flag-digit true = refl
 flag-digit false = refl
 
-pub tell-flags : {w x : ℕ} {t : ℕ → Bool} → Tells w x t → Flags t w (bitAnd x 0x8080808080808080)
+pub tell-flags : {w x : ℕ} {t : ℕ → Bool} → FlagsBytes w x t → Flags t w (bitAnd x 0x8080808080808080)
 unfolding flagOf
 tell-flags {w} {x} {t} a =
     flags-from (and-bytes (all-bytes 8 w) (a .word) (eight-times w 0x80 (omega arith)))
@@ -53,5 +53,5 @@ unfolding digitOf if_then_else_
 top-by n true h f g = let k = f refl in record { byte = h; digit = omega arith }
 top-by n false h f g = let k = g refl in record { byte = h; digit = omega arith }
 
-pub tell-ascii : (w : ℕ) → w < 0x100 ^ 8 → Tells w w (λ b. ltb b 0x80)
+pub tell-ascii : (w : ℕ) → w < 0x100 ^ 8 → FlagsBytes w w (λ b. ltb b 0x80)
 tell-ascii w h = record { each = λ b. b; word = itself w h; told = λ b l. top-by b (ltb b 0x80) l (ltb-true b 0x80) (ltb-false b 0x80) }

@@ -1,7 +1,7 @@
 use mathlib.Core.Path.{refl}
 use borrow.Author.Needs.{needs}
 use borrow.Author.Tests.{ne-eqb}
-use Rattle.quick_records.specs.Quickly.{Begins, here, after-cr, after-pair, unknown}
+use Rattle.quick_records.specs.Quickly.{FirstCellAt, here, after-cr, after-pair, unknown}
 use Rattle.quick_records.proofs.after_cr.Statement.{statement}
 use Rattle.quick_records.proofs.after_cr.Tie as tie
 

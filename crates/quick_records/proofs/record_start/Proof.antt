@@ -1,4 +1,4 @@
-use Rattle.quick_records.specs.Quickly.{Begins, here, after-cr, after-pair, unknown}
+use Rattle.quick_records.specs.Quickly.{FirstCellAt, here, after-cr, after-pair, unknown}
 use borrow.Author.Needs.{needs}
 use Rattle.quick_records.proofs.record_start.Statement.{statement}
 use Rattle.quick_records.proofs.record_start.Tie as tie

@@ -21,7 +21,7 @@ use Rattle.carried.specs.declared.checks.Check.the-variants as checks
 use Rattle.carried.specs.declared.place.Place.{Place}
 use Rattle.turn.specs.Walking.{InBounds, handIn}
 use Rattle.turn.specs.Calls.{Named, Begun, Finished}
-use Rattle.pieces.specs.States.{endedIn, placeOf, numbersOf}
+use Rattle.pieces.specs.States.{storedEnd, placeOf, numbersOf}
 use Rattle.pieces.specs.Calling.{converterOf, Called}
 use Rattle.pieces.specs.declared.Converter.{Converter}
 use Rattle.pieces.proofs.Carrying.{toldOf}
@@ -44,8 +44,8 @@ check-is : (u : tie.After-checked) → u .checked .result ≡ checkOf (stateAt u
 check-is u =
     let a = u .before .before .before .before .args in
     subst
-    (λ (f : Report). u .checked .result ≡ checkNow (a .source) (a .target) f (endedIn (a .numbers .now)) 0 (length (a .out .now)))
-    (u .before .fault-in .ensures)
+    (λ (f : Report). u .checked .result ≡ checkNow (a .source) (a .target) f (storedEnd (a .numbers .now)) 0 (length (a .out .now)))
+    (u .before .stored-fault .ensures)
     (u .checked .ensures)
 
 refused-returns : tie.Need-returns-2

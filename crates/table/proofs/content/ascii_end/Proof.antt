@@ -6,13 +6,13 @@ use Prim.Native.Nat.{_-_}
 use native.Mathlib.Omega.{arith}
 use lib.ListN.{length}
 use Rattle.model.specs.Utf8.{gap}
-use Rattle.table.specs.Content.{Passes}
+use Rattle.table.specs.Content.{SameContentState}
 use Rattle.table.proofs.Contents.{passes-none, passes-ascii}
 use Rattle.table.proofs.content.ascii_end.Statement.{statement}
 use Rattle.table.proofs.content.ascii_end.Tie as tie
 
 abbrev Inv-loop : tie.InvT-loop
-Inv-loop s at i₀ i = Passes (some (gap false)) s at i
+Inv-loop s at i₀ i = SameContentState (some (gap false)) s at i
 
 abbrev μ-loop : tie.MeasureT-loop
 μ-loop s at i₀ i = length s - i
