@@ -1,7 +1,7 @@
 -- The examples hold, by computation.
 use mathlib.Core.Path.{refl}
 use Rattle.model.specs.Computes.{computes}
-use Rattle.model.specs.Examples.{Sixteen, Mistakes}
+use Rattle.model.specs.Examples.{Sixteen}
 
 pub sixteen : Sixteen
 unfolding computes
@@ -23,21 +23,4 @@ sixteen =
       e14 = (refl, refl);
       e15 = refl;
       e16 = refl;
-    }
-
-pub mistakes : Mistakes
-unfolding computes
-mistakes =
-    record {
-      lone-cr = (refl, refl);
-      raw-names = refl;
-      empty-record = refl;
-      halves-joined = refl;
-      comment-uncounted = (refl, refl);
-      limit-first = (refl, refl);
-      mark-in-quotes = refl;
-      crlf-ends-once = refl;
-      cr-before-cut = (refl, refl);
-      lf-after-cut = refl;
-      halves-cut = refl;
     }

@@ -1,4 +1,5 @@
 pub mod Tests
+pub mod Absent
 pub mod AllExamples
 pub mod Reading
 pub mod Utf8
