@@ -6,8 +6,7 @@ use lib.ListN.{length, take, getD}
 use Rattle.model.specs.Base.{if_then_else_, _is_, Bytes}
 use Rattle.model.specs.Text.{Value, recordText, ending}
 use Rattle.model.specs.Places.{valuesIn}
-use Rattle.model.specs.Records.{Rec, _orElse_, headerFault, dataFault, targetFault}
-use Rattle.model.specs.Trips.{SameCells}
+use Rattle.model.specs.Records.{_orElse_, headerFault, dataFault, targetFault}
 use Rattle.buffers.specs.Wrote.{written}
 use Rattle.decoder.specs.Followed.{EdFollowed}
 use Rattle.model.specs.declared.Dialect.{Dialect}

@@ -27,7 +27,6 @@ use Rattle.model.specs.Machine.{ConverterStage, taking, faulted, ended, stageTh
 use Rattle.model.specs.Scans.{Kept}
 use Rattle.model.proofs.Tests.{impossible, within-true}
 use Rattle.model.proofs.Histories.{fault-number}
-use Rattle.model.proofs.Reading.{read-append}
 use Rattle.model.proofs.MachineLaws.{machine}
 use Rattle.numbers.specs.Named.{textAnswer}
 use Rattle.numbers.specs.declared.TextAnswer.{TextAnswer}
@@ -42,7 +41,7 @@ use Rattle.turn.specs.Walking.{InBounds, handIn}
 use Rattle.turn.specs.Calls.{Named, Heads, Begun, Finished}
 use Rattle.walk.specs.Taking.{Took, took-all, took-fault}
 use Rattle.turn.proofs.Turning.{first-holds, first-reads}
-use Rattle.turn.proofs.Writes.{reached-on}
+use Rattle.turn.proofs.Writes.{reads-on}
 use Rattle.turn.proofs.Spelling.{named-grows}
 use Rattle.pieces.specs.States.{placeIn, placeOf, numbersOf}
 use Rattle.pieces.specs.Carrying.{StateShows, Unfaulted, Takes, StageOf, stage-taking, stage-faulted, stage-ended, stage-no-source, stage-no-target, Models}
@@ -119,11 +118,6 @@ module _ (d t : Dialect) (consumed : Bytes) (s : Converter) (done : List Rec) (k
       r .length ≡ length (taken (into t) (tableText (into t) (rows done)) q .text) → Says (toldOf r) out out′ (taken (into t) (tableText (into t) (rows done)) q)
   says q r out out′ g w l = record { answer = ap₂ (λ (x : Report) (n : ℕ). record { report = x; length = n }) g l; leaves = w }
 
-  -- what all bytes come to
-  reads-on : (bs : Bytes) → readBytes d (some (into t)) (consumed ++ bs) ≡ readFrom d (some (into t)) (going stood) bs
-  unfolding readBytes
-  reads-on bs = read-append d (some (into t)) (going nothingRead) consumed bs ∙ ap (λ (p : Progress). readFrom d (some (into t)) p bs) (h .reads)
-
   module _ (m n : ℕ) (p : dialectOf m ≡ some d) (q : dialectOf n ≡ some t) where
     -- a piece
     module _ (bs out : Bytes) (r : Taken) (ends′ name-ends′ bytes′ names′ out′ : List ℕ) where
@@ -139,7 +133,7 @@ module _ (d t : Dialect) (consumed : Bytes) (s : Converter) (done : List Rec) (k
           length ends′ ≡ MAXCOLUMNS → Left m n d t (consumed ++ bs) (stageThen false (readFrom d (some (into t)) (going stood) bs)) (stateThen s r 0 ends′ name-ends′ bytes′ names′)
       piece-left (took-all done′ k′ reads hold heads b g w l) long-names long-name-ends long-bytes long-ends =
           let back : r .place ≡ placeIn (numbersOf (r .place) 0 (r .report)) = sym (place-back (r .place) 0 (r .report)) in
-          let on : readBytes d (some (into t)) (consumed ++ bs) ≡ going (readAt d (r .place) done′ k′) = reached-on d (into t) consumed stood (h .reads) bs (readAt d (r .place) done′ k′) reads in
+          let on : readBytes d (some (into t)) (consumed ++ bs) ≡ going (readAt d (r .place) done′ k′) = reads-on d (into t) consumed stood (h .reads) bs ∙ reads in
           let takes : Takes d t (consumed ++ bs) (stateThen s r 0 ends′ name-ends′ bytes′ names′) done′ k′ = record {
             hold = subst (λ (x : Place). Holding d (into t) x (handIn x names′ bytes′) (handIn x name-ends′ ends′) done′ k′) back hold;
             heads = subst (λ (x : Place). Heads (consumed ++ bs) x names′ name-ends′ done′ k′) back heads;
@@ -160,7 +154,7 @@ module _ (d t : Dialect) (consumed : Bytes) (s : Converter) (done : List Rec) (k
           rw reads
           (record {
             stage = stage-faulted (subst (λ (e : Report). StageEncoded (faulted (faultReport x z)) e 0) (sym g) (tells-faulted (numbered x z)));
-            shows = shows-by (stopped x z) (reads-on bs ∙ reads) (counts .records) (counts .columns) named;
+            shows = shows-by (stopped x z) (reads-on d (into t) consumed stood (h .reads) bs ∙ reads) (counts .records) (counts .columns) named;
             offset = λ v. absurd v;
           })
 
@@ -185,7 +179,7 @@ module _ (d t : Dialect) (consumed : Bytes) (s : Converter) (done : List Rec) (k
           record {
             stage = end-stage;
             shows =
-                shows-by (going stood) (reads-on []) (ap (λ (x : Place). x .records) (f .place) ∙ h .hold .records) (ap (λ (x : Place). x .columns) (f .place) ∙ h .hold .columns)
+                shows-by (going stood) (reads-on d (into t) consumed stood (h .reads) []) (ap (λ (x : Place). x .records) (f .place) ∙ h .hold .records) (ap (λ (x : Place). x .columns) (f .place) ∙ h .hold .columns)
                 (named-grows consumed [] names′ name-ends′ done named);
             offset = λ _. ap (λ (x : Place). x .offset) (f .place) ∙ offset-is d (some (into t)) consumed stood (h .reads) ∙ ap length (sym (append-nil consumed));
           }

@@ -23,13 +23,17 @@ grown-length {a} g = omega (arith, ap length (g .sum), length-append a (g .added
 module _ (d : Dialect) (t : Target) where
   -- the records completed so far are among those of the whole piece
   module _ (xs : Bytes) (r : Read) (e : readBytes d (some t) xs ≡ going r) where
+    -- what the bytes come to with a piece more
+    pub reads-on : (piece : Bytes) → readBytes d (some t) (xs ++ piece) ≡ readFrom d (some t) (going r) piece
+    unfolding readBytes
+    reads-on piece = read-append d (some t) (going nothingRead) xs piece ∙ ap (λ p. readFrom d (some t) p piece) e
+
     -- a piece has room for its records so far
     pub piece-room :
         (piece rest : Bytes) (q : Read) → length piece ≤ MAXPIECE → readFrom d (some t) (going r) piece ≡ readFrom d (some t) (going q) rest →
         length (tableText t (rows (q .done))) ≤ length (tableText t (rows (r .done))) + LEASTOUTPUT
-    unfolding readBytes
     piece-room piece rest q l s =
-        let all : readBytes d (some t) (xs ++ piece) ≡ readFrom d (some t) (going q) rest = read-append d (some t) (going nothingRead) xs piece ∙ ap (λ p. readFrom d (some t) p piece) e ∙ s in
+        let all : readBytes d (some t) (xs ++ piece) ≡ readFrom d (some t) (going q) rest = reads-on piece ∙ s in
         let most : length (tableText t (rows (recordsOf (readBytes d (some t) (xs ++ piece))))) ≤ length (tableText t (rows (r .done))) + 49152 = piece-writes d t xs piece r e l in
         let most′ : length (tableText t (rows (recordsOf (readFrom d (some t) (going q) rest)))) ≤ length (tableText t (rows (r .done))) + 49152 = rw all at most in
         let some-of : length (tableText t (rows (q .done))) ≤ length (tableText t (rows (recordsOf (readFrom d (some t) (going q) rest)))) = grown-length (table-grows t (read-grows d (some t) (going q) rest)) in
@@ -42,11 +46,6 @@ module _ (d : Dialect) (t : Target) where
         let all : readFile d (some t) xs ≡ going q = ap (readEnd d (some t)) e ∙ s in
         let most : length (tableText t (rows (recordsOf (readFile d (some t) xs)))) ≤ length (tableText t (rows (r .done))) + 49152 = end-writes d t xs r e in
         rw all at most
-
-    -- the bytes consumed then
-    pub reached-on : (piece : Bytes) (q : Read) → readFrom d (some t) (going r) piece ≡ going q → readBytes d (some t) (xs ++ piece) ≡ going q
-    unfolding readBytes
-    reached-on piece q s = read-append d (some t) (going nothingRead) xs piece ∙ ap (λ p. readFrom d (some t) p piece) e ∙ s
 
 -- ---- the new text
 
