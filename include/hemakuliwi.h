@@ -142,7 +142,8 @@ struct hk_text_answer hk_write(uint32_t dialect, const uint8_t *content, size_t 
 
    Name k of the header, counted from 0, stands in `names` from 0 or name_ends[k - 1] up to name_ends[k], as it is spelt in the file, for
    k below numbers[HK_AT_COLUMNS]; hk_decode gives its content. It is there once numbers[HK_AT_RECORDS] is above 0, and stays there after a
-   fault, so that a program can name the column. */
+   fault, so that a program can name the column, and after an end. That is proved, as are the numbers below; the other bytes of a
+   converter are its own, and may be anything after a fault or an end. */
 struct hk_converter {
     uint32_t source;
     uint32_t target;
