@@ -6,7 +6,7 @@ use std::path::{Path, PathBuf};
 
 /// The folder in which the prover has a crate `c` with this edit, at the beginning of each place in a log.
 fn tried(edit: &str) -> String {
-    format!("/home/somebody/tables/target/must-fail/c/{edit}")
+    format!("/somewhere/tables/target/must-fail/c/{edit}")
 }
 
 /// An empty folder for a test of this name.
@@ -109,8 +109,8 @@ const BAD: [(&str, &str, &str); 9] = [
     ),
     (
         "elsewhere",
-        "/tmp/made/proofs/f/Proof.antt:3:1: error: `f-spec`: expected type `1 ≡ 2`",
-        "its error has no place in a proof or a law: /tmp/made/proofs/f/Proof.antt:3:1",
+        "/elsewhere/made/proofs/f/Proof.antt:3:1: error: `f-spec`: expected type `1 ≡ 2`",
+        "its error has no place in a proof or a law: /elsewhere/made/proofs/f/Proof.antt:3:1",
     ),
     (
         "no_line",
