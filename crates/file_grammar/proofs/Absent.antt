@@ -52,6 +52,7 @@ empty-line tdif.no-line = nothing
 empty-line (tdif.a-comment {xs} c k) = a-line (opens-on xs (comment-opens c))
 empty-line (tdif.a-record {xs} r k) = a-line (opens-on xs (record-opens r))
 
+-- LF opens no line
 no-empty-line : Lined (0x0A ∷ []) → ⊥
 no-empty-line (a-line o) = elim o [ ]
 
@@ -62,10 +63,12 @@ mark-first xs ls (plus.file n k) = n plus.mark
 
 -- ---- CSVJ: a line's text is all but its ending, and lines end
 
+-- a terminator has two bytes at most
 terminator-short : {es : Bytes} → csvj.Line-terminator es → length es ≤ 2
 terminator-short csvj.lf = omega arith
 terminator-short csvj.crlf = omega arith
 
+-- all of a line but two bytes at most is its text
 blanks-uncounted : {bs : Bytes} {l : Line Derived} → csvj.Line bs l → length bs ≤ length (textIn l) + 2
 blanks-uncounted (csvj.ended {text} {es} t e) = let h = terminator-short e in rw (length-append text es) (omega arith)
 
@@ -79,14 +82,17 @@ unfolding lastOf
 last-on b [] ys = refl
 last-on b (c ∷ cs) ys = last-on c cs ys
 
+-- a terminator's last byte is LF, whatever byte is before it
 terminator-last : {es : Bytes} (b : ℕ) → csvj.Line-terminator es → lastOf b es ≡ LF
 unfolding lastOf
 terminator-last b csvj.lf = refl
 terminator-last b csvj.crlf = refl
 
+-- so is a line's
 line-last : {bs : Bytes} {l : Line Derived} (b : ℕ) → csvj.Line bs l → lastOf b bs ≡ LF
 line-last b (csvj.ended {text} {es} t e) = last-on b text es ∙ terminator-last (lastOf b text) e
 
+-- so is that of data lines
 missing-ending : {xs : Bytes} {ls : List (Line Derived)} → csvj.Data-lines xs ls → lastOf LF xs ≡ LF
 unfolding lastOf
 missing-ending csvj.no-line = refl

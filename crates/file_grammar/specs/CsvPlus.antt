@@ -24,9 +24,10 @@ module _ (s : Settings) where
     pub data File : Bytes → List (Line Derived) → Type 0 where
       file : {xs : Bytes} {ls : List (Line Derived)} → ¬ BeginsWithMark xs → Table xs ls → File xs ls
 
-    -- header [CRLF [record *(CRLF record) [CRLF]]]. Where this could be read as a last empty record or as none, the rules have none:
-    -- the last ending may be missing, but the end directly after an ending starts no record (§5.1 §5.2), and a file of no bytes has none
-    -- (§6.1). So a record with no ending is not empty
+    -- header [CRLF [record *(CRLF record) [CRLF]]]
+    -- Where this could be read as a last empty record or as none, the rules have none: the last ending may be missing, but the end
+    -- directly after an ending starts no record (§5.1 §5.2), and a file of no bytes has none (§6.1). So a record with no ending is not
+    -- empty
     pub data Table : Bytes → List (Line Derived) → Type 0 where
       header-unended : {b : ℕ} {text : Bytes} {cells : List Derived} → Header (b ∷ text) cells → Table (b ∷ text) (line (b ∷ text) cells ∷ [])
       header-alone : {text es : Bytes} {cells : List Derived} → Header text cells → CRLF es → Table (text ++ es) (line text cells ∷ [])

@@ -68,6 +68,7 @@ tdifLines o tdif.no-line = []
 tdifLines o (tdif.a-comment {cs} c ls) = tdifLines (past cs o) ls
 tdifLines o (tdif.a-record {bs} r ls) = tdifRecord o r ∷ tdifLines (past bs o) ls
 
+-- comments before the header are no records
 abbrev pub tdifFile : ℕ → {xs : Bytes} {ls : List (Line Derived)} → tdif.File xs ls → List (List Stretch)
 tdifFile o (tdif.comment-first {cs} c f) = tdifFile (past cs o) f
 tdifFile o (tdif.header-first {bs} (tdif.header r) ls) = tdifRecord o r ∷ tdifLines (past bs o) ls

@@ -20,8 +20,8 @@ mutual
     a-comment : {cs xs : Bytes} {ls : List (Line Derived)} → Comment cs → Lines xs ls → Lines (cs ++ xs) ls
     a-record : {bs xs : Bytes} {l : Line Derived} {ls : List (Line Derived)} → Record bs l → Lines xs ls → Lines (bs ++ xs) (l ∷ ls)
 
-  -- header = value *(comma value) linebreak. The rules depart: a header is a record by form, and `\N` in it is left to fault 7
-  -- (§4.8 §6.3)
+  -- header = value *(comma value) linebreak
+  -- The rules depart: a header is a record by form, and `\N` in it is left to fault 7 (§4.8 §6.3)
   pub data Header : Bytes → Line Derived → Type 0 where
     header : {bs : Bytes} {l : Line Derived} → Record bs l → Header bs l
 

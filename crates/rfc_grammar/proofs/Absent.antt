@@ -13,9 +13,11 @@ use Rattle.rfc_grammar.specs.Mistakes.{RfcMistakes}
 
 -- ---- RFC 8259 and RFC 3629
 
+-- 01 is no int
 leading-zero : json.Int (0x30 ∷ 0x31 ∷ []) → ⊥
 leading-zero (json.nonzero (json.digit1-9 r) ds) = omega (arith, r)
 
+-- 01 hex is not unescaped
 control-byte : json.Unescaped (0x01 ∷ []) → ⊥
 control-byte (json.below-quote r) = omega (arith, r)
 control-byte (json.below-backslash r) = omega (arith, r)
@@ -24,6 +26,7 @@ control-byte (json.above-ascii (of-two u)) = elim u [ ]
 control-byte (json.above-ascii (of-three u)) = elim u [ ]
 control-byte (json.above-ascii (of-four u)) = elim u [ ]
 
+-- ED A0 80 is not UTF-8
 raw-surrogate : UTF8-3 (0xED ∷ 0xA0 ∷ 0x80 ∷ []) → ⊥
 raw-surrogate (e1-ec r s t) = omega (arith, r)
 raw-surrogate (ed r t) = omega (arith, r)

@@ -146,9 +146,10 @@ mutual
   pub data Quotation-mark : ℕ → Type 0 where
     a-quotation-mark : Quotation-mark 0x22
 
-  -- unescaped = %x20-21 / %x23-5B / %x5D-10FFFF, in UTF-8, which has no octets for D800-DFFF (§1.5 §2.11)
+  -- unescaped = %x20-21 / %x23-5B / %x5D-10FFFF
   pub data Unescaped : Bytes → Type 0 where
     below-quote : {b : ℕ} → b from 0x20 to 0x21 → Unescaped (b ∷ [])
     below-backslash : {b : ℕ} → b from 0x23 to 0x5B → Unescaped (b ∷ [])
     above-backslash : {b : ℕ} → b from 0x5D to 0x7F → Unescaped (b ∷ [])
+    -- %x80-10FFFF, in UTF-8, which has no octets for D800-DFFF (§1.5 §2.11)
     above-ascii : {cs : Bytes} → UTF8-data cs → Unescaped cs
