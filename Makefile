@@ -22,9 +22,9 @@ links := target/staticlib/$(loader_name) target/staticlib/$(linker_name)
 .PHONY: all install install-library uninstall uninstall-library program
 all: $(library) $(shared) $(links)
 
-# The names of the sources are in a file that is newer only once one was added or deleted; beside it is when make looked for them last.
+# The names of the sources are in a file that is newer only once one was added or deleted.
 names := target/staticlib/sources
-proved_sources := crates.txt $(shell mkdir -p target/staticlib && touch $(names).looked && \
+proved_sources := crates.txt $(shell mkdir -p target/staticlib && \
 	find crates -name must-fail -prune -o \( -name '*.rt' -o -name '*.antt' \) -print | LC_ALL=C sort | tee $(names).found && \
 	{ cmp -s $(names).found $(names) || cp $(names).found $(names); })
 
@@ -80,8 +80,8 @@ uninstall-library:
 	rm -f $(patsubst %,'$(DESTDIR)$(libdir)/%',libhemakuliwi.a $(shared_name) $(loader_name) $(linker_name)) \
 		'$(DESTDIR)$(includedir)/hemakuliwi.h' '$(DESTDIR)$(pkgconfigdir)/hemakuliwi.pc'
 
-# The command: `./hemakuliwi`, which is installed with its man page and what shells complete it by. The script starts make only where it
-# finds a source newer itself; a test compares the two.
+# The command: `./hemakuliwi`, which is installed with its man page and what shells complete it by. The script starts make only where a
+# source is newer than its list of them; a test compares the two.
 command := target/release/hemakuliwi
 command_texts := rust/command/share
 command_sources := $(shell find rust/command/src rust/hemakuliwi/src) rust/hemakuliwi/build.rs $(wildcard rust/*/Cargo.toml)

@@ -47,6 +47,19 @@ cp command target/release/hemakuliwi
 ";
 /// A make that says that it was started, and fails.
 const NO_MAKE: &str = "#!/bin/sh\necho 'make was started' >&2\nexit 1\n";
+/// A find that notes that it was started, and takes names from a list alone, without the files below them.
+const FIND_LISTED: &str = "#!/bin/sh
+echo find >>\"${0%/*}/../finds\"
+[ \"$1 $3 $4\" = '-files0-from -maxdepth 0' ] || exit 1
+PATH=${PATH#*:}
+exec find \"$@\"
+";
+/// A find that knows no lists.
+const FIND_UNLISTED: &str = "#!/bin/sh
+[ \"$1\" != -files0-from ] || { echo \"find: unknown predicate '$1'\" >&2; exit 1; }
+PATH=${PATH#*:}
+exec find \"$@\"
+";
 
 /// The crates that the Makefile has proved, each an archive.
 fn archives() -> Vec<String> {
@@ -79,14 +92,23 @@ fn small_repository(name: &str, rt: &str) -> PathBuf {
     for (program, content) in [("rt", rt), ("ar", AR), ("cargo", CARGO)] {
         write(&format!("bin/{program}"), content);
     }
-    write("without_make/make", NO_MAKE);
+    for (program, content) in [
+        ("without_make/make", NO_MAKE),
+        ("find_listed/make", NO_MAKE),
+        ("find_listed/find", FIND_LISTED),
+        ("find_unlisted/find", FIND_UNLISTED),
+        ("neither/make", NO_MAKE),
+        ("neither/find", FIND_UNLISTED),
+    ] {
+        write(program, content);
+    }
     fs::create_dir(folder.join("include")).expect("a folder");
     for file in ["hemakuliwi", "Makefile", "include/hemakuliwi.h"] {
         fs::copy(repository().join(file), folder.join(file)).expect("a file of the repository");
     }
     fs::copy(COMMAND, folder.join("command")).expect("the command");
     let told = shell(
-        &format!("cd '{}' && chmod +x bin/* without_make/*", text(&folder)),
+        &format!("cd '{}' && chmod +x */make */find bin/*", text(&folder)),
         b"",
     );
     assert_eq!(told, Run::new(0, "", ""));
@@ -113,7 +135,12 @@ fn converted() -> Run {
 
 /// Whether a call starts make.
 fn starts_make(folder: &Path) -> bool {
-    let told = convert_with(folder, "without_make");
+    starts_make_with(folder, "without_make")
+}
+
+/// The same, where the programs of this folder are found first; its make fails.
+fn starts_make_with(folder: &Path, programs: &str) -> bool {
+    let told = convert_with(folder, programs);
     if told == converted() {
         return false;
     }
@@ -214,6 +241,69 @@ fn make_is_not_started_where_no_source_has_changed() {
     touch(&folder, "crates/model/must-fail/new.edit");
     fs::remove_file(folder.join("crates/model/must-fail/wrong.edit")).expect("a file");
     assert!(!starts_make(&folder));
+}
+
+#[test]
+fn one_find_over_the_list_shows_that_no_source_has_changed() {
+    let folder = small_repository("script_listed", RT);
+    assert_eq!(convert(&folder).status, Some(0));
+    assert!(!starts_make_with(&folder, "find_listed"));
+    let finds = fs::read_to_string(folder.join("finds")).expect("a file");
+    assert_eq!(finds, "find\n");
+}
+
+#[test]
+fn make_decides_where_find_knows_no_lists() {
+    let folder = built_repository("script_unlisted");
+    assert!(starts_make_with(&folder, "neither"));
+    assert_eq!(convert_with(&folder, "find_unlisted"), converted());
+    assert!(runs(&folder).is_empty());
+    touch(&folder, PROVED[0]);
+    let told = convert_with(&folder, "find_unlisted");
+    assert_eq!(told.told, converted().told, "{}", told.said);
+    assert_eq!(runs(&folder), whole_build());
+    assert_eq!(convert_with(&folder, "find_unlisted"), converted());
+    assert_eq!(runs(&folder), whole_build(), "nothing is built again");
+}
+
+#[test]
+fn make_decides_where_the_list_is_missing() {
+    let folder = built_repository("script_no_list");
+    fs::remove_file(folder.join("target/hemakuliwi.sources")).expect("a file");
+    assert!(starts_make(&folder));
+    assert_eq!(convert(&folder), converted());
+    assert!(runs(&folder).is_empty());
+    assert!(!starts_make(&folder));
+}
+
+#[test]
+fn make_between_two_calls_changes_neither() {
+    let folder = built_repository("script_make_between");
+    let make = |target: &str| {
+        let line = format!(
+            "PATH=\"{0}/bin:$PATH\" make --silent --directory '{0}' {target}",
+            text(&folder)
+        );
+        assert_eq!(shell(&line, b"").status, Some(0));
+    };
+    make("command");
+    assert!(runs(&folder).is_empty());
+    assert!(!starts_make(&folder));
+    // All that was to do is done.
+    touch(&folder, PROVED[0]);
+    make("command");
+    assert_eq!(runs(&folder), whole_build());
+    assert_eq!(convert(&folder), converted());
+    assert!(!starts_make(&folder));
+    // The command is left.
+    make_old(&folder);
+    touch(&folder, PROVED[0]);
+    make("target/staticlib/libhemakuliwi.a");
+    builds(&folder, &whole_build(), "the library was built by make");
+    // The library is new, and no source is.
+    fs::remove_file(folder.join("target/staticlib/libhemakuliwi.a")).expect("a file");
+    make("target/staticlib/libhemakuliwi.a");
+    builds(&folder, &whole_build(), "the library was built again");
 }
 
 #[test]
