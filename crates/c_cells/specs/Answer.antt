@@ -1,5 +1,5 @@
 -- What C's struct stands for, as an answer of the decoder.
-use Rattle.decoder.specs.Answer.{CellAnswer}
+use Rattle.cell_decoder.specs.Answer.{CellAnswer}
 use Rattle.c_cells.specs.declared.DecodeAnswer.{DecodeAnswer}
 
 abbrev pub structAnswer : DecodeAnswer → CellAnswer

@@ -7,14 +7,14 @@
 // asks the lexer whether a content spells a number.
 ghost use mathlib.Core.Path.{_≡_};
 ghost use lib.ListN.{length};
-ghost use Rattle.model.specs.Api.{decoder, decoderLeaves, writer, writerLeaves};
-ghost use Rattle.decoder.specs.Answer.{decoderAnswer, givenAnswer};
-ghost use Rattle.numbers.specs.Named.{textAnswer};
-ghost use Rattle.table.specs.Given.{given};
+ghost use Rattle.model.specs.rules.Api.{decoder, decoderLeaves, writer, writerLeaves};
+ghost use Rattle.cell_decoder.specs.Answer.{decoderAnswer, givenAnswer};
+ghost use Rattle.codes.specs.Named.{textAnswer};
+ghost use Rattle.table_writer.specs.TableParts.{given};
 ghost use Rattle.c_cells.specs.Answer.{structAnswer};
-use decoder::Decoded;
+use cell_decoder::Decoded;
+use codes::TextAnswer;
 use model::Report;
-use numbers::TextAnswer;
 
 // What the decoder answers: a report, and the content's length and kind, which are 0 on refusal.
 #[repr(C)]
@@ -31,7 +31,7 @@ fn answer_of(d: Decoded) -> DecodeAnswer
         // What is no content is a refusal: the inner `else` is proved never to run.
         let Decoded::Refused(e) = d else {
             return DecodeAnswer {
-                report: numbers::on_call(numbers::WRONG_CALL),
+                report: codes::call_report(codes::WRONG_CALL),
                 length: 0,
                 kind: 0,
             };
@@ -43,9 +43,9 @@ fn answer_of(d: Decoded) -> DecodeAnswer
         };
     };
     DecodeAnswer {
-        report: numbers::on_call(numbers::ACCEPTED),
+        report: codes::call_report(codes::ACCEPTED),
         length: size,
-        kind: numbers::kind_number(kind) as usize,
+        kind: codes::kind_number(kind) as usize,
     }
 }
 
@@ -55,7 +55,7 @@ pub extern "C" fn hk_decode(dialect: u32, raw: &[u8], room: &mut [u8]) -> Decode
     ensures answer { λ r. ⌜ structAnswer r ≡ decoderAnswer (decoder dialect (now (raw .entry)) (length (now (room .entry)))) ⌝ }
     ensures leaves { λ r. ⌜ now (room .exit) ≡ decoderLeaves dialect (now (raw .entry)) (now (room .entry)) ⌝ }
 {
-    answer_of(decoder::decode(dialect, raw, room))
+    answer_of(cell_decoder::decode(dialect, raw, room))
 }
 
 // A table of contents to canonical text, in `room`. Its contract is the writer's.
@@ -77,7 +77,7 @@ pub extern "C" fn hk_write(
         (given (now (content .entry)) (now (starts .entry)) (now (ends .entry)) (now (kinds .entry)) columns records)
         (now (room .entry)) ⌝ }
 {
-    writer::write(
+    table_writer::write(
         dialect,
         content,
         starts,

@@ -2,9 +2,9 @@
 // C. Its contract is the converter's. It is a crate of its own, so that it has a scanner for itself and the reader keeps its speed.
 ghost use mathlib.Core.Path.{_≡_};
 ghost use lib.ListN.{length};
-ghost use Rattle.model.specs.Api.{converter, converterLeaves};
-ghost use Rattle.numbers.specs.Named.{textAnswer};
-use numbers::TextAnswer;
+ghost use Rattle.model.specs.rules.Api.{converter, converterLeaves};
+ghost use Rattle.codes.specs.Named.{textAnswer};
+use codes::TextAnswer;
 
 // A whole file to canonical text, in `room`.
 #[no_mangle]
@@ -12,5 +12,5 @@ pub extern "C" fn hk_convert(from: u32, to: u32, file: &[u8], room: &mut [u8]) -
     ensures answer { λ r. ⌜ r ≡ textAnswer (converter from to (now (file .entry)) (length (now (room .entry)))) ⌝ }
     ensures leaves { λ r. ⌜ now (room .exit) ≡ converterLeaves from to (now (file .entry)) (now (room .entry)) ⌝ }
 {
-    convert::convert(from, to, file, room)
+    file_converter::convert(from, to, file, room)
 }

@@ -1,16 +1,16 @@
 // The C boundary for the end of a file that came in pieces: the calls under their C names, with no logic of their own.
 // `include/hemakuliwi.h` declares them for C. Their contracts are those of the calls. Why it is a crate of its own is told in c_pieces.
 ghost use lib.ListN.{length};
-ghost use Rattle.model.specs.Ledger.{finish};
-ghost use Rattle.pieces.specs.Calling.{converterOf, Called};
-use numbers::TextAnswer;
-use pieces::Converter;
-use pieces::PieceAnswer;
+ghost use Rattle.model.specs.rules.Ledger.{finish};
+ghost use Rattle.piece_converter.specs.Contract.{converterOf, CallContract};
+use codes::TextAnswer;
+use piece_converter::Converter;
+use piece_converter::PieceAnswer;
 
 // The end of the file, by value.
 #[no_mangle]
 pub extern "C" fn hk_end(converter: Converter, out: &mut [u8]) -> PieceAnswer
-    ensures { λ r. ⌜ Called converter (finish (length (now (out .entry)))) (now (out .entry)) (r .answer) (r .next) (now (out .exit)) ⌝ }
+    ensures { λ r. ⌜ CallContract converter (finish (length (now (out .entry)))) (now (out .entry)) (r .answer) (r .next) (now (out .exit)) ⌝ }
 {
     converter.end(out)
 }
@@ -27,7 +27,7 @@ pub extern "C" fn hk_end_lent(
     names: &mut [u8; 4096],
     out: &mut [u8],
 ) -> TextAnswer
-    ensures { λ r. ⌜ Called (converterOf source target (now (numbers .entry)) (now (ends .entry)) (now («name_ends» .entry)) (now (bytes .entry)) (now (names .entry))) (finish (length (now (out .entry)))) (now (out .entry)) r (converterOf source target (now (numbers .exit)) (now (ends .exit)) (now («name_ends» .exit)) (now (bytes .exit)) (now (names .exit))) (now (out .exit)) ⌝ }
+    ensures { λ r. ⌜ CallContract (converterOf source target (now (numbers .entry)) (now (ends .entry)) (now («name_ends» .entry)) (now (bytes .entry)) (now (names .entry))) (finish (length (now (out .entry)))) (now (out .entry)) r (converterOf source target (now (numbers .exit)) (now (ends .exit)) (now («name_ends» .exit)) (now (bytes .exit)) (now (names .exit))) (now (out .exit)) ⌝ }
 {
-    pieces::lent::end(source, target, numbers, ends, name_ends, bytes, names, out)
+    piece_converter::lent::end(source, target, numbers, ends, name_ends, bytes, names, out)
 }

@@ -3,11 +3,11 @@
 // has one caller here and stands inside the loop of the walk.
 ghost use mathlib.Core.Path.{_≡_};
 ghost use lib.ListN.{length};
-ghost use Rattle.model.specs.Ledger.{piece};
-ghost use Rattle.pieces.specs.Calling.{converterOf, newConverter, Called};
-use numbers::TextAnswer;
-use pieces::Converter;
-use pieces::PieceAnswer;
+ghost use Rattle.model.specs.rules.Ledger.{piece};
+ghost use Rattle.piece_converter.specs.Contract.{converterOf, newConverter, CallContract};
+use codes::TextAnswer;
+use piece_converter::Converter;
+use piece_converter::PieceAnswer;
 
 // A converter from one dialect to another.
 #[no_mangle]
@@ -20,7 +20,7 @@ pub extern "C" fn hk_converter_new(from: u32, to: u32) -> Converter
 // The next bytes of the file, by value.
 #[no_mangle]
 pub extern "C" fn hk_piece(converter: Converter, input: &[u8], out: &mut [u8]) -> PieceAnswer
-    ensures { λ r. ⌜ Called converter (piece (now (input .entry)) (length (now (out .entry)))) (now (out .entry)) (r .answer) (r .next) (now (out .exit)) ⌝ }
+    ensures { λ r. ⌜ CallContract converter (piece (now (input .entry)) (length (now (out .entry)))) (now (out .entry)) (r .answer) (r .next) (now (out .exit)) ⌝ }
 {
     converter.piece(input, out)
 }
@@ -38,9 +38,9 @@ pub extern "C" fn hk_piece_lent(
     input: &[u8],
     out: &mut [u8],
 ) -> TextAnswer
-    ensures { λ r. ⌜ Called (converterOf source target (now (numbers .entry)) (now (ends .entry)) (now («name_ends» .entry)) (now (bytes .entry)) (now (names .entry))) (piece (now (input .entry)) (length (now (out .entry)))) (now (out .entry)) r (converterOf source target (now (numbers .exit)) (now (ends .exit)) (now («name_ends» .exit)) (now (bytes .exit)) (now (names .exit))) (now (out .exit)) ⌝ }
+    ensures { λ r. ⌜ CallContract (converterOf source target (now (numbers .entry)) (now (ends .entry)) (now («name_ends» .entry)) (now (bytes .entry)) (now (names .entry))) (piece (now (input .entry)) (length (now (out .entry)))) (now (out .entry)) r (converterOf source target (now (numbers .exit)) (now (ends .exit)) (now («name_ends» .exit)) (now (bytes .exit)) (now (names .exit))) (now (out .exit)) ⌝ }
 {
-    pieces::lent::piece(
+    piece_converter::lent::piece(
         source,
         target,
         numbers,

@@ -2,8 +2,8 @@
 use Prim.Native.Nat.{ℕ}
 use Rattle.model.specs.declared.CellStep.{CellStep}
 use Rattle.model.specs.declared.Cell.the-variants.{Quoted, Plain}
-use Rattle.model.specs.Utf8.{charStep}
-use Rattle.model.specs.Cell.{textByte}
+use Rattle.model.specs.rules.Utf8.{charStep}
+use Rattle.model.specs.rules.Cell.{textByte}
 use Rattle.cell_lexer.specs.declared.ByteClass.{ByteClass}
 use Rattle.cell_lexer.specs.declared.ByteClass.the-variants.{Is, InQuotes, InPlain}
 

@@ -1,5 +1,5 @@
 // The automaton of one cell, a byte at a time, for all three dialects. Each step is the definition's step of the same state (model's
-// specs/Cell.antt), with its tests in the same order.
+// specs/rules/Cell.antt), with its tests in the same order.
 //
 // `ByteClass` keeps most functions on the way of a byte at one call site, so that the compiler can put them into the loop that calls them.
 // `benchmark.sh` measures what comes of it.
@@ -16,10 +16,12 @@ use model::Settings;
 use model::Word;
 ghost use mathlib.Core.Path.{_≡_};
 ghost use mathlib.Core.Bool.{_||_};
-ghost use Rattle.model.specs.Base.{_is_, CR, LF};
-ghost use Rattle.model.specs.Dialect.{delimiterOf, quoteOf};
-ghost use Rattle.model.specs.Cell.{firstByte, quotedByte, plainByte, cellStep};
+ghost use Rattle.model.specs.rules.Base.{_is_, CR, LF};
+ghost use Rattle.model.specs.rules.Dialect.{delimiterOf, quoteOf};
+ghost use Rattle.model.specs.rules.Cell.{firstByte, quotedByte, plainByte, cellStep};
 ghost use Rattle.cell_lexer.specs.ByteClass.{cellStepOf};
+
+pub mod values;
 
 pub fn delimiter_of(d: Dialect) -> u8
     ensures { λ r. ⌜ r ≡ delimiterOf d ⌝ }
@@ -94,8 +96,8 @@ fn classify_first(d: Dialect, b: u8) -> ByteClass
     ensures { λ r. ⌜ cellStepOf r b ≡ firstByte d b ⌝ }
 {
     match d {
-        Dialect::Csvj => ByteClass::Is(values::csvj_first(b)),
-        Dialect::Tdif => ByteClass::Is(values::tdif_first(b)),
+        Dialect::Csvj => ByteClass::Is(crate::values::csvj_first(b)),
+        Dialect::Tdif => ByteClass::Is(crate::values::tdif_first(b)),
         Dialect::CsvPlus(s) => plus_first(s, b),
     }
 }
@@ -170,8 +172,8 @@ fn classify_closed(d: Dialect, b: u8) -> ByteClass
 fn classify_hex(n: HexLeft, b: u8) -> ByteClass
     ensures { λ r. ⌜ cellStepOf r b ≡ cellStep Dialect.Csvj (Cell.Hex n) b ⌝ }
 {
-    if values::is_hex(b) {
-        return ByteClass::Is(CellStep::More(values::after_hex(n)));
+    if crate::values::is_hex(b) {
+        return ByteClass::Is(CellStep::More(crate::values::after_hex(n)));
     }
     ByteClass::Is(CellStep::Refuse(ByteFault::Syntax))
 }
@@ -179,8 +181,8 @@ fn classify_hex(n: HexLeft, b: u8) -> ByteClass
 fn classify_word(w: Word, b: u8) -> ByteClass
     ensures { λ r. ⌜ cellStepOf r b ≡ cellStep Dialect.Csvj (Cell.InWord w) b ⌝ }
 {
-    if b == values::letter_of(w) {
-        return ByteClass::Is(CellStep::More(values::after_letter(w)));
+    if b == crate::values::letter_of(w) {
+        return ByteClass::Is(CellStep::More(crate::values::after_letter(w)));
     }
     ByteClass::Is(CellStep::Refuse(ByteFault::Syntax))
 }
@@ -210,9 +212,9 @@ fn classify(d: Dialect, c: Cell, b: u8) -> ByteClass
         Cell::Fresh => classify_first(d, b),
         Cell::Quoted(t) => classify_text(d, t, b),
         Cell::Closed => classify_closed(d, b),
-        Cell::Escape => ByteClass::Is(values::escape_step(b)),
+        Cell::Escape => ByteClass::Is(crate::values::escape_step(b)),
         Cell::Hex(n) => classify_hex(n, b),
-        Cell::InNumber(n) => ByteClass::Is(values::numeral_step(n, b)),
+        Cell::InNumber(n) => ByteClass::Is(crate::values::numeral_step(n, b)),
         Cell::InWord(w) => classify_word(w, b),
         Cell::Plain(t) => classify_plain_text(d, t, b),
         Cell::Complete => ByteClass::Is(CellStep::Stop),

@@ -3,7 +3,7 @@ use Prim.Native.Nat.{ℕ}
 use mathlib.Core.Bool.{false}
 use Rattle.model.specs.declared.Dialect.{Dialect}
 use Rattle.model.specs.declared.Step.{Step}
-use Rattle.model.specs.File.{afterCell, inCell}
+use Rattle.model.specs.rules.File.{afterCell, inCell}
 use Rattle.file_lexer.specs.declared.Dispatched.{Dispatched}
 use Rattle.file_lexer.specs.declared.Dispatched.the-variants.{Is, InCell, AfterCell}
 

@@ -1,8 +1,9 @@
 // The automaton of a file around its cells, a byte at a time, for all three dialects. Each step is the definition's step of the same
-// state (model's specs/File.antt), with its tests in the same order.
+// state (model's specs/rules/File.antt), with its tests in the same order.
 //
 // `Dispatched` leaves the cell to the caller, so that most functions on the way of a byte have one call site and the compiler can put them
 // into the loop that calls them. `benchmark.sh` measures what comes of it.
+use crate::separators::is_blank;
 use model::Advance;
 use model::ByteFault;
 use model::ByteRole;
@@ -13,11 +14,13 @@ use model::FileState;
 use model::Inner;
 use model::Lead;
 use model::Step;
-use separators::is_blank;
 ghost use mathlib.Core.Path.{_≡_};
-ghost use Rattle.model.specs.Utf8.{charStep};
-ghost use Rattle.model.specs.File.{beginRecord, beginFile, commented, fileStep};
+ghost use Rattle.model.specs.rules.Utf8.{charStep};
+ghost use Rattle.model.specs.rules.File.{beginRecord, beginFile, commented, fileStep};
 ghost use Rattle.file_lexer.specs.Dispatched.{stepOf};
+
+pub mod counted;
+pub mod separators;
 
 // What a byte does to a file, or the cell in which it stands.
 pub enum Dispatched {
@@ -61,14 +64,14 @@ fn begin_file(d: Dialect, b: u8) -> Dispatched
     match d {
         Dialect::Csvj => {
             if b == 0xEF {
-                return Dispatched::Is(Step::To(FileState::Mark1, ByteRole::Outside));
+                return Dispatched::Is(Step::To(FileState::Bom1, ByteRole::Outside));
             }
             begin_record(Dialect::Csvj, b)
         }
         Dialect::Tdif => begin_record(Dialect::Tdif, b),
         Dialect::CsvPlus(s) => {
             if b == 0xEF {
-                return Dispatched::Is(Step::To(FileState::PlainMark1, ByteRole::OfCell));
+                return Dispatched::Is(Step::To(FileState::PlainBom1, ByteRole::OfCell));
             }
             begin_record(Dialect::CsvPlus(s), b)
         }
@@ -110,17 +113,17 @@ fn after_ended(d: Dialect, b: u8) -> Dispatched
     begin_record(d, b)
 }
 
-fn in_mark1(b: u8) -> Step
-    ensures { λ r. ⌜ r ≡ fileStep Dialect.Csvj FileState.Mark1 b ⌝ }
+fn in_bom1(b: u8) -> Step
+    ensures { λ r. ⌜ r ≡ fileStep Dialect.Csvj FileState.Bom1 b ⌝ }
 {
     if b == 0xBB {
-        return Step::To(FileState::Mark2, ByteRole::Outside);
+        return Step::To(FileState::Bom2, ByteRole::Outside);
     }
     Step::Reject(ByteFault::Syntax)
 }
 
-fn in_mark2(b: u8) -> Step
-    ensures { λ r. ⌜ r ≡ fileStep Dialect.Csvj FileState.Mark2 b ⌝ }
+fn in_bom2(b: u8) -> Step
+    ensures { λ r. ⌜ r ≡ fileStep Dialect.Csvj FileState.Bom2 b ⌝ }
 {
     if b == 0xBF {
         return Step::To(FileState::Begin, ByteRole::Passed);
@@ -128,17 +131,17 @@ fn in_mark2(b: u8) -> Step
     Step::Reject(ByteFault::Syntax)
 }
 
-fn in_plain_mark1(d: Dialect, b: u8) -> Dispatched
-    ensures { λ r. ⌜ stepOf d r b ≡ fileStep d FileState.PlainMark1 b ⌝ }
+fn in_plain_bom1(d: Dialect, b: u8) -> Dispatched
+    ensures { λ r. ⌜ stepOf d r b ≡ fileStep d FileState.PlainBom1 b ⌝ }
 {
     if b == 0xBB {
-        return Dispatched::Is(Step::To(FileState::PlainMark2, ByteRole::OfCell));
+        return Dispatched::Is(Step::To(FileState::PlainBom2, ByteRole::OfCell));
     }
     Dispatched::InCell(Cell::Plain(Char::Within(Inner::Second(Lead::EeToEf))))
 }
 
-fn in_plain_mark2(d: Dialect, b: u8) -> Dispatched
-    ensures { λ r. ⌜ stepOf d r b ≡ fileStep d FileState.PlainMark2 b ⌝ }
+fn in_plain_bom2(d: Dialect, b: u8) -> Dispatched
+    ensures { λ r. ⌜ stepOf d r b ≡ fileStep d FileState.PlainBom2 b ⌝ }
 {
     if b == 0xBF {
         return Dispatched::Is(Step::Reject(ByteFault::Syntax));
@@ -146,11 +149,11 @@ fn in_plain_mark2(d: Dialect, b: u8) -> Dispatched
     Dispatched::InCell(Cell::Plain(Char::Within(Inner::Last)))
 }
 
-fn wanting(d: Dialect, b: u8) -> Dispatched
-    ensures { λ r. ⌜ stepOf d r b ≡ fileStep d FileState.Wanting b ⌝ }
+fn expect_cell(d: Dialect, b: u8) -> Dispatched
+    ensures { λ r. ⌜ stepOf d r b ≡ fileStep d FileState.ExpectCell b ⌝ }
 {
     if is_blank(b) {
-        return Dispatched::Is(Step::To(FileState::Wanting, ByteRole::Between { closes: false }));
+        return Dispatched::Is(Step::To(FileState::ExpectCell, ByteRole::Between { closes: false }));
     }
     Dispatched::InCell(Cell::Fresh)
 }
@@ -172,13 +175,13 @@ pub fn dispatch(d: Dialect, f: FileState, b: u8) -> Dispatched
         FileState::Top => begin_file(d, b),
         FileState::Begin => begin_record(d, b),
         FileState::Ended => after_ended(d, b),
-        FileState::Mark1 => Dispatched::Is(in_mark1(b)),
-        FileState::Mark2 => Dispatched::Is(in_mark2(b)),
-        FileState::PlainMark1 => in_plain_mark1(d, b),
-        FileState::PlainMark2 => in_plain_mark2(d, b),
+        FileState::Bom1 => Dispatched::Is(in_bom1(b)),
+        FileState::Bom2 => Dispatched::Is(in_bom2(b)),
+        FileState::PlainBom1 => in_plain_bom1(d, b),
+        FileState::PlainBom2 => in_plain_bom2(d, b),
         FileState::Comment(t) => Dispatched::Is(in_comment(t, b)),
         FileState::Blanks => begin_record(d, b),
-        FileState::Wanting => wanting(d, b),
+        FileState::ExpectCell => expect_cell(d, b),
         FileState::Inside(c) => Dispatched::InCell(c),
         FileState::After => Dispatched::AfterCell,
         FileState::Cr => Dispatched::Is(after_cr(b)),

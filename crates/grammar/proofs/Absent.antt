@@ -5,14 +5,14 @@ use native.Mathlib.Omega.{arith}
 use mathlib.Core.Path.{_≡_, refl}
 use mathlib.Core.List.{List, [], _∷_}
 use lib.ListN.{length, length-replicate}
-use Rattle.rfc_grammar.specs.Types.{Csvj}
-use Rattle.rfc_grammar.specs.Derived.{Derived, line, Every, every-cons}
-use Rattle.rfc_grammar.specs.Rfc8259 as json
-use Rattle.file_grammar.specs.Csvj as csvj
-use Rattle.rfc_grammar.proofs.Absent as rfcs
-use Rattle.file_grammar.proofs.Absent as files
+use Rattle.grammar.specs.rfc.Types.{Csvj}
+use Rattle.grammar.specs.rfc.Derived.{Derived, line, Every, every-cons}
+use Rattle.grammar.specs.rfc.Rfc8259 as json
+use Rattle.grammar.specs.dialects.Csvj as csvj
+use Rattle.grammar.proofs.AbsentInRfcs as rfcs
+use Rattle.grammar.proofs.AbsentInFiles as files
 use Rattle.grammar.specs.Accepted.{a-name, WithinLimits, ChecksHold, checks-hold}
-use Rattle.grammar.specs.NextByte.{GoesOn}
+use Rattle.grammar.specs.NextByte.{ProceedsOn}
 use Rattle.grammar.specs.Mistakes.{Mistakes, nameA, twoNames, tooLong}
 
 -- ---- record checks and limits
@@ -31,7 +31,7 @@ long-record w =
 
 -- ---- a CSVJ file may begin with a quote: two of them and LF
 
-begun : ¬ ¬ GoesOn Csvj [] 0x22
+begun : ¬ ¬ ProceedsOn Csvj [] 0x22
 begun n =
     n (
       0x22 ∷ 0x0A ∷ [],

@@ -11,28 +11,28 @@ use mathlib.Core.List.{List, [], _∷_, _++_, map}
 use lib.ListN.{length, length-append}
 use lib.Dec.{ltb}
 use borrow.Author.Tests.{ltb-false, le-ltb}
-use Rattle.rfc_grammar.specs.Types.{Dialect, Encoding, Syntax}
-use Rattle.rfc_grammar.specs.Types as types
+use Rattle.grammar.specs.rfc.Types.{Dialect, Encoding, Syntax}
+use Rattle.grammar.specs.rfc.Types as types
 use Rattle.model.specs.declared.Report.{Report}
-use Rattle.model.specs.Base.{Bytes, if_then_else_, concat}
-use Rattle.model.specs.Dialect.{dialectOf}
-use Rattle.model.specs.Text.{Value}
-use Rattle.model.specs.Api.{answered, readAnswer, reader}
-use Rattle.model.specs.Report.{numberOf, accepted, refusal, MAXFILE, MAXRECORD}
-use Rattle.model.specs.Records.{Rec, rows, Read, Progress, going, stopped, nothingRead, readBytes, readFile, reportOf}
-use Rattle.rfc_grammar.specs.Derived.{Derived, Line, line, textIn, cellsIn, spelling, Every, every-none, every-cons, Each, each-none, each-cons}
-use Rattle.file_grammar.specs.Derives.{Derives}
-use Rattle.file_grammar.specs.Reading.{decodedLine}
+use Rattle.model.specs.rules.Base.{Bytes, if_then_else_, concat}
+use Rattle.model.specs.rules.Dialect.{dialectOf}
+use Rattle.model.specs.rules.Text.{Value}
+use Rattle.model.specs.rules.Api.{answered, readAnswer, reader}
+use Rattle.model.specs.rules.Report.{numberOf, accepted, refusal, MAXFILE, MAXRECORD}
+use Rattle.model.specs.rules.Records.{Rec, rows, Read, Progress, going, stopped, nothingRead, readBytes, readFile, reportOf}
+use Rattle.grammar.specs.rfc.Derived.{Derived, Line, line, textIn, cellsIn, spelling, Every, every-none, every-cons, Each, each-none, each-cons}
+use Rattle.grammar.specs.dialects.Derives.{Derives}
+use Rattle.grammar.specs.dialects.FormReads.{decodedLine}
 use Rattle.grammar.specs.Accepted.{Acceptable, cellCount, ShowsRecord}
-use Rattle.file_grammar.proofs.FileGrammar.{LinesDerived, lines-derived, file-derived, some-decoded, derived-reads, reads-derived, unambiguous}
+use Rattle.grammar.proofs.dialects.FileGrammar.{LinesDerived, lines-derived, file-derived, some-decoded, derived-reads, reads-derived, unambiguous}
 use Rattle.grammar.proofs.Checks.{each-length, checks-all, all-checks}
-use Rattle.grammar.proofs.Standing.{joined, joined-rest, fit-rest, rest-fit, Stands, tidy-rest}
-use Rattle.grammar.proofs.Accepting.{Some, some, Accepted, accepted as accepted-with, Ready, reads-accepted}
+use Rattle.grammar.proofs.DerivationState.{joined, joined-rest, fit-rest, rest-fit, Lies, tidy-rest}
+use Rattle.grammar.proofs.AcceptedIf.{Some, some, Accepted, accepted as accepted-with, Ready, reads-accepted}
 use Rattle.grammar.proofs.AcceptedOnly.{stopped-going, Facts, Outcome, outcome, accepted-comes}
 
 -- ---- the beginning
 
-begins : (d : Dialect) (xs : Bytes) → Stands d xs [] nothingRead [] [] [] []
+begins : (d : Dialect) (xs : Bytes) → Lies d xs [] nothingRead [] [] [] []
 unfolding nothingRead
 begins d xs =
     record {
@@ -51,10 +51,10 @@ begins d xs =
 
 -- ---- the record limit, over raw lines and over derived ones
 
-spelt-fit : {ls : List (Line Derived)} → Every (λ l. length (textIn l) ≤ MAXRECORD) ls → Every (λ l. length (textIn l) ≤ MAXRECORD) (map spelling ls)
+encoded-fit : {ls : List (Line Derived)} → Every (λ l. length (textIn l) ≤ MAXRECORD) ls → Every (λ l. length (textIn l) ≤ MAXRECORD) (map spelling ls)
 unfolding spelling
-spelt-fit every-none = every-none
-spelt-fit (every-cons {x = line text cells} h k) = every-cons h (spelt-fit k)
+encoded-fit every-none = every-none
+encoded-fit (every-cons {x = line text cells} h k) = every-cons h (encoded-fit k)
 
 decoded-fit : (d : Dialect) {ls : List (Line Bytes)} → Every (λ l. length (textIn l) ≤ MAXRECORD) ls → Every (λ l. length (textIn l) ≤ MAXRECORD) (map (decodedLine d) ls)
 unfolding decodedLine
@@ -87,7 +87,7 @@ acceptable-read d xs ls a = go (reads-accepted d xs ls limit has-record (derived
         record {
           stands = begins d xs;
           place = refl;
-          fit = fit-rest (map spelling ls) (spelt-fit (a .limits .records));
+          fit = fit-rest (map spelling ls) (encoded-fit (a .limits .records));
           checks = rw same (all-checks d (a .checks) (a .limits .columns));
           sum = sym same;
         }

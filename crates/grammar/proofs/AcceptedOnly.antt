@@ -9,27 +9,27 @@ use mathlib.Core.List.{List, [], _∷_, _++_, map, append-assoc, append-nil}
 use lib.ListN.{length}
 use lib.Dec.{leb}
 use borrow.Author.Tests.{leb-false}
-use Rattle.rfc_grammar.specs.Types.{Dialect, Csvj, Tdif, CsvPlus, Cell, Fault, FileState, Top, Begin, Ended, Mark1, Mark2, PlainMark1, PlainMark2, Comment, Blanks, Wanting, Inside, After, Cr, OfCell, Outside, Passed, Between, Tail, Ends, Step, To, Reject, Ending, Clean, Final, Cut, Verdict, Sound, Faulty}
-use Rattle.model.specs.Base.{Bytes, if_then_else_}
-use Rattle.model.specs.Cell.{isWhole}
-use Rattle.model.specs.File.{fileStep, fileEnd, lastCell, counts}
-use Rattle.model.specs.Text.{Value}
-use Rattle.model.specs.Report.{MAXFILE, MAXRECORD}
-use Rattle.model.specs.Records.{Rec, Read, going, stopped, between-records, closing, validated, complete, move, fileFull, recordFull, recordFault, readByte, readFrom, endBetween, endAt, readEnd}
+use Rattle.grammar.specs.rfc.Types.{Dialect, Csvj, Tdif, CsvPlus, Cell, Fault, FileState, Top, Begin, Ended, Bom1, Bom2, PlainBom1, PlainBom2, Comment, Blanks, ExpectCell, Inside, After, Cr, OfCell, Outside, Passed, Between, Tail, Ends, Step, To, Reject, Ending, Clean, Final, Cut, CheckResult, Sound, Faulty}
+use Rattle.model.specs.rules.Base.{Bytes, if_then_else_}
+use Rattle.model.specs.rules.Cell.{isWhole}
+use Rattle.model.specs.rules.File.{fileStep, fileEnd, lastCell, counts}
+use Rattle.model.specs.rules.Text.{Value}
+use Rattle.model.specs.rules.Report.{MAXFILE, MAXRECORD}
+use Rattle.model.specs.rules.Records.{Rec, Read, going, stopped, between-records, closing, validated, complete, move, fileFull, recordFull, recordFault, readByte, readFrom, endBetween, endAt, readEnd}
 use Rattle.model.proofs.Tests.{split}
-use Rattle.model.proofs.Reading.{read-stopped}
-use Rattle.model.proofs.FileSteps.{cell-counts, between-counts, its-transition}
-use Rattle.rfc_grammar.specs.Derived.{Derived, Line, line, every-none, Each, each-none, each-cons}
-use Rattle.file_grammar.specs.Reading.{Reads, decoded, decodedLine}
-use Rattle.file_grammar.specs.Reading as reading
+use Rattle.model.proofs.file_laws.ReadAppend.{read-stopped}
+use Rattle.model.proofs.file_laws.FileSteps.{cell-counts, between-counts, its-transition}
+use Rattle.grammar.specs.rfc.Derived.{Derived, Line, line, every-none, Each, each-none, each-cons}
+use Rattle.grammar.specs.dialects.FormReads.{Reads, decoded, decodedLine}
+use Rattle.grammar.specs.dialects.FormReads as reading
 use Rattle.grammar.specs.Accepted.{ShowsCell, ShowsRecord}
 use Rattle.grammar.proofs.Stages.{Stage, at-rest, in-cell, stageOf, Recording, record-open, cell-open, NoCell, outside-rests, passed-rests, cell-stage, between-stage, tail-stage, ends-stage, between-no-cell, tail-no-cell, ends-no-cell}
 use Rattle.grammar.proofs.Checks.{LineSound, ChecksFrom, checks-none, checks-next, record-checked}
-use Rattle.grammar.proofs.Standing.{each-snoc, length-snoc, joined, joined-rest, joined-of-cell, joined-between, joined-between-closing, joined-tail-closing, joined-ends, joined-ends-closing, Fit, fit-none, fit-line, rest-fit, Stands, closes-now, stands-reset, stands-more, Rested, rested, Parted, parted, recording-tidy, rest-tidy}
-use Rattle.grammar.proofs.Standing as standing
-use Rattle.rfc_grammar.specs.Types as types
-use Rattle.grammar.proofs.Standing.{moved-outside, moved-passed, moved-between, moved-tail, moved-ends}
-use Rattle.grammar.proofs.Accepting.{Some, some}
+use Rattle.grammar.proofs.DerivationState.{each-snoc, length-snoc, joined, joined-rest, joined-of-cell, joined-between, joined-between-closing, joined-tail-closing, joined-ends, joined-ends-closing, Fit, fit-none, fit-line, rest-fit, Lies, closes-now, stands-reset, stands-more, Rested, rested, Parted, parted, recording-tidy, rest-tidy}
+use Rattle.grammar.proofs.DerivationState as standing
+use Rattle.grammar.specs.rfc.Types as types
+use Rattle.grammar.proofs.DerivationState.{moved-outside, moved-passed, moved-between, moved-tail, moved-ends}
+use Rattle.grammar.proofs.AcceptedIf.{Some, some}
 
 -- ---- what is to come of a record and of a cell
 
@@ -55,13 +55,13 @@ unfolding fileEnd
 file-ends d Top = clean-at-rest
 file-ends d Begin = clean-at-rest
 file-ends d Ended = clean-at-rest
-file-ends d Mark1 = cut-anywhere
-file-ends d Mark2 = cut-anywhere
-file-ends d PlainMark1 = cut-anywhere
-file-ends d PlainMark2 = cut-anywhere
+file-ends d Bom1 = cut-anywhere
+file-ends d Bom2 = cut-anywhere
+file-ends d PlainBom1 = cut-anywhere
+file-ends d PlainBom2 = cut-anywhere
 file-ends d (Comment c) = cut-anywhere
 file-ends d Blanks = cut-anywhere
-file-ends d Wanting = cut-anywhere
+file-ends d ExpectCell = cut-anywhere
 file-ends d (Inside c) = last-ends d c
 file-ends d After = cut-anywhere
 file-ends d Cr = cut-anywhere
@@ -140,7 +140,7 @@ module _ (d : Dialect) (file : Bytes) (end : Read) where
 
   abbrev Comes : Bytes → Type 0
   Comes xs =
-      (r : Read) (seen : Bytes) (pre : List (Line Derived)) (text raw : Bytes) (cells : List Derived) → Stands d file seen r pre text raw cells →
+      (r : Read) (seen : Bytes) (pre : List (Line Derived)) (text raw : Bytes) (cells : List Derived) → Lies d file seen r pre text raw cells →
       file ≡ seen ++ xs → readEnd d none (readFrom d none (going r) xs) ≡ going end → Outcome r xs pre text raw cells
 
   module _ (b : ℕ) (bs : Bytes) (ih : Comes bs) (r : Read) (seen : Bytes) (pre : List (Line Derived)) (room : suc (length seen) ≤ MAXFILE) (place : file ≡ seen ++ (b ∷ bs)) where
@@ -148,7 +148,7 @@ module _ (d : Dialect) (file : Bytes) (end : Read) where
     further = place ∙ sym (append-assoc seen (b ∷ []) bs)
 
     rest-comes :
-        (h : FileState) (start : ℕ) {text raw : Bytes} {cells : List Derived} → Stands d file seen r pre text raw cells → Rested d h text raw cells →
+        (h : FileState) (start : ℕ) {text raw : Bytes} {cells : List Derived} → Lies d file seen r pre text raw cells → Rested d h text raw cells →
         ((ls : List (Line Bytes)) → Reads d h bs ls → Reads d (r .state) (b ∷ bs) ls) →
         readEnd d none (readFrom d none (going (record { done = r .done; state = h; offset = suc (r .offset); start = start; size = 0; opened = suc (r .offset); raw = []; cells = [] })) bs) ≡ going end →
         Outcome r (b ∷ bs) pre text raw cells
@@ -173,7 +173,7 @@ module _ (d : Dialect) (file : Bytes) (end : Read) where
     longer text {t} (fit-line x m) = let l : length (text ++ (b ∷ [])) ≡ suc (length text) = length-snoc text b in fit-line {t = b ∷ t} (omega arith) m
 
     cell-comes :
-        (h : FileState) {text raw : Bytes} {cells : List Derived} → Stands d file seen r pre text raw cells → fileStep d (r .state) b ≡ To h OfCell →
+        (h : FileState) {text raw : Bytes} {cells : List Derived} → Lies d file seen r pre text raw cells → fileStep d (r .state) b ≡ To h OfCell →
         stageOf d h ≡ in-cell → length text < MAXRECORD →
         readEnd d none (readFrom d none (going (record { done = r .done; state = h; offset = suc (r .offset); start = r .start; size = suc (r .size); opened = r .opened; raw = r .raw ++ (b ∷ []); cells = r .cells })) bs) ≡ going end →
         Outcome r (b ∷ bs) pre text raw cells
@@ -192,7 +192,7 @@ module _ (d : Dialect) (file : Bytes) (end : Read) where
 
     record-comes :
         (h : FileState) (size : ℕ) (vs : List Value) (text′ : Bytes) (cells′ : List Derived) {text raw : Bytes} {cells : List Derived} →
-        Stands d file seen r pre text raw cells → size ≡ length text′ → length text′ ≤ MAXRECORD → Each (ShowsCell file) vs cells′ → Recording (stageOf d h) →
+        Lies d file seen r pre text raw cells → size ≡ length text′ → length text′ ≤ MAXRECORD → Each (ShowsCell file) vs cells′ → Recording (stageOf d h) →
         ((n : Read) (t : Bytes) (cs : List Bytes) (ls : List (Line Bytes)) → Reads d h bs (line t cs ∷ ls) → Facts n bs pre text′ [] cells′ (line t cs ∷ ls) → Outcome r (b ∷ bs) pre text raw cells) →
         readEnd d none (readFrom d none (going (record { done = r .done; state = h; offset = suc (r .offset); start = r .start; size = size; opened = suc (r .offset); raw = []; cells = vs })) bs) ≡ going end →
         Outcome r (b ∷ bs) pre text raw cells
@@ -209,7 +209,7 @@ module _ (d : Dialect) (file : Bytes) (end : Read) where
         go (outcome ls y) = shaped (reads-line d (y .reads) g) y
 
     complete-comes :
-        (h : FileState) (vs : List Value) (cells′ : List Derived) {text raw : Bytes} {cells : List Derived} → Stands d file seen r pre text raw cells →
+        (h : FileState) (vs : List Value) (cells′ : List Derived) {text raw : Bytes} {cells : List Derived} → Lies d file seen r pre text raw cells →
         Each (ShowsCell file) vs cells′ → stageOf d h ≡ at-rest → (rest : List Bytes) →
         ((ls : List (Line Bytes)) → Reads d h bs ls → Reads d (r .state) (b ∷ bs) (line [] rest ∷ ls)) →
         ((ls : List (Line Bytes)) → pre ++ joined d text raw cells (line [] rest ∷ ls) ≡ (pre ++ (line text cells′ ∷ [])) ++ joined d [] [] [] ls) →
@@ -221,7 +221,7 @@ module _ (d : Dialect) (file : Bytes) (end : Read) where
         next : Read
         next = between-records (r .done ++ (record { start = r .start; size = r .size; cells = vs } ∷ [])) h (suc (r .offset))
 
-        stands : Stands d file (seen ++ (b ∷ [])) next (pre ++ (line text cells′ ∷ [])) [] [] []
+        stands : Lies d file (seen ++ (b ∷ [])) next (pre ++ (line text cells′ ∷ [])) [] [] []
         stands = stands-reset s b next room refl refl refl refl (omega arith) (each-snoc (s .done) (record { size = s .size; cells = c })) each-none (rest-tidy g)
 
         go : LineSound d pre cells′ → Outcome next bs (pre ++ (line text cells′ ∷ [])) [] [] [] → Outcome r (b ∷ bs) pre text raw cells
@@ -238,11 +238,11 @@ module _ (d : Dialect) (file : Bytes) (end : Read) where
               limit = y .limit;
             })
 
-        verdict : (v : Verdict) → recordFault d none (r .done) vs ≡ v → readEnd d none (readFrom d none (validated r next v) bs) ≡ going end → Outcome r (b ∷ bs) pre text raw cells
+        verdict : (v : CheckResult) → recordFault d none (r .done) vs ≡ v → readEnd d none (readFrom d none (validated r next v) bs) ≡ going end → Outcome r (b ∷ bs) pre text raw cells
         verdict Sound e q = go (record-checked d (s .done) c e) (ih next (seen ++ (b ∷ [])) (pre ++ (line text cells′ ∷ [])) [] [] [] stands further q)
         verdict (Faulty x) e q = not-going d x r bs q
 
-    size-left : {text raw : Bytes} {cells : List Derived} → Stands d file seen r pre text raw cells → recordFull r b ≡ false → counts (r .state) b ≡ true → length text < MAXRECORD
+    size-left : {text raw : Bytes} {cells : List Derived} → Lies d file seen r pre text raw cells → recordFull r b ≡ false → counts (r .state) b ≡ true → length text < MAXRECORD
     unfolding recordFull
     size-left {text} s f c =
         let z : r .size ≡ length text = s .size in
@@ -254,7 +254,7 @@ module _ (d : Dialect) (file : Bytes) (end : Read) where
         go false e = refl
 
     between-comes :
-        (h : FileState) {text raw : Bytes} {cells : List Derived} → Stands d file seen r pre text raw cells → fileStep d (r .state) b ≡ To h (Between false) →
+        (h : FileState) {text raw : Bytes} {cells : List Derived} → Lies d file seen r pre text raw cells → fileStep d (r .state) b ≡ To h (Between false) →
         recordFull r b ≡ false → Parted d h (counts (r .state) b ≡ true) text raw → readEnd d none (readFrom d none (move d none r b (To h (Between false))) bs) ≡ going end →
         Outcome r (b ∷ bs) pre text raw cells
     unfolding move
@@ -265,7 +265,7 @@ module _ (d : Dialect) (file : Bytes) (end : Read) where
         (λ n t cs ls m y. told (line (b ∷ t) cs ∷ ls) y (reading.between e m) (longer text (y .fit)) (joined-between d text [] cells b t cs ls)) q
 
     between-closing-comes :
-        (h : FileState) {text raw : Bytes} {cells : List Derived} → Stands d file seen r pre text raw cells → fileStep d (r .state) b ≡ To h (Between true) →
+        (h : FileState) {text raw : Bytes} {cells : List Derived} → Lies d file seen r pre text raw cells → fileStep d (r .state) b ≡ To h (Between true) →
         recordFull r b ≡ false → readEnd d none (readFrom d none (move d none r b (To h (Between true))) bs) ≡ going end →
         Outcome r (b ∷ bs) pre text raw cells
     unfolding move
@@ -276,7 +276,7 @@ module _ (d : Dialect) (file : Bytes) (end : Read) where
         (λ n t cs ls m y. told (line (b ∷ t) ([] ∷ cs) ∷ ls) y (reading.between-closing e m) (longer text (y .fit)) (joined-between-closing d text raw cells b t cs ls)) q
 
     tail-comes :
-        (h : FileState) {text raw : Bytes} {cells : List Derived} → Stands d file seen r pre text raw cells → fileStep d (r .state) b ≡ To h (Tail false) →
+        (h : FileState) {text raw : Bytes} {cells : List Derived} → Lies d file seen r pre text raw cells → fileStep d (r .state) b ≡ To h (Tail false) →
         Parted d h (counts (r .state) b ≡ false) text raw → readEnd d none (readFrom d none (move d none r b (To h (Tail false))) bs) ≡ going end →
         Outcome r (b ∷ bs) pre text raw cells
     unfolding move
@@ -288,7 +288,7 @@ module _ (d : Dialect) (file : Bytes) (end : Read) where
     same-fit (fit-line {t} x m) = fit-line {t = t} x m
 
     tail-closing-comes :
-        (h : FileState) {text raw : Bytes} {cells : List Derived} → Stands d file seen r pre text raw cells → fileStep d (r .state) b ≡ To h (Tail true) →
+        (h : FileState) {text raw : Bytes} {cells : List Derived} → Lies d file seen r pre text raw cells → fileStep d (r .state) b ≡ To h (Tail true) →
         readEnd d none (readFrom d none (move d none r b (To h (Tail true))) bs) ≡ going end → Outcome r (b ∷ bs) pre text raw cells
     unfolding move
     tail-closing-comes h {text} {raw} {cells} s e q =
@@ -296,7 +296,7 @@ module _ (d : Dialect) (file : Bytes) (end : Read) where
         (λ n t cs ls m y. told (line t ([] ∷ cs) ∷ ls) y (reading.tail-closing e m) (same-fit (y .fit)) (joined-tail-closing d text raw cells b t cs ls)) q
 
     ends-comes :
-        (h : FileState) {text raw : Bytes} {cells : List Derived} → Stands d file seen r pre text raw cells → fileStep d (r .state) b ≡ To h (Ends false) →
+        (h : FileState) {text raw : Bytes} {cells : List Derived} → Lies d file seen r pre text raw cells → fileStep d (r .state) b ≡ To h (Ends false) →
         standing.Ended d h (counts (r .state) b ≡ false) text raw → readEnd d none (readFrom d none (move d none r b (To h (Ends false))) bs) ≡ going end →
         Outcome r (b ∷ bs) pre text raw cells
     unfolding move
@@ -305,7 +305,7 @@ module _ (d : Dialect) (file : Bytes) (end : Read) where
         (λ ls. rw (append-nil text, append-nil cells)) q
 
     ends-closing-comes :
-        (h : FileState) {text raw : Bytes} {cells : List Derived} → Stands d file seen r pre text raw cells → fileStep d (r .state) b ≡ To h (Ends true) →
+        (h : FileState) {text raw : Bytes} {cells : List Derived} → Lies d file seen r pre text raw cells → fileStep d (r .state) b ≡ To h (Ends true) →
         readEnd d none (readFrom d none (move d none r b (To h (Ends true))) bs) ≡ going end → Outcome r (b ∷ bs) pre text raw cells
     unfolding move
     ends-closing-comes h {text} {raw} {cells} s e q =
@@ -313,7 +313,7 @@ module _ (d : Dialect) (file : Bytes) (end : Read) where
         (λ ls. joined-ends-closing d pre text raw cells ls) (λ ls. rw (append-nil text, append-nil raw)) q
 
     step-comes :
-        (s : Step) {text raw : Bytes} {cells : List Derived} → Stands d file seen r pre text raw cells → fileStep d (r .state) b ≡ s → recordFull r b ≡ false →
+        (s : Step) {text raw : Bytes} {cells : List Derived} → Lies d file seen r pre text raw cells → fileStep d (r .state) b ≡ s → recordFull r b ≡ false →
         readEnd d none (readFrom d none (move d none r b s) bs) ≡ going end → Outcome r (b ∷ bs) pre text raw cells
     unfolding move
     step-comes (Reject x) s e f q = not-going d (types.Byte x) r bs q
@@ -341,7 +341,7 @@ module _ (d : Dialect) (file : Bytes) (end : Read) where
 
   -- ---- the end
 
-  whole-file : {seen : Bytes} {r : Read} {pre : List (Line Derived)} {text raw : Bytes} {cells : List Derived} → Stands d file seen r pre text raw cells → file ≡ seen ++ [] → length file ≤ MAXFILE
+  whole-file : {seen : Bytes} {r : Read} {pre : List (Line Derived)} {text raw : Bytes} {cells : List Derived} → Lies d file seen r pre text raw cells → file ≡ seen ++ [] → length file ≤ MAXFILE
   whole-file {seen} s e = rw (e ∙ append-nil seen) (s .short)
 
   done-some : (r : Read) {rs : List Rec} {ls : List (Line Derived)} → Each (ShowsRecord file) rs ls → endBetween r rs ≡ going end → Some ls × (r ≡ end)
@@ -349,7 +349,7 @@ module _ (d : Dialect) (file : Bytes) (end : Read) where
   done-some r (each-cons v k) q = (some, same-going q)
 
   clean-comes :
-      (r : Read) {seen : Bytes} {pre : List (Line Derived)} {text raw : Bytes} {cells : List Derived} → Stands d file seen r pre text raw cells → length file ≤ MAXFILE →
+      (r : Read) {seen : Bytes} {pre : List (Line Derived)} {text raw : Bytes} {cells : List Derived} → Lies d file seen r pre text raw cells → length file ≤ MAXFILE →
       fileEnd d (r .state) ≡ Clean → endBetween r (r .done) ≡ going end → Outcome r [] pre text raw cells
   clean-comes r {pre} s l e q =
       let x = done-some r (s .done) q in
@@ -380,7 +380,7 @@ module _ (d : Dialect) (file : Bytes) (end : Read) where
       c : Each (ShowsCell file) vs cells′
       c = closes-now s [] place
 
-      final : fileEnd d (r .state) ≡ Final → (v : Verdict) → recordFault d none (r .done) vs ≡ v → validated r next v ≡ going end → Outcome r [] pre text raw cells
+      final : fileEnd d (r .state) ≡ Final → (v : CheckResult) → recordFault d none (r .done) vs ≡ v → validated r next v ≡ going end → Outcome r [] pre text raw cells
       final e (Faulty x) w q = stopped-going q
       final e Sound w q =
           let z : next ≡ end = same-going q in

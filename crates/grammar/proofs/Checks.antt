@@ -10,13 +10,13 @@ use mathlib.Core.List.{List, [], _∷_, _++_}
 use lib.ListN.{length}
 use lib.Dec.{ltb, eqb}
 use borrow.Author.Tests.{ltb-false, le-ltb, eqb-true, eq-eqb, not-false}
-use Rattle.rfc_grammar.specs.Types.{Kind, Text, Number, True, False, Null, Dialect, Fault, TooManyColumns, HeaderKind, RepeatedName, CellCount, Verdict, Sound, Faulty}
-use Rattle.model.specs.Base.{Bytes, if_then_else_, same}
-use Rattle.model.specs.Text.{Value, isText}
-use Rattle.model.specs.Report.{MAXCOLUMNS}
-use Rattle.model.specs.Records.{Rec, _orElse_, when, nameKey, among, repeatFrom, repeatFault, headerKindFrom, headerFault, dataFault, recordFault}
+use Rattle.grammar.specs.rfc.Types.{Kind, Text, Number, True, False, Null, Dialect, Fault, TooManyColumns, HeaderKind, RepeatedName, CellCount, CheckResult, Sound, Faulty}
+use Rattle.model.specs.rules.Base.{Bytes, if_then_else_, same}
+use Rattle.model.specs.rules.Text.{Value, isText}
+use Rattle.model.specs.rules.Report.{MAXCOLUMNS}
+use Rattle.model.specs.rules.Records.{Rec, _orElse_, when, nameKey, among, repeatFrom, repeatFault, headerKindFrom, headerFault, dataFault, recordFault}
 use Rattle.model.proofs.Tests.{impossible, and-true, is→eq, same-byte}
-use Rattle.rfc_grammar.specs.Derived.{Derived, kindIn, contentIn, Line, line, cellsIn, Every, every-none, every-cons, Each, each-none, each-cons}
+use Rattle.grammar.specs.rfc.Derived.{Derived, kindIn, contentIn, Line, line, cellsIn, Every, every-none, every-cons, Each, each-none, each-cons}
 use Rattle.grammar.specs.Accepted.{Distinct, no-names, a-name, ChecksHold, checks-hold, ShowsCell, ShowsRecord}
 
 -- ---- verdicts
@@ -24,12 +24,12 @@ use Rattle.grammar.specs.Accepted.{Distinct, no-names, a-name, ChecksHol
 faulty-sound : {A : Type 0} {e : Fault} → Faulty e ≡ Sound → A
 faulty-sound p = let z : _≡_ {A = ℕ} 0 1 = cc in absurd (omega arith)
 
-both-sound : (v w : Verdict) → (v orElse w) ≡ Sound → (v ≡ Sound) × (w ≡ Sound)
+both-sound : (v w : CheckResult) → (v orElse w) ≡ Sound → (v ≡ Sound) × (w ≡ Sound)
 unfolding _orElse_
 both-sound Sound w p = (refl, p)
 both-sound (Faulty e) w p = faulty-sound p
 
-sound-both : (v w : Verdict) → v ≡ Sound → w ≡ Sound → (v orElse w) ≡ Sound
+sound-both : (v w : CheckResult) → v ≡ Sound → w ≡ Sound → (v orElse w) ≡ Sound
 unfolding _orElse_
 sound-both v w p q = rw (p, q)
 

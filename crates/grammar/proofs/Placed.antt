@@ -1,5 +1,5 @@
 -- The stretches of the cells that were read are those of the derivation. The reader keeps the next byte's offset and the offset at which
--- the cell in hand was opened, as `Walks` does, so each step of one is a step of the other.
+-- the current cell was opened, as `Runs` does, so each step of one is a step of the other.
 use Prim.Native.Nat.{ℕ, suc}
 use mathlib.Core.Path.{_≡_, refl, sym, ap, _∙_}
 use mathlib.Core.Bool.{Bool, true, false}
@@ -7,33 +7,33 @@ use mathlib.Core.Option.{none, some}
 use mathlib.Core.List.{List, [], _∷_, _++_, map, map-append, append-assoc, append-nil}
 use lib.ListN.{length}
 use lib.Dec.{ltb}
-use Rattle.rfc_grammar.specs.Types.{Dialect, FileState, Begin, OfCell, Outside, Passed, Between, Tail, Ends, Step, To, Clean, Final, Verdict, Sound, Faulty}
-use Rattle.rfc_grammar.specs.Types as types
-use Rattle.model.specs.Base.{Bytes, if_then_else_, concat}
-use Rattle.model.specs.Dialect.{dialectOf}
-use Rattle.model.specs.File.{fileStep, fileEnd}
-use Rattle.model.specs.Report.{accepted}
-use Rattle.model.specs.Records.{Rec, rows, Progress, stopped, Read, going, nothingRead, between-records, cellNow, closing, validated, complete, move, fileFull, recordFull, recordFault, readByte, readFrom, readBytes, endBetween, readEnd, readFile}
-use Rattle.model.specs.Api.{answered, readAnswer, reader}
-use Rattle.rfc_grammar.specs.Derived.{Derived, Line}
-use Rattle.file_grammar.specs.Derives.{Derives}
-use Rattle.file_grammar.specs.Stretches.{Stretch, stretch, stretches, stretchOf, shown}
-use Rattle.model.proofs.FileSteps.{its-transition}
+use Rattle.grammar.specs.rfc.Types.{Dialect, FileState, Begin, OfCell, Outside, Passed, Between, Tail, Ends, Step, To, Clean, Final, CheckResult, Sound, Faulty}
+use Rattle.grammar.specs.rfc.Types as types
+use Rattle.model.specs.rules.Base.{Bytes, if_then_else_, concat}
+use Rattle.model.specs.rules.Dialect.{dialectOf}
+use Rattle.model.specs.rules.File.{fileStep, fileEnd}
+use Rattle.model.specs.rules.Report.{accepted}
+use Rattle.model.specs.rules.Records.{Rec, rows, Progress, stopped, Read, going, nothingRead, between-records, cellNow, closing, validated, complete, move, fileFull, recordFull, recordFault, readByte, readFrom, readBytes, endBetween, readEnd, readFile}
+use Rattle.model.specs.rules.Api.{answered, readAnswer, reader}
+use Rattle.grammar.specs.rfc.Derived.{Derived, Line}
+use Rattle.grammar.specs.dialects.Derives.{Derives}
+use Rattle.grammar.specs.dialects.Spans.{Span, span, stretches, spanOf, shown}
+use Rattle.model.proofs.file_laws.FileSteps.{its-transition}
 use Rattle.grammar.proofs.Stages.{stageOf, cell-stage, between-stage, tail-stage, ends-stage}
-use Rattle.grammar.proofs.Standing.{Tidy, tidy-rest, tidy-cell, recording-tidy, rest-tidy, rested-none, parted-tidy}
-use Rattle.grammar.proofs.Standing.{moved-outside, moved-passed, moved-between, moved-tail}
-use Rattle.file_grammar.proofs.Walks.{Walks}
-use Rattle.file_grammar.proofs.Walks as walks
+use Rattle.grammar.proofs.DerivationState.{Tidy, tidy-rest, tidy-cell, recording-tidy, rest-tidy, rested-none, parted-tidy}
+use Rattle.grammar.proofs.DerivationState.{moved-outside, moved-passed, moved-between, moved-tail}
+use Rattle.grammar.proofs.dialects.PlacedReads.{Runs}
+use Rattle.grammar.proofs.dialects.PlacedReads as walks
 use Rattle.grammar.proofs.AcceptedOnly.{not-going, same-going, stopped-going}
-use Rattle.file_grammar.proofs.FileGrammar.{derived-walks}
+use Rattle.grammar.proofs.dialects.FileGrammar.{derived-runs}
 use Rattle.grammar.proofs.Acceptance.{accepted-going, ten}
 
--- the complete cells of the record in hand stand before the rest of it
-onto : List Stretch → List (List Stretch) → List (List Stretch)
+-- the complete cells of the current record stand before the rest of it
+onto : List Span → List (List Span) → List (List Span)
 onto cs [] = []
 onto cs (ps ∷ ss) = (cs ++ ps) ∷ ss
 
-onto-none : (ss : List (List Stretch)) → onto [] ss ≡ ss
+onto-none : (ss : List (List Span)) → onto [] ss ≡ ss
 unfolding onto
 onto-none [] = refl
 onto-none (ps ∷ ss) = refl
@@ -44,8 +44,8 @@ module _ (d : Dialect) (end : Read) where
   Comes r xs = readEnd d none (readFrom d none (going r) xs) ≡ going end
 
   -- the records are then those that were complete, and these
-  abbrev Shows : Read → List (List Stretch) → Type 0
-  Shows r ss = shown (end .done) ≡ shown (r .done) ++ onto (map stretchOf (r .cells)) ss
+  abbrev Shows : Read → List (List Span) → Type 0
+  Shows r ss = shown (end .done) ≡ shown (r .done) ++ onto (map spanOf (r .cells)) ss
 
   byte-read :
       (r : Read) (b : ℕ) (bs : Bytes) (s : Step) → fileStep d (r .state) b ≡ s → Comes r (b ∷ bs) →
@@ -59,30 +59,30 @@ module _ (d : Dialect) (end : Read) where
       go false false f z = rw (f, z, e) at q
 
   verdict-read :
-      (r next : Read) (bs : Bytes) (v : Verdict) → readEnd d none (readFrom d none (validated r next v) bs) ≡ going end → Comes next bs
+      (r next : Read) (bs : Bytes) (v : CheckResult) → readEnd d none (readFrom d none (validated r next v) bs) ≡ going end → Comes next bs
   verdict-read r next bs Sound q = q
   verdict-read r next bs (Faulty x) q = not-going d x r bs q
 
-  -- the cell in hand closes where the walk has it
+  -- the current cell closes where the walk has it
   closing-onto :
-      (r : Read) {o p : ℕ} (ps : List Stretch) (ss : List (List Stretch)) → r .offset ≡ o → r .opened ≡ p →
-      onto (map stretchOf (closing d true r)) (ps ∷ ss) ≡ onto (map stretchOf (r .cells)) ((stretch p o ∷ ps) ∷ ss)
+      (r : Read) {o p : ℕ} (ps : List Span) (ss : List (List Span)) → r .offset ≡ o → r .opened ≡ p →
+      onto (map spanOf (closing d true r)) (ps ∷ ss) ≡ onto (map spanOf (r .cells)) ((span p o ∷ ps) ∷ ss)
   unfolding onto
   closing-onto r ps ss po pp =
-      rw (map-append stretchOf (r .cells) (cellNow d r ∷ []), append-assoc (map stretchOf (r .cells)) (stretchOf (cellNow d r) ∷ []) ps, po, pp)
+      rw (map-append spanOf (r .cells) (cellNow d r ∷ []), append-assoc (map spanOf (r .cells)) (spanOf (cellNow d r) ∷ []) ps, po, pp)
 
   -- a complete record stands behind those before it
   record-onto :
-      (rs : List Rec) (r : Rec) (ss : List (List Stretch)) → shown (rs ++ (r ∷ [])) ++ onto [] ss ≡ shown rs ++ onto (map stretchOf (r .cells)) ([] ∷ ss)
+      (rs : List Rec) (r : Rec) (ss : List (List Span)) → shown (rs ++ (r ∷ [])) ++ onto [] ss ≡ shown rs ++ onto (map spanOf (r .cells)) ([] ∷ ss)
   unfolding onto
   record-onto rs r ss =
-      rw (map-append (λ (r : Rec). map stretchOf (r .cells)) rs (r ∷ []), append-assoc (shown rs) (map stretchOf (r .cells) ∷ []) (onto [] ss), onto-none ss, append-nil (map stretchOf (r .cells)))
+      rw (map-append (λ (r : Rec). map spanOf (r .cells)) rs (r ∷ []), append-assoc (shown rs) (map spanOf (r .cells) ∷ []) (onto [] ss), onto-none ss, append-nil (map spanOf (r .cells)))
 
   between-same : (r : Read) (rs : List Rec) → endBetween r rs ≡ going end → r ≡ end
   between-same r [] q = stopped-going q
   between-same r (h ∷ rs) q = same-going q
 
-  validated-same : (r next : Read) (v : Verdict) → validated r next v ≡ going end → next ≡ end
+  validated-same : (r next : Read) (v : CheckResult) → validated r next v ≡ going end → next ≡ end
   validated-same r next Sound q = same-going q
   validated-same r next (Faulty x) q = stopped-going q
 
@@ -90,7 +90,7 @@ module _ (d : Dialect) (end : Read) where
   stepped r b s p e = ap (λ z. fileStep d z b) p ∙ e
 
   walk-shows :
-      {f : FileState} {o p : ℕ} {xs text raw : Bytes} {ls : List (Line Bytes)} {ss : List (List Stretch)} → Walks d f o p xs ls ss →
+      {f : FileState} {o p : ℕ} {xs text raw : Bytes} {ls : List (Line Bytes)} {ss : List (List Span)} → Runs d f o p xs ls ss →
       (r : Read) → r .state ≡ f → r .offset ≡ o → r .opened ≡ p → Tidy (stageOf d (r .state)) text raw (r .cells) → Comes r xs → Shows r ss
   unfolding move complete readFrom readEnd onto
   walk-shows (walks.ends-clean {f} e) r pf po pp t q =
@@ -145,16 +145,16 @@ module _ (d : Dialect) (end : Read) where
       record-onto (r .done) made ss ∙ ap (λ z. shown (r .done) ++ z) (closing-onto r [] ss po pp)
 
 -- the reader's stretches are those of every derivation
-pub same-stretches : (d : Dialect) (xs : Bytes) (ls : List (Line Derived)) (k : Derives d xs ls) (r : Read) → readFile d none xs ≡ going r → shown (r .done) ≡ stretches d xs ls k
+pub same-spans : (d : Dialect) (xs : Bytes) (ls : List (Line Derived)) (k : Derives d xs ls) (r : Read) → readFile d none xs ≡ going r → shown (r .done) ≡ stretches d xs ls k
 unfolding readFile readBytes nothingRead
-same-stretches d xs ls k r e = walk-shows d r (derived-walks d xs ls k) nothingRead refl refl refl tidy-rest e ∙ onto-none (stretches d xs ls k)
+same-spans d xs ls k r e = walk-shows d r (derived-runs d xs ls k) nothingRead refl refl refl tidy-rest e ∙ onto-none (stretches d xs ls k)
 
 -- ---- the reader's call
 
-rows-stretches : (rs : List Rec) → map stretchOf (concat (rows rs)) ≡ concat (shown rs)
+rows-spans : (rs : List Rec) → map spanOf (concat (rows rs)) ≡ concat (shown rs)
 unfolding rows concat
-rows-stretches [] = refl
-rows-stretches (r ∷ rs) = map-append stretchOf (r .cells) (concat (rows rs)) ∙ ap (λ z. map stretchOf (r .cells) ++ z) (rows-stretches rs)
+rows-spans [] = refl
+rows-spans (r ∷ rs) = map-append spanOf (r .cells) (concat (rows rs)) ∙ ap (λ z. map spanOf (r .cells) ++ z) (rows-spans rs)
 
 -- an accepted file is answered with all its cells
 answered-cells : (rs : List Rec) (room : ℕ) → answered rs (concat (rows rs)) room .report ≡ accepted → answered rs (concat (rows rs)) room .cells ≡ concat (rows rs)
@@ -167,13 +167,13 @@ answered-cells (h ∷ rs) room e = go (ltb room (length (concat (rows (h ∷ rs)
     go false p = rw p
 
 -- the cells that it answers stand, in file order, where every derivation has them
-pub reader-stretches :
+pub reader-spans :
     (n : ℕ) (d : Dialect) (xs : Bytes) (room : ℕ) (ls : List (Line Derived)) (k : Derives d xs ls) → dialectOf n ≡ some d →
-    reader n xs room .report ≡ accepted → map stretchOf (reader n xs room .cells) ≡ concat (stretches d xs ls k)
+    reader n xs room .report ≡ accepted → map spanOf (reader n xs room .cells) ≡ concat (stretches d xs ls k)
 unfolding reader
-reader-stretches n d xs room ls k dialect e = rw (dialect, reader) (go (readFile d none xs) refl (rw (dialect, reader) at e))
+reader-spans n d xs room ls k dialect e = rw (dialect, reader) (go (readFile d none xs) refl (rw (dialect, reader) at e))
   where
-    go : (p : Progress) → readFile d none xs ≡ p → readAnswer p room .report ≡ accepted → map stretchOf (readAnswer p room .cells) ≡ concat (stretches d xs ls k)
+    go : (p : Progress) → readFile d none xs ≡ p → readAnswer p room .report ≡ accepted → map spanOf (readAnswer p room .cells) ≡ concat (stretches d xs ls k)
     go (going r) q e =
-        ap (map stretchOf) (answered-cells (r .done) room e) ∙ rows-stretches (r .done) ∙ ap concat (same-stretches d xs ls k r q)
+        ap (map spanOf) (answered-cells (r .done) room e) ∙ rows-spans (r .done) ∙ ap concat (same-spans d xs ls k r q)
     go (stopped x r) q e = stopped-going (accepted-going (stopped x r) e .1)

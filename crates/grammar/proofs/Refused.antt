@@ -9,34 +9,34 @@ use mathlib.Core.Bool.{Bool, true, false}
 use mathlib.Core.Option.{none}
 use mathlib.Core.List.{List, [], _∷_, _++_, map}
 use lib.ListN.{length, replicate}
-use Rattle.rfc_grammar.specs.Types.{Kind, Text, Dialect, Csvj, Tdif, CsvPlus, FileState, Top, Step, To, Reject, Ending, Clean, Final, Cut}
-use Rattle.rfc_grammar.specs.Types as types
-use Rattle.model.specs.Base.{Bytes}
-use Rattle.model.specs.Dialect.{standard}
-use Rattle.model.specs.File.{fileStep, fileEnd}
-use Rattle.model.specs.Report.{accepted}
-use Rattle.model.specs.Records.{nothingRead, readFile, reportOf}
-use Rattle.model.specs.Computes.{computes}
+use Rattle.grammar.specs.rfc.Types.{Kind, Text, Dialect, Csvj, Tdif, CsvPlus, FileState, Top, Step, To, Reject, Ending, Clean, Final, Cut}
+use Rattle.grammar.specs.rfc.Types as types
+use Rattle.model.specs.rules.Base.{Bytes}
+use Rattle.model.specs.rules.Dialect.{standard}
+use Rattle.model.specs.rules.File.{fileStep, fileEnd}
+use Rattle.model.specs.rules.Report.{accepted}
+use Rattle.model.specs.rules.Records.{nothingRead, readFile, reportOf}
+use Rattle.model.specs.laws.Computes.{computes}
 use Rattle.model.proofs.Tests.{impossible}
-use Rattle.rfc_grammar.specs.Rfc5234.{HEXDIG, decimal, lower}
-use Rattle.rfc_grammar.specs.Rfc3629.{UTF8-3, of-three}
-use Rattle.rfc_grammar.specs.Derived.{Derived, cell, contentIn, Line, line, textIn, every-none, every-cons}
-use Rattle.file_grammar.specs.Derives.{Derives}
-use Rattle.file_grammar.specs.Reading.{Reads, between, ends, ends-clean, decoded, decodedLine, ReadByForm, read-by-form}
-use Rattle.rfc_grammar.specs.Rfc8259 as json
-use Rattle.file_grammar.specs.Csvj as csvj
-use Rattle.file_grammar.specs.Tdif as tdif
-use Rattle.file_grammar.specs.CsvPlus as plus
+use Rattle.grammar.specs.rfc.Rfc5234.{HEXDIG, decimal, lower}
+use Rattle.grammar.specs.rfc.Rfc3629.{UTF8-3, of-three}
+use Rattle.grammar.specs.rfc.Derived.{Derived, cell, contentIn, Line, line, textIn, every-none, every-cons}
+use Rattle.grammar.specs.dialects.Derives.{Derives}
+use Rattle.grammar.specs.dialects.FormReads.{Reads, between, ends, ends-clean, decoded, decodedLine, ReadByForm, read-by-form}
+use Rattle.grammar.specs.rfc.Rfc8259 as json
+use Rattle.grammar.specs.dialects.Csvj as csvj
+use Rattle.grammar.specs.dialects.Tdif as tdif
+use Rattle.grammar.specs.dialects.CsvPlus as plus
 use Rattle.grammar.specs.Accepted.{no-names, a-name, WithinLimits, ChecksHold, checks-hold}
 use Rattle.grammar.specs.Exact.{Exact, ExactPlaces}
-use Rattle.rfc_grammar.specs.Mistakes.{RfcMistakes}
-use Rattle.file_grammar.specs.Mistakes.{FileMistakes, Misplacements, threeLines, threeRecords, threeDerived}
+use Rattle.grammar.specs.RfcMistakes.{RfcMistakes}
+use Rattle.grammar.specs.FileMistakes.{FileMistakes, Misplacements, threeLines, threeRecords, threeDerived}
 use Rattle.grammar.specs.Mistakes.{Mistakes, nameA, twoNames, tooLong}
-use Rattle.grammar.specs.NextByte.{GoesOn}
-use Rattle.file_grammar.specs.Stretches.{stretch, stretches}
-use Rattle.rfc_grammar.proofs.Ranges.{range}
-use Rattle.file_grammar.proofs.Steps.{Finishes, clean, final, Takes, by-bytes, reads-once}
-use Rattle.file_grammar.proofs.Steps as steps
+use Rattle.grammar.specs.NextByte.{ProceedsOn}
+use Rattle.grammar.specs.dialects.Spans.{span, stretches}
+use Rattle.grammar.proofs.rfc.Ranges.{range}
+use Rattle.grammar.proofs.dialects.Steps.{Finishes, clean, final, Takes, by-bytes, reads-once}
+use Rattle.grammar.proofs.dialects.Steps as steps
 use Rattle.grammar.proofs.AcceptedOnly.{stopped-going}
 
 -- ---- a file that is read by form takes the automaton to its end
@@ -86,7 +86,7 @@ one-value v = csvj.unmarked (csvj.csvj-file (csvj.header-line (csvj.ended (csvj.
 
 -- a CSVJ string of one char
 one-char : {cs : Bytes} → json.Unescaped cs → csvj.Value (cell (0x22 ∷ ((cs ++ []) ++ (0x22 ∷ []))) Text (cs ++ []))
-one-char u = csvj.a-string (json.string json.a-quotation-mark (json.char (json.unescaped u) json.no-char) json.a-quotation-mark (json.as-they-stand json.nothing))
+one-char u = csvj.a-string (json.string json.a-quotation-mark (json.char (json.unescaped u) json.no-char) json.a-quotation-mark (json.as-they-lie json.nothing))
 
 -- \ud83d and \ude00
 small : (b : ℕ) → 0x61 ≤ b → b ≤ 0x66 → HEXDIG b (b - 0x57)
@@ -124,7 +124,7 @@ plain (suc n) = plus.textdata (plus.ascii {b = 0x61} (range (omega arith) (omega
 long-file : plus.File standard tooLong (line tooLong (cell tooLong Text tooLong ∷ []) ∷ [])
 long-file = plus.file unmarked (plus.header-unended (plus.a-name (plus.name (plus.a-non-escaped (plain 4097)))))
   where
-    unmarked : ¬ plus.BeginsWithMark tooLong
+    unmarked : ¬ plus.BeginsWithBom tooLong
     unmarked m = elim m [ ]
 
 -- two spaces and LF are read as a record whose text is the spaces
@@ -152,7 +152,7 @@ module _ (exact : Exact) where
 
   -- a CSV+ file of one field and no ending
   one-field :
-      (b : ℕ) (bs : Bytes) (kind : Kind) (content : Bytes) → passes (CsvPlus standard) (b ∷ bs) Top ≡ false → ¬ plus.BeginsWithMark (b ∷ bs) →
+      (b : ℕ) (bs : Bytes) (kind : Kind) (content : Bytes) → passes (CsvPlus standard) (b ∷ bs) Top ≡ false → ¬ plus.BeginsWithBom (b ∷ bs) →
       ¬ plus.Field standard (cell (b ∷ bs) kind content)
   one-field b bs kind content e n f =
       refuse (CsvPlus standard) (b ∷ bs) (line (b ∷ bs) (cell (b ∷ bs) kind content ∷ []) ∷ []) e
@@ -234,7 +234,7 @@ module _ (exact : Exact) where
 
   -- ---- by the next byte
 
-  begun : ¬ ¬ GoesOn Csvj [] 0x22
+  begun : ¬ ¬ ProceedsOn Csvj [] 0x22
   unfolding computes
   begun n = stopped-going (sym (exact .next-byte Csvj none [] nothingRead 0x22 refl refl refl .refused .1 n .1))
 
@@ -262,8 +262,8 @@ module _ (exact : Exact) where
 
 module _ (exact : ExactPlaces) where
   equal-cells :
-      (n : ¬ plus.BeginsWithMark threeLines) (x : plus.Non-escaped standard (0x78 ∷ [])) (a : plus.Non-escaped standard (0x61 ∷ [])) →
-      stretches (CsvPlus standard) threeLines threeRecords (threeDerived n x a) ≡ (stretch 0 1 ∷ []) ∷ (stretch 2 3 ∷ []) ∷ (stretch 4 5 ∷ []) ∷ []
+      (n : ¬ plus.BeginsWithBom threeLines) (x : plus.Non-escaped standard (0x78 ∷ [])) (a : plus.Non-escaped standard (0x61 ∷ [])) →
+      stretches (CsvPlus standard) threeLines threeRecords (threeDerived n x a) ≡ (span 0 1 ∷ []) ∷ (span 2 3 ∷ []) ∷ (span 4 5 ∷ []) ∷ []
   unfolding computes
   equal-cells n x a = sym (exact .stretches (CsvPlus standard) threeLines threeRecords (threeDerived n x a) _ refl)
 

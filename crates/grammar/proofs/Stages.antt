@@ -1,12 +1,12 @@
--- What each step of a file does to the record and the cell in hand, read off the walk over a file's states: a mark or a comment stands
+-- What each step of a file does to the record and the current cell, read off the walk over a file's states: a mark or a comment stands
 -- where neither is; a byte of a cell leads into one, and a byte between cells into a record; and a cell is left only by closing it.
 use Prim.Native.Nat.{ℕ}
 use mathlib.Core.Path.{_≡_, refl}
 use mathlib.Core.Bool.{Bool, false}
-use Rattle.rfc_grammar.specs.Types.{Dialect, Csvj, Tdif, CsvPlus}
-use Rattle.rfc_grammar.specs.Types.{FileState, Top, Begin, Ended, Mark1, Mark2, PlainMark1, PlainMark2, Comment, Blanks, Wanting, Inside, After, Cr, Outside, Passed, OfCell, Between, Tail, Ends, To}
-use Rattle.model.proofs.FileSteps as steps
-use Rattle.model.proofs.FileSteps.{Rests, Around, Grown, Free, Opens, Next, Leaves, Transition, starts-free}
+use Rattle.grammar.specs.rfc.Types.{Dialect, Csvj, Tdif, CsvPlus}
+use Rattle.grammar.specs.rfc.Types.{FileState, Top, Begin, Ended, Bom1, Bom2, PlainBom1, PlainBom2, Comment, Blanks, ExpectCell, Inside, After, Cr, Outside, Passed, OfCell, Between, Tail, Ends, To}
+use Rattle.model.proofs.file_laws.FileSteps as steps
+use Rattle.model.proofs.file_laws.FileSteps.{Rests, Around, Grown, Free, Opens, Next, Leaves, Transition, starts-free}
 
 -- ---- stages of a file
 
@@ -26,13 +26,13 @@ abbrev pub stageOf : Dialect → FileState → Stage
 stageOf d Top = at-rest
 stageOf d Begin = at-rest
 stageOf d Ended = at-rest
-stageOf d Mark1 = at-rest
-stageOf d Mark2 = at-rest
-stageOf d PlainMark1 = in-cell
-stageOf d PlainMark2 = in-cell
+stageOf d Bom1 = at-rest
+stageOf d Bom2 = at-rest
+stageOf d PlainBom1 = in-cell
+stageOf d PlainBom2 = in-cell
 stageOf d (Comment c) = at-rest
 stageOf d Blanks = blanksStage d
-stageOf d Wanting = in-record
+stageOf d ExpectCell = in-record
 stageOf d (Inside c) = in-cell
 stageOf d After = in-record
 stageOf d Cr = in-record
@@ -54,8 +54,8 @@ module _ (d : Dialect) where
   rests-stage steps.top = refl
   rests-stage steps.begin = refl
   rests-stage steps.ended = refl
-  rests-stage steps.mark1 = refl
-  rests-stage steps.mark2 = refl
+  rests-stage steps.bom1 = refl
+  rests-stage steps.bom2 = refl
   rests-stage steps.comment = refl
 
   next-stage : {f : FileState} → Next f → stageOf d f ≡ at-rest

@@ -6,36 +6,36 @@ use mathlib.Core.Bool.{true, false}
 use mathlib.Core.Option.{Option, none, some}
 use mathlib.Core.List.{List, [], _∷_, map}
 use lib.ListN.{length}
-use Rattle.rfc_grammar.specs.Types.{Dialect, Target, Whole}
+use Rattle.grammar.specs.rfc.Types.{Dialect, Target, Whole}
 use Rattle.model.specs.declared.CellCheck.the-variants.{WholeCell}
-use Rattle.model.specs.Base.{Bytes, concat}
-use Rattle.model.specs.Dialect.{dialectOf, standard}
-use Rattle.model.specs.Utf8.{textFrom}
-use Rattle.model.specs.Decode.{validateCell}
-use Rattle.model.specs.Report.{accepted}
-use Rattle.model.specs.Records.{Read, going, fileFull, recordFull, readBytes, readFile, reportOf}
-use Rattle.model.specs.Viable.{CanGoOn}
-use Rattle.model.specs.Api.{reader}
-use Rattle.rfc_grammar.specs.Rfc5234.{_from_to_}
-use Rattle.rfc_grammar.specs.Rfc3629.{UTF8-octets}
-use Rattle.file_grammar.specs.CsvPlus.{TEXTDATA, NarrowTEXTDATA}
-use Rattle.rfc_grammar.specs.Derived.{Derived, rawOf, Line, Each}
-use Rattle.file_grammar.specs.Derives.{DerivesCell, Derives}
-use Rattle.file_grammar.specs.Reading.{decoded, ReadByForm}
-use Rattle.grammar.specs.NextByte.{GoesOn, NextByte}
-use Rattle.file_grammar.specs.Stretches.{past, stretches, stretchOf, shown}
+use Rattle.model.specs.rules.Base.{Bytes, concat}
+use Rattle.model.specs.rules.Dialect.{dialectOf, standard}
+use Rattle.model.specs.rules.Utf8.{textFrom}
+use Rattle.model.specs.rules.Decode.{validateCell}
+use Rattle.model.specs.rules.Report.{accepted}
+use Rattle.model.specs.rules.Records.{Read, going, fileFull, recordFull, readBytes, readFile, reportOf}
+use Rattle.model.specs.laws.Viable.{CanGoOn}
+use Rattle.model.specs.rules.Api.{reader}
+use Rattle.grammar.specs.rfc.Rfc5234.{_from_to_}
+use Rattle.grammar.specs.rfc.Rfc3629.{UTF8-octets}
+use Rattle.grammar.specs.dialects.CsvPlus.{TEXTDATA, NarrowTEXTDATA}
+use Rattle.grammar.specs.rfc.Derived.{Derived, rawOf, Line, Each}
+use Rattle.grammar.specs.dialects.Derives.{DerivesCell, Derives}
+use Rattle.grammar.specs.dialects.FormReads.{decoded, ReadByForm}
+use Rattle.grammar.specs.NextByte.{ProceedsOn, NextByte}
+use Rattle.grammar.specs.dialects.Spans.{past, stretches, spanOf, shown}
 use Rattle.grammar.specs.Accepted.{Acceptable, cellCount, ShowsRecord}
-use Rattle.rfc_grammar.proofs.Texts.{text-exact}
-use Rattle.file_grammar.proofs.PlusCells.{textdata-exact}
-use Rattle.file_grammar.proofs.CellGrammar.{cell-exact, derived-content}
-use Rattle.file_grammar.proofs.FileGrammar.{grammar-exact, unambiguous}
+use Rattle.grammar.proofs.rfc.Texts.{text-exact}
+use Rattle.grammar.proofs.dialects.PlusCells.{textdata-exact}
+use Rattle.grammar.proofs.dialects.CellGrammar.{cell-exact, derived-content}
+use Rattle.grammar.proofs.dialects.FileGrammar.{grammar-exact, unambiguous}
 use Rattle.grammar.specs.Exact.{Exact, ExactPlaces}
-use Rattle.file_grammar.specs.Mistakes.{Misplacements}
+use Rattle.grammar.specs.FileMistakes.{Misplacements}
 use Rattle.grammar.specs.Mistakes.{Mistakes}
 use Rattle.grammar.proofs.Acceptance.{acceptance, accepted-records, reader-acceptance}
-use Rattle.file_grammar.proofs.Walks.{past-length}
-use Rattle.grammar.proofs.Placed.{same-stretches, reader-stretches}
-use Rattle.grammar.proofs.GoingOn.{can-go-on, next-byte-exact}
+use Rattle.grammar.proofs.dialects.PlacedReads.{past-length}
+use Rattle.grammar.proofs.Placed.{same-spans, reader-spans}
+use Rattle.grammar.proofs.ViablePrefixes.{can-go-on, next-byte-exact}
 use Rattle.grammar.proofs.Refused.{refused, refused-places}
 
 -- a text by the rules' table is UTF8-octets of RFC 3629
@@ -71,10 +71,10 @@ pub same-records : (d : Dialect) (xs : Bytes) (ls : List (Line Derived)) → Der
 same-records = accepted-records
 
 -- and each cell stands where the derivation's texts place it: one position runs through all of them
-pub stretches-exactly :
+pub spans-exactly :
     (d : Dialect) (xs : Bytes) (ls : List (Line Derived)) (k : Derives d xs ls) (r : Read) → readFile d none xs ≡ going r →
     shown (r .done) ≡ stretches d xs ls k
-stretches-exactly = same-stretches
+spans-exactly = same-spans
 
 -- that position moves by the length of each text
 pub positions : (xs : Bytes) (o : ℕ) → past xs o ≡ o + length xs
@@ -89,12 +89,12 @@ reader-exactly = reader-acceptance
 -- and the cells that it answers stand, in file order, where the derivation's texts place them
 pub reader-places :
     (n : ℕ) (d : Dialect) (xs : Bytes) (room : ℕ) (ls : List (Line Derived)) (k : Derives d xs ls) → dialectOf n ≡ some d →
-    reader n xs room .report ≡ accepted → map stretchOf (reader n xs room .cells) ≡ concat (stretches d xs ls k)
-reader-places = reader-stretches
+    reader n xs room .report ≡ accepted → map spanOf (reader n xs room .cells) ≡ concat (stretches d xs ls k)
+reader-places = reader-spans
 
 -- a byte can go on, by form alone, exactly when some derivation's text begins so
-pub goes-on : (d : Dialect) (xs : Bytes) (b : ℕ) → CanGoOn d xs b ↔ GoesOn d xs b
-goes-on = can-go-on
+pub proceeds-on : (d : Dialect) (xs : Bytes) (b : ℕ) → CanGoOn d xs b ↔ ProceedsOn d xs b
+proceeds-on = can-go-on
 
 -- so faults 2 and 3 are for the byte with which no derivation's text begins
 pub next-byte :
@@ -110,7 +110,7 @@ pub mistakes : Mistakes
 mistakes = refused exact
 
 pub exact-places : ExactPlaces
-exact-places = record { stretches = stretches-exactly }
+exact-places = record { stretches = spans-exactly }
 
 pub misplacements : Misplacements
 misplacements = refused-places exact-places

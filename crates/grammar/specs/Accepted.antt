@@ -5,13 +5,13 @@ use mathlib.Core.Path.{_≡_}
 use mathlib.Core.Logic.{_≢_}
 use mathlib.Core.List.{List, [], _∷_, _++_}
 use lib.ListN.{length}
-use Rattle.rfc_grammar.specs.Types.{Text, Dialect}
-use Rattle.model.specs.Base.{Bytes}
-use Rattle.model.specs.Text.{Value}
-use Rattle.model.specs.Report.{MAXFILE, MAXRECORD, MAXCOLUMNS}
-use Rattle.model.specs.Records.{Rec, nameKey}
-use Rattle.rfc_grammar.specs.Derived.{Derived, rawOf, kindIn, contentIn, Line, line, textIn, cellsIn, Every, Each}
-use Rattle.file_grammar.specs.Derives.{Derives}
+use Rattle.grammar.specs.rfc.Types.{Text, Dialect}
+use Rattle.model.specs.rules.Base.{Bytes}
+use Rattle.model.specs.rules.Text.{Value}
+use Rattle.model.specs.rules.Report.{MAXFILE, MAXRECORD, MAXCOLUMNS}
+use Rattle.model.specs.rules.Records.{Rec, nameKey}
+use Rattle.grammar.specs.rfc.Derived.{Derived, rawOf, kindIn, contentIn, Line, line, textIn, cellsIn, Every, Each}
+use Rattle.grammar.specs.dialects.Derives.{Derives}
 
 -- the limits: of the file's bytes, of each record's counted bytes, which are its text, and of its columns (§7.1 §7.2 §7.3 §7.4)
 pub record WithinLimits (xs : Bytes) (ls : List (Line Derived)) : Type 0 where

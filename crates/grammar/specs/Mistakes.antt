@@ -5,13 +5,13 @@
 use Prim.Native.Nat.{ℕ}
 use mathlib.Core.List.{[], _∷_}
 use lib.ListN.{replicate}
-use Rattle.rfc_grammar.specs.Types.{Text, Csvj}
-use Rattle.model.specs.Base.{Bytes}
-use Rattle.rfc_grammar.specs.Derived.{Derived, cell, line}
-use Rattle.rfc_grammar.specs.Mistakes.{RfcMistakes}
-use Rattle.file_grammar.specs.Mistakes.{FileMistakes}
+use Rattle.grammar.specs.rfc.Types.{Text, Csvj}
+use Rattle.model.specs.rules.Base.{Bytes}
+use Rattle.grammar.specs.rfc.Derived.{Derived, cell, line}
+use Rattle.grammar.specs.RfcMistakes.{RfcMistakes}
+use Rattle.grammar.specs.FileMistakes.{FileMistakes}
 use Rattle.grammar.specs.Accepted.{WithinLimits, ChecksHold}
-use Rattle.grammar.specs.NextByte.{GoesOn}
+use Rattle.grammar.specs.NextByte.{ProceedsOn}
 
 -- `"a"`, and `"a","a"`
 abbrev pub nameA : Derived
@@ -34,4 +34,4 @@ pub record Mistakes : Type 0 where
   -- a record of 4,097 bytes
   pub long-record : ¬ WithinLimits tooLong (line tooLong (cell tooLong Text tooLong ∷ []) ∷ [])
   -- a byte that is refused though a file goes on with it: the quote with which a CSVJ file begins
-  pub begun : ¬ ¬ GoesOn Csvj [] 0x22
+  pub begun : ¬ ¬ ProceedsOn Csvj [] 0x22

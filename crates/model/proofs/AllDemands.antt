@@ -1,9 +1,9 @@
 -- The demands that the definitions meet.
-use Rattle.model.specs.Demands.{ModelDemands}
-use Rattle.model.proofs.AllTrips.{trips}
-use Rattle.model.proofs.CallsMade.{keeps-ledger}
-use Rattle.model.proofs.MachineLaws.{joined-outputs}
-use Rattle.model.proofs.Pieces.{fits, whole-and-pieces, end-is-whole, fault-of-every-file}
+use Rattle.model.specs.laws.Demands.{ModelDemands}
+use Rattle.model.proofs.round_trip.AllTrips.{trips}
+use Rattle.model.proofs.piece_laws.CallsMade.{preserves-ledger}
+use Rattle.model.proofs.piece_laws.MachineLaws.{joined-outputs}
+use Rattle.model.proofs.piece_laws.Pieces.{fits, whole-and-pieces, end-is-whole, fault-of-every-file}
 
 pub demands : ModelDemands
 demands =
@@ -14,5 +14,5 @@ demands =
       whole-and-pieces = whole-and-pieces;
       end-is-whole = end-is-whole;
       fault-of-every-file = fault-of-every-file;
-      every-list-of-calls = keeps-ledger;
+      every-list-of-calls = preserves-ledger;
     }

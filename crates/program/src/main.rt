@@ -8,7 +8,7 @@ mod stream;
 fn argument(i: usize) -> u32 {
     let mut word = [0u8; 4];
     let length = os::arg(i, &mut word);
-    wording::dialects::dialect_named(&word[..length])
+    messages::dialects::dialect_named(&word[..length])
 }
 
 fn help() {

@@ -1,25 +1,25 @@
 // Standard input to standard output, a piece at a time. A turn is loop-free: it reads once, converts what came and writes what that
 // completed.
 ghost use Rattle.io.specs.Counts.{Counts};
+use codes::LEAST_OUTPUT;
+use codes::MAX_COLUMNS;
+use codes::MAX_FILE;
+use codes::MAX_PIECE;
+use codes::MAX_RECORD;
+use codes::TextAnswer;
 use libc::STDERR_FILENO;
 use libc::STDIN_FILENO;
 use libc::STDOUT_FILENO;
+use messages::refusal;
 use model::Report;
-use numbers::LEAST_OUTPUT;
-use numbers::MAX_COLUMNS;
-use numbers::MAX_FILE;
-use numbers::MAX_PIECE;
-use numbers::MAX_RECORD;
-use numbers::TextAnswer;
-use pieces::lent;
-use wording::refusal;
+use piece_converter::lent;
 
 // How many bytes of the output a call wrote. No call of these answers more than the output has; that it is asked here once more spares the
 // proof of it.
-fn written(length: usize, out: &[u8]) -> usize
+fn written_length(length: usize, out: &[u8]) -> usize
     ensures { λ r. ⌜ Counts r (now (out .entry)) ⌝ }
 {
-    numbers::least_of(length, out.len())
+    codes::min_of(length, out.len())
 }
 
 // A refusal in words, on standard error.
@@ -31,7 +31,7 @@ fn say(e: Report) {
 
 // Writes what a call wrote, and answers whether the conversion goes on after it.
 fn deliver(answer: TextAnswer, out: &[u8]) -> bool {
-    let n = written(answer.length, out);
+    let n = written_length(answer.length, out);
     if !io::write_all(STDOUT_FILENO, &out[..n]) {
         os::fail(b"standard output could not be written in full");
         return false;
@@ -45,7 +45,7 @@ fn deliver(answer: TextAnswer, out: &[u8]) -> bool {
 }
 
 // One read and what follows from it. Answers whether there may be more to read.
-fn turn(
+fn step(
     source: u32,
     target: u32,
     numbers: &mut [usize; 14],
@@ -92,7 +92,7 @@ pub fn convert(source: u32, target: u32) {
     let mut out = [0u8; LEAST_OUTPUT];
     let mut turns = MAX_FILE + 1;
     while 0 < turns
-        && turn(
+        && step(
             source,
             target,
             &mut numbers,

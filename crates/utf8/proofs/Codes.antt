@@ -8,8 +8,8 @@ use native.Mathlib.Omega.{arith}
 use lib.Bits.{bitAnd, bitOr, and-mask, mask-lt, or-shifted, or-shifted-r}
 use lib.ListN.{length, take}
 use borrow.Author.Tests.{le-leb, lt-leb}
-use Rattle.model.specs.Base.{if_then_else_, Bytes}
-use Rattle.model.specs.Utf8.{pack, joined}
+use Rattle.model.specs.rules.Base.{if_then_else_, Bytes}
+use Rattle.model.specs.rules.Utf8.{pack, joined}
 use Rattle.model.proofs.Tests.{split, within-true}
 use Rattle.utf8.specs.Codes.{packed, zeros, Packs, tenBits, Joins}
 

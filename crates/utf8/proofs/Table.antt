@@ -7,8 +7,8 @@ use mathlib.Core.List.{List, [], _∷_, map}
 use Prim.Native.Nat.{ℕ, zero, suc, _<_}
 use native.Mathlib.Nat.{le-of-suc-le-suc, not-suc-le-zero}
 use lib.ListN.{length, getD, drop}
-use Rattle.model.specs.Base.{if_then_else_, within}
-use Rattle.model.specs.Utf8.{Row, rowOf, leads, leadByte, afterSecond, innerStep}
+use Rattle.model.specs.rules.Base.{if_then_else_, within}
+use Rattle.model.specs.rules.Utf8.{Row, rowOf, leads, leadByte, afterSecond, innerStep}
 use Rattle.model.specs.declared.Lead.{Lead}
 use Rattle.model.specs.declared.Lead.the-variants.{C2ToDf}
 use Rattle.model.specs.declared.Inner.the-variants.{Second}

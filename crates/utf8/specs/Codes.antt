@@ -5,8 +5,8 @@ use mathlib.Core.Bool.{true}
 use mathlib.Core.List.{[], _∷_, _++_}
 use lib.Dec.{leb}
 use lib.ListN.{length, take}
-use Rattle.model.specs.Base.{if_then_else_, Bytes}
-use Rattle.model.specs.Utf8.{pack, isHigh, isLow, joined}
+use Rattle.model.specs.rules.Base.{if_then_else_, Bytes}
+use Rattle.model.specs.rules.Utf8.{pack, isHigh, isLow, joined}
 
 -- the bytes of a code point; a number past the last code point has none
 unfoldable pub packed : ℕ → Bytes

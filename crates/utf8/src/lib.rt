@@ -1,7 +1,7 @@
 // Characters of UTF-8: a text validated a byte at a time, and code points packed into bytes.
 //
 // Where a text stands and its next byte go in, and where it stands then comes out, or that it is broken. A code point goes in,
-// and its bytes come out. The definitions are those of model's specs/Utf8.antt (charStep, pack, joined); specs/Codes.antt says
+// and its bytes come out. The definitions are those of model's specs/rules/Utf8.antt (charStep, pack, joined); specs/Codes.antt says
 // what is answered for a number that is no code point.
 //
 // The prover compares the table with the definition's rows, entry by entry (proofs/Table.antt): a row that changes in both needs
@@ -9,8 +9,8 @@
 ghost use mathlib.Core.Path.{_≡_};
 ghost use Prim.Native.Nat.{_+_, _%_, _<_};
 ghost use lib.ListN.{getD};
-ghost use Rattle.model.specs.Base.{if_then_else_, within};
-ghost use Rattle.model.specs.Utf8.{leads, leadByte, innerStep, charStep};
+ghost use Rattle.model.specs.rules.Base.{if_then_else_, within};
+ghost use Rattle.model.specs.rules.Utf8.{leads, leadByte, innerStep, charStep};
 ghost use Rattle.model.specs.declared.Lead.the-variants.{C2ToDf};
 ghost use Rattle.model.specs.declared.Inner.the-variants.{Second};
 ghost use Rattle.model.specs.declared.Advance.the-variants.{On, Broken};
@@ -19,6 +19,8 @@ use model::Advance;
 use model::Char;
 use model::Inner;
 use model::Lead;
+
+pub mod multibyte;
 
 // ---- the table
 

@@ -65,11 +65,11 @@ use mathlib.Core.Path.{_≡_, refl}
 use mathlib.Core.List.{List, [], _∷_, _++_}
 use lib.ListN.{replicate}
 use Rattle.model.specs.declared.Report.{Report}
-use Rattle.model.specs.Base.{Bytes, concat}
-use Rattle.model.specs.Computes.{computes}
-use Rattle.model.specs.Report.{report}
-use Rattle.model.specs.Api.{ReadCall, readCall, reader, Answer, Decoded, decoder, decoderLeaves, Written, converter, converterLeaves, Table, writer, writerLeaves}
-use Rattle.model.specs.Ledger.{Call, piece, finish, ledger}
+use Rattle.model.specs.rules.Base.{Bytes, concat}
+use Rattle.model.specs.laws.Computes.{computes}
+use Rattle.model.specs.rules.Report.{report}
+use Rattle.model.specs.rules.Api.{ReadCall, readCall, reader, Answer, Decoded, decoder, decoderLeaves, Written, converter, converterLeaves, Table, writer, writerLeaves}
+use Rattle.model.specs.rules.Ledger.{Call, piece, finish, ledger}
 
 abbrev readAnswer : Report → (columns records cells : ℕ) → (starts ends kinds : List ℕ) → ReadCall
 readAnswer e c r n ss es ks = record { report = e; columns = c; records = r; cells = n; starts = ss; ends = es; kinds = ks }

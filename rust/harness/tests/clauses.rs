@@ -269,18 +269,22 @@ fn read(root: &Path, path: &Path) -> File {
     }
 }
 
-/// The files of a folder with this extension, in the order of their names; none if there is no such folder.
+/// The files below a folder with this extension, in the order of their paths; none if there is no such folder.
 fn files(root: &Path, folder: &Path, extension: &str) -> Vec<File> {
     let Ok(entries) = fs::read_dir(folder) else {
         return Vec::new();
     };
     let mut paths: Vec<PathBuf> = entries.flatten().map(|entry| entry.path()).collect();
     paths.sort();
-    paths
-        .iter()
-        .filter(|path| path.extension().is_some_and(|e| e == extension))
-        .map(|path| read(root, path))
-        .collect()
+    let mut found = Vec::new();
+    for path in paths {
+        if path.is_dir() {
+            found.extend(files(root, &path, extension));
+        } else if path.extension().is_some_and(|e| e == extension) {
+            found.push(read(root, &path));
+        }
+    }
+    found
 }
 
 #[test]

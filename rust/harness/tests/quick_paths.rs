@@ -1,5 +1,5 @@
-//! Files that leave the quick layer at every place. Before the exact scanner a record is told by whole cells (`crates/quick_records`), and
-//! one whose cells are clean is spelt at once (`crates/clean_text`); whatever is odd goes to the exact code from the record's start. So
+//! Files that leave the quick layer at every place. Before the exact scanner a record is told by whole cells (`crates/record_fast`), and
+//! one whose cells are clean is spelt at once (`crates/record_writer/src/clean.rt`); whatever is odd goes to the exact code from the record's start. So
 //! ordinary records have something odd at each place, and at each distance from a word's end and from a limit, and the proved calls are
 //! held to the reference on them, whole and in pieces. Wrong calls have to be noticed on the same files.
 

@@ -8,7 +8,7 @@ returns-2 : tie.Need-returns-2
 returns-2 c = rw (c .before .before .before .before .d2 .given .1 ∙ c .before .d3 .given .1)
 
 returns-3 : tie.Need-returns-3
-returns-3 c = rw (c .before .before .before .d .given .1, ← c .kind-number .ensures, c .before .on-call2 .ensures)
+returns-3 c = rw (c .before .before .before .d .given .1, ← c .kind-number .ensures, c .before .call-report2 .ensures)
 
 pub answer-of-spec : {M : Type 1} → statement M
 answer-of-spec =

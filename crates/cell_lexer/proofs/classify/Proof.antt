@@ -1,4 +1,4 @@
-use Rattle.model.specs.Cell.{cellStep}
+use Rattle.model.specs.rules.Cell.{cellStep}
 use Rattle.model.proofs.Tests.{tests}
 use borrow.Author.Needs.{needs}
 use Rattle.cell_lexer.proofs.classify.Statement.{statement}

@@ -1,5 +1,5 @@
-use Rattle.model.specs.Base.{if_then_else_}
-use Rattle.model.specs.Cell.{cellStep}
+use Rattle.model.specs.rules.Base.{if_then_else_}
+use Rattle.model.specs.rules.Cell.{cellStep}
 use Rattle.model.proofs.Tests.{tests}
 use borrow.Author.Needs.{needs}
 use Rattle.cell_lexer.proofs.classify_closed.Statement.{statement}

@@ -1,8 +1,8 @@
 use native.Mathlib.Omega.{arith}
-use Rattle.model.specs.Base.{if_then_else_}
-use Rattle.model.specs.Cell.{plainByte}
+use Rattle.model.specs.rules.Base.{if_then_else_}
+use Rattle.model.specs.rules.Cell.{plainByte}
 use Rattle.model.proofs.Tests.{tests}
-use Rattle.model.proofs.Utf8.{ascii-whole}
+use Rattle.model.proofs.cell_laws.Utf8.{ascii-whole}
 use borrow.Author.Needs.{needs}
 use Rattle.cell_lexer.proofs.classify_plain.Statement.{statement}
 use Rattle.cell_lexer.proofs.classify_plain.Tie as tie

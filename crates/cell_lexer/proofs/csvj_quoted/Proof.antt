@@ -1,7 +1,7 @@
 use native.Mathlib.Omega.{arith}
 use borrow.Author.Tests.{lt-ltb, le-ltb}
-use Rattle.model.specs.Base.{if_then_else_}
-use Rattle.model.specs.Cell.{quotedByte}
+use Rattle.model.specs.rules.Base.{if_then_else_}
+use Rattle.model.specs.rules.Cell.{quotedByte}
 use Rattle.model.proofs.Tests.{tests}
 use Rattle.cell_lexer.proofs.csvj_quoted.Statement.{statement}
 use Rattle.cell_lexer.proofs.csvj_quoted.Tie as tie

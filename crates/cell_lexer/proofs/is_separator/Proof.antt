@@ -1,4 +1,4 @@
-use Rattle.model.specs.Base.{if_then_else_}
+use Rattle.model.specs.rules.Base.{if_then_else_}
 use Rattle.model.proofs.Tests.{tests}
 use borrow.Author.Needs.{needs}
 use Rattle.cell_lexer.proofs.is_separator.Statement.{statement}

@@ -1,5 +1,5 @@
-use Rattle.model.specs.Base.{if_then_else_}
-use Rattle.model.specs.Cell.{quotedByte}
+use Rattle.model.specs.rules.Base.{if_then_else_}
+use Rattle.model.specs.rules.Cell.{quotedByte}
 use Rattle.model.proofs.Tests.{tests}
 use borrow.Author.Needs.{needs}
 use Rattle.cell_lexer.proofs.plus_quoted.Statement.{statement}

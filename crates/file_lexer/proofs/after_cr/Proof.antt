@@ -1,5 +1,5 @@
-use Rattle.model.specs.Base.{if_then_else_}
-use Rattle.model.specs.File.{fileStep}
+use Rattle.model.specs.rules.Base.{if_then_else_}
+use Rattle.model.specs.rules.File.{fileStep}
 use Rattle.model.proofs.Tests.{tests}
 use Rattle.file_lexer.proofs.after_cr.Statement.{statement}
 use Rattle.file_lexer.proofs.after_cr.Tie as tie

@@ -1,5 +1,5 @@
-use Rattle.model.specs.Base.{if_then_else_}
-use Rattle.model.specs.File.{beginRecord}
+use Rattle.model.specs.rules.Base.{if_then_else_}
+use Rattle.model.specs.rules.File.{beginRecord}
 use Rattle.model.proofs.Tests.{tests}
 use borrow.Author.Needs.{needs}
 use Rattle.file_lexer.proofs.begin_record.Statement.{statement}

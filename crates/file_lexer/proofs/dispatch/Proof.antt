@@ -5,7 +5,7 @@ use Rattle.model.specs.declared.Dialect.the-variants.{Tdif}
 use Rattle.model.specs.declared.Char.{Char}
 use Rattle.model.specs.declared.Char.the-variants.{Whole, Within}
 use Rattle.model.specs.declared.FileState.the-variants.{Comment}
-use Rattle.model.specs.File.{fileStep}
+use Rattle.model.specs.rules.File.{fileStep}
 use Rattle.model.proofs.Tests.{tests}
 use borrow.Author.Needs.{needs}
 use Rattle.file_lexer.proofs.dispatch.Statement.{statement}

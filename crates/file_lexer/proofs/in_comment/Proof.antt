@@ -1,5 +1,5 @@
-use Rattle.model.specs.Base.{if_then_else_}
-use Rattle.model.specs.File.{fileStep}
+use Rattle.model.specs.rules.Base.{if_then_else_}
+use Rattle.model.specs.rules.File.{fileStep}
 use Rattle.model.proofs.Tests.{tests}
 use borrow.Author.Needs.{needs}
 use Rattle.file_lexer.proofs.in_comment.Statement.{statement}

@@ -5,9 +5,9 @@ use Prim.Native.Nat.{zero-le}
 use native.Mathlib.Omega.{arith}
 use borrow.Author.Needs.{needs}
 use borrow.Author.Tests.{le-leb, lt-leb}
-use Rattle.model.specs.Base.{if_then_else_}
-use Rattle.model.specs.Utf8.{innerStep, charStep}
-use Rattle.model.proofs.Utf8.{ascii-whole}
+use Rattle.model.specs.rules.Base.{if_then_else_}
+use Rattle.model.specs.rules.Utf8.{innerStep, charStep}
+use Rattle.model.proofs.cell_laws.Utf8.{ascii-whole}
 use Rattle.utf8.proofs.char_step.Statement.{statement}
 use Rattle.utf8.proofs.char_step.Tie as tie
 

@@ -2,7 +2,7 @@
 -- Assumes nothing.
 use borrow.Author.Needs.{needs}
 use borrow.Author.Tests.{le-leb, lt-leb}
-use Rattle.model.specs.Base.{if_then_else_}
+use Rattle.model.specs.rules.Base.{if_then_else_}
 use Rattle.utf8.proofs.later_byte.Statement.{statement}
 use Rattle.utf8.proofs.later_byte.Tie as tie
 

@@ -7,8 +7,8 @@ use native.Mathlib.Omega.{arith}
 use native.Mathlib.Numerals.{add-one}
 use lib.ListN.{getD, drop, drop-of-length-le}
 use borrow.Author.Tests.{le-leb, lt-leb}
-use Rattle.model.specs.Base.{if_then_else_}
-use Rattle.model.specs.Utf8.{rowOf, leads, leadByte}
+use Rattle.model.specs.rules.Base.{if_then_else_}
+use Rattle.model.specs.rules.Utf8.{rowOf, leads, leadByte}
 use Rattle.utf8.proofs.Table.{firsts, lasts, lead-at}
 use Rattle.utf8.proofs.lead_byte.Statement.{statement}
 use Rattle.utf8.proofs.lead_byte.Tie as tie

@@ -3,7 +3,7 @@
 use mathlib.Core.Path.{sym}
 use lib.Dec.{lit<}
 use borrow.Author.Needs.{needs}
-use Rattle.model.specs.Utf8.{leads}
+use Rattle.model.specs.rules.Utf8.{leads}
 use Rattle.utf8.proofs.row_of.Statement.{statement}
 use Rattle.utf8.proofs.row_of.Tie as tie
 

@@ -6,8 +6,8 @@ use lib.Dec.{leb}
 use lib.ListN.{getD}
 use borrow.Author.Needs.{needs}
 use borrow.Author.Tests.{le-leb, lt-leb, eq-eqb, ne-eqb}
-use Rattle.model.specs.Base.{if_then_else_, within}
-use Rattle.model.specs.Utf8.{rowOf, leads, afterSecond, innerStep}
+use Rattle.model.specs.rules.Base.{if_then_else_, within}
+use Rattle.model.specs.rules.Utf8.{rowOf, leads, afterSecond, innerStep}
 use Rattle.model.specs.declared.Inner.the-variants.{Second}
 use Rattle.model.specs.declared.Advance.the-variants.{On, Broken}
 use Rattle.utf8.proofs.Table.{sizes, lows, highs, second-at}

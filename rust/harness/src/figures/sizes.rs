@@ -79,7 +79,7 @@ pub fn sizes(root: &Path, crates: &[Crate]) -> Result<Vec<Size>, String> {
         (
             "theorems of the three demands",
             theorems,
-            "`crates/demands/specs/Demands.antt`",
+            "`crates/theorems/specs/Demands.antt`",
         ),
         ("crates", crates.len(), "`crates.txt`"),
         (
@@ -104,7 +104,7 @@ pub fn sizes(root: &Path, crates: &[Crate]) -> Result<Vec<Size>, String> {
     Ok(sizes)
 }
 
-const DEMANDS: &str = "crates/demands/specs/Demands.antt";
+const DEMANDS: &str = "crates/theorems/specs/Demands.antt";
 
 /// The fields of the records `Demand1`, `Demand2` and so on.
 fn theorems(demands: &str) -> usize {

@@ -1,7 +1,7 @@
 -- `program::stream::say` is safe: the sentence lies in its room.
 -- Assumes nothing.
 use borrow.Author.Needs.{needs}
-use Rattle.wording.proofs.Saying.{sentence-counts}
+use Rattle.messages.proofs.SentenceLaws.{sentence-counts}
 use Rattle.program.proofs.stream.say.Statement.{statement}
 use Rattle.program.proofs.stream.say.Tie as tie
 

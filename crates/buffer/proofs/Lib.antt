@@ -1,0 +1,3 @@
+pub mod BlockProgress
+pub mod Overlaps
+pub mod WriteProgress

@@ -1,4 +1,0 @@
-pub mod Keeping
-pub mod InHand
-pub mod Checking
-pub mod Soundness

@@ -1,3 +1,0 @@
-pub mod Hand
-pub mod Checks
-pub mod Sound

@@ -1,4 +1,0 @@
-pub mod Units
-pub mod Strings
-pub mod Wrote
-pub mod FirstByte

@@ -1,6 +1,0 @@
-use Rattle.model.proofs.Tests.{tests}
-use Rattle.cell_ends.proofs.is_end.Statement.{statement}
-use Rattle.cell_ends.proofs.is_end.Tie as tie
-
-pub is-end-spec : {M : Type 1} → statement M
-is-end-spec = tie.close (tie.spec (λ c. search tests) (λ c. search tests) (λ c. search tests))

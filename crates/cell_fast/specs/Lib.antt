@@ -1,0 +1,4 @@
+pub mod Ends
+pub mod TextRuns
+pub mod CellOutcome
+pub mod BareValues

@@ -1,0 +1,82 @@
+// Runs of clean ASCII, eight bytes to a step.
+//
+// The two runs are written out, as each is called from one place, and there the compiler takes it in with its stops.
+ghost use Prim.Native.Nat.{_≤_};
+ghost use lib.ListN.{length};
+ghost use Rattle.swar.specs.Words.{cleanAscii};
+ghost use Rattle.cell_fast.specs.TextRuns.{PassRun};
+
+// How far clean ASCII other than p and q goes from `at`, a byte at a time.
+fn single_steps(s: &[u8], at: usize, stop: usize, p: u8, q: u8) -> usize
+    requires { ⌜ (at ≤ stop) × (stop ≤ length (now s)) ⌝ }
+    ensures { λ r. ⌜ PassRun (cleanAscii p q) (now (s .entry)) at stop r ⌝ }
+{
+    let mut i = at;
+    while i < stop {
+        let b = s[i];
+        if b < 0x20 {
+            return i;
+        }
+        if 0x7F < b {
+            return i;
+        }
+        if b == 0x5C {
+            return i;
+        }
+        if b == p {
+            return i;
+        }
+        if b == q {
+            return i;
+        }
+        i += 1;
+    }
+    i
+}
+
+// How far clean ASCII goes between quotes.
+pub fn quoted_run(s: &[u8], at: usize, stop: usize, q: u8) -> usize
+    requires { ⌜ (at ≤ stop) × (stop ≤ length (now s)) ⌝ }
+    ensures { λ r. ⌜ PassRun (cleanAscii q q) (now (s .entry)) at stop r ⌝ }
+{
+    let mut i = at;
+    while 8 <= stop - i {
+        let flags = swar::unclean(swar::word(s, i), q, q);
+        if flags != 0 {
+            return i + swar::before_flag(flags);
+        }
+        i += 8;
+    }
+    single_steps(s, i, stop, q, q)
+}
+
+// How far it goes between quotes by whole words alone.
+pub fn clean_words(s: &[u8], at: usize, stop: usize, q: u8) -> usize
+    requires { ⌜ (at ≤ stop) × (stop ≤ length (now s)) ⌝ }
+    ensures { λ r. ⌜ PassRun (cleanAscii q q) (now (s .entry)) at stop r ⌝ }
+{
+    let mut i = at;
+    while 8 <= stop - i {
+        if swar::unclean(swar::word(s, i), q, q) != 0 {
+            return i;
+        }
+        i += 8;
+    }
+    i
+}
+
+// How far it goes without quotes, where the delimiter p ends it too.
+pub fn plain_run(s: &[u8], at: usize, stop: usize, p: u8, q: u8) -> usize
+    requires { ⌜ (at ≤ stop) × (stop ≤ length (now s)) ⌝ }
+    ensures { λ r. ⌜ PassRun (cleanAscii p q) (now (s .entry)) at stop r ⌝ }
+{
+    let mut i = at;
+    while 8 <= stop - i {
+        let flags = swar::unclean(swar::word(s, i), p, q);
+        if flags != 0 {
+            return i + swar::before_flag(flags);
+        }
+        i += 8;
+    }
+    single_steps(s, i, stop, p, q)
+}

@@ -1,0 +1,8 @@
+use Rattle.model.specs.rules.Base.{if_then_else_}
+use Rattle.model.proofs.Tests.{tests}
+use Rattle.cell_lexer.proofs.values.is_lower_hex.Statement.{statement}
+use Rattle.cell_lexer.proofs.values.is_lower_hex.Tie as tie
+
+pub is-lower-hex-spec : {M : Type 1} → statement M
+unfolding if_then_else_
+is-lower-hex-spec = tie.close (tie.spec (λ c. search tests) (λ c. search tests))

@@ -1,8 +1,0 @@
-use native.Mathlib.Omega.{arith}
-use borrow.Author.Needs.{needs}
-use Rattle.model.proofs.Tests.{impossible}
-use Rattle.cell_pieces.proofs.fits.Statement.{statement}
-use Rattle.cell_pieces.proofs.fits.Tie as tie
-
-pub fits-spec : {M : Type 1} → statement M
-fits-spec = tie.close (tie.spec (λ c e. impossible e) (λ c. search needs) (λ c e. impossible e) (λ c. search needs) (λ c e. impossible e) (λ c e. record { columns = omega arith; in-record = omega arith; in-file = omega arith }))

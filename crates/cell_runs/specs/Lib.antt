@@ -1,4 +1,0 @@
-pub mod Ends
-pub mod TextRuns
-pub mod Coming
-pub mod BareValues

@@ -1,2 +1,0 @@
-pub mod Quoted
-pub mod Cells

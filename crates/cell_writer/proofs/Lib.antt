@@ -1,0 +1,7 @@
+pub mod PlainSteps
+pub mod PlainRuns
+pub mod Units
+pub mod Contents
+pub mod Bodies
+pub mod Quoted
+pub mod Cells

@@ -1,0 +1,5 @@
+pub mod PlainRuns
+pub mod Units
+pub mod Contents
+pub mod Bodies
+pub mod Cells

@@ -1,7 +1,0 @@
--- `clean_text::asked::may_be_text` meets its contract.
--- Assumes nothing.
-use Rattle.clean_text.proofs.asked.may_be_text.Statement.{statement}
-use Rattle.clean_text.proofs.asked.may_be_text.Tie as tie
-
-pub may-be-text-spec : {M : Type 1} → statement M
-may-be-text-spec = tie.close (tie.spec (λ c e _. e) λ c _ none. absurd (c .if1 .left none))

@@ -1,4 +1,0 @@
-pub mod Validating
-pub mod Answers
-pub mod Followed
-pub mod CellsIn

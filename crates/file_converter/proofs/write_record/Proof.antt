@@ -1,0 +1,18 @@
+use Rattle.record_target.proofs.TextWithEnding.{room-first, room-second, put-both, long-both}
+use Rattle.file_converter.proofs.write_record.Statement.{statement}
+use Rattle.file_converter.proofs.write_record.Tie as tie
+
+write-record-requires : tie.Need-write-record-requires
+write-record-requires c κs = let q = c .before .before .before .before .before .before .pre in (q .0, room-first _ _ (q .1))
+
+write-ending-requires : tie.Need-write-ending-requires
+write-ending-requires c κs = room-second _ _ (c .before .before .before .before .before .before .before .before .before .before .pre .1) (c .before .before .before .write-record .ensures .0)
+
+same-length : tie.Need-same-length
+same-length c = long-both _ _ (c .before .before .before .before .before .before .before .before .before .before .before .before .before .pre .1) (c .before .before .before .before .before .before .write-record .ensures .0) (c .before .before .write-ending .ensures)
+
+returns : tie.Need-returns
+returns c = put-both _ _ (c .before .before .before .before .before .before .before .before .before .before .before .before .before .pre .1) (c .before .before .before .before .before .before .write-record .ensures .0) (c .before .before .write-ending .ensures)
+
+pub write-record-spec : {M : Type 1} → statement M
+write-record-spec = tie.close (tie.spec write-record-requires write-ending-requires same-length returns)

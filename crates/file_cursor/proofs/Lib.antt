@@ -1,0 +1,11 @@
+pub mod WholeFile
+pub mod RecordByRecord
+pub mod Events
+pub mod Complete
+pub mod Spans
+pub mod FastRecords
+pub mod Lists
+pub mod RecordChecks
+pub mod NextRecords
+pub mod Traversal
+pub mod FastNext

@@ -1,0 +1,63 @@
+use Prim.Native.Nat.{_+_, _≤_}
+use native.Mathlib.Omega.{arith}
+use mathlib.Core.Path.{sym}
+use lib.ListN.{length}
+use lib.Seq.{length-take-le}
+use borrow.Author.Needs.{needs}
+use Rattle.file_cursor.proofs.RecordChecks.{ruled-sound}
+use Rattle.file_cursor.specs.FastNext.{FastCheckSound, sound, unsure}
+use Rattle.file_cursor.proofs.fast.finish_record.Statement.{statement}
+use Rattle.file_cursor.proofs.fast.finish_record.Tie as tie
+
+slice-aggregate-check-record : tie.Need-slice-aggregate-check-record
+slice-aggregate-check-record c =
+    let a = c .before .before .before .before .before .before .args in
+    let m : a .cells ≤ 64 = c .before .if1 .left in
+    let k : 64 ≤ length (a .starts .now) = c .before .before .before .before .before .before .pre .0 .at-starts in
+    sym (length-take-le (a .cells) (a .starts .now) (omega arith))
+
+slice-aggregate-check-record-2 : tie.Need-slice-aggregate-check-record-2
+slice-aggregate-check-record-2 c =
+    let a = c .before .before .before .before .before .before .before .args in
+    let m : a .cells ≤ 64 = c .before .before .if1 .left in
+    let k : 64 ≤ length (a .ends .now) = c .before .before .before .before .before .before .before .pre .0 .at-ends in
+    sym (length-take-le (a .cells) (a .ends .now) (omega arith))
+
+slice-aggregate-check-record-3 : tie.Need-slice-aggregate-check-record-3
+slice-aggregate-check-record-3 c =
+    let a = c .before .before .before .before .before .before .before .before .args in
+    let m : a .cells ≤ 64 = c .before .before .before .if1 .left in
+    let k : 64 ≤ length (a .kinds .now) = c .before .before .before .before .before .before .before .before .pre .0 .at-kinds in
+    sym (length-take-le (a .cells) (a .kinds .now) (omega arith))
+
+check-record-requires : tie.Need-check-record-requires
+check-record-requires c κs =
+    let q = c .before .before .before .before .before .before .before .before .pre in
+    let m = c .before .before .before .if1 .left in
+    (q .1 .0 m, (q .1 .1 .0 m, q .1 .1 .1))
+
+add-t23 : tie.Need-add-t23
+add-t23 c =
+    let a = c .before .before .before .before .before .before .before .before .before .before .before .before .args in
+    let f : a .written + c .before .before .before .check-record .result .length ≤ 16777215 = c .before .before .before .check-record .ensures 1 (λ z. omega arith) .fits (c .before .enum-told2 .given .1) in
+    omega arith
+
+returns-3 : tie.Need-returns-3
+returns-3 c =
+    let a = c .before .before .before .before .before .before .before .before .before .before .before .before .args in
+    λ done rs vs start n y z. sound (ruled-sound (a .d) (a .aim) (a .file .now) (a .starts .now) (a .ends .now) (a .kinds .now) done (a .columns) (a .written) start (a .cells) (a .state) (a .next) rs vs y z _ (z .values) (c .before .before .before .before .before .before .before .if1 .left) _ (c .before .before .before .check-record .ensures done n) (c .before .enum-told2 .given .1))
+
+pub finish-record-spec : {M : Type 1} → statement M
+finish-record-spec =
+    tie.close
+    (tie.spec
+    (λ c. λ done rs vs start n y z. unsure)
+    slice-aggregate-check-record
+    slice-aggregate-check-record-2
+    slice-aggregate-check-record-3
+    check-record-requires
+    (λ c. search needs)
+    (λ c. search needs)
+    add-t23
+    (λ c. λ done rs vs start n y z. unsure)
+    returns-3)

@@ -1,0 +1,49 @@
+use Prim.Native.Nat.{_≤_}
+use native.Mathlib.Omega.{arith}
+use mathlib.Core.Path.{refl}
+use borrow.Author.Needs.{needs}
+use Rattle.file_cursor.proofs.NextRecords.{now-long, now-stand, now-shown, record-counts}
+use Rattle.file_cursor.specs.FastNext.{nothing}
+use Rattle.file_cursor.proofs.FastNext.{met, kept, clean-cells, tells}
+use Rattle.file_cursor.proofs.fast.next_data_record.Statement.{statement}
+use Rattle.file_cursor.proofs.fast.next_data_record.Tie as tie
+
+finish-record-requires : tie.Need-finish-record-requires
+finish-record-requires c κs =
+    let q = c .before .before .before .before .before .before .before .before .before .before .before .before .before .before .before .before .before .before .before .before .before .pre in
+    let t = c .before .before .before .before .before .before .before .before .before .before .before .before .scan .ensures in
+    let z = c .before .before .before .before .cells .given .1 in
+    let m = met t (q .0 .2) (q .0 .0) (q .1 .1) z in
+    (now-long m, (now-stand m _ (record-counts m refl), (clean-cells t (q .0 .2) (q .0 .0) (q .1 .1) z, q .1 .0 .1)))
+
+returns-2 : tie.Need-returns-2
+returns-2 c =
+    let q = c .before .before .before .before .before .before .before .before .before .before .before .before .before .before .before .before .before .pre in
+    (λ rs y. nothing, kept (c .before .before .before .before .before .before .before .before .scan .ensures) (q .0 .2) (q .0 .0) (q .1 .1))
+
+returns-3 : tie.Need-returns-3
+returns-3 c =
+    let q = c .before .before .before .before .before .before .before .before .before .before .before .before .before .before .before .before .before .before .before .before .before .before .pre in
+    let a = c .before .before .before .before .before .before .before .before .before .before .before .before .before .before .before .before .before .before .before .before .before .before .args in
+    let t = c .before .before .before .before .before .before .before .before .before .before .before .before .before .scan .ensures in
+    let z = c .before .before .before .before .before .cells .given .1 in
+    let m = met t (q .0 .2) (q .0 .0) (q .1 .1) z in
+    (λ rs y. tells t (q .0 .2) (q .0 .0) (q .1 .1) (a .aim) rs (a .done) (y .count) (c .before .before .before .before .before .before .before .before .before .before .before .before .before .before .before .before .before .if1 .left) z (c .finish-record .ensures (a .done) rs _ _ (c .before .before .before .before .before .before .before .before .before .before .before .before .before .before .before .before .before .if1 .left) y (now-shown m _ (record-counts m refl))), kept t (q .0 .2) (q .0 .0) (q .1 .1))
+
+pub next-data-record-spec : {M : Type 1} → statement M
+next-data-record-spec =
+    tie.close
+    (tie.spec
+    (λ c. (λ rs y. nothing, record { at-starts = refl; at-ends = refl; at-kinds = refl }))
+    (λ c κs. search needs)
+    (λ c. search needs)
+    (λ c. search needs)
+    finish-record-requires
+    (λ c. search needs)
+    (λ c. search needs)
+    (λ c. search needs)
+    returns-2
+    (λ c. search needs)
+    (λ c. search needs)
+    (λ c. search needs)
+    returns-3)

@@ -1,0 +1,82 @@
+use native.Mathlib.Omega.{arith}
+use mathlib.Core.Path.{sym}
+use Prim.Native.Nat.{_+_, _≤_}
+use lib.ListN.{length}
+use lib.Seq.{length-take-le}
+use borrow.Author.Needs.{needs}
+use Rattle.file_cursor.proofs.RecordChecks.{too-many, ruled-faulty, ruled-sound}
+use Rattle.file_cursor.proofs.finish_record.Statement.{statement}
+use Rattle.file_cursor.proofs.finish_record.Tie as tie
+
+returns : tie.Need-returns
+returns c =
+    let a = c .before .before .before .before .before .before .args in
+    λ rs vs y z. too-many (a .d) (a .aim) (a .file .now) (a .starts .now) (a .ends .now) (a .kinds .now) (a .done) (a .columns) (a .written) (a .start) (a .cells) (a .state) (a .next) rs vs y z _ (c .before .if1 .taken) (c .record-report .ensures)
+
+slice-aggregate-check-record : tie.Need-slice-aggregate-check-record
+slice-aggregate-check-record c =
+    let start = c .before .before .before .before .before .before in
+    let a = start .args in
+    let m : a .cells ≤ 64 = c .before .if1 .left in
+    let k : 64 ≤ length (a .starts .now) = start .pre .0 .at-starts in
+    sym (length-take-le (a .cells) (a .starts .now) (omega arith))
+
+slice-aggregate-check-record-2 : tie.Need-slice-aggregate-check-record-2
+slice-aggregate-check-record-2 c =
+    let start = c .before .before .before .before .before .before .before in
+    let a = start .args in
+    let m : a .cells ≤ 64 = c .before .before .if1 .left in
+    let k : 64 ≤ length (a .ends .now) = start .pre .0 .at-ends in
+    sym (length-take-le (a .cells) (a .ends .now) (omega arith))
+
+slice-aggregate-check-record-3 : tie.Need-slice-aggregate-check-record-3
+slice-aggregate-check-record-3 c =
+    let start = c .before .before .before .before .before .before .before .before in
+    let a = start .args in
+    let m : a .cells ≤ 64 = c .before .before .before .if1 .left in
+    let k : 64 ≤ length (a .kinds .now) = start .pre .0 .at-kinds in
+    sym (length-take-le (a .cells) (a .kinds .now) (omega arith))
+
+check-record-requires : tie.Need-check-record-requires
+check-record-requires c κs =
+    let start = c .before .before .before .before .before .before .before .before in
+    (start .pre .1 .0 (c .before .before .before .if1 .left), start .pre .1 .1 .1)
+
+add-t28 : tie.Need-add-t28
+add-t28 c =
+    let u = c .before .before .before in
+    let a = c .before .before .before .before .before .before .before .before .before .before .before .before .args in
+    let f : a .written + u .check-record .result .length ≤ 16777215 = u .check-record .ensures .fits (c .before .enum-told .given .1) in
+    omega arith
+
+returns-2 : tie.Need-returns-2
+returns-2 c =
+    let u = c .before .before .before in
+    let a = c .before .before .before .before .before .before .before .before .before .before .before .before .args in
+    λ rs vs y z. ruled-sound (a .d) (a .aim) (a .file .now) (a .starts .now) (a .ends .now) (a .kinds .now) (a .done) (a .columns) (a .written) (a .start) (a .cells) (a .state) (a .next) rs vs y z _ (z .values) (c .before .before .before .before .before .before .before .if1 .left) _ (u .check-record .ensures) (c .before .enum-told .given .1)
+
+returns-3 : tie.Need-returns-3
+returns-3 c =
+    let u = c .before .before .before .before in
+    let start = c .before .before .before .before .before .before .before .before .before .before .before .before .before in
+    let a = start .args in
+    λ rs vs y z. ruled-faulty (a .d) (a .aim) (a .file .now) (a .starts .now) (a .ends .now) (a .kinds .now) (a .done) (a .columns) (a .written) (a .start) (a .cells) (a .state) (a .next) rs vs y z _ (z .values) (c .before .before .before .before .before .before .before .before .if1 .left) _ (u .check-record .ensures) _ _ (c .before .before .v .given .1) (c .record-report2 .ensures)
+
+pub finish-record-spec : {M : Type 1} → statement M
+finish-record-spec =
+    tie.close
+    (tie.spec
+    (λ c. search needs)
+    (λ c κs. search needs)
+    returns
+    slice-aggregate-check-record
+    slice-aggregate-check-record-2
+    slice-aggregate-check-record-3
+    check-record-requires
+    (λ c. search needs)
+    add-t28
+    (λ c. search needs)
+    (λ c. search needs)
+    (λ c κs. search needs)
+    returns-2
+    returns-3)

@@ -1,0 +1,2 @@
+pub mod PassInvariant
+pub mod ReaderAnswers

@@ -1,0 +1,282 @@
+-- What holds at each turn over the data records, and how each way through a turn keeps it.
+use Prim.Native.Nat.{ℕ, suc, _+_, _≤_, _<_}
+use native.Mathlib.Omega.{arith}
+use mathlib.Core.Path.{_≡_, refl, sym, ap, subst, _∙_}
+use mathlib.Core.Option.{none}
+use mathlib.Core.List.{List, [], _∷_, _++_, map, map-append, append-assoc, append-nil}
+use lib.ListN.{length, drop, length-append, length-map}
+use Rattle.model.specs.declared.Dialect.{Dialect}
+use Rattle.model.specs.declared.FileState.{FileState}
+use Rattle.model.specs.declared.FileState.the-variants.{Begin}
+use Rattle.model.specs.declared.Fault.{Fault}
+use Rattle.model.specs.declared.Report.{Report}
+use Rattle.model.specs.declared.CheckResult.{CheckResult}
+use Rattle.model.specs.declared.CheckResult.the-variants.{Sound, Faulty}
+use Rattle.model.specs.rules.Base.{Bytes, concat}
+use Rattle.model.specs.rules.Text.{Value}
+use Rattle.model.specs.rules.Report.{report, numberOf, columnOf, MAXFILE}
+use Rattle.model.specs.rules.Records.{Rec, rows, Read, between-records, Progress, going, stopped, complete, readFrom, readEnd, recordFault, dataFault, faultReport}
+use Rattle.model.specs.rules.Api.{startsOf, endsOf, kindsOf}
+use Rattle.file_cursor.specs.Next.{Next, nextRecord, EventInBounds}
+use Rattle.record_scanner.specs.Stored.{storedFrom}
+use Rattle.file_cursor.specs.FileOutcome.{restOf, ReadsAs}
+use Rattle.file_cursor.specs.declared.scan.FileScan.{FileScan}
+use Rattle.file_cursor.specs.declared.scan.FileScan.the-variants.{Completed, LastRecord, Failed, End}
+use Rattle.record_scanner.proofs.StoreLaws.{length-stored-from}
+use Rattle.file_cursor.proofs.RecordByRecord.{stays, reads-on}
+use Rattle.file_reader.specs.declared.pass.PassResult.the-variants.{Accepted, Refused}
+use Rattle.file_reader.specs.Passes.{Holds, PassOutcome, accepted, refused, PassSound}
+use Rattle.record_scanner.proofs.FilledLists.{stored-from-append}
+use Rattle.file_cursor.proofs.Complete.{report-start, report-byte, data-fault, recOf, complete-sound, complete-faulty}
+use Rattle.file_cursor.proofs.Events.{on-record, on-last, on-fault, on-finish}
+
+-- ---- lists
+
+-- more cells are put after those that stand there
+stored-more : (φ : Value → ℕ) (room n : ℕ) (vs ws : List Value) (old new out : List ℕ) → length vs ≡ n → new ≡ storedFrom room 0 (map φ vs) old → out ≡ storedFrom room n (map φ ws) new → out ≡ storedFrom room 0 (map φ (vs ++ ws)) old
+stored-more φ room n vs ws old new out l e f =
+    let m : length (map φ vs) ≡ n = length-map vs φ ∙ l in
+    let z : n ≡ 0 + length (map φ vs) = omega arith in
+    f
+    ∙ ap (λ (xs : List ℕ). storedFrom room n (map φ ws) xs) e
+    ∙ ap (λ (i : ℕ). storedFrom room i (map φ ws) (storedFrom room 0 (map φ vs) old)) z
+    ∙ sym (stored-from-append room 0 (map φ vs) (map φ ws) old)
+    ∙ ap (λ (xs : List ℕ). storedFrom room 0 xs old) (sym (map-append φ vs ws))
+
+pub more-held : (room n : ℕ) (vs ws : List Value) (s₀ e₀ k₀ s e ks s′ e′ k′ : List ℕ) → length vs ≡ n → Holds room vs s₀ e₀ k₀ s e ks → (s′ ≡ storedFrom room n (startsOf ws) s) → (e′ ≡ storedFrom room n (endsOf ws) e) → (k′ ≡ storedFrom room n (kindsOf ws) ks) → Holds room (vs ++ ws) s₀ e₀ k₀ s′ e′ k′
+more-held room n vs ws s₀ e₀ k₀ s e ks s′ e′ k′ l y a b c =
+    record {
+      at-starts = stored-more _ room n vs ws s₀ s s′ l (y .at-starts) a;
+      at-ends = stored-more _ room n vs ws e₀ e e′ l (y .at-ends) b;
+      at-kinds = stored-more _ room n vs ws k₀ ks k′ l (y .at-kinds) c;
+    }
+
+pub held-lengths : {room : ℕ} {vs : List Value} {s₀ e₀ k₀ s e ks : List ℕ} → Holds room vs s₀ e₀ k₀ s e ks → (length s ≡ length s₀) × (length e ≡ length e₀) × (length ks ≡ length k₀)
+held-lengths {room} {vs} {s₀} {e₀} {k₀} y = (
+  ap length (y .at-starts) ∙ length-stored-from room 0 (startsOf vs) s₀,
+  ap length (y .at-ends) ∙ length-stored-from room 0 (endsOf vs) e₀,
+  ap length (y .at-kinds) ∙ length-stored-from room 0 (kindsOf vs) k₀,
+)
+
+rows-snoc : (ds : List Rec) (r : Rec) → concat (rows (ds ++ (r ∷ []))) ≡ concat (rows ds) ++ r .cells
+unfolding rows concat
+rows-snoc [] r = append-nil (r .cells)
+rows-snoc (x ∷ ds) r = ap (λ (l : List Value). x .cells ++ l) (rows-snoc ds r) ∙ sym (append-assoc (x .cells) (concat (rows ds)) (r .cells))
+
+length-snoc : (ds : List Rec) (r : Rec) → length (ds ++ (r ∷ [])) ≡ length ds + 1
+length-snoc ds r = length-append ds (r ∷ [])
+
+-- ---- the invariant
+
+-- what a pass is given: where it begins, the header's columns and the lists as they were
+pub record Call : Type 0 where
+  pub d : Dialect
+  pub file : Bytes
+  pub from : ℕ
+  pub first : FileState
+  pub columns : ℕ
+  pub room : ℕ
+  pub s₀ : List ℕ
+  pub e₀ : List ℕ
+  pub k₀ : List ℕ
+
+module _ (call : Call) where
+  open Call call using (d, file, from, first, columns, room, s₀, e₀, k₀)
+
+  -- after the header h and so many data records with these cells, reading stands at i
+  pub record Turned (h : Rec) (vs : List Value) (f : FileState) (i records : ℕ) : Type 0 where
+    pub ds : List Rec
+    pub cells : concat (rows ds) ≡ vs
+    pub count : length ds ≡ records
+    pub rest : restOf d none file (h ∷ []) first from ≡ restOf d none file (h ∷ ds) f i
+
+  pub record Going (f : FileState) (i cells records : ℕ) (s e k : List ℕ) : Type 0 where
+    pub vs : List Value
+    pub lists : Holds room vs s₀ e₀ k₀ s e k
+    pub counted : length vs ≡ cells
+    pub inside : i ≤ length file
+    pub under : i ≤ MAXFILE
+    pub few : cells ≤ i
+    pub many : records ≤ i
+    pub turn : (h : Rec) → length (h .cells) ≡ columns → Turned h vs f i records
+
+  pub goes : from ≤ length file → from ≤ MAXFILE → Going first from 0 0 s₀ e₀ k₀
+  unfolding storedFrom rows concat
+  goes l m =
+      record {
+        vs = [];
+        lists = record { at-starts = refl; at-ends = refl; at-kinds = refl };
+        counted = refl;
+        inside = l;
+        under = m;
+        few = omega arith;
+        many = omega arith;
+        turn = λ h q. record { ds = []; cells = refl; count = refl; rest = refl };
+      }
+
+  module _ {f : FileState} {i cells records : ℕ} {s e k : List ℕ} (y : Going f i cells records s e k) where
+    abbrev Here : Next
+    Here = nextRecord d (between-records [] f i) (drop i file)
+
+    -- the scanner's answer
+    module _ {v : FileScan} (ev : v ≡ Here .event) {s′ e′ k′ : List ℕ} (ps : s′ ≡ storedFrom room cells (startsOf (Here .cells)) s) (pe : e′ ≡ storedFrom room cells (endsOf (Here .cells)) e) (pk : k′ ≡ storedFrom room cells (kindsOf (Here .cells)) k) where
+      pub now-held : Holds room (y .vs ++ Here .cells) s₀ e₀ k₀ s′ e′ k′
+      now-held = more-held room cells (y .vs) (Here .cells) s₀ e₀ k₀ s e k s′ e′ k′ (y .counted) (y .lists) ps pe pk
+
+      next-follows : (h : Rec) (ds : List Rec) → ReadsAs d none file (h ∷ ds) Here (restOf d none file (h ∷ ds) f i)
+      next-follows h ds = reads-on d none file (h ∷ ds) f i (y .inside)
+
+      number : (r : Read) (h : Rec) (ds : List Rec) → r .done ≡ h ∷ ds → length ds ≡ records → length (r .done) ≡ suc records
+      number r h ds q c = ap length q ∙ ap suc c
+
+      two-more : suc (suc records) ≡ records + 2
+      two-more = omega arith
+
+      -- a record that is validated faulty
+      faulty-outcome : (h : Rec) (ds : List Rec) (r : Read) (start : ℕ) (g : FileState) (o : ℕ) (x : Fault) (t : Report) → length (h .cells) ≡ columns → r .done ≡ h ∷ ds → length ds ≡ records → r .start ≡ start → dataFault columns (Here .cells) ≡ Faulty x → t ≡ report (numberOf x) (records + 2) (columnOf x) start → (complete d none r (Here .cells) g o ≡ stopped x r) × (t ≡ faultReport x r)
+      faulty-outcome h ds r start g o x t q a c b w z =
+          let fault : recordFault d none (r .done) (Here .cells) ≡ Faulty x = ap (λ (l : List Rec). recordFault d none l (Here .cells)) a ∙ data-fault d h ds (Here .cells) ∙ ap (λ (n : ℕ). dataFault n (Here .cells)) q ∙ w in (
+            complete-faulty d none r (Here .cells) g o x fault,
+            z ∙ rw (sym two-more, sym b) (report-start d none r (Here .cells) x (suc records) fault (number r h ds a c)),
+          )
+
+      -- a record that is validated sound
+      sound-record : (h : Rec) (ds : List Rec) (r : Read) (g : FileState) (o : ℕ) → length (h .cells) ≡ columns → r .done ≡ h ∷ ds → dataFault columns (Here .cells) ≡ Sound → complete d none r (Here .cells) g o ≡ going (between-records (h ∷ (ds ++ (recOf r (Here .cells) ∷ []))) g o)
+      sound-record h ds r g o q a w =
+          let fault : recordFault d none (r .done) (Here .cells) ≡ Sound = ap (λ (l : List Rec). recordFault d none l (Here .cells)) a ∙ data-fault d h ds (Here .cells) ∙ ap (λ (n : ℕ). dataFault n (Here .cells)) q ∙ w in
+          complete-sound d none r (Here .cells) g o fault ∙ ap (λ (l : List Rec). going (between-records (l ++ (recOf r (Here .cells) ∷ [])) g o)) a
+
+      -- ---- a complete record
+
+      module _ (start n : ℕ) (g : FileState) (o : ℕ) (w : v ≡ Completed start n g o) (fits : EventInBounds (length file) i cells v) (u : CheckResult) (j : (ws : List Value) → length ws ≡ n → u ≡ dataFault columns ws) where
+        here : Here .event ≡ Completed start n g o
+        here = sym ev ∙ w
+
+        pub fits-here : (i < o) × (o ≤ length file) × (o ≤ MAXFILE) × (cells + n ≤ o)
+        fits-here = subst (EventInBounds (length file) i cells) w fits
+
+        pub counts-here : length (Here .cells) ≡ n
+        counts-here = on-record d none file [] Here _ (reads-on d none file [] f i (y .inside)) start n g o here .counts
+
+        validated-here : u ≡ dataFault columns (Here .cells)
+        validated-here = j (Here .cells) counts-here
+
+        pub record-on : u ≡ Sound → Going g o (cells + n) (records + 1) s′ e′ k′
+        record-on z =
+            let a : i < o = fits-here .0 in
+            let b : o ≤ length file = fits-here .1 in
+            let c : o ≤ MAXFILE = fits-here .2 in
+            let m : cells + n ≤ o = fits-here .3 in
+            let q : records ≤ i = y .many in
+            record {
+              vs = y .vs ++ Here .cells;
+              lists = now-held;
+              counted = length-append (y .vs) (Here .cells) ∙ ap (λ (x : ℕ). x + length (Here .cells)) (y .counted) ∙ ap (λ (x : ℕ). cells + x) counts-here;
+              inside = b;
+              under = c;
+              few = omega arith;
+              many = omega arith;
+              turn = λ h t. turned h t (y .turn h t);
+            }
+          where
+            turned : (h : Rec) → length (h .cells) ≡ columns → Turned h (y .vs) f i records → Turned h (y .vs ++ Here .cells) g o (records + 1)
+            turned h t x =
+                let at = on-record d none file (h ∷ x .ds) Here _ (next-follows h (x .ds)) start n g o here in
+                let rec : Rec = recOf (at .r) (Here .cells) in
+                record {
+                  ds = x .ds ++ (rec ∷ []);
+                  cells = rows-snoc (x .ds) rec ∙ ap (λ (l : List Value). l ++ Here .cells) (x .cells);
+                  count = length-snoc (x .ds) rec ∙ ap (λ (m : ℕ). m + 1) (x .count);
+                  rest =
+                      x .rest ∙ at .rest
+                      ∙ ap (λ (p : Progress). readEnd d none (readFrom d none p (drop o file)))
+                      (sound-record h (x .ds) (at .r) g o t (at .done) (sym validated-here ∙ z));
+                }
+
+        pub record-refused : (x : Fault) → u ≡ Faulty x → (t : Report) → t ≡ report (numberOf x) (records + 2) (columnOf x) start → PassSound d file from first columns room s₀ e₀ k₀ (Refused t) s′ e′ k′
+        record-refused x z t te =
+            record { vs = y .vs ++ Here .cells; lists = now-held; outcome = λ h q. out h q (y .turn h q); few = tt }
+          where
+            out : (h : Rec) → length (h .cells) ≡ columns → Turned h (y .vs) f i records → PassOutcome h (y .vs ++ Here .cells) (restOf d none file (h ∷ []) first from) (Refused t)
+            out h q a =
+                let at = on-record d none file (h ∷ a .ds) Here _ (next-follows h (a .ds)) start n g o here in
+                let both = faulty-outcome h (a .ds) (at .r) start g o x t q (at .done) (a .count) (at .starts) (sym validated-here ∙ z) te in
+                let p : restOf d none file (h ∷ []) first from ≡ stopped x (at .r) = a .rest ∙ at .rest ∙ ap (λ (r : Progress). readEnd d none (readFrom d none r (drop o file))) (both .0) ∙ sym (stays d none x (at .r) (drop o file)) in
+                rw (p, both .1) (refused x (at .r))
+
+      -- ---- a last record
+
+      module _ (start n : ℕ) (w : v ≡ LastRecord start n) (fits : EventInBounds (length file) i cells v) (u : CheckResult) (j : (ws : List Value) → length ws ≡ n → u ≡ dataFault columns ws) where
+        last-here : Here .event ≡ LastRecord start n
+        last-here = sym ev ∙ w
+
+        pub last-fits : (length file ≤ MAXFILE) × (cells + n ≤ length file + 1)
+        last-fits = subst (EventInBounds (length file) i cells) w fits
+
+        last-counts : length (Here .cells) ≡ n
+        last-counts = on-last d none file [] Here _ (reads-on d none file [] f i (y .inside)) start n last-here .counts
+
+        last-validated : u ≡ dataFault columns (Here .cells)
+        last-validated = j (Here .cells) last-counts
+
+        pub last-refused : (x : Fault) → u ≡ Faulty x → (t : Report) → t ≡ report (numberOf x) (records + 2) (columnOf x) start → PassSound d file from first columns room s₀ e₀ k₀ (Refused t) s′ e′ k′
+        last-refused x z t te =
+            record { vs = y .vs ++ Here .cells; lists = now-held; outcome = λ h q. out h q (y .turn h q); few = tt }
+          where
+            out : (h : Rec) → length (h .cells) ≡ columns → Turned h (y .vs) f i records → PassOutcome h (y .vs ++ Here .cells) (restOf d none file (h ∷ []) first from) (Refused t)
+            out h q a =
+                let at = on-last d none file (h ∷ a .ds) Here _ (next-follows h (a .ds)) start n last-here in
+                let both = faulty-outcome h (a .ds) (at .r) start Begin (length file) x t q (at .done) (a .count) (at .starts) (sym last-validated ∙ z) te in
+                let p : restOf d none file (h ∷ []) first from ≡ stopped x (at .r) = a .rest ∙ at .rest ∙ both .0 in
+                rw (p, both .1) (refused x (at .r))
+
+        pub last-accepted : u ≡ Sound → PassSound d file from first columns room s₀ e₀ k₀ (Accepted (records + 1) (cells + n)) s′ e′ k′
+        last-accepted z =
+            let a : length file ≤ MAXFILE = last-fits .0 in
+            let b : cells + n ≤ length file + 1 = last-fits .1 in
+            record { vs = y .vs ++ Here .cells; lists = now-held; outcome = λ h q. out h q (y .turn h q); few = omega arith }
+          where
+            total : length (y .vs ++ Here .cells) ≡ cells + n
+            total = length-append (y .vs) (Here .cells) ∙ ap (λ (x : ℕ). x + length (Here .cells)) (y .counted) ∙ ap (λ (x : ℕ). cells + x) last-counts
+
+            out : (h : Rec) → length (h .cells) ≡ columns → Turned h (y .vs) f i records → PassOutcome h (y .vs ++ Here .cells) (restOf d none file (h ∷ []) first from) (Accepted (records + 1) (cells + n))
+            out h q a =
+                let at = on-last d none file (h ∷ a .ds) Here _ (next-follows h (a .ds)) start n last-here in
+                let rec : Rec = recOf (at .r) (Here .cells) in
+                let ds : List Rec = a .ds ++ (rec ∷ []) in
+                let p : restOf d none file (h ∷ []) first from ≡ going (between-records (h ∷ ds) Begin (length file)) = a .rest ∙ at .rest ∙ sound-record h (a .ds) (at .r) Begin (length file) q (at .done) (sym last-validated ∙ z) in
+                let c : length ds ≡ records + 1 = length-snoc (a .ds) rec ∙ ap (λ (m : ℕ). m + 1) (a .count) in
+                let t : concat (rows ds) ≡ y .vs ++ Here .cells = rows-snoc (a .ds) rec ∙ ap (λ (l : List Value). l ++ Here .cells) (a .cells) in
+                rw (p, sym c, sym total) (accepted (between-records (h ∷ ds) Begin (length file)) ds refl t)
+
+      -- ---- a fault, and the end of the file
+
+      pub fault-refused : (x : Fault) (o : ℕ) → v ≡ Failed x o → (t : Report) → t ≡ report (numberOf x) (records + 2) (columnOf x) o → PassSound d file from first columns room s₀ e₀ k₀ (Refused t) s′ e′ k′
+      fault-refused x o w t te =
+          record { vs = y .vs ++ Here .cells; lists = now-held; outcome = λ h q. out h q (y .turn h q); few = tt }
+        where
+          out : (h : Rec) → length (h .cells) ≡ columns → Turned h (y .vs) f i records → PassOutcome h (y .vs ++ Here .cells) (restOf d none file (h ∷ []) first from) (Refused t)
+          out h q a =
+              let at = on-fault d none file (h ∷ a .ds) Here _ (next-follows h (a .ds)) x o (sym ev ∙ w) in
+              let p : restOf d none file (h ∷ []) first from ≡ stopped x (at .r) = a .rest ∙ at .rest in
+              let z : t ≡ faultReport x (at .r) = te ∙ ap (λ (m : ℕ). report (numberOf x) m (columnOf x) o) (sym two-more) ∙ ap (λ (m : ℕ). report (numberOf x) (suc (suc records)) (columnOf x) m) (sym (at .place)) ∙ (report-byte x (at .r) (suc records) (at .byte) (number (at .r) h (a .ds) (at .done) (a .count))) in
+              rw (p, z) (refused x (at .r))
+
+      pub finish-accepted : (o : ℕ) → v ≡ End o → PassSound d file from first columns room s₀ e₀ k₀ (Accepted records cells) s′ e′ k′
+      finish-accepted o w =
+          record { vs = y .vs ++ Here .cells; lists = now-held; outcome = λ h q. out h q (y .turn h q); few = small }
+        where
+          small : cells ≤ MAXFILE + 1
+          small = let a : cells ≤ i = y .few in let b : i ≤ MAXFILE = y .under in omega arith
+
+          out : (h : Rec) → length (h .cells) ≡ columns → Turned h (y .vs) f i records → PassOutcome h (y .vs ++ Here .cells) (restOf d none file (h ∷ []) first from) (Accepted records cells)
+          out h q a =
+              let at = on-finish d none file (h ∷ a .ds) Here _ (next-follows h (a .ds)) o (sym ev ∙ w) in
+              let p : restOf d none file (h ∷ []) first from ≡ going (at .r) = a .rest ∙ at .rest in
+              let n : Here .cells ≡ [] = at .none-left in
+              let t : y .vs ++ Here .cells ≡ y .vs = ap (λ (l : List Value). y .vs ++ l) n ∙ append-nil (y .vs) in
+              let c : length (y .vs ++ Here .cells) ≡ cells = ap length t ∙ y .counted in
+              subst (λ (g : Progress). PassOutcome h (y .vs ++ Here .cells) g (Accepted records cells)) (sym p)
+              (subst (λ (m : ℕ). PassOutcome h (y .vs ++ Here .cells) (going (at .r)) (Accepted m cells)) (a .count)
+              (subst (λ (m : ℕ). PassOutcome h (y .vs ++ Here .cells) (going (at .r)) (Accepted (length (a .ds)) m)) c
+              (accepted (at .r) (a .ds) (at .done) (a .cells ∙ sym t))))

@@ -1,6 +1,0 @@
-pub mod WholeFile
-pub mod Reading
-pub mod Events
-pub mod Complete
-pub mod Stretches
-pub mod Quick

@@ -1,0 +1,14 @@
+pub mod TdifCells
+pub mod PlusCells
+pub mod CsvjCells
+pub mod CellGrammar
+pub mod Steps
+pub mod Separators
+pub mod PlacedReads
+pub mod CellReads
+pub mod Delimited
+pub mod Continuations
+pub mod TdifFiles
+pub mod PlusFiles
+pub mod CsvjFiles
+pub mod FileGrammar

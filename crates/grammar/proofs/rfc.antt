@@ -1,0 +1,8 @@
+pub mod Ranges
+pub mod Chars
+pub mod Texts
+pub mod Spelling
+pub mod Doubled
+pub mod Numbers
+pub mod Strings
+pub mod StringContent

@@ -1,0 +1,6 @@
+pub mod Csvj
+pub mod Tdif
+pub mod CsvPlus
+pub mod Derives
+pub mod FormReads
+pub mod Spans

@@ -1,0 +1,5 @@
+pub mod Types
+pub mod Rfc5234
+pub mod Rfc3629
+pub mod Derived
+pub mod Rfc8259

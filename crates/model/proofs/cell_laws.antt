@@ -1,0 +1,8 @@
+pub mod Utf8
+pub mod CellSteps
+pub mod CellRuns
+pub mod CellContent
+pub mod Cells
+pub mod Encoding
+pub mod JsonContent
+pub mod ContentForm

@@ -1,0 +1,10 @@
+pub mod CallsMade
+pub mod Histories
+pub mod MachineLaws
+pub mod Room
+pub mod Pieces
+pub mod ScanLaws
+pub mod View
+pub mod ScanBound
+pub mod ScanSize
+pub mod PlaceLaws

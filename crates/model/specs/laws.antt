@@ -1,0 +1,11 @@
+pub mod Viable
+pub mod Laws
+pub mod RoundTrips
+pub mod Demands
+pub mod Scans
+pub mod Targets
+pub mod Places
+pub mod Machine
+pub mod Ascii
+pub mod Computes
+pub mod Examples

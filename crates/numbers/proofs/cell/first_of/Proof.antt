@@ -1,8 +1,0 @@
--- `numbers::cell::first_of` meets its contract.
-use borrow.Author.Needs.{needs}
-use Rattle.numbers.proofs.FirstByte.{first-none}
-use Rattle.numbers.proofs.cell.first_of.Statement.{statement}
-use Rattle.numbers.proofs.cell.first_of.Tie as tie
-
-pub first-of-spec : {M : Type 1} → statement M
-first-of-spec = tie.close (tie.spec (λ c. first-none (c .before .args .raw .now) (c .if1 .taken)) (λ c. search needs) λ c. search needs)

@@ -1,0 +1,3 @@
+mod Offsets
+pub mod Representation
+pub mod Contract

@@ -1,0 +1,287 @@
+// A complete record, from the buffered bytes of its cells: checked, and written if it is sound and there is room.
+//
+// Cells that calls buffered can be written and have room, as the laws of piece_step and piece_run show. A record may also be of a state that no
+// calls made, and its cells any bytes: they are checked for what writing needs (cell_decoder's specs/Followed.antt), so that the call stays in
+// bounds, and a record that fails is dropped.
+ghost use mathlib.Core.Path.{_≡_};
+ghost use mathlib.Core.Bool.{true, false};
+ghost use mathlib.Core.List.{_++_};
+ghost use Prim.Native.Nat.{_+_, _≤_};
+ghost use lib.ListN.{length, take};
+ghost use Rattle.model.specs.declared.CheckResult.the-variants.{Sound};
+ghost use Rattle.model.specs.rules.Base.{if_then_else_, _is_};
+ghost use Rattle.model.specs.rules.Dialect.{into};
+ghost use Rattle.model.specs.rules.Text.{recordText, ending};
+ghost use Rattle.model.specs.rules.Report.{MAXFILE, MAXRECORD, MAXCOLUMNS};
+ghost use Rattle.model.specs.rules.Records.{headerFault, dataFault};
+ghost use Rattle.buffer.specs.Writes.{written};
+ghost use Rattle.cell_decoder.specs.declared.source.Source.the-variants.{File};
+ghost use Rattle.cell_decoder.specs.Followed.{EdFollowed};
+ghost use Rattle.cell_decoder.specs.Sources.{cellsIn, Cells};
+ghost use Rattle.piece_state.specs.Sound.{InOrder};
+ghost use Rattle.cell_fast.specs.Ends.{CleanIn};
+ghost use Rattle.piece_record.specs.Completion.{faultAt, textAt, startsBy, endOf, HoldsNoEd, FinishSound, CompleteSound};
+use cell_decoder::source::Source;
+use model::CheckResult;
+use model::Dialect;
+use model::Fault;
+use piece_state::cells;
+use piece_state::place::Place;
+use record_target::TargetCheck;
+use record_writer::record;
+
+// What becomes of a complete record.
+pub enum RecordResult {
+    // It is written, up to this place.
+    Written(usize),
+    Refused(Fault),
+    // Its cells can't be spelt, or its text has no room: no calls made this state.
+    Invalid,
+}
+
+// The source's checks of the record, after so many others and under a header of so many columns.
+fn check_source(
+    d: Dialect,
+    s: &[u8],
+    starts: &[usize],
+    ends: &[usize],
+    kinds: &[u8],
+    records: usize,
+    columns: usize,
+) -> CheckResult
+    requires { ⌜ Cells (File d) (now s) (now starts) (now ends) (now kinds) ⌝ }
+    ensures { λ r. ⌜ r ≡ (if records is 0 then headerFault d (cellsIn (File d) (now (s .entry)) (now (starts .entry)) (now (ends .entry)) (now (kinds .entry))) else dataFault columns (cellsIn (File d) (now (s .entry)) (now (starts .entry)) (now (ends .entry)) (now (kinds .entry)))) ⌝ }
+{
+    if records == 0 {
+        return record_check::header(Source::File(d), d, s, starts, ends, kinds);
+    }
+    record_check::data(columns, starts.len())
+}
+
+// The source's checks of the record, and then the target's.
+fn check_record(
+    d: Dialect,
+    t: Dialect,
+    s: &[u8],
+    starts: &[usize],
+    ends: &[usize],
+    kinds: &[u8],
+    p: Place,
+    clean: bool,
+) -> TargetCheck
+    requires { ⌜ Cells (File d) (now s) (now starts) (now ends) (now kinds) ⌝ }
+    requires { ⌜ (clean ≡ true → CleanIn d (now s) (now starts) (now ends)) ⌝ }
+    requires { ⌜ p .written ≤ MAXFILE ⌝ }
+    ensures { λ r. ⌜ r .verdict ≡ faultAt d (into t) p (cellsIn (File d) (now (s .entry)) (now (starts .entry)) (now (ends .entry)) (now (kinds .entry))) ⌝ }
+    ensures { λ r. ⌜ (r .verdict ≡ Sound → r .length ≡ length (textAt (into t) p (cellsIn (File d) (now (s .entry)) (now (starts .entry)) (now (ends .entry)) (now (kinds .entry))))) ⌝ }
+{
+    match check_source(d, s, starts, ends, kinds, p.records, p.columns) {
+        CheckResult::Faulty(e) => TargetCheck {
+            verdict: CheckResult::Faulty(e),
+            length: 0,
+        },
+        CheckResult::Sound => {
+            if p.records == 0 {
+                return record_target::check(
+                    Source::File(d),
+                    t,
+                    s,
+                    starts,
+                    ends,
+                    kinds,
+                    true,
+                    p.written,
+                );
+            }
+            record_target::check_data(d, t, s, starts, ends, kinds, clean, p.written)
+        }
+    }
+}
+
+// Its text and ending, at o.
+fn write_record(
+    d: Dialect,
+    t: Dialect,
+    s: &[u8],
+    starts: &[usize],
+    ends: &[usize],
+    kinds: &[u8],
+    header: bool,
+    clean: bool,
+    out: &mut [u8],
+    o: usize,
+) -> usize
+    requires { ⌜ Cells (File d) (now s) (now starts) (now ends) (now kinds) ⌝ }
+    requires { ⌜ (clean ≡ true → CleanIn d (now s) (now starts) (now ends)) ⌝ }
+    requires { ⌜ o + length (recordText (into t) header (cellsIn (File d) (now s) (now starts) (now ends) (now kinds)) ++ ending t) ≤ length (now out) ⌝ }
+    ensures { λ r. ⌜ r ≡ o + length (recordText (into t) header (cellsIn (File d) (now (s .entry)) (now (starts .entry)) (now (ends .entry)) (now (kinds .entry))) ++ ending t) ⌝ }
+    ensures { λ r. ⌜ now (out .exit) ≡ written (now (out .entry)) o (recordText (into t) header (cellsIn (File d) (now (s .entry)) (now (starts .entry)) (now (ends .entry)) (now (kinds .entry))) ++ ending t) ⌝ }
+{
+    if !header {
+        return record_target::write_data(d, t, s, starts, ends, kinds, clean, out, o);
+    }
+    let x = record::write_record(
+        Source::File(d),
+        t,
+        s,
+        starts,
+        ends,
+        kinds,
+        header,
+        out,
+        o,
+        true,
+    );
+    record::write_ending(t, out, x.end, true)
+}
+
+// A record whose cells may be spelt.
+fn finish(
+    d: Dialect,
+    t: Dialect,
+    s: &[u8],
+    starts: &[usize],
+    ends: &[usize],
+    kinds: &[u8],
+    p: Place,
+    out: &mut [u8],
+    o: usize,
+) -> RecordResult
+    requires { ⌜ Cells (File d) (now s) (now starts) (now ends) (now kinds) ⌝ }
+    requires { ⌜ (p .written ≤ MAXFILE) × (o ≤ length (now out)) ⌝ }
+    ensures { λ r. ⌜ FinishSound (faultAt d (into t) p (cellsIn (File d) (now (s .entry)) (now (starts .entry)) (now (ends .entry)) (now (kinds .entry)))) (textAt (into t) p (cellsIn (File d) (now (s .entry)) (now (starts .entry)) (now (ends .entry)) (now (kinds .entry)))) o (now (out .entry)) (now (out .exit)) r ⌝ }
+{
+    let clean = record_writer::clean::is_clean(d, s, starts, ends);
+    let r = check_record(d, t, s, starts, ends, kinds, p, clean);
+    let v = r.verdict;
+    match v {
+        CheckResult::Faulty(e) => RecordResult::Refused(e),
+        CheckResult::Sound => {
+            if out.len() - o < r.length {
+                return RecordResult::Invalid;
+            }
+            RecordResult::Written(write_record(
+                d,
+                t,
+                s,
+                starts,
+                ends,
+                kinds,
+                p.records == 0,
+                clean,
+                out,
+                o,
+            ))
+        }
+    }
+}
+
+// ---- bytes that no calls kept
+
+// Whether ED hex stands among these bytes. All are asked, with no way out before the last: so the machine asks sixteen at once, and a
+// record in which none stands, as nearly all are, costs next to nothing.
+fn holds_ed(s: &[u8]) -> bool
+    ensures { λ r. ⌜ (r ≡ false → HoldsNoEd (now (s .entry))) ⌝ }
+{
+    let mut found = false;
+    let mut i = 0;
+    while i < s.len() {
+        if s[i] == 0xED {
+            found = true;
+        }
+        i += 1;
+    }
+    found
+}
+
+// Whether a byte from 80 to 9F hex stands behind each ED.
+fn is_ed_followed(s: &[u8]) -> bool
+    ensures { λ r. ⌜ (r ≡ true → EdFollowed (now (s .entry))) ⌝ }
+    ensures { λ r. ⌜ (EdFollowed (now (s .entry)) → r ≡ true) ⌝ }
+{
+    let mut i = 1;
+    while i < s.len() {
+        if s[i - 1] == 0xED {
+            if s[i] < 0x80 {
+                return false;
+            }
+            if 0x9F < s[i] {
+                return false;
+            }
+        }
+        i += 1;
+    }
+    true
+}
+
+// Where the last cell ends.
+fn last_end(ends: &[usize]) -> usize
+    ensures { λ r. ⌜ r ≡ endOf 0 (now (ends .entry)) ⌝ }
+{
+    let n = ends.len();
+    if n == 0 {
+        return 0;
+    }
+    ends[n - 1]
+}
+
+// Whether the cells of a record may be spelt.
+fn may_be_written(bytes: &[u8], ends: &[usize]) -> bool
+    requires { ⌜ InOrder 0 (now ends) (length (now bytes)) ⌝ }
+    ensures { λ r. ⌜ (r ≡ true → EdFollowed (take (endOf 0 (now (ends .entry))) (now (bytes .entry)))) ⌝ }
+    ensures { λ r. ⌜ (EdFollowed (take (endOf 0 (now (ends .entry))) (now (bytes .entry))) → r ≡ true) ⌝ }
+{
+    let to = last_end(ends);
+    if holds_ed(&bytes[..to]) {
+        return is_ed_followed(&bytes[..to]);
+    }
+    true
+}
+
+// A record whose cells stand in the buffered bytes, with their starts.
+fn complete_spans(
+    d: Dialect,
+    t: Dialect,
+    bytes: &[u8],
+    starts: &[usize],
+    ends: &[usize],
+    p: Place,
+    out: &mut [u8],
+    o: usize,
+    kinds: &mut [u8],
+) -> RecordResult
+    requires { ⌜ now starts ≡ startsBy 0 (now ends) ⌝ }
+    requires { ⌜ InOrder 0 (now ends) (length (now bytes)) ⌝ }
+    requires { ⌜ (length (now ends) ≤ MAXCOLUMNS) × (length (now bytes) ≤ MAXRECORD) × (p .written ≤ MAXFILE) × (o ≤ length (now out)) ⌝ }
+    requires { ⌜ length (now kinds) ≡ MAXCOLUMNS ⌝ }
+    ensures { λ r. ⌜ CompleteSound d (into t) p (now (bytes .entry)) (now (ends .entry)) o (now (out .entry)) (now (out .exit)) r ⌝ }
+{
+    if !may_be_written(bytes, ends) {
+        return RecordResult::Invalid;
+    }
+    let n = ends.len();
+    cells::kinds_of(d, bytes, starts, ends, n, kinds);
+    finish(d, t, bytes, starts, ends, &kinds[..n], p, out, o)
+}
+
+// A record whose cells stand in the buffered bytes one after the other, with these ends.
+pub fn complete(
+    d: Dialect,
+    t: Dialect,
+    bytes: &[u8],
+    ends: &[usize],
+    p: Place,
+    out: &mut [u8],
+    o: usize,
+    starts: &mut [usize],
+    kinds: &mut [u8],
+) -> RecordResult
+    requires { ⌜ InOrder 0 (now ends) (length (now bytes)) ⌝ }
+    requires { ⌜ (length (now ends) ≤ MAXCOLUMNS) × (length (now bytes) ≤ MAXRECORD) × (p .written ≤ MAXFILE) × (o ≤ length (now out)) ⌝ }
+    requires { ⌜ (length (now starts) ≡ MAXCOLUMNS) × (length (now kinds) ≡ MAXCOLUMNS) ⌝ }
+    ensures { λ r. ⌜ CompleteSound d (into t) p (now (bytes .entry)) (now (ends .entry)) o (now (out .entry)) (now (out .exit)) r ⌝ }
+{
+    let n = ends.len();
+    cells::starts_of(ends, n, starts);
+    complete_spans(d, t, bytes, &starts[..n], ends, p, out, o, kinds)
+}

@@ -1,0 +1,4 @@
+pub mod EndLaws
+pub mod EndCases
+pub mod Runs
+pub mod PieceRun

@@ -1,0 +1,5 @@
+pub mod Codes
+pub mod BufferedLists
+pub mod CurrentRecord
+pub mod CallChecks
+pub mod Soundness

@@ -1,0 +1,4 @@
+pub mod Codes
+pub mod CurrentRecord
+pub mod Checks
+pub mod Sound

@@ -1,0 +1,14 @@
+pub mod OpenCells
+pub mod ScanLaws
+pub mod Faults
+pub mod StepOutcomes
+pub mod BufferedParts
+pub mod BufferedSpans
+pub mod ScanAnswers
+pub mod Steps
+pub mod Writes
+pub mod CallStart
+pub mod FastCells
+pub mod FastSteps
+pub mod FastText
+pub mod InCell

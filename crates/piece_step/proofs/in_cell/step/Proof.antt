@@ -1,0 +1,52 @@
+use native.Mathlib.Omega.{arith}
+use mathlib.Core.Path.{refl, sym, _∙_}
+use borrow.Author.Needs.{needs}
+use borrow.Author.Tests.{not-false}
+use Rattle.piece_step.specs.InCell.{not-found}
+use Rattle.piece_step.proofs.InCell.{piece-kept}
+use Rattle.piece_step.proofs.in_cell.step.Statement.{statement}
+use Rattle.piece_step.proofs.in_cell.step.Tie as tie
+
+buffer-open-requires : tie.Need-buffer-open-requires
+buffer-open-requires c κs =
+    let s = c .before .before .before .before .before .before .before .before .before .before .before .before .before .before .before .before in
+    let fits = c .before .before .before .before .before .before .before .before .before .before .before .before .fits2 .ensures (not-false _ (c .before .before .before .before .before .before .before .before .before .before .before .if1 .left)) in
+    omega (arith, fits .in-record, s .pre .0 .fill, s .pre .1 .0)
+
+add-t19 : tie.Need-add-t19
+add-t19 c =
+    let fits = c .before .before .before .before .before .before .before .before .before .before .before .before .before .before .before .before .before .fits2 .ensures (not-false _ (c .before .before .before .before .before .before .before .before .before .before .before .before .before .before .before .before .if1 .left)) in
+    let size = fits .in-record in
+    record { fits = omega arith }
+
+returns-5 : tie.Need-returns-5
+returns-5 c =
+    let s = c .before .before .before .before .before .before .before .before .before .before .before .before .before .before .before .before .before .before .before .before .before in
+    let a = s .args in
+    let fits = c .before .before .before .before .before .before .before .before .before .before .before .before .before .before .before .before .before .fits2 .ensures (not-false _ (c .before .before .before .before .before .before .before .before .before .before .before .before .before .before .before .before .if1 .left)) in
+    let state = c .before .before .before .before .before .before .before .before .before .before .before .before .before .before .state .given .1 in
+    let stops = sym (c .before .before .before .before .before .before .before .before .before .before .before .before .run-stop .ensures) ∙ c .before .before .before .before .before .before .before .before .before .before .q .given .1 in
+    let all = c .before .before .before .before .before .before .before .all-ordinary .ensures (not-false _ (c .before .before .before .before .before .before .if2 .left)) in
+    let kept = c .before .before .before .before .buffer-open .ensures in
+    piece-kept (a .d) (a .piece .now) (a .p) (a .bytes .now) (a .ends .now) (s .pre .0) (s .pre .1 .0) (s .pre .1 .1) _ _ state stops (rw (c .before .before .before .before .before .before .before .before .quote-of .ensures) at all) fits _ (kept .1) (kept .0)
+
+pub step-spec : {M : Type 1} → statement M
+step-spec =
+    tie.close
+    (tie.spec
+    (λ c κs. search needs)
+    (λ c. not-found refl)
+    (λ c. search needs)
+    (λ c. not-found refl)
+    (λ c κs. search needs)
+    (λ c. search needs)
+    (λ c. search needs)
+    (λ c. not-found refl)
+    (λ c κs. search needs)
+    (λ c κs. search needs)
+    (λ c. not-found refl)
+    buffer-open-requires
+    (λ c. search needs)
+    add-t19
+    (λ c. search needs)
+    returns-5)

@@ -1,0 +1,218 @@
+// The fast way over a data record that lies whole in the piece: it is written from the piece, and nothing of it is buffered. It answers what
+// a step comes to, or falls back to one.
+ghost use mathlib.Core.Path.{_≡_};
+ghost use mathlib.Core.Bool.{true};
+ghost use mathlib.Core.List.{List};
+ghost use Prim.Native.Nat.{ℕ, _+_, _≤_};
+ghost use lib.ListN.{length, take};
+ghost use Rattle.model.specs.rules.Dialect.{into};
+ghost use Rattle.model.specs.rules.Text.{Value};
+ghost use Rattle.model.specs.rules.Report.{MAXFILE, MAXCOLUMNS};
+ghost use Rattle.model.specs.rules.Records.{Rec};
+ghost use Rattle.model.specs.laws.Scans.{Buffered};
+ghost use Rattle.cell_fast.specs.Ends.{CleanIn};
+ghost use Rattle.cell_decoder.specs.declared.source.Source.the-variants.{File};
+ghost use Rattle.cell_decoder.specs.Sources.{cellsIn, Cells};
+ghost use Rattle.piece_step.specs.Invariant.{StateInvariant};
+ghost use Rattle.piece_step.specs.Steps.{Scratch};
+ghost use Rattle.piece_step.specs.FastSteps.{FastTextSound, FastStepReady, Between, FastStepWrites, FastStepInBounds, FastStepSound};
+use codes::MAX_COLUMNS;
+use codes::MAX_FILE;
+use model::CheckResult;
+use model::Dialect;
+use model::FileState;
+use piece_state::place::Place;
+use record_fast::FastScan;
+
+// What the fast way comes to.
+pub enum FastStep {
+    // A record was written, up to `end`. The next step begins at this place, which is `at` in the piece.
+    Next { place: Place, at: usize, end: usize },
+    Fallback,
+}
+
+// ---- the text of a record
+
+// Where it ends.
+pub enum FastText {
+    To(usize),
+    Fallback,
+}
+
+// A data record under a header of so many columns, after so many bytes of output, at a place of the buffer.
+fn write_record(
+    d: Dialect,
+    t: Dialect,
+    piece: &[u8],
+    starts: &[usize],
+    stops: &[usize],
+    kinds: &[u8],
+    clean: bool,
+    columns: usize,
+    before: usize,
+    out: &mut [u8],
+    o: usize,
+) -> FastText
+    requires { ⌜ Cells (File d) (now piece) (now starts) (now stops) (now kinds) ⌝ }
+    requires { ⌜ (clean ≡ true → CleanIn d (now piece) (now starts) (now stops)) ⌝ }
+    requires { ⌜ (before ≤ MAXFILE) × (o ≤ length (now out)) ⌝ }
+    ensures { λ r. ⌜ FastTextSound t columns before (cellsIn (File d) (now (piece .entry)) (now (starts .entry)) (now (stops .entry)) (now (kinds .entry))) o (now (out .entry)) (now (out .exit)) r ⌝ }
+{
+    if let CheckResult::Faulty(_) = record_check::data(columns, starts.len()) {
+        return FastText::Fallback;
+    }
+    let r = record_target::check_data(d, t, piece, starts, stops, kinds, clean, before);
+    let v = r.verdict;
+    if let CheckResult::Faulty(_) = v {
+        return FastText::Fallback;
+    }
+    if out.len() - o < r.length {
+        return FastText::Fallback;
+    }
+    FastText::To(record_target::write_data(d, t, piece, starts, stops, kinds, clean, out, o))
+}
+
+// ---- a step
+
+// A complete record of so many cells, which stand in these lists if they are no more than a record may have.
+fn finish_record(
+    d: Dialect,
+    t: Dialect,
+    piece: &[u8],
+    starts: &[usize],
+    stops: &[usize],
+    kinds: &[u8],
+    cells: usize,
+    state: FileState,
+    next: usize,
+    clean: bool,
+    n: usize,
+    p: Place,
+    out: &mut [u8],
+    o: usize,
+) -> FastStep
+    requires { ⌜ Scratch (now starts) (now stops) (now kinds) ⌝ }
+    requires { ⌜ (cells ≤ MAXCOLUMNS → Cells (File d) (now piece) (take cells (now starts)) (take cells (now stops)) (take cells (now kinds))) ⌝ }
+    requires { ⌜ (cells ≤ MAXCOLUMNS → clean ≡ true → CleanIn d (now piece) (take cells (now starts)) (take cells (now stops))) ⌝ }
+    requires { ⌜ (p .written ≤ MAXFILE) × (p .records ≤ MAXFILE) × (n + next ≤ MAXFILE) × (o ≤ length (now out)) ⌝ }
+    requires { ⌜ (p .records ≡ 0 → ⊥) ⌝ }
+    ensures { λ r. ⌜ FastStepWrites t p n next state cells (cellsIn (File d) (now (piece .entry)) (take cells (now (starts .entry))) (take cells (now (stops .entry))) (take cells (now (kinds .entry)))) o (now (out .entry)) (now (out .exit)) r ⌝ }
+{
+    if MAX_COLUMNS < cells {
+        return FastStep::Fallback;
+    }
+    match write_record(
+        d,
+        t,
+        piece,
+        &starts[..cells],
+        &stops[..cells],
+        &kinds[..cells],
+        clean,
+        p.columns,
+        p.written,
+        out,
+        o,
+    ) {
+        FastText::Fallback => FastStep::Fallback,
+        FastText::To(end) => FastStep::Next {
+            place: Place {
+                state,
+                offset: n + next,
+                start: n + next,
+                size: 0,
+                fill: 0,
+                cells: 0,
+                columns: p.columns,
+                records: p.records + 1,
+                written: p.written + (end - o),
+            },
+            at: next,
+            end,
+        },
+    }
+}
+
+// Whether a data record may begin here, with nothing counted of it yet.
+fn is_between(p: Place) -> bool
+    ensures { λ r. ⌜ (r ≡ true → Between p) ⌝ }
+{
+    if p.records == 0 {
+        return false;
+    }
+    if p.size != 0 {
+        return false;
+    }
+    let state = p.state;
+    match state {
+        FileState::Begin => true,
+        FileState::Ended => true,
+        _ => false,
+    }
+}
+
+// The step from i of the piece on, of which n bytes were consumed before, as `step` has it. Nothing is told where fewer than `least`
+// bytes are left.
+pub fn data_record(
+    d: Dialect,
+    t: Dialect,
+    piece: &[u8],
+    n: usize,
+    i: usize,
+    least: usize,
+    p: Place,
+    out: &mut [u8],
+    o: usize,
+    starts: &mut [usize],
+    stops: &mut [usize],
+    kinds: &mut [u8],
+) -> FastStep
+    requires { ⌜ FastStepReady (now piece) n i p (now out) o ⌝ }
+    requires { ⌜ Scratch (now starts) (now stops) (now kinds) ⌝ }
+    ensures { λ r. ⌜ FastStepInBounds (now (piece .entry)) n i (now (out .entry)) (now (out .exit)) r ⌝ }
+    ensures { λ r. ⌜ ((bytes ends : List ℕ) (done : List Rec) (k : Buffered) → StateInvariant d (into t) p bytes ends done k → FastStepSound d (into t) (now (piece .entry)) i p bytes ends done k o (now (out .entry)) (now (out .exit)) r) ⌝ }
+{
+    if piece.len() - i < least {
+        return FastStep::Fallback;
+    }
+    if !is_between(p) {
+        return FastStep::Fallback;
+    }
+    let f = p.state;
+    match record_fast::scan(
+        d,
+        piece,
+        i,
+        f,
+        MAX_FILE - n,
+        MAX_COLUMNS,
+        0,
+        starts,
+        stops,
+        kinds,
+    ) {
+        FastScan::Fallback => FastStep::Fallback,
+        FastScan::Record {
+            start: _,
+            cells,
+            state,
+            next,
+            clean,
+        } => finish_record(
+            d,
+            t,
+            piece,
+            starts,
+            stops,
+            kinds,
+            cells,
+            state,
+            next,
+            clean,
+            n,
+            p,
+            out,
+            o,
+        ),
+    }
+}

@@ -1,3 +1,0 @@
-mod Offsets
-pub mod Carrying
-pub mod Calling

@@ -1,0 +1,4 @@
+pub mod DecodedNames
+pub mod Keys
+pub mod RepeatedNames
+pub mod Records

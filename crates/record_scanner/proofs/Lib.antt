@@ -1,0 +1,5 @@
+pub mod StoreLaws
+pub mod FilledLists
+pub mod TokenOutcomes
+pub mod OuterStates
+pub mod ScanInvariant

@@ -1,0 +1,34 @@
+-- `record_target::measure` meets its contract: from 0 on, a place is a measure.
+-- Assumes nothing.
+use mathlib.Core.Path.{_≡_, ap, _∙_}
+use Prim.Native.Nat.{_+_}
+use native.Mathlib.Omega.{arith}
+use lib.ListN.{length}
+use borrow.Author.Needs.{needs}
+use Rattle.model.specs.rules.Dialect.{into}
+use Rattle.model.specs.rules.Text.{recordText}
+use Rattle.model.specs.rules.Base.{Bytes}
+use Rattle.buffer.specs.Writes.{measure}
+use Rattle.cell_decoder.specs.Sources.{cellsIn}
+use Rattle.record_target.proofs.Reasons.{place-measured, room-measured}
+use Rattle.record_target.proofs.measure.Statement.{statement}
+use Rattle.record_target.proofs.measure.Tie as tie
+
+abbrev text : tie.Start → Bytes
+text c =
+    let a = c .args in
+    recordText (into (a .t)) (a .header) (cellsIn (a .src) (a .s .now) (a .starts .now) (a .ends .now) (a .kinds .now))
+
+returns : tie.Need-returns
+returns c =
+    let w = text (c .before .before .before .before .before .before .before) in
+    let from-zero : 0 + length w ≡ length w = omega arith in
+    (place-measured (c .before .write-record .ensures .0) ∙ ap measure from-zero, c .before .write-record .ensures .1)
+
+pub measure-spec : {M : Type 1} → statement M
+measure-spec =
+    tie.close
+    (tie.spec
+    (λ c. search needs)
+    (λ c κs. (c .before .before .before .before .before .pre, room-measured _ _ _ (omega arith)))
+    returns)

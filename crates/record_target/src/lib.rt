@@ -1,0 +1,247 @@
+// What a target asks of a complete record, fault 9 reason by reason (§8.1): a header with cells, cells that it can carry, names that differ
+// by its rule, and a text within the limits. The record's text is measured, and nothing is written.
+//
+// The definition is `targetFault` of model's specs/rules/Records.antt, over the cells that stand in the lists (cell_decoder's specs/Sources.antt).
+ghost use mathlib.Core.Path.{_≡_};
+ghost use mathlib.Core.Bool.{not, _&&_};
+ghost use mathlib.Core.List.{List, _++_};
+ghost use Prim.Native.Nat.{ℕ, _+_, _≤_};
+ghost use lib.ListN.{length};
+ghost use Rattle.model.specs.declared.CheckResult.the-variants.{Sound, Faulty};
+ghost use Rattle.model.specs.rules.Base.{Bytes, isEmpty};
+ghost use Rattle.model.specs.rules.Dialect.{isCsvj, into};
+ghost use Rattle.model.specs.rules.Text.{Value, recordText, ending};
+ghost use Rattle.model.specs.rules.Records.{uncarriedFrom, clashFault, targetFault};
+ghost use Rattle.model.specs.rules.Report.{MAXFILE, MAXRECORD};
+ghost use mathlib.Core.Bool.{true, false};
+ghost use Rattle.buffer.specs.Writes.{measure, Room, WrittenAt};
+ghost use Rattle.cell_fast.specs.Ends.{CleanIn};
+ghost use Rattle.cell_decoder.specs.declared.source.Source.the-variants.{File};
+ghost use Rattle.cell_decoder.specs.Sources.{cellsIn, Cells};
+ghost use Rattle.record_check.specs.Keys.{NamesIn};
+ghost use Rattle.record_target.specs.Sized.{Sized};
+use cell_decoder::source::Source;
+use codes::MAX_FILE;
+use codes::MAX_RECORD;
+use model::CheckResult;
+use model::Dialect;
+use model::Fault;
+use record_check::names::Repeat;
+use record_writer::record;
+use record_writer::record::RecordText;
+
+pub struct TargetCheck {
+    pub verdict: CheckResult,
+    // Where there is no fault, how long the record's text is with its ending.
+    pub length: usize,
+}
+
+fn refused(fault: Fault) -> TargetCheck
+    ensures { λ r. ⌜ r .verdict ≡ Faulty fault ⌝ }
+{
+    TargetCheck {
+        verdict: CheckResult::Faulty(fault),
+        length: 0,
+    }
+}
+
+// ---- cells
+
+// Whether a header without cells can't be written.
+fn lacks_cells(t: Dialect, header: bool, cells: usize) -> bool
+    ensures { λ r. ⌜ ((vs : List Value) → length vs ≡ cells → r ≡ (header && isEmpty vs && not (isCsvj t))) ⌝ }
+{
+    if !header {
+        return false;
+    }
+    if cells != 0 {
+        return false;
+    }
+    match t {
+        Dialect::Csvj => false,
+        Dialect::Tdif => true,
+        Dialect::CsvPlus(_) => true,
+    }
+}
+
+// How long the record's text is, and the first cell that the target can't carry.
+fn measure(
+    src: Source,
+    t: Dialect,
+    s: &[u8],
+    starts: &[usize],
+    ends: &[usize],
+    kinds: &[u8],
+    header: bool,
+) -> RecordText
+    requires { ⌜ Cells src (now s) (now starts) (now ends) (now kinds) ⌝ }
+    ensures { λ r. ⌜ r .end ≡ measure (length (recordText (into t) header (cellsIn src (now (s .entry)) (now (starts .entry)) (now (ends .entry)) (now (kinds .entry))))) ⌝ }
+    ensures { λ r. ⌜ r .carries ≡ uncarriedFrom t 1 (cellsIn src (now (s .entry)) (now (starts .entry)) (now (ends .entry)) (now (kinds .entry))) ⌝ }
+{
+    let mut nothing = [0u8; 1];
+    record::write_record(
+        src,
+        t,
+        s,
+        starts,
+        ends,
+        kinds,
+        header,
+        &mut nothing,
+        0,
+        false,
+    )
+}
+
+// The first name of a header that repeats an earlier one by the target's rule.
+fn name_clash(
+    src: Source,
+    t: Dialect,
+    s: &[u8],
+    starts: &[usize],
+    ends: &[usize],
+    header: bool,
+) -> CheckResult
+    requires { ⌜ NamesIn src (now s) (now starts) (now ends) ⌝ }
+    ensures { λ r. ⌜ ((kinds : List ℕ) → length kinds ≡ length (now (starts .entry))
+        → r ≡ clashFault t header (cellsIn src (now (s .entry)) (now (starts .entry)) (now (ends .entry)) kinds)) ⌝ }
+{
+    if !header {
+        return CheckResult::Sound;
+    }
+    match record_check::names::first_repeat(src, t, s, starts, ends) {
+        Repeat::NoRepeat => CheckResult::Sound,
+        Repeat::AtColumn(column) => CheckResult::Faulty(Fault::Clash { column }),
+    }
+}
+
+// ---- lengths
+
+// How long a text of this length is with its ending.
+fn with_ending(t: Dialect, end: usize) -> usize
+    requires { ⌜ end ≤ MAXRECORD ⌝ }
+    ensures { λ r. ⌜ r ≡ end + length (ending t) ⌝ }
+{
+    let mut nothing = [0u8; 1];
+    record::write_ending(t, &mut nothing, end, false)
+}
+
+// A text of this length, measured without its ending, after so many bytes of output.
+fn check_size(t: Dialect, end: usize, written: usize) -> TargetCheck
+    requires { ⌜ written ≤ MAXFILE ⌝ }
+    ensures { λ r. ⌜ ((text : Bytes) → end ≡ measure (length text) → Sized t written text (r .verdict) (r .length)) ⌝ }
+{
+    if MAX_RECORD < end {
+        return refused(Fault::TextTooLong);
+    }
+    let length = with_ending(t, end);
+    if MAX_FILE - written < length {
+        return refused(Fault::OutputTooLong);
+    }
+    TargetCheck {
+        verdict: CheckResult::Sound,
+        length,
+    }
+}
+
+// ---- records
+
+// What the target says of a record whose cells stand in these lists, after so many bytes of output.
+pub fn check(
+    src: Source,
+    t: Dialect,
+    s: &[u8],
+    starts: &[usize],
+    ends: &[usize],
+    kinds: &[u8],
+    header: bool,
+    written: usize,
+) -> TargetCheck
+    requires { ⌜ Cells src (now s) (now starts) (now ends) (now kinds) ⌝ }
+    requires { ⌜ written ≤ MAXFILE ⌝ }
+    ensures { λ r. ⌜ r .verdict ≡ targetFault (into t) header written (cellsIn src (now (s .entry)) (now (starts .entry)) (now (ends .entry)) (now (kinds .entry))) ⌝ }
+    ensures { λ r. ⌜ (r .verdict ≡ Sound
+        → r .length ≡ length (recordText (into t) header (cellsIn src (now (s .entry)) (now (starts .entry)) (now (ends .entry)) (now (kinds .entry))) ++ ending t)) ⌝ }
+{
+    if lacks_cells(t, header, starts.len()) {
+        return refused(Fault::NoCells);
+    }
+    let x = measure(src, t, s, starts, ends, kinds, header);
+    let carries = x.carries;
+    if let CheckResult::Faulty(e) = carries {
+        return refused(e);
+    }
+    if let CheckResult::Faulty(e) = name_clash(src, t, s, starts, ends, header) {
+        return refused(e);
+    }
+    check_size(t, x.end, written)
+}
+
+// ---- data records of a file
+
+// How long the record's text is, and the first cell that the target can't carry. `clean`: each cell is a text whose content stands in it
+// as it is.
+fn measure_data(
+    d: Dialect,
+    t: Dialect,
+    s: &[u8],
+    starts: &[usize],
+    ends: &[usize],
+    kinds: &[u8],
+    clean: bool,
+) -> RecordText
+    requires { ⌜ Cells (File d) (now s) (now starts) (now ends) (now kinds) ⌝ }
+    requires { ⌜ (clean ≡ true → CleanIn d (now s) (now starts) (now ends)) ⌝ }
+    ensures { λ r. ⌜ r .end ≡ measure (length (recordText (into t) false (cellsIn (File d) (now (s .entry)) (now (starts .entry)) (now (ends .entry)) (now (kinds .entry))))) ⌝ }
+    ensures { λ r. ⌜ r .carries ≡ uncarriedFrom t 1 (cellsIn (File d) (now (s .entry)) (now (starts .entry)) (now (ends .entry)) (now (kinds .entry))) ⌝ }
+{
+    let mut nothing = [0u8; 1];
+    record_writer::clean::write_data(d, t, s, starts, ends, kinds, clean, &mut nothing, 0, false)
+}
+
+// What the target says of a data record, as `check` does.
+pub fn check_data(
+    d: Dialect,
+    t: Dialect,
+    s: &[u8],
+    starts: &[usize],
+    ends: &[usize],
+    kinds: &[u8],
+    clean: bool,
+    written: usize,
+) -> TargetCheck
+    requires { ⌜ Cells (File d) (now s) (now starts) (now ends) (now kinds) ⌝ }
+    requires { ⌜ (clean ≡ true → CleanIn d (now s) (now starts) (now ends)) ⌝ }
+    requires { ⌜ written ≤ MAXFILE ⌝ }
+    ensures { λ r. ⌜ r .verdict ≡ targetFault (into t) false written (cellsIn (File d) (now (s .entry)) (now (starts .entry)) (now (ends .entry)) (now (kinds .entry))) ⌝ }
+    ensures { λ r. ⌜ (r .verdict ≡ Sound
+        → r .length ≡ length (recordText (into t) false (cellsIn (File d) (now (s .entry)) (now (starts .entry)) (now (ends .entry)) (now (kinds .entry))) ++ ending t)) ⌝ }
+{
+    let x = measure_data(d, t, s, starts, ends, kinds, clean);
+    let carries = x.carries;
+    if let CheckResult::Faulty(e) = carries {
+        return refused(e);
+    }
+    check_size(t, x.end, written)
+}
+
+// The text of a data record with its ending, at a place of the buffer.
+pub fn write_data(
+    d: Dialect,
+    t: Dialect,
+    s: &[u8],
+    starts: &[usize],
+    ends: &[usize],
+    kinds: &[u8],
+    clean: bool,
+    out: &mut [u8],
+    at: usize,
+) -> usize
+    requires { ⌜ Cells (File d) (now s) (now starts) (now ends) (now kinds) ⌝ }
+    requires { ⌜ (clean ≡ true → CleanIn d (now s) (now starts) (now ends)) ⌝ }
+    requires { ⌜ Room true at (recordText (into t) false (cellsIn (File d) (now s) (now starts) (now ends) (now kinds)) ++ ending t) (now out) ⌝ }
+    ensures { λ r. ⌜ WrittenAt true (now (out .entry)) at (recordText (into t) false (cellsIn (File d) (now (s .entry)) (now (starts .entry)) (now (ends .entry)) (now (kinds .entry))) ++ ending t) (now (out .exit)) r ⌝ }
+{
+    let text = record_writer::clean::write_data(d, t, s, starts, ends, kinds, clean, out, at, true);
+    record::write_ending(t, out, text.end, true)
+}

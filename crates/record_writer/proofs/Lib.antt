@@ -1,0 +1,9 @@
+pub mod Columns
+pub mod VerbatimLaws
+pub mod Content
+pub mod Cells
+pub mod Joined
+pub mod Records
+pub mod Lengths
+pub mod ByteMembership
+pub mod CleanCells

@@ -1,0 +1,63 @@
+-- `record_writer::clean::quoted::write` meets its contract. The invariant: what is still to be put is the text of the cells from here on.
+-- Assumes nothing.
+use Prim.Native.Nat.{_-_}
+use mathlib.Core.Bool.{true}
+use native.Mathlib.Omega.{arith}
+use lib.ListN.{length, getD}
+use Rattle.model.specs.rules.Base.{COMMA}
+use Rattle.buffer.proofs.WriteProgress.{same-long}
+use Rattle.record_writer.specs.Joined.{Lies}
+use Rattle.record_writer.specs.CleanCellText.{quotedCell}
+use Rattle.record_writer.proofs.Joined.{WrittenUpTo, written-none, room-cell, put-cell, put-all}
+use Rattle.record_writer.proofs.clean.quoted.write.Statement.{statement}
+use Rattle.record_writer.proofs.clean.quoted.write.Tie as tie
+
+abbrev Inv-loop : tie.InvT-loop
+Inv-loop s starts ends out₀ at n₀ o₀ out n o = WrittenUpTo COMMA quotedCell s starts ends true out₀ at out n o
+
+abbrev μ-loop : tie.MeasureT-loop
+μ-loop s starts ends out₀ at n₀ o₀ out n o = length starts - n
+
+-- the cell stands in s
+at-n : (c : tie.After-shared-slice-known5 Inv-loop μ-loop)
+    → let a = c .before .before .before .before .before .before .before .before .args in
+    let n = c .before .before .before .loop .n in
+    Lies (a .s .now) (getD (a .starts .now) n 0) (getD (a .ends .now) n 0)
+at-n c =
+    let l = c .before .before .before in
+    l .before .before .before .before .before .pre .0 .each (l .loop .n) (c .before .before .loop-test .taken)
+
+write-column-requires : tie.Need-write-column-requires Inv-loop μ-loop
+write-column-requires c κs =
+    let l = c .before .before .before .before .before in
+    room-cell (l .before .before .before .before .before .pre .0 .with-ends) (l .loop .inv) (c .before .before .before .before .loop-test .taken)
+
+loop-again : tie.Need-loop-again Inv-loop μ-loop
+loop-again c =
+    let t = c .before .before .before .before .before .before .before in
+    let l = t .before in
+    put-cell (l .before .before .before .before .before .pre .0 .with-ends) (l .loop .inv) (t .loop-test .taken) (c .before .before .write-column .ensures)
+
+returns : tie.Need-returns Inv-loop μ-loop
+returns c = put-all (c .before .before .before .before .before .before .pre .0 .with-ends) (c .before .loop .inv) (c .loop-test .left)
+
+pub write-spec : {M : Type 1} → statement M
+write-spec =
+    tie.close
+    (tie.spec
+    Inv-loop
+    μ-loop
+    (λ c. written-none true (c .before .before .before .before .pre .1))
+    (λ c. omega arith)
+    (λ c. omega arith)
+    (λ c. omega arith)
+    (λ c. omega (arith, c .before .before .before .before .before .before .before .before .pre .0 .with-ends))
+    (λ c. at-n c .forward)
+    (λ c. at-n c .forward)
+    (λ c. at-n c .inside)
+    write-column-requires
+    (λ c. omega arith)
+    (λ c. omega arith)
+    loop-again
+    (λ c. same-long (c .before .loop .inv .going))
+    returns)

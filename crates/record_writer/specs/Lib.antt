@@ -1,0 +1,4 @@
+pub mod Columns
+pub mod Verbatim
+pub mod Joined
+pub mod CleanCellText

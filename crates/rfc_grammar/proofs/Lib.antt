@@ -1,9 +1,0 @@
-pub mod Absent
-pub mod Ranges
-pub mod Chars
-pub mod Texts
-pub mod Spelling
-pub mod Doubled
-pub mod Numbers
-pub mod Strings
-pub mod StringContent

@@ -1,6 +1,0 @@
-pub mod Types
-pub mod Rfc5234
-pub mod Rfc3629
-pub mod Derived
-pub mod Rfc8259
-pub mod Mistakes

@@ -1,9 +1,0 @@
-use Rattle.model.proofs.Tests.{tests}
-use borrow.Author.Needs.{needs}
-use Rattle.runs.proofs.text_stop.Statement.{statement}
-use Rattle.runs.proofs.text_stop.Tie as tie
-
-pub text-stop-spec : {M : Type 1} → statement M
-text-stop-spec =
-    tie.close
-    (tie.spec (λ c. search needs) (λ c. search needs) (λ c. search (tests, c .enum-told .given .1)) (λ c. search needs))

@@ -1,8 +1,0 @@
-use Rattle.model.specs.Base.{if_then_else_}
-use Rattle.model.proofs.Tests.{tests}
-use Rattle.separators.proofs.is_blank.Statement.{statement}
-use Rattle.separators.proofs.is_blank.Tie as tie
-
-pub is-blank-spec : {M : Type 1} → statement M
-unfolding if_then_else_
-is-blank-spec = tie.close (tie.spec (λ c. search tests) (λ c. search tests))

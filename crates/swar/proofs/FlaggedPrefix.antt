@@ -1,0 +1,87 @@
+-- Laws of flags and of the bytes that pass at the beginning, over any test: a word with no flag is eight of them, and in any other they end
+-- before the first flag.
+use Prim.Native.Nat.{ℕ, suc, _+_, _≤_, _<_}
+use native.Mathlib.Omega.{arith}
+use mathlib.Core.Path.{_≡_, refl, sym, ap, _∙_}
+use mathlib.Core.Bool.{Bool, true, false, _&&_}
+use mathlib.Core.List.{[], _∷_, _++_, map}
+use lib.ListN.{length, length-map}
+use borrow.Author.Tests.{eq-eqb, ne-eqb}
+use Rattle.model.specs.rules.Base.{Bytes, if_then_else_, _is_}
+use Rattle.model.proofs.Tests.{split, impossible}
+use Rattle.swar.specs.Words.{wordOf, bytesOf, Word, flagOf, allPass, Flags, zeroBytes, passing}
+use Rattle.swar.proofs.Bytewise.{AllBytes, no-bytes, and-byte, bytes-back}
+use Rattle.swar.proofs.Flags.{flag-byte}
+
+module _ (passes : ℕ → Bool) where
+  flag-bytes : (bs : Bytes) → AllBytes (map (flagOf passes) bs)
+  flag-bytes [] = no-bytes
+  flag-bytes (b ∷ bs) = and-byte (flag-byte passes b) (flag-bytes bs)
+
+  zeros-pass : (bs : Bytes) → zeroBytes (map (flagOf passes) bs) ≡ passing passes bs
+  unfolding zeroBytes flagOf passing if_then_else_
+  zeros-pass [] = refl
+  zeros-pass (b ∷ bs) = go (passes b) (zeros-pass bs)
+    where
+      go : (t : Bool) → zeroBytes (map (flagOf passes) bs) ≡ passing passes bs → (if (if t then 0 else 0x80) is 0 then suc (zeroBytes (map (flagOf passes) bs)) else 0) ≡ (if t then suc (passing passes bs) else 0)
+      go true ih = ap suc ih
+      go false ih = refl
+
+  -- no more than all of them
+  pub passing-short : (bs : Bytes) → passing passes bs ≤ length bs
+  unfolding passing
+  passing-short [] = omega arith
+  passing-short (b ∷ bs) =
+      let h : passing passes bs ≤ length bs = passing-short bs in
+      split (λ (n : ℕ). n ≤ suc (length bs)) _ (λ _. omega arith) λ _. omega arith
+
+  module _ (cs : Bytes) where
+    -- they go on after bytes that all pass
+    pub all-pass : (bs : Bytes) → allPass passes bs ≡ true → passing passes (bs ++ cs) ≡ length bs + passing passes cs
+    unfolding allPass passing if_then_else_
+    all-pass [] e = omega arith
+    all-pass (b ∷ bs) e = go (passes b) e (all-pass bs)
+      where
+        go : (t : Bool) → (t && allPass passes bs) ≡ true → (allPass passes bs ≡ true → passing passes (bs ++ cs) ≡ length bs + passing passes cs)
+            → (if t then suc (passing passes (bs ++ cs)) else 0) ≡ suc (length bs) + passing passes cs
+        go true h ih = let k = ih h in omega arith
+        go false h ih = impossible h
+
+    -- they end among bytes that do not
+    some-pass : (bs : Bytes) → allPass passes bs ≡ false → (passing passes (bs ++ cs) ≡ passing passes bs) × (passing passes bs < length bs)
+    unfolding allPass passing if_then_else_
+    some-pass [] e = impossible (sym e)
+    some-pass (b ∷ bs) e = go (passes b) e (some-pass bs)
+      where
+        go : (t : Bool) → (t && allPass passes bs) ≡ false → (allPass passes bs ≡ false → (passing passes (bs ++ cs) ≡ passing passes bs) × (passing passes bs < length bs))
+            → ((if t then suc (passing passes (bs ++ cs)) else 0) ≡ (if t then suc (passing passes bs) else 0)) × ((if t then suc (passing passes bs) else 0) < suc (length bs))
+        go true h ih = let k = ih h in let l : passing passes bs < length bs = k .1 in (ap suc (k .0), omega arith)
+        go false h ih = (refl, omega arith)
+
+-- a word, its flags, and the bytes after it
+module _ {passes : ℕ → Bool} {bs : Bytes} {w flags : ℕ} (is-word : Word bs w) (told : Flags passes w flags) (cs : Bytes) where
+  eight : length bs ≡ 8
+  unfolding bytesOf
+  eight = ap length (sym (is-word .bytes))
+
+  flags-of : flags ≡ wordOf (map (flagOf passes) bs)
+  flags-of = told .bytewise ∙ rw (is-word .bytes)
+
+  all-told : (flags is 0) ≡ allPass passes bs
+  all-told = told .exact ∙ rw (is-word .bytes)
+
+  -- no flag: all eight pass
+  pub word-passes : flags ≡ 0 → passing passes (bs ++ cs) ≡ 8 + passing passes cs
+  word-passes e = all-pass passes cs bs (sym all-told ∙ eq-eqb flags 0 e) ∙ rw eight
+
+  -- a flag: they end before it
+  pub word-stops : ¬ (flags ≡ 0) → (zeroBytes (bytesOf 8 flags) ≡ passing passes (bs ++ cs)) × (passing passes (bs ++ cs) < 8)
+  word-stops e =
+      let some : allPass passes bs ≡ false = sym all-told ∙ ne-eqb flags 0 e in
+      let l : length bs ≡ 8 = eight in
+      let m : length (map (flagOf passes) bs) ≡ 8 = length-map bs (flagOf passes) ∙ l in
+      let back : bytesOf 8 flags ≡ map (flagOf passes) bs = ap (bytesOf 8) flags-of ∙ rw m at (bytes-back (flag-bytes passes bs)) in
+      let here = some-pass passes cs bs some in
+      let ends : passing passes (bs ++ cs) ≡ passing passes bs = here .0 in
+      let less : passing passes bs < length bs = here .1 in
+      (ap zeroBytes back ∙ zeros-pass passes bs ∙ sym ends, omega arith)

@@ -1,0 +1,15 @@
+pub mod Ordinary
+pub mod Bytewise
+pub mod TopDigit
+pub mod Flags
+pub mod OrdinaryTest
+pub mod FlagAlgebra
+pub mod Clean
+pub mod Digits
+pub mod ThresholdTests
+pub mod WordReads
+pub mod FlaggedPrefix
+pub mod AllPass
+pub mod TextBytes
+pub mod Spans
+pub mod CleanBytes

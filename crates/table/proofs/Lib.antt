@@ -1,3 +1,0 @@
-pub mod Contents
-pub mod Products
-pub mod Tables

@@ -1,0 +1,4 @@
+pub mod Content
+pub mod TableParts
+pub mod Rows
+pub mod Answered

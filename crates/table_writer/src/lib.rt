@@ -1,0 +1,143 @@
+// The canonical writer: a table of contents to text (§13.1). Whether what it was given is a table is asked first, then every record is
+// validated and measured, and only where the text has room is it written.
+//
+// The definition is `writer` of model's specs/rules/Api.antt. The two loops over the records are table_writer::records'.
+ghost use mathlib.Core.Path.{_≡_};
+ghost use Prim.Native.Nat.{_*_};
+ghost use lib.ListN.{length};
+ghost use Rattle.model.specs.rules.Base.{over};
+ghost use Rattle.model.specs.rules.Dialect.{into};
+ghost use Rattle.model.specs.rules.Text.{tableText};
+ghost use Rattle.model.specs.rules.Api.{fitted, writer, writerLeaves};
+ghost use Rattle.codes.specs.Named.{textAnswer};
+ghost use Rattle.cell_decoder.specs.declared.source.Source.the-variants.{Contents};
+ghost use Rattle.cell_decoder.specs.Sources.{Cells};
+ghost use Rattle.table_writer.specs.TableParts.{given};
+ghost use Rattle.table_writer.specs.Rows.{rowsGiven};
+ghost use Rattle.table_writer.specs.Answered.{tableWritten, writerIn};
+use crate::records::Measurement;
+use codes::NamedDialect;
+use codes::TextAnswer;
+use model::Dialect;
+
+pub mod check;
+pub mod content;
+pub mod records;
+
+// A table whose text is so long: 10 where the room is shorter.
+fn write_if_fits(
+    t: Dialect,
+    content: &[u8],
+    starts: &[usize],
+    ends: &[usize],
+    kinds: &[u8],
+    columns: usize,
+    records: usize,
+    size: usize,
+    room: &mut [u8],
+) -> TextAnswer
+    requires { ⌜ Cells Contents (now content) (now starts) (now ends) (now kinds) ⌝ }
+    requires { ⌜ length (now starts) ≡ columns * records ⌝ }
+    requires { ⌜ size ≡ length (tableText (into t) (rowsGiven (now content) (now starts) (now ends) (now kinds) columns records)) ⌝ }
+    ensures { λ r. ⌜ r ≡ textAnswer (fitted (length (now (room .entry)))
+        (tableText (into t) (rowsGiven (now (content .entry)) (now (starts .entry)) (now (ends .entry)) (now (kinds .entry)) columns records))) ⌝ }
+    ensures { λ r. ⌜ now (room .exit) ≡ over (fitted (length (now (room .entry)))
+        (tableText (into t) (rowsGiven (now (content .entry)) (now (starts .entry)) (now (ends .entry)) (now (kinds .entry)) columns records)) .text)
+        (now (room .entry)) ⌝ }
+{
+    if room.len() < size {
+        return codes::refusal(codes::call_report(codes::NO_ROOM));
+    }
+    crate::records::write_records(t, content, starts, ends, kinds, columns, records, room);
+    TextAnswer {
+        report: codes::call_report(codes::ACCEPTED),
+        length: size,
+    }
+}
+
+// A table: the first fault of its records, or its text.
+fn write_table(
+    t: Dialect,
+    content: &[u8],
+    starts: &[usize],
+    ends: &[usize],
+    kinds: &[u8],
+    columns: usize,
+    records: usize,
+    room: &mut [u8],
+) -> TextAnswer
+    requires { ⌜ Cells Contents (now content) (now starts) (now ends) (now kinds) ⌝ }
+    requires { ⌜ length (now starts) ≡ columns * records ⌝ }
+    ensures { λ r. ⌜ r ≡ textAnswer (tableWritten t
+        (rowsGiven (now (content .entry)) (now (starts .entry)) (now (ends .entry)) (now (kinds .entry)) columns records)
+        (length (now (room .entry)))) ⌝ }
+    ensures { λ r. ⌜ now (room .exit) ≡ over (tableWritten t
+        (rowsGiven (now (content .entry)) (now (starts .entry)) (now (ends .entry)) (now (kinds .entry)) columns records)
+        (length (now (room .entry))) .text) (now (room .entry)) ⌝ }
+{
+    match crate::records::measure(t, content, starts, ends, kinds, columns, records) {
+        Measurement::Accepted { length } => write_if_fits(
+            t,
+            content,
+            starts,
+            ends,
+            kinds,
+            columns,
+            records,
+            length,
+            room,
+        ),
+        Measurement::Refused(e) => codes::refusal(e),
+    }
+}
+
+// What was given, in this dialect: 12 where it is no table.
+fn write_in(
+    t: Dialect,
+    content: &[u8],
+    starts: &[usize],
+    ends: &[usize],
+    kinds: &[u8],
+    columns: usize,
+    records: usize,
+    room: &mut [u8],
+) -> TextAnswer
+    ensures { λ r. ⌜ r ≡ textAnswer (writerIn t
+        (given (now (content .entry)) (now (starts .entry)) (now (ends .entry)) (now (kinds .entry)) columns records)
+        (length (now (room .entry)))) ⌝ }
+    ensures { λ r. ⌜ now (room .exit) ≡ over (writerIn t
+        (given (now (content .entry)) (now (starts .entry)) (now (ends .entry)) (now (kinds .entry)) columns records)
+        (length (now (room .entry))) .text) (now (room .entry)) ⌝ }
+{
+    if !crate::check::is_table(content, starts, ends, kinds, columns, records) {
+        return codes::refusal(codes::call_report(codes::NOT_A_TABLE));
+    }
+    write_table(t, content, starts, ends, kinds, columns, records, room)
+}
+
+// The writer: 11 for a number that is no dialect's. `records` counts the header. It ends on every input, and its answer and its room are
+// determined for all of them (§13.1 §19.1 §19.5 §19.6).
+pub fn write(
+    dialect: u32,
+    content: &[u8],
+    starts: &[usize],
+    ends: &[usize],
+    kinds: &[u8],
+    columns: usize,
+    records: usize,
+    room: &mut [u8],
+) -> TextAnswer
+    ensures answer { λ r. ⌜ r ≡ textAnswer (writer dialect
+        (given (now (content .entry)) (now (starts .entry)) (now (ends .entry)) (now (kinds .entry)) columns records)
+        (length (now (room .entry)))) ⌝ }
+    ensures leaves { λ r. ⌜ now (room .exit) ≡ writerLeaves dialect
+        (given (now (content .entry)) (now (starts .entry)) (now (ends .entry)) (now (kinds .entry)) columns records)
+        (now (room .entry)) ⌝ }
+{
+    match codes::dialect_of(dialect) {
+        NamedDialect::Known(t) => {
+            write_in(t, content, starts, ends, kinds, columns, records, room)
+        }
+        NamedDialect::Unknown => { codes::refusal(codes::call_report(codes::WRONG_CALL)) }
+    }
+}

@@ -1,0 +1,197 @@
+// The records of a table: validated and measured one after another, and written one after another. A rule that changes for a record
+// changes a law of proofs/Rows.antt, and no loop.
+ghost use mathlib.Core.Path.{_≡_};
+ghost use mathlib.Core.Bool.{true};
+ghost use mathlib.Core.List.{_++_};
+ghost use Prim.Native.Nat.{_*_, _≤_};
+ghost use lib.ListN.{length};
+ghost use Rattle.model.specs.declared.CheckResult.the-variants.{Sound};
+ghost use Rattle.model.specs.rules.Base.{over};
+ghost use Rattle.model.specs.rules.Dialect.{into};
+ghost use Rattle.model.specs.rules.Text.{recordText, tableText, ending};
+ghost use Rattle.model.specs.rules.Report.{MAXFILE};
+ghost use Rattle.buffer.specs.Writes.{Room, WrittenAt};
+ghost use Rattle.cell_decoder.specs.declared.source.Source.the-variants.{Contents};
+ghost use Rattle.cell_decoder.specs.Sources.{cellsIn, Cells};
+ghost use Rattle.table_writer.specs.Rows.{rowsGiven, headerIf, rowCheck, measuredAs};
+use cell_decoder::source::Source;
+use model::CheckResult;
+use model::Dialect;
+use model::Report;
+use record_target::TargetCheck;
+use record_writer::record;
+
+// ---- measuring
+
+// The checks of a header, where the record is one.
+fn header_fault(
+    t: Dialect,
+    content: &[u8],
+    starts: &[usize],
+    ends: &[usize],
+    kinds: &[u8],
+    header: bool,
+) -> CheckResult
+    requires { ⌜ Cells Contents (now content) (now starts) (now ends) (now kinds) ⌝ }
+    ensures { λ r. ⌜ r ≡ headerIf t header
+        (cellsIn Contents (now (content .entry)) (now (starts .entry)) (now (ends .entry)) (now (kinds .entry))) ⌝ }
+{
+    if !header {
+        return CheckResult::Sound;
+    }
+    record_check::header(Source::Contents, t, content, starts, ends, kinds)
+}
+
+// One record, after so many bytes of text: the checks of a header if it is one, and then the target's.
+fn check_record(
+    t: Dialect,
+    content: &[u8],
+    starts: &[usize],
+    ends: &[usize],
+    kinds: &[u8],
+    header: bool,
+    written: usize,
+) -> TargetCheck
+    requires { ⌜ Cells Contents (now content) (now starts) (now ends) (now kinds) ⌝ }
+    requires { ⌜ written ≤ MAXFILE ⌝ }
+    ensures { λ r. ⌜ r .verdict ≡ rowCheck t header written
+        (cellsIn Contents (now (content .entry)) (now (starts .entry)) (now (ends .entry)) (now (kinds .entry))) ⌝ }
+    ensures { λ r. ⌜ (r .verdict ≡ Sound → r .length ≡ length (recordText (into t) header
+        (cellsIn Contents (now (content .entry)) (now (starts .entry)) (now (ends .entry)) (now (kinds .entry))) ++ ending t)) ⌝ }
+{
+    if let CheckResult::Faulty(e) = header_fault(t, content, starts, ends, kinds, header) {
+        return TargetCheck {
+            verdict: CheckResult::Faulty(e),
+            length: 0,
+        };
+    }
+    record_target::check(
+        Source::Contents,
+        t,
+        content,
+        starts,
+        ends,
+        kinds,
+        header,
+        written,
+    )
+}
+
+// What the records come to: a text of this length, or the first fault.
+pub enum Measurement {
+    Accepted { length: usize },
+    Refused(Report),
+}
+
+// The records of a table.
+pub fn measure(
+    t: Dialect,
+    content: &[u8],
+    starts: &[usize],
+    ends: &[usize],
+    kinds: &[u8],
+    columns: usize,
+    records: usize,
+) -> Measurement
+    requires { ⌜ Cells Contents (now content) (now starts) (now ends) (now kinds) ⌝ }
+    requires { ⌜ length (now starts) ≡ columns * records ⌝ }
+    ensures { λ r. ⌜ r ≡ measuredAs (into t)
+        (rowsGiven (now (content .entry)) (now (starts .entry)) (now (ends .entry)) (now (kinds .entry)) columns records) ⌝ }
+{
+    let mut n = 0;
+    let mut at = 0;
+    let mut size = 0;
+    while n < records {
+        let next = at + columns;
+        let r = check_record(
+            t,
+            content,
+            &starts[at..next],
+            &ends[at..next],
+            &kinds[at..next],
+            n == 0,
+            size,
+        );
+        n += 1;
+        let v = r.verdict;
+        if let CheckResult::Faulty(e) = v {
+            return Measurement::Refused(codes::record_report(e, n, 0));
+        }
+        size += r.length;
+        at = next;
+    }
+    Measurement::Accepted { length: size }
+}
+
+// ---- writing
+
+// One record with its ending, at o.
+fn write_record(
+    t: Dialect,
+    content: &[u8],
+    starts: &[usize],
+    ends: &[usize],
+    kinds: &[u8],
+    header: bool,
+    room: &mut [u8],
+    o: usize,
+) -> usize
+    requires { ⌜ Cells Contents (now content) (now starts) (now ends) (now kinds) ⌝ }
+    requires { ⌜ Room true o (recordText (into t) header (cellsIn Contents (now content) (now starts) (now ends) (now kinds)) ++ ending t) (now room) ⌝ }
+    ensures { λ r. ⌜ WrittenAt true (now (room .entry)) o (recordText (into t) header
+        (cellsIn Contents (now (content .entry)) (now (starts .entry)) (now (ends .entry)) (now (kinds .entry))) ++ ending t)
+        (now (room .exit)) r ⌝ }
+{
+    let x = record::write_record(
+        Source::Contents,
+        t,
+        content,
+        starts,
+        ends,
+        kinds,
+        header,
+        room,
+        o,
+        true,
+    );
+    let end = x.end;
+    record::write_ending(t, room, end, true)
+}
+
+// The records of a table, in a room that holds their text.
+pub fn write_records(
+    t: Dialect,
+    content: &[u8],
+    starts: &[usize],
+    ends: &[usize],
+    kinds: &[u8],
+    columns: usize,
+    records: usize,
+    room: &mut [u8],
+)
+    requires { ⌜ Cells Contents (now content) (now starts) (now ends) (now kinds) ⌝ }
+    requires { ⌜ length (now starts) ≡ columns * records ⌝ }
+    requires { ⌜ length (tableText (into t) (rowsGiven (now content) (now starts) (now ends) (now kinds) columns records)) ≤ length (now room) ⌝ }
+    ensures { λ r. ⌜ now (room .exit) ≡ over (tableText (into t)
+        (rowsGiven (now (content .entry)) (now (starts .entry)) (now (ends .entry)) (now (kinds .entry)) columns records))
+        (now (room .entry)) ⌝ }
+{
+    let mut n = 0;
+    let mut at = 0;
+    let mut o = 0;
+    while n < records {
+        let next = at + columns;
+        o = write_record(
+            t,
+            content,
+            &starts[at..next],
+            &ends[at..next],
+            &kinds[at..next],
+            n == 0,
+            room,
+            o,
+        );
+        n += 1;
+        at = next;
+    }
+}

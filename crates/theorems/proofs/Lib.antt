@@ -1,0 +1,12 @@
+pub mod BuffersAfter
+pub mod Reports
+pub mod ConverterAcceptance
+pub mod Limits
+pub mod CarriedTables
+pub mod SameRows
+pub mod Layouts
+pub mod ReaderDerivation
+pub mod ReaderLists
+pub mod LedgerLaws
+pub mod Calls
+pub mod Theorems

@@ -1,4 +1,0 @@
-pub mod Types
-pub mod Holding
-pub mod Walking
-pub mod Calls

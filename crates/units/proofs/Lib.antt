@@ -1,4 +1,0 @@
-pub mod PlainRuns
-pub mod Units
-pub mod Contents
-pub mod Bodies

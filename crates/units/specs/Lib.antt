@@ -1,3 +1,0 @@
-pub mod Units
-pub mod Contents
-pub mod Bodies

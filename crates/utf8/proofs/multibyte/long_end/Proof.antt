@@ -1,0 +1,45 @@
+use native.Mathlib.Omega.{arith}
+use mathlib.Core.Path.{sym, _∙_}
+use borrow.Author.Needs.{needs}
+use borrow.Author.Tests.{not-false}
+use Rattle.utf8.proofs.MultibyteRuns.{wide-none, row-length, row-longest, run-three, run-four}
+use Rattle.utf8.proofs.multibyte.long_end.Statement.{statement}
+use Rattle.utf8.proofs.multibyte.long_end.Tie as tie
+
+-- the row has at least three bytes, and the last test left four
+returns-6 : tie.Need-returns-6
+returns-6 c =
+    let u = c .before .before .before .before .before .before .before .before .before .before .before .before .before .before .before .before .before in
+    run-three (u .args .s .now) (u .args .i) (u .args .stop) (u .pre .1) (c .before .before .before .before .before .before .before .before .before .before .before .before .before .before .row-for .ensures) (c .if6 .taken) (omega arith) (c .before .before .before .before .before .before .before .if3 .left) (c .before .before .before .before .before .if4 .left) (sym (c .before .before .before .is-later .ensures) ∙ not-false _ (c .before .before .if5 .left))
+
+returns-8 : tie.Need-returns-8
+returns-8 c =
+    let u = c .before .before .before .before .before .before .before .before .before .before .before .before .before .before .before .before .before .before .before .before in
+    run-four (u .args .s .now) (u .args .i) (u .args .stop) (u .pre .1) (c .before .before .before .before .before .before .before .before .before .before .before .before .before .before .before .before .before .row-for .ensures) (row-longest (c .before .before .before .before .before .before .before .before .before .before .before .before .before .before .before .before .before .row-for .ensures) (c .before .before .before .before .before .before .before .before .before .before .before .before .before .before .before .if1 .left) (c .before .before .before .if6 .left)) (omega arith) (c .before .before .before .before .before .before .before .before .before .before .if3 .left) (c .before .before .before .before .before .before .before .before .if4 .left) (sym (c .before .before .before .before .before .before .is-later .ensures) ∙ not-false _ (c .before .before .before .before .before .if5 .left)) (sym (c .before .is-later2 .ensures) ∙ not-false _ (c .if7 .left))
+
+pub long-end-spec : {M : Type 1} → statement M
+long-end-spec =
+    tie.close
+    (tie.spec
+    (λ c. search needs)
+    (λ c κs. search needs)
+    (λ c. let a = c .before .before .before .before .before .args in wide-none (a .s .now) (a .i) (a .stop) (omega arith))
+    (λ c. search needs)
+    (λ c. search needs)
+    (λ c. let a = c .before .before .before .before .before .before .before .args in wide-none (a .s .now) (a .i) (a .stop) (omega arith))
+    (λ c. search needs)
+    (λ c. omega (arith, row-length (c .before .before .before .before .before .row-for .ensures) (c .before .before .before .if1 .left)))
+    (λ c. let a = c .before .before .before .before .before .before .before .before .before .before .args in wide-none (a .s .now) (a .i) (a .stop) (omega arith))
+    (λ c. let a = c .before .before .before .before .before .before .before .before .before .before .before .before .args in wide-none (a .s .now) (a .i) (a .stop) (omega arith))
+    (λ c. search needs)
+    (λ c. omega (arith, row-length (c .before .before .before .before .before .before .before .before .before .before .row-for .ensures) (c .before .before .before .before .before .before .before .before .if1 .left)))
+    (λ c κs. search needs)
+    (λ c. let a = c .before .before .before .before .before .before .before .before .before .before .before .before .before .before .before .args in wide-none (a .s .now) (a .i) (a .stop) (omega arith))
+    (λ c. search needs)
+    returns-6
+    (λ c. search needs)
+    (λ c. omega (arith, row-longest (c .before .before .before .before .before .before .before .before .before .before .before .before .before .before .before .row-for .ensures) (c .before .before .before .before .before .before .before .before .before .before .before .before .before .if1 .left) (c .before .if6 .left)))
+    (λ c κs. search needs)
+    (λ c. let a = c .before .before .before .before .before .before .before .before .before .before .before .before .before .before .before .before .before .before .before .before .args in wide-none (a .s .now) (a .i) (a .stop) (omega arith))
+    (λ c. search needs)
+    returns-8)

@@ -1,9 +1,0 @@
-use Rattle.model.specs.Base.{if_then_else_}
-use Rattle.model.specs.Cell.{numeralStep}
-use Rattle.model.proofs.Tests.{tests}
-use Rattle.values.proofs.after_integer.Statement.{statement}
-use Rattle.values.proofs.after_integer.Tie as tie
-
-pub after-integer-spec : {M : Type 1} → statement M
-unfolding numeralStep if_then_else_
-after-integer-spec = tie.close (tie.spec (λ c. search tests) (λ c. search tests) (λ c. search tests) (λ c. search tests))

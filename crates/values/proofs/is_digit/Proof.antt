@@ -1,8 +1,0 @@
-use Rattle.model.specs.Base.{if_then_else_}
-use Rattle.model.proofs.Tests.{tests}
-use Rattle.values.proofs.is_digit.Statement.{statement}
-use Rattle.values.proofs.is_digit.Tie as tie
-
-pub is-digit-spec : {M : Type 1} → statement M
-unfolding if_then_else_
-is-digit-spec = tie.close (tie.spec (λ c. search tests) (λ c. search tests))

@@ -1,4 +1,0 @@
-pub mod Lists
-pub mod Asking
-pub mod Visiting
-pub mod Walking
