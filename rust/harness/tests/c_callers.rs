@@ -301,6 +301,19 @@ fn nothing_may_be_lent() {
     }
 }
 
+#[test]
+fn what_is_read_of_a_converter_stays_inside_it() {
+    let source = "rust/harness/tests/c/accessors.c";
+    in_both_languages(source, |program| {
+        succeeded(&run(program, &[], b""));
+    });
+    // The last converter there is at the end of what was allocated, so that a read past it is found.
+    if let Some(program) = watched(source) {
+        let program = program.to_str().expect("a path of characters");
+        succeeded(&run("env", &["ASAN_OPTIONS=detect_leaks=0", program], b""));
+    }
+}
+
 /// The size of a struct and the offsets of its fields, as `layout.c` prints them.
 macro_rules! layout {
     ($name:literal, $struct:ty, $($field:ident)+) => {{
@@ -329,6 +342,15 @@ fn structs_are_laid_out_as_the_header_says() {
 
 fn header() -> String {
     fs::read_to_string(repository().join("include/hemakuliwi.h")).expect("the header")
+}
+
+#[test]
+fn the_lines_of_the_header_have_at_most_100_columns() {
+    for (index, line) in header().lines().enumerate() {
+        let columns = line.chars().count();
+        assert!(columns <= 100, "line {}: {columns} columns", index + 1);
+        assert!(!line.contains('\t'), "line {}: a tab", index + 1);
+    }
 }
 
 /// The functions that the header declares and does not define.
