@@ -1,5 +1,5 @@
 /* Converts a table that comes in bursts, as from a serial line, to the canonical text of another dialect. The bursts go through a ring of
-   64 bytes; what lies there in one stretch is a piece, so that a cell may be cut anywhere, and where the ring wraps too. Each record is
+   64 bytes; what lies there in one span is a piece, so that a cell may be cut anywhere, and where the ring wraps too. Each record is
    written as it completes.
 
      pieces csvj|tdif|csv+ csvj|tdif|csv+ <FILE
@@ -28,15 +28,14 @@ static int receive(void) {
     return 1;
 }
 
-/* The converter knows the columns' names, as they are spelt in the file, once the header is complete. */
+/* The converter has the columns' names, raw as in the file, once the header is complete. */
 static void explain_column(size_t column) {
-    if (column == 0 || converter.numbers[HK_AT_RECORDS] == 0) {
+    if (column == 0 || column > hk_converter_columns(&converter)) {
         return;
     }
-    size_t start = column > 1 ? converter.name_ends[column - 2] : 0;
-    size_t end = converter.name_ends[column - 1];
+    struct hk_span raw = hk_converter_name(&converter, column - 1);
     uint8_t name[HK_RECORD_BYTES];
-    struct hk_decode_answer cell = hk_decode(converter.source, converter.names + start, end - start, name, sizeof name);
+    struct hk_decode_answer cell = hk_decode(converter.source, raw.bytes, raw.length, name, sizeof name);
     fprintf(stderr, "Column %zu is ", column);
     fwrite(name, 1, cell.length, stderr);
     fprintf(stderr, ".\n");

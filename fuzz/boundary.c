@@ -529,7 +529,7 @@ static void make_call(struct past *past, struct call call) {
     past->length += answer.length;
     past->is_closed = is_end || answer.report.number != HK_ACCEPTED;
     past->report = answer.report;
-    require(past->is_closed || state.numbers[HK_AT_OFFSET] == past->consumed, "the converter tells another offset");
+    require(past->is_closed || hk_converter_offset(&state) == past->consumed, "the converter has another offset");
 }
 
 static struct call piece_of(const struct past *past, size_t length) {
@@ -614,6 +614,18 @@ static struct hk_report check_made_up(struct call call) {
     return refusal(HK_WRONG_CALL);
 }
 
+/* Names that can be read lie inside the converter, whatever its numbers are. */
+static void check_names(void) {
+    require(hk_converter_columns(&state) <= HK_COLUMNS, "a converter has too many columns");
+    for (size_t k = 0; k <= HK_COLUMNS; k++) {
+        struct hk_span name = hk_converter_name(&state, k);
+        int is_none = name.bytes == NULL && name.length == 0;
+        int is_inside = k < hk_converter_columns(&state) && name.bytes >= state.names &&
+                        name.length <= (size_t)(state.names + HK_RECORD_BYTES - name.bytes);
+        require(is_none || is_inside, "a name lies outside of the converter");
+    }
+}
+
 /* Changes one number or one byte of the converter. */
 static void change_state(const uint8_t *change) {
     static const size_t values[] = {0, 1, HK_COLUMNS, HK_COLUMNS + 1, HK_RECORD_BYTES, HK_RECORD_BYTES + 1, HK_FILE_BYTES, SIZE_MAX};
@@ -661,6 +673,7 @@ static void try_made_up(void) {
     static struct hk_converter before;
     static uint8_t text[MOST_OUT];
     struct past past = {.consumed = make_up_state()};
+    check_names();
     for (size_t i = 0; i < step_count; i++) {
         struct call call = step_call(&past, steps[i]);
         struct hk_report checked = check_made_up(call);
@@ -674,6 +687,7 @@ static void try_made_up(void) {
             past.consumed += call.length;
         }
         require(state.source == before.source && state.target == before.target, "a converter has other dialects");
+        check_names();
     }
 }
 

@@ -43,7 +43,7 @@ static void print_layout(void) {
     FIELD(hk_piece_answer, next)
 }
 
-/* What stands beside a struct belongs to nobody. */
+/* The bytes beside a struct belong to nobody. */
 enum { BESIDE = 64, UNUSED = 0xA5 };
 
 static int is_unused(const uint8_t *bytes) {
@@ -81,7 +81,7 @@ int main(void) {
     lent.converter.target = 0;
     EXPECT(memcmp(&lent.converter, &zeros, sizeof zeros) == 0)
 
-    /* Header and the record in hand are in the arrays, and both forms come to the same bytes. */
+    /* Header and unfinished record are in the arrays, and both forms result in the same bytes. */
     const char file[] = "\xEF\xBB\xBF\"ab\",\"c\"\n\"d\",\"e";
     struct hk_converter by_value = hk_converter_new(HK_CSVJ, HK_TDIF);
     lent.converter = by_value;
@@ -91,8 +91,8 @@ int main(void) {
     EXPECT(lent.answer.answer.length == 9 && is_inside())
     EXPECT(memcmp(&lent.answer.next, &lent.converter, sizeof by_value) == 0)
     EXPECT(lent.converter.source == HK_CSVJ && lent.converter.target == HK_TDIF)
-    EXPECT(lent.converter.numbers[HK_AT_OFFSET] == sizeof file - 1)
-    EXPECT(lent.converter.numbers[HK_AT_COLUMNS] == 2 && lent.converter.numbers[HK_AT_RECORDS] == 1)
+    EXPECT(hk_converter_offset(&lent.converter) == sizeof file - 1)
+    EXPECT(hk_converter_columns(&lent.converter) == 2 && hk_converter_records(&lent.converter) == 1)
     EXPECT(lent.converter.name_ends[0] == 4 && lent.converter.name_ends[1] == 7 && memcmp(lent.converter.names, "\"ab\"\"c\"", 7) == 0)
     EXPECT(lent.converter.ends[0] == 3 && memcmp(lent.converter.bytes, "\"d\"\"e", 5) == 0)
 

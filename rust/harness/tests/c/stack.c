@@ -138,7 +138,7 @@ static void make_file(uint32_t number, int repeats) {
     }
 }
 
-/* The table of such a file, as the writer takes it. The name that repeats the first is the same stretch. */
+/* The table of such a file, as the writer takes it. The name that repeats the first is the same span. */
 static void make_table(uint32_t number, int repeats) {
     make_file(number, 0);
     read_file();
