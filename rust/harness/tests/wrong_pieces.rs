@@ -44,7 +44,7 @@ fn is_ill_sized(call: &Call) -> bool {
 
 /// Whether a call is the first that takes bytes or ends.
 fn is_first(state: &Converter) -> bool {
-    state.numbers[AT_OFFSET] == 0
+    state.offset() == 0
 }
 
 const WRONG_CONVERTERS: [(&str, PieceConverter); 30] = [
@@ -284,7 +284,7 @@ const WRONG_CONVERTERS: [(&str, PieceConverter); 30] = [
         },
     ),
     ("offsets count from the piece", |state, call, out| {
-        let (before, was_met) = (state.numbers[AT_OFFSET], state.numbers[FAULT] > 0);
+        let (before, was_met) = (state.offset(), state.numbers[FAULT] > 0);
         let mut made = proved_lent(state, call, out);
         if let (false, 2 | 3) = (was_met, made.report.number) {
             made.report.offset -= before;
@@ -293,7 +293,7 @@ const WRONG_CONVERTERS: [(&str, PieceConverter); 30] = [
         made
     }),
     ("records count from the piece", |state, call, out| {
-        let (before, was_met) = (state.numbers[AT_RECORDS], state.numbers[FAULT] > 0);
+        let (before, was_met) = (state.records(), state.numbers[FAULT] > 0);
         let mut made = proved_lent(state, call, out);
         if let (false, 1..=9) = (was_met, made.report.number) {
             made.report.record -= before;
@@ -303,7 +303,7 @@ const WRONG_CONVERTERS: [(&str, PieceConverter); 30] = [
     }),
     ("the names of the header are lost", |state, call, out| {
         let made = proved_lent(state, call, out);
-        if state.numbers[AT_RECORDS] > 1 {
+        if state.records() > 1 {
             state.names.fill(b'x');
         }
         made
@@ -313,7 +313,7 @@ const WRONG_CONVERTERS: [(&str, PieceConverter); 30] = [
         |state, call, out| {
             let made = proved_lent(state, call, out);
             if let (Call::Piece([.., b'\n'], _), 0) = (call, made.report.number) {
-                state.numbers[AT_RECORDS] = state.numbers[AT_RECORDS].saturating_sub(1);
+                state.numbers[AT_RECORDS] = state.records().saturating_sub(1);
             }
             made
         },

@@ -34,7 +34,7 @@ pub fn convert(from: Dialect, to: Dialect, file: &[u8]) -> Result<Vec<u8>, Refus
 
 /// A converter of a file that comes in pieces, cut anywhere: each record is written when it completes.
 ///
-/// It keeps the record in hand and the header, 9 KB in all, and 48 KB to write to, however long the file is. A clone goes on from where the
+/// It buffers the unfinished record and the header, 9 KB in all, and 48 KB to write to, however long the file is. A clone goes on from where the
 /// converter stood.
 ///
 /// Between a reader and a writer [`convert_stream`](crate::convert_stream) does all of it, or a
@@ -194,7 +194,7 @@ impl Converter {
     pub fn bytes_taken(&self) -> usize {
         match self.refusal {
             Some(refusal) => refusal.offset,
-            None => self.state.numbers[raw::AT_OFFSET],
+            None => self.state.offset(),
         }
     }
 
@@ -223,7 +223,7 @@ impl Converter {
     /// # Ok::<(), hemakuliwi::Refusal>(())
     /// ```
     pub fn records_completed(&self) -> usize {
-        self.state.numbers[raw::AT_RECORDS] + usize::from(self.end_completed)
+        self.state.records() + usize::from(self.end_completed)
     }
 
     /// How many columns there are, once a piece has completed the header.
@@ -238,8 +238,7 @@ impl Converter {
     /// # Ok::<(), hemakuliwi::Refusal>(())
     /// ```
     pub fn columns(&self) -> Option<usize> {
-        let numbers = &self.state.numbers;
-        (numbers[raw::AT_RECORDS] > 0).then_some(numbers[raw::AT_COLUMNS])
+        (self.state.records() > 0).then_some(self.state.columns())
     }
 
     /// The name of the column at this place, counted from 0, once a piece has completed the header. It stays after a fault:

@@ -1,8 +1,8 @@
 //! The calls of the library as C has them: numbers, and lists and rooms that the caller lends. `include/hemakuliwi.h` says what each call
 //! promises; `docs/RULES.md` has the rules.
 //!
-//! A file is read into lists that the caller lends. How many cells it has is not known before, so the lists double until they are
-//! long enough, which report 10 tells:
+//! A file is read into lists that the caller lends. How many cells it has is not known before, so the lists double as long as report 10
+//! says that they are too short:
 //!
 //! ```
 //! let file = b"\"stop\",\"fare\"\n\"Harbour\",2.40\n";
@@ -42,6 +42,7 @@
 //! let mut converter = Converter::new(CSV_PLUS, CSVJ);
 //! let first = converter.piece(b"stop,note\nHarbour,\"say \"", &mut out);
 //! assert_eq!(&out[..first.length], b"\"stop\",\"note\"\n");
+//! assert_eq!((converter.offset(), converter.records(), converter.columns()), (24, 1, 2));
 //! assert_eq!(converter.name(1), Some(&b"note"[..]));
 //! let second = converter.piece(b"\"Mint\"\"\"", &mut out);
 //! assert_eq!((second.report.number, second.length), (0, 0));
@@ -49,7 +50,7 @@
 //! assert_eq!(&out[..last.length], b"\"Harbour\",\"say \\\"Mint\\\"\"\n");
 //! ```
 //!
-//! A table is written from stretches of content, record by record:
+//! A table is written from spans of content, record by record:
 //!
 //! ```
 //! use hemakuliwi::raw::{Table, NULL, NUMBER, TEXT};
@@ -98,7 +99,7 @@ pub const COLUMNS: usize = 64;
 
 /// The most bytes in a piece of a converter.
 pub const PIECE_BYTES: usize = 4_096;
-/// The fewest bytes of output that a call of a converter asks for, which are enough for all that it can write.
+/// The fewest bytes of output that a call of a converter requires, which are enough for all that it can write.
 pub const PIECE_ROOM: usize = 49_152;
 
 /// What a call says: acceptance, which is all 0, or which fault and where.
@@ -147,15 +148,15 @@ pub struct DecodeAnswer {
 pub struct TextAnswer {
     /// Acceptance, or the first fault.
     pub report: Report,
-    /// The text's length; 0 on refusal, save for a piece that meets a fault: then it is that of the records before it.
+    /// The text's length; 0 on refusal, except for a piece that meets a fault: then it is that of the records before it.
     pub length: usize,
 }
 
-/// Where `Converter::numbers` has how many bytes of the file were taken, as long as no fault was met.
+/// Where `Converter::numbers` has what [`Converter::offset`] returns.
 pub const AT_OFFSET: usize = 1;
-/// Where `Converter::numbers` has the number of columns, once the header is complete.
+/// Where `Converter::numbers` has what [`Converter::columns`] returns.
 pub const AT_COLUMNS: usize = 6;
-/// Where `Converter::numbers` has how many records are complete, the header too. A last one that the end completes is not counted.
+/// Where `Converter::numbers` has what [`Converter::records`] returns.
 pub const AT_RECORDS: usize = 7;
 
 /// A converter of a file that comes in pieces. It is plain data, and with any numbers and bytes each call ends and stays inside what it
@@ -167,15 +168,15 @@ pub struct Converter {
     pub source: u32,
     /// The number of the dialect that is written.
     pub target: u32,
-    /// Where the conversion stands.
+    /// The state of the conversion; [`Converter::offset`], [`Converter::records`] and [`Converter::columns`] read it.
     pub numbers: [usize; 14],
-    /// Where the complete cells of the record in hand end in `bytes`.
+    /// Where the complete cells of the unfinished record end in `bytes`.
     pub ends: [usize; COLUMNS],
     /// Where the names of the header end in `names`.
     pub name_ends: [usize; COLUMNS],
-    /// The record in hand.
+    /// The unfinished record.
     pub bytes: [u8; RECORD_BYTES],
-    /// The names of the header, as they are spelt in the file.
+    /// The names of the header, raw as in the file; [`Converter::name`] reads them.
     pub names: [u8; RECORD_BYTES],
 }
 
@@ -189,10 +190,10 @@ pub struct PieceAnswer {
     pub next: Converter,
 }
 
-/// A table for the writer: its cells record by record, as stretches of the content.
+/// A table for the writer: its cells record by record, as spans of the content.
 #[derive(Clone, Copy, Debug)]
 pub struct Table<'a> {
-    /// The bytes that the stretches name.
+    /// The bytes that the spans name.
     pub content: &'a [u8],
     /// Where each cell's content starts.
     pub starts: &'a [usize],
@@ -292,7 +293,7 @@ extern "C" {
     ) -> TextAnswer;
 }
 
-/// The cells of a whole file: cell `i` stands from `starts[i]` up to `ends[i]`, and the number of its kind is `kinds[i]`. Past the
+/// The cells of a whole file: cell `i` is the span from `starts[i]` up to `ends[i]`, and the number of its kind is `kinds[i]`. Past the
 /// cells, and on refusal, the lists are left as they were.
 pub fn read(
     dialect: u32,
@@ -441,15 +442,34 @@ impl Converter {
         unsafe { hk_end(self, out.as_mut_ptr(), out.len()) }
     }
 
-    /// A name of the header as it is spelt in the file, by its place counted from 0, once a piece has completed the header.
+    /// How many bytes of the file were taken, as long as no fault was met.
+    pub fn offset(&self) -> usize {
+        self.numbers[AT_OFFSET]
+    }
+
+    /// How many records are complete, the header too. A last record that the end completes is not counted.
+    pub fn records(&self) -> usize {
+        self.numbers[AT_RECORDS]
+    }
+
+    /// The number of columns once `records` is above 0, and 0 before; never more than `COLUMNS`.
+    pub fn columns(&self) -> usize {
+        match self.records() {
+            0 => 0,
+            _ => self.numbers[AT_COLUMNS].min(COLUMNS),
+        }
+    }
+
+    /// A name of the header, raw as in the file, by its place counted from 0. It is there for each place below `columns`, after a fault
+    /// and an end too; a converter that no calls have made may have none there.
     pub fn name(&self, index: usize) -> Option<&[u8]> {
-        if self.numbers[AT_RECORDS] == 0 || index >= self.numbers[AT_COLUMNS] {
+        if index >= self.columns() {
             return None;
         }
         let start = match index {
             0 => 0,
-            _ => *self.name_ends.get(index - 1)?,
+            _ => self.name_ends[index - 1],
         };
-        self.names.get(start..*self.name_ends.get(index)?)
+        self.names.get(start..self.name_ends[index])
     }
 }

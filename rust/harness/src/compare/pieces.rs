@@ -9,7 +9,7 @@ use crate::rng::Rng;
 use crate::rooms::Output;
 use crate::whole::read_whole;
 use crate::{DIALECTS, UNKNOWN};
-use hemakuliwi::raw::{Converter, AT_COLUMNS, AT_OFFSET, AT_RECORDS};
+use hemakuliwi::raw::{Converter, AT_COLUMNS};
 use reference::limits::{PIECE_BYTES, PIECE_ROOM};
 use reference::{Converted, Dialect, Report};
 use std::collections::BTreeSet;
@@ -222,8 +222,9 @@ impl Shown {
     }
 
     fn is_in(&self, state: &Converter) -> Result<(), String> {
-        let (records, columns) = (state.numbers[AT_RECORDS], state.numbers[AT_COLUMNS]);
+        let (records, columns) = (state.records(), state.columns());
         let is_shown = (records, columns) == (self.records, self.columns)
+            && state.numbers[AT_COLUMNS] == self.columns
             && state.name(self.columns).is_none()
             && (0..self.columns).all(|index| state.name(index) == Some(&self.names[index]));
         match is_shown {
@@ -337,7 +338,7 @@ impl PieceComparison {
     /// What a program may read in the states.
     fn shows(&self, shown: &Shown) -> Result<(), String> {
         for trial in &self.trials {
-            let offset = trial.state().numbers[AT_OFFSET];
+            let offset = trial.state().offset();
             if offset != self.past.consumed.len() && !self.past.closed {
                 return Err(format!("the state shows {offset} bytes consumed"));
             }

@@ -6,5 +6,6 @@ mod faults;
 mod made;
 mod random;
 mod runs;
+mod states;
 mod streams;
 mod values;
