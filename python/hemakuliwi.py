@@ -401,7 +401,7 @@ class Converter:
     @property
     def records(self) -> int:
         """How many records are complete, the header too, but not one that only the end completes."""
-        return self._state.numbers[_AT_RECORDS]
+        return self._state.records
 
     @property
     def names(self) -> Optional[List[str]]:
@@ -417,10 +417,9 @@ class Converter:
         with self._lock:
             if self.records == 0:
                 return None
-            ends = self._state.name_ends[: self._state.numbers[_AT_COLUMNS]]
-            spellings = bytes(self._state.names)
             source = self._state.source
-        return [decode(source, spellings[start:end]).text for start, end in zip([0, *ends], ends)]
+            raw_names = [self._state.name(k) for k in range(self._state.columns)]
+        return [decode(source, raw).text for raw in raw_names]
 
     def __getstate__(self) -> bytes:
         with self._lock:
@@ -692,6 +691,23 @@ class _Converter(ctypes.Structure):
 
     def fields(self) -> Tuple[Any, ...]:
         return (self.source, self.target, self.numbers, self.ends, self.name_ends, self.bytes, self.names)
+
+    @property
+    def records(self) -> int:
+        """As hk_converter_records."""
+        return self.numbers[_AT_RECORDS]
+
+    @property
+    def columns(self) -> int:
+        """As hk_converter_columns."""
+        return min(self.numbers[_AT_COLUMNS], COLUMNS) if self.records > 0 else 0
+
+    def name(self, k: int) -> bytes:
+        """The bytes of hk_converter_name: none where there is no such name."""
+        if k >= self.columns:
+            return b""
+        start, end = self.name_ends[k - 1] if k > 0 else 0, self.name_ends[k]
+        return bytes(self.names[start:end]) if start <= end <= RECORD_BYTES else b""
 
 
 _FILE = (c_char_p, c_size_t)

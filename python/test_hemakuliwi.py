@@ -418,6 +418,24 @@ class Converting(unittest.TestCase):
                 with contextlib.suppress(Refused):
                     call()
 
+    def test_what_is_read_of_a_state_stays_inside_it(self):
+        def state_of(converter):
+            return hemakuliwi._Converter.from_buffer_copy(converter.__getstate__())
+
+        converter = Converter("csv+", "csvj")
+        converter.feed(b'stop,"a')
+        state = state_of(converter)
+        self.assertEqual((state.records, state.columns, state.name(0)), (0, 0, b""))
+        converter.feed(b'b"\n')
+        state = state_of(converter)
+        self.assertEqual((state.records, state.columns), (1, 2))
+        self.assertEqual([state.name(k) for k in (0, 1, 2, 2**64)], [b"stop", b'"ab"', b"", b""])
+        ones = hemakuliwi._Converter.from_buffer_copy(b"\xff" * len(converter.__getstate__()))
+        self.assertEqual((ones.records, ones.columns), (2**64 - 1, hemakuliwi.COLUMNS))
+        self.assertEqual([ones.name(k) for k in (0, 1, 63, 64, 2**64)], [b""] * 5)
+        ones.name_ends[0], ones.name_ends[1], ones.name_ends[2] = 4_096, 4_095, 4_097
+        self.assertEqual([len(ones.name(k)) for k in range(4)], [4_096, 0, 0, 0])
+
     def test_threads_may_call_at_the_same_time(self):
         shared, outputs = Converter("csv+", "csvj"), []
         shared.feed(b"name\n")
