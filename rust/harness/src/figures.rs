@@ -1,8 +1,9 @@
-//! The figures that the documents state and that can be counted, as the tables that stand in the documents.
+//! The figures that can be counted, as tables: all of `docs/FIGURES.md`, and what other documents name.
 //!
 //! A document has a table between two lines, `<!-- figures: NAME -->` and `<!-- end of figures -->`, and a single figure in a sentence
-//! between `<!-- figure: NAME -->` and `<!-- end -->`. What stands there is what the command `figures` prints; a test compares the two.
+//! between `<!-- figure: NAME -->` and `<!-- end -->`. The text between them is what the command `figures` prints; a test compares the two.
 
+mod contracts;
 mod costs;
 pub mod crates;
 mod sizes;
@@ -19,9 +20,53 @@ const END: &str = "<!-- end of figures -->\n";
 const BEGIN_SINGLE: &str = "<!-- figure: ";
 const END_SINGLE: &str = "<!-- end -->";
 
+/// The generated document: tables, each with a heading and the words that explain it.
+pub const FILE: &str = "docs/FIGURES.md";
+
+const HEAD: &str = "\
+# Figures
+
+Generated from the sources, as a whole. Do not edit it: run
+
+    cargo run --release --offline -p harness --no-default-features --bin figures -- --write
+
+The test `documents` compares it with the sources. Check times can't be counted: they are in `docs/check-times.txt`, taken from a log of `rt check`, `rt prove` or `rt ci`:
+
+    rt prove | tee LOG
+    cargo run --release --offline -p harness --no-default-features --bin figures -- --times LOG
+
+`rt check` skips a crate that is unchanged since it was proved, and such a crate keeps its time.
+";
+
+/// The sections of the generated document: heading, explanation, table.
+const SECTIONS: [(&str, &str, &str); 6] = [
+    (
+        "Crates by layer",
+        "*Depends on* leaves out what another crate named there depends on; nearly all depend on `model`. `io`, `libc` and `os` are Rattle's own.",
+        "layers",
+    ),
+    (
+        "Sizes and check times",
+        "Lines are counted without blank ones and without those that are all comment. *Check* is the time of `rt check` for the crate alone, *prove again* the sum for it and all crates above it. Crates that do not depend on each other are proved side by side, so on two processors the wait is shorter than the sum. Each edit costs about its crate's check once more, in `rt must-fail` and `rt ci` only.",
+        "costs",
+    ),
+    ("In all", "", "sizes"),
+    (
+        "Stack",
+        "As `include/hemakuliwi.h` states it; `rust/harness/tests/c/stack.c` measures it and fails above these figures.",
+        "stack",
+    ),
+    ("Comparisons at each run of the tests", "", "comparisons"),
+    (
+        "Contracts",
+        "Public functions, with the definitions that the contract (`ensures`) names in the order in which it names them; the source has the whole statement. *Requires*: whether the caller has to establish something.",
+        "contracts",
+    ),
+];
+
 /// A table of figures.
 pub struct Table {
-    /// The name by which documents ask for it.
+    /// The name by which documents refer to it.
     pub name: &'static str,
     text: String,
 }
@@ -40,7 +85,7 @@ impl Table {
         self.text += &format!("| {} |\n", cells.join(" | "));
     }
 
-    /// The table as it stands in a document after another line, with its two lines.
+    /// The table as a document has it after another line, with its two lines.
     pub fn in_document(&self) -> String {
         format!("{BEGIN}{} -->\n{}{END}", self.name, self.text)
     }
@@ -52,7 +97,7 @@ struct Single {
     text: String,
 }
 
-/// What documents ask for by name.
+/// What documents refer to by name.
 pub struct Figures {
     tables: Vec<Table>,
     singles: Vec<Single>,
@@ -70,13 +115,30 @@ pub fn count(root: &Path) -> Result<Figures, String> {
         sizes::stack(&header),
         sizes::size_table(&sizes),
         sizes::comparisons(root)?,
+        contracts::contracts(root, &crates)?,
     ];
     let singles = singles(&crates, &sizes);
     Ok(Figures { tables, singles })
 }
 
 impl Figures {
-    /// All of them as they stand in documents.
+    /// The generated document.
+    pub fn file(&self) -> Result<String, String> {
+        let mut text = HEAD.to_string();
+        for (heading, explanation, name) in SECTIONS {
+            text += &format!("\n## {heading}\n");
+            if !explanation.is_empty() {
+                text += &format!("\n{explanation}\n");
+            }
+            let table = self.tables.iter().find(|table| table.name == name);
+            text += &table
+                .ok_or(format!("there is no table `{name}`"))?
+                .in_document();
+        }
+        Ok(text)
+    }
+
+    /// All of them as documents have them.
     pub fn print(&self) -> String {
         let tables = self.tables.iter().map(Table::in_document);
         let singles = self
@@ -118,21 +180,21 @@ pub fn documents(root: &Path) -> Result<Vec<PathBuf>, String> {
     Ok(paths)
 }
 
-/// A document in which whatever stands from `begin`, with a name, to `end` is what the name asks for.
+/// A document in which all that lies between `begin`, with a name, and `end` is what the name refers to.
 fn filled(
     document: &str,
     [begin, end]: [&str; 2],
-    asked_for: impl Fn(&str) -> Option<String>,
+    named: impl Fn(&str) -> Option<String>,
 ) -> Result<String, String> {
     let mut text = String::new();
     let mut rest = document;
-    while let Some((before, asked)) = rest.split_once(begin) {
-        let (name, _) = asked.split_once(" -->").unwrap_or((asked, ""));
-        let (_, after) = asked
+    while let Some((before, found)) = rest.split_once(begin) {
+        let (name, _) = found.split_once(" -->").unwrap_or((found, ""));
+        let (_, after) = found
             .split_once(end)
             .ok_or(format!("the figures `{name}` have no end"))?;
         text += before;
-        text += &asked_for(name).ok_or(format!("there are no figures `{name}`"))?;
+        text += &named(name).ok_or(format!("there are no figures `{name}`"))?;
         rest = after;
     }
     Ok(text + rest)

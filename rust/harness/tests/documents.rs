@@ -1,6 +1,7 @@
-//! The documents: every figure is what the command `figures` prints, and every file that is named is there.
+//! The documents: every figure is what the command `figures` prints, every file that is named is there, every name is one of the sources,
+//! and every theorem is declared in the file that is named beside it.
 
-use harness::figures::documents;
+use harness::figures::{count, documents, FILE};
 use harness::programs::{run, succeeded};
 use harness::repository;
 use std::collections::{BTreeMap, BTreeSet};
@@ -44,7 +45,7 @@ fn every_figure_is_what_the_command_prints() {
             let stale = lines.iter().find(|line| !now.contains(line));
             assert!(
                 lines == now,
-                "{}: the figures `{name}` are not those that the command prints; `figures --write` puts them there: {stale:?}",
+                "{}: the figures `{name}` are not those that the command prints; `figures --write` writes them: {stale:?}",
                 path.display()
             );
             found.insert(name.to_string());
@@ -62,9 +63,21 @@ fn every_figure_is_what_the_command_prints() {
     );
 }
 
+#[test]
+fn the_file_of_figures_is_generated() {
+    let root = repository();
+    let generated = count(&root)
+        .and_then(|figures| figures.file())
+        .expect("figures");
+    assert!(
+        read(&root.join(FILE)) == generated,
+        "{FILE} is not what `figures --write` writes"
+    );
+}
+
 // ---- files that are named
 
-/// The endings of names that are taken for files wherever they stand.
+/// The endings of names that are taken for files everywhere.
 const ENDINGS: [&str; 12] = [
     ".md", ".txt", ".rt", ".antt", ".rs", ".c", ".cpp", ".h", ".sh", ".py", ".toml", ".edit",
 ];
@@ -112,7 +125,7 @@ fn named(document: &str) -> (Vec<&str>, Vec<&str>) {
 /// Whether a word in backticks is the name of a file or folder that is missing.
 fn is_missing(word: &str, paths: &BTreeSet<String>) -> bool {
     let word = word.trim_start_matches("./").trim_end_matches('/');
-    // Signs and names in capitals stand for others; what is built, and what the system has, is not of the repository.
+    // Signs and names in capitals are placeholders; what is built, and what the system has, is not of the repository.
     let is_sign = word.contains(['*', '<', '[', '@', '$', ':']) || word.contains("NAME");
     if is_sign || word.starts_with(['/', '~']) || word.starts_with("target/") {
         return false;
@@ -248,4 +261,196 @@ fn links_lead_to_files_and_headings() {
         found,
         BTreeSet::from(["one-a-b".to_string(), "cant-or-2".to_string()])
     );
+}
+
+// ---- names of definitions, functions, theorems and edits
+
+/// The documents whose names have to be names of the sources.
+const NAMING: [&str; 4] = [
+    "docs/ARCHITECTURE.md",
+    "docs/DECISIONS.md",
+    "docs/GUARANTEES.md",
+    FILE,
+];
+
+fn is_of_name(c: char) -> bool {
+    c.is_alphanumeric() || matches!(c, '_' | '-' | '′')
+}
+
+/// All names that the sources have outside comments, and those of files, folders and crates.
+fn names(root: &Path, paths: &BTreeSet<String>) -> BTreeSet<String> {
+    let sources = [".rt", ".antt", ".rs", ".h", ".py", ".sh", ".c", "Makefile"];
+    let mut names = BTreeSet::new();
+    for path in paths {
+        let parts = path.split(['/', '.']);
+        names.extend(parts.map(str::to_string));
+        if !sources.iter().any(|ending| path.ends_with(ending)) {
+            continue;
+        }
+        let text = read(&root.join(path));
+        let code = text
+            .lines()
+            .filter(|line| !line.trim_start().starts_with("--"))
+            .filter(|line| !line.trim_start().starts_with("//"));
+        for line in code {
+            names.extend(line.split(|c| !is_of_name(c)).map(str::to_string));
+        }
+    }
+    names
+}
+
+/// The parts of a word in backticks that are names: `a::b` and `a.b` have two. None of a file, a sign, a number or a single letter.
+fn parts(word: &str) -> Vec<&str> {
+    let begins = word.starts_with(|c: char| c.is_alphabetic());
+    let is_name = word
+        .chars()
+        .all(|c| is_of_name(c) || matches!(c, ':' | '.'));
+    if !begins || !is_name || word.chars().count() < 2 {
+        return Vec::new();
+    }
+    let parts = word.split(['.', ':']);
+    parts.filter(|part| !part.is_empty()).collect()
+}
+
+#[test]
+fn every_name_is_one_of_the_sources() {
+    let root = repository();
+    let paths = paths(&root);
+    let names = names(&root, &paths);
+    let (mut problems, mut count) = (Vec::new(), 0);
+    for document in NAMING {
+        let text = read(&root.join(document));
+        for word in named(&text).0 {
+            count += parts(word).len();
+            let unknown = |part: &&str| !names.contains(*part);
+            let unknown = parts(word).into_iter().filter(unknown);
+            problems.extend(unknown.map(|part| format!("{document}: {part}")));
+        }
+    }
+    assert!(count > 500, "only {count} names were found");
+    assert!(problems.is_empty(), "no names:\n{}", problems.join("\n"));
+}
+
+/// Whether a source declares a name: as a field, a law, a record, a type or a function.
+fn declares(source: &str, name: &str) -> bool {
+    let words = [
+        "pub",
+        "abbrev",
+        "unfoldable",
+        "record",
+        "data",
+        "extern",
+        "\"C\"",
+        "fn",
+    ];
+    source.lines().any(|line| {
+        let mut rest = line
+            .split_whitespace()
+            .skip_while(|word| words.contains(word));
+        let first = rest.next().unwrap_or_default();
+        let declared = first.split('(').next().unwrap_or_default();
+        let named = line.trim_start().starts_with(|c: char| c.is_alphabetic());
+        named
+            && declared == name
+            && (first != name
+                || rest
+                    .next()
+                    .is_some_and(|next| next.starts_with([':', '(', '{'])))
+    })
+}
+
+/// The cells of a table's row.
+fn cells(row: &str) -> Vec<&str> {
+    row.trim_matches('|').split(" | ").map(str::trim).collect()
+}
+
+/// The rows of the tables of GUARANTEES that have this column: what it holds, and the files named in the row, or in an earlier row that
+/// "the same" refers to, and in the text from the heading on.
+fn column<'a>(document: &'a str, title: &str) -> Vec<(&'a str, Vec<&'a str>)> {
+    let files = |text: &'a str| {
+        named(text)
+            .0
+            .into_iter()
+            .filter(|word| word.contains(".antt") || word.contains(".rt"))
+    };
+    let (mut found, mut above, mut before) = (Vec::new(), Vec::new(), Vec::new());
+    let mut place = None;
+    for line in document.lines() {
+        if line.starts_with('#') {
+            above.clear();
+        }
+        if !line.starts_with('|') {
+            above.extend(files(line));
+            place = None;
+        } else if let Some(place) = place {
+            let mut row: Vec<&str> = files(line).collect();
+            if line.contains("the same") {
+                row.append(&mut before);
+            }
+            before.clone_from(&row);
+            row.extend(&above);
+            if let Some(cell) = cells(line).get::<usize>(place) {
+                found.push((*cell, row));
+            }
+        } else {
+            place = cells(line).iter().position(|cell| *cell == title);
+        }
+    }
+    found
+}
+
+#[test]
+fn every_theorem_is_declared_in_the_file_beside_it() {
+    let root = repository();
+    let paths = paths(&root);
+    let document = read(&root.join("docs/GUARANTEES.md"));
+    let (mut problems, mut count) = (Vec::new(), 0);
+    for (cell, files) in column(&document, "theorem") {
+        let texts: Vec<String> = files
+            .iter()
+            .flat_map(|file| {
+                paths
+                    .iter()
+                    .filter(move |path| *path == file || path.ends_with(&format!("/{file}")))
+            })
+            .map(|path| read(&root.join(path)))
+            .collect();
+        for name in named(cell).0 {
+            count += 1;
+            if !texts.iter().any(|text| declares(text, name)) {
+                problems.push(format!("{name} is not declared in {files:?}"));
+            }
+        }
+    }
+    assert!(count > 50, "only {count} theorems were found");
+    for (cell, _) in column(&document, "edits, for example") {
+        for name in named(cell).0 {
+            let tail = format!("/must-fail/{name}.edit");
+            if !paths.iter().any(|path| path.ends_with(&tail)) {
+                problems.push(format!("there is no edit {name}"));
+            }
+        }
+    }
+    assert!(problems.is_empty(), "\n{}", problems.join("\n"));
+}
+
+#[test]
+fn a_theorem_that_is_not_declared_is_noticed() {
+    let source = "pub record Good : T where\n  pub one-more : (n : N) → T\n  two :\n      T\n-- three : T\nthree = two\npub fn four(x: u8)\n";
+    for name in ["Good", "one-more", "two", "four"] {
+        assert!(declares(source, name), "{name}");
+    }
+    for name in ["good", "one", "three", "T", "x"] {
+        assert!(!declares(source, name), "{name}");
+    }
+    let document = "# A\n\nIn `A.antt`.\n\n| promise | theorem | file |\n|---|---|---|\n| a | `one`, `two` | `B.antt` |\n| b | `three` | the same |\n\n# B\n\n| x | theorem |\n|---|---|\n| c | `four` |\n";
+    let found = column(document, "theorem");
+    let expected = [
+        ("`one`, `two`", vec!["B.antt", "A.antt"]),
+        ("`three`", vec!["B.antt", "A.antt"]),
+        ("`four`", vec![]),
+    ];
+    assert_eq!(found, expected);
+    assert_eq!(parts("a.b-c::d_e"), ["a", "b-c", "d_e"]);
+    assert_eq!(parts("x=1"), Vec::<&str>::new());
 }

@@ -1,7 +1,7 @@
-//! The figures of the documents: `figures` prints them, `figures --write` puts them into the documents, and `figures --times LOG`
-//! takes the seconds that each proof took from what `rt check` printed.
+//! The figures of the documents: `figures` prints them, `figures --write` writes `docs/FIGURES.md` and the figures of the other documents,
+//! and `figures --times LOG` takes the seconds that each proof took from what `rt check` printed.
 
-use harness::figures::{count, crates, documents};
+use harness::figures::{count, crates, documents, FILE};
 use harness::repository;
 use std::env;
 use std::fs;
@@ -36,6 +36,13 @@ fn print() -> Result<(), String> {
 
 fn write() -> Result<(), String> {
     let figures = count(&repository())?;
+    let file = repository().join(FILE);
+    let generated = figures.file()?;
+    if fs::read_to_string(&file).is_ok_and(|old| old == generated) {
+        println!("{FILE} is up to date");
+    } else {
+        replace(&file, &generated)?;
+    }
     for path in documents(&repository())? {
         let in_file = |error: String| format!("{}: {error}", path.display());
         let old = fs::read_to_string(&path).map_err(|error| in_file(error.to_string()))?;

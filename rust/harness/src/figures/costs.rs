@@ -5,7 +5,7 @@ use super::{with_commas, Table};
 
 /// The crates from the lowest layer up.
 pub fn layers(crates: &[Crate]) -> Table {
-    let mut table = Table::new("layers", "| layer | crate | what it is for | rests on |");
+    let mut table = Table::new("layers", "| layer | crate | what it is for | depends on |");
     let mut sorted: Vec<(usize, &Crate)> = crates
         .iter()
         .map(|one| (layer(crates, &one.name), one))
@@ -24,7 +24,7 @@ pub fn layers(crates: &[Crate]) -> Table {
 
 /// What each crate is made of, and what it takes to prove it and all above it.
 pub fn costs(crates: &[Crate]) -> Table {
-    let head = "| crate | code | definitions | proofs | edits | check, s | crates above | all to be proved again, s |";
+    let head = "| crate | lines of code | of definitions | of proofs | edits | check, s | crates above | prove again, s |";
     let mut table = Table::new("costs", head);
     for one in crates {
         let again = proved_again(crates, &one.name);

@@ -5,12 +5,12 @@ use std::collections::{BTreeMap, BTreeSet};
 use std::fs;
 use std::path::Path;
 
-/// Where the seconds stand that `rt check` took for each crate.
+/// The file of the seconds that `rt check` took for each crate.
 pub const TIMES: &str = "docs/check-times.txt";
 
 const HEAD_OF_TIMES: &str = "\
 # The seconds that `rt check` took for each crate, written from what it printed:
-#   cargo run --release --offline -p harness --bin figures -- --times LOG
+#   cargo run --release --offline -p harness --no-default-features --bin figures -- --times LOG
 ";
 
 /// A crate of the repository.
@@ -116,11 +116,11 @@ fn renewed(
     mut times: BTreeMap<String, usize>,
     log: &str,
 ) -> Result<String, String> {
-    let told: Vec<(String, usize)> = log.lines().filter_map(proved).collect();
-    if told.is_empty() {
-        return Err("the log tells of no crate how long its proof took".to_string());
+    let logged: Vec<(String, usize)> = log.lines().filter_map(proved).collect();
+    if logged.is_empty() {
+        return Err("the log has the time of no crate".to_string());
     }
-    times.extend(told);
+    times.extend(logged);
     let lines = names.iter().filter_map(|name| {
         let seconds = times.get(*name)?;
         Some(format!("{name} {seconds}\n"))
@@ -128,7 +128,7 @@ fn renewed(
     Ok(HEAD_OF_TIMES.to_string() + &lines.collect::<String>())
 }
 
-/// The crate that a line of a log tells to be proved, and in how many seconds: `rt: NAME proved (N s)`.
+/// The crate that a line of a log reports as proved, and in how many seconds: `rt: NAME proved (N s)`.
 fn proved(line: &str) -> Option<(String, usize)> {
     let (name, rest) = line.strip_prefix("rt: ")?.split_once(" proved (")?;
     let seconds = rest.strip_suffix(" s)")?.parse().ok()?;
@@ -136,12 +136,15 @@ fn proved(line: &str) -> Option<(String, usize)> {
 }
 
 /// The lines below a folder that are neither blank nor all comment.
-fn lines_below(folder: &Path, extension: &str, comment: &str) -> Result<usize, String> {
+pub fn lines_below(folder: &Path, extension: &str, comment: &str) -> Result<usize, String> {
+    let texts = files_below(folder, extension)?;
+    Ok(texts.iter().map(|text| lines(text, comment)).sum())
+}
+
+/// The lines of a text that are neither blank nor all comment.
+pub fn lines(text: &str, comment: &str) -> usize {
     let counts = |line: &&str| !line.trim().is_empty() && !line.trim().starts_with(comment);
-    files_below(folder, extension)?
-        .iter()
-        .map(|text| Ok(text.lines().filter(counts).count()))
-        .sum()
+    text.lines().filter(counts).count()
 }
 
 /// How many functions these sources declare.
@@ -188,7 +191,7 @@ pub fn proved_again<'a>(crates: &'a [Crate], name: &str) -> Vec<&'a Crate> {
     crates.iter().filter(touched).collect()
 }
 
-/// How many crates stand below one at most, each on the next.
+/// How many crates lie below one at most, each above the next.
 pub fn layer(crates: &[Crate], name: &str) -> usize {
     let layers = below(crates, name)
         .into_iter()
@@ -197,15 +200,15 @@ pub fn layer(crates: &[Crate], name: &str) -> usize {
     layers.max().unwrap_or(0)
 }
 
-/// What a crate names, but what another of these brings along.
+/// What a crate names, without what another of these depends on.
 pub fn nearest(crates: &[Crate], one: &Crate) -> Vec<String> {
-    let mut brought = BTreeSet::new();
+    let mut indirect = BTreeSet::new();
     for dependency in &one.dependencies {
-        brought.extend(below(crates, dependency));
+        indirect.extend(below(crates, dependency));
     }
     let names = one.dependencies.iter();
     names
-        .filter(|name| !brought.contains(name.as_str()))
+        .filter(|name| !indirect.contains(name.as_str()))
         .cloned()
         .collect()
 }
@@ -219,7 +222,7 @@ mod tests {
     #[test]
     fn a_list_is_taken_apart() {
         let crates = listed(LIST);
-        let told: Vec<(&str, &str)> = crates
+        let listed: Vec<(&str, &str)> = crates
             .iter()
             .map(|one| (one.name.as_str(), one.role.as_str()))
             .collect();
@@ -229,7 +232,7 @@ mod tests {
             ("c", "Two."),
             ("d", "Last"),
         ];
-        assert_eq!(told, roles);
+        assert_eq!(listed, roles);
         assert_eq!(nearest(&crates, &crates[2]), ["b", "io"]);
         assert_eq!(nearest(&crates, &crates[3]), ["c"]);
         let layers: Vec<usize> = crates.iter().map(|one| layer(&crates, &one.name)).collect();

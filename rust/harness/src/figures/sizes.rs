@@ -34,8 +34,8 @@ pub fn limits(header: &str) -> Result<Table, String> {
 pub fn stack(header: &str) -> Table {
     let mut table = Table::new("stack", "| call | bytes of stack at most |");
     let words = header.split_whitespace().collect::<Vec<_>>().join(" ");
-    for told in words.split("Stack of ").skip(1) {
-        if let Some((name, bytes)) = told.split_once(": ") {
+    for stated in words.split("Stack of ").skip(1) {
+        if let Some((name, bytes)) = stated.split_once(": ") {
             let bytes = bytes.split(' ').next().unwrap_or_default();
             table.row(&[format!("`{name}`"), bytes.to_string()]);
         }
@@ -43,11 +43,11 @@ pub fn stack(header: &str) -> Table {
     table
 }
 
-/// The number directly after words that stand in a text once.
+/// The number directly after words that a text has once.
 fn number_after(text: &str, words: &str) -> Result<usize, String> {
     let rests: Vec<&str> = text.split(words).skip(1).collect();
     let [rest] = rests[..] else {
-        return Err(format!("`{words}` stands {} times", rests.len()));
+        return Err(format!("`{words}` is found {} times", rests.len()));
     };
     let end = rest.find(|c: char| !c.is_ascii_digit() && c != '_');
     let digits = rest[..end.unwrap_or(rest.len())].replace('_', "");
@@ -93,6 +93,21 @@ pub fn sizes(root: &Path, crates: &[Crate]) -> Result<Vec<Size>, String> {
             sum(|one| one.definitions),
             "`specs/`",
         ),
+        (
+            "lines of the grammars",
+            lines(root, &GRAMMARS)?,
+            "`crates/grammar/specs`",
+        ),
+        (
+            "lines of the rules as definitions",
+            lines(root, &["crates/model/specs/rules"])?,
+            "`crates/model/specs/rules`",
+        ),
+        (
+            "lines of the demands",
+            lines(root, &[DEMANDS])?,
+            "`crates/theorems/specs/Demands.antt`",
+        ),
         ("lines of proofs", sum(|one| one.proofs), "`proofs/`"),
         (
             "edits that must be refused",
@@ -105,6 +120,24 @@ pub fn sizes(root: &Path, crates: &[Crate]) -> Result<Vec<Size>, String> {
 }
 
 const DEMANDS: &str = "crates/theorems/specs/Demands.antt";
+
+/// The grammars, and what the rules require of a file beside them.
+const GRAMMARS: [&str; 3] = [
+    "crates/grammar/specs/rfc",
+    "crates/grammar/specs/dialects",
+    "crates/grammar/specs/Accepted.antt",
+];
+
+/// The lines of definitions in these files and folders.
+fn lines(root: &Path, paths: &[&str]) -> Result<usize, String> {
+    let paths = paths.iter().map(|path| root.join(path));
+    paths
+        .map(|path| match path.is_dir() {
+            true => crates::lines_below(&path, "antt", "--"),
+            false => Ok(crates::lines(&read(&path)?, "--")),
+        })
+        .sum()
+}
 
 /// The fields of the records `Demand1`, `Demand2` and so on.
 fn theorems(demands: &str) -> usize {
@@ -211,7 +244,7 @@ const COMPARISONS: [(&str, &str, &str); 14] = [
         "WRONG_CHECKS: [(&str, PieceConverter); ",
     ),
     (
-        "files odd at a place, each read and converted to three targets, at least",
+        "files that leave the fast path at a given place, each read and converted to three targets, at least",
         "quick_paths",
         "const FILES: usize = ",
     ),
