@@ -325,6 +325,9 @@ fn every_name_is_one_of_the_sources() {
             let unknown = |part: &&str| !names.contains(*part);
             let unknown = parts(word).into_iter().filter(unknown);
             problems.extend(unknown.map(|part| format!("{document}: {part}")));
+            if leads_nowhere(word, &root) {
+                problems.push(format!("{document}: {word}"));
+            }
         }
     }
     assert!(count > 500, "only {count} names were found");
@@ -342,13 +345,16 @@ fn declares(source: &str, name: &str) -> bool {
         "extern",
         "\"C\"",
         "fn",
+        "struct",
+        "enum",
+        "const",
     ];
     source.lines().any(|line| {
         let mut rest = line
             .split_whitespace()
             .skip_while(|word| words.contains(word));
         let first = rest.next().unwrap_or_default();
-        let declared = first.split('(').next().unwrap_or_default();
+        let declared = first.split(['(', ':']).next().unwrap_or_default();
         let named = line.trim_start().starts_with(|c: char| c.is_alphabetic());
         named
             && declared == name
@@ -357,6 +363,28 @@ fn declares(source: &str, name: &str) -> bool {
                     .next()
                     .is_some_and(|next| next.starts_with([':', '(', '{'])))
     })
+}
+
+/// Whether a path that begins with a crate, `a::b::c`, leads to no module and to nothing that its module declares.
+fn leads_nowhere(word: &str, root: &Path) -> bool {
+    let mut rest = word.split("::").peekable();
+    let folder = root.join("crates").join(rest.next().unwrap_or_default());
+    if rest.peek().is_none() || !folder.is_dir() {
+        return false;
+    }
+    let mut module = folder.join("src");
+    let mut file = module.join("lib.rt");
+    while let Some(name) = rest.peek() {
+        let next = module.join(format!("{name}.rt"));
+        if !next.is_file() {
+            break;
+        }
+        module.push(name);
+        file = next;
+        rest.next();
+    }
+    let source = fs::read_to_string(&file).unwrap_or_default();
+    rest.any(|name| !declares(&source, name))
 }
 
 /// The cells of a table's row.
@@ -399,6 +427,20 @@ fn column<'a>(document: &'a str, title: &str) -> Vec<(&'a str, Vec<&'a str>)> {
     found
 }
 
+/// The fields of the record whose first line begins so.
+fn fields<'a>(source: &'a str, begin: &str) -> Vec<&'a str> {
+    let mut found = Vec::new();
+    let mut is_inside = false;
+    for line in source.lines() {
+        if line.starts_with("pub ") {
+            is_inside = line.starts_with(begin);
+        }
+        let field = line.strip_prefix("  pub ").filter(|_| is_inside);
+        found.extend(field.and_then(|rest| rest.split_whitespace().next()));
+    }
+    found
+}
+
 #[test]
 fn every_theorem_is_declared_in_the_file_beside_it() {
     let root = repository();
@@ -423,6 +465,18 @@ fn every_theorem_is_declared_in_the_file_beside_it() {
         }
     }
     assert!(count > 50, "only {count} theorems were found");
+    let cited = named(&document).0;
+    let demands = read(&root.join("crates/theorems/specs/Demands.antt"));
+    for record in [
+        "pub record Demand1",
+        "pub record Demand2",
+        "pub record Demand3",
+    ] {
+        let stated = fields(&demands, record);
+        assert!(!stated.is_empty(), "{record} states nothing");
+        let missing = stated.iter().filter(|name| !cited.contains(name));
+        problems.extend(missing.map(|name| format!("the theorem {name} is in no document")));
+    }
     for (cell, _) in column(&document, "edits, for example") {
         for name in named(cell).0 {
             let tail = format!("/must-fail/{name}.edit");
@@ -443,6 +497,7 @@ fn a_theorem_that_is_not_declared_is_noticed() {
     for name in ["good", "one", "three", "T", "x"] {
         assert!(!declares(source, name), "{name}");
     }
+    assert_eq!(fields(source, "pub record Good"), ["one-more"]);
     let document = "# A\n\nIn `A.antt`.\n\n| promise | theorem | file |\n|---|---|---|\n| a | `one`, `two` | `B.antt` |\n| b | `three` | the same |\n\n# B\n\n| x | theorem |\n|---|---|\n| c | `four` |\n";
     let found = column(document, "theorem");
     let expected = [
@@ -451,6 +506,14 @@ fn a_theorem_that_is_not_declared_is_noticed() {
         ("`four`", vec![]),
     ];
     assert_eq!(found, expected);
+    let root = repository();
+    assert!(!leads_nowhere("record_check::names::first_repeat", &root));
+    assert!(!leads_nowhere("piece_converter::Converter::piece", &root));
+    assert!(leads_nowhere("record_check::first_repeat", &root));
+    assert!(leads_nowhere(
+        "record_check::names::no_such_function",
+        &root
+    ));
     assert_eq!(parts("a.b-c::d_e"), ["a", "b-c", "d_e"]);
     assert_eq!(parts("x=1"), Vec::<&str>::new());
 }
