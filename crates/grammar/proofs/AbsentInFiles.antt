@@ -1,5 +1,6 @@
--- The productions make none of the mistakes (`FileMistakes`, `Misplacements`), shown by taking each apart; no automaton takes part. It is
--- checked before the theorems of this crate, so that a production that is widened to make one is refused here, at the law of that name.
+-- The productions make none of the mistakes (`FileMistakes`, `Misplacements`), by case analysis of each production; no automaton
+-- takes part. It is checked before the theorems of this crate, so that a production that is widened to make one is refused here, at
+-- the law of that name.
 use Prim.Native.Nat.{ℕ, _+_, _≤_}
 use native.Mathlib.Omega.{arith}
 use mathlib.Core.Path.{_≡_, refl, ap, _∙_}
@@ -56,7 +57,7 @@ empty-line (tdif.a-record {xs} r k) = a-line (opens-on xs (record-opens r))
 no-empty-line : Lined (0x0A ∷ []) → ⊥
 no-empty-line (a-line o) = elim o [ ]
 
--- ---- CSV+ has no mark
+-- ---- CSV+ has no byte order mark
 
 mark-first : (xs : Bytes) (ls : List (Line Derived)) → plus.File standard (0xEF ∷ 0xBB ∷ 0xBF ∷ xs) ls → ⊥
 mark-first xs ls (plus.file n k) = n plus.bom
@@ -126,7 +127,7 @@ beyond-clear (of-four (f0 r t u)) = clear {b = 0xF0} (λ e. omega arith) (every-
 beyond-clear (of-four (f1-f3 r t u v)) = clear (above (omega arith) r) (every-cons (tail-clear t) (two-clear u v))
 beyond-clear (of-four (f4 r t u)) = clear {b = 0xF4} (λ e. omega arith) (every-cons (above (omega arith) r) (two-clear t u))
 
--- ---- TDIF: two quotes stand for one
+-- ---- TDIF: two quotes denote one
 
 textdata-clear : {cs : Bytes} → tdif.Textdata cs → Clear cs
 textdata-clear (tdif.below-quote {b} r) = let h : b ≤ 0x21 = r .high in clear {b = b} (λ e. omega arith) every-none

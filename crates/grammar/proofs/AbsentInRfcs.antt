@@ -1,5 +1,6 @@
--- The productions make none of the mistakes (`RfcMistakes`), shown by taking each apart; no automaton takes part. It is checked before the
--- theorems of this crate, so that a production that is widened to make one is refused here, at the law of that name.
+-- The productions make none of the mistakes (`RfcMistakes`), by case analysis of each production; no automaton takes part. It is
+-- checked before the theorems of this crate, so that a production that is widened to make one is refused here, at the law of that
+-- name.
 use Prim.Native.Nat.{_≤_}
 use native.Mathlib.Omega.{arith}
 use mathlib.Core.Path.{_≡_, refl, _∙_}

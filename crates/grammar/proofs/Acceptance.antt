@@ -1,4 +1,4 @@
--- Acceptance in grammar words. The reader accepts a file exactly when the grammar derives it and the limits and the record checks hold
+-- Acceptance by the grammar. The reader accepts a file exactly when the grammar derives it and the limits and the record checks hold
 -- (`acceptance`), and its records are then those of the derivation (`accepted-records`).
 use Prim.Native.Nat.{ℕ, _+_, _≤_}
 use native.Mathlib.Omega.{arith}
@@ -64,7 +64,7 @@ decoded-fit d (every-cons {x = line text cells} h k) = every-cons h (decoded-fit
 some-lines : {d : Dialect} {ls : List (Line Derived)} → LinesDerived d ls → Some ls
 some-lines (lines-derived v k) = some
 
--- ---- what is acceptable is accepted
+-- ---- an acceptable file is accepted
 
 pub data ReadAs (d : Dialect) (xs : Bytes) (ls : List (Line Derived)) : Type 0 where
   read-as : (end : Read) → readFile d none xs ≡ going end → Each (ShowsRecord xs) (end .done) ls → ReadAs d xs ls
@@ -95,7 +95,7 @@ acceptable-read d xs ls a = go (reads-accepted d xs ls limit has-record (derived
     go : Accepted d xs ls limit has-record nothingRead xs → ReadAs d xs ls
     go (accepted-with end e k) = read-as end e k
 
--- ---- what is accepted is acceptable
+-- ---- an accepted file is acceptable
 
 pub data AcceptedAs (d : Dialect) (xs : Bytes) (end : Read) : Type 0 where
   accepted-as : (ls : List (Line Derived)) → Acceptable d xs ls → Each (ShowsRecord xs) (end .done) ls → AcceptedAs d xs end
@@ -151,7 +151,7 @@ accepted-going (stopped x r) e =
     let k : numberOf x ≡ 0 = ap (λ (z : Report). z .number) e in
     absurd (omega arith)
 
--- demand 2's acceptance in grammar words: a file is accepted exactly when it is derived and the limits and the record checks hold
+-- demand 2's acceptance by the grammar: a file is accepted exactly when it is derived and the limits and the record checks hold
 pub acceptance : (d : Dialect) (xs : Bytes) → (reportOf (readFile d none xs) ≡ accepted) ↔ ((ls : List (Line Derived)) × Acceptable d xs ls)
 acceptance d xs = (only, suffices)
   where
@@ -167,7 +167,8 @@ acceptance d xs = (only, suffices)
         go : {ls : List (Line Derived)} → ReadAs d xs ls → reportOf (readFile d none xs) ≡ accepted
         go (read-as end e k) = ap reportOf e
 
--- and the reader's records are those of every derivation: cells in order, with their kinds and contents, and each stretch is the raw cell
+-- and the reader's records are those of every derivation: cells in order, with their kinds and contents, and each span is the raw
+-- cell
 pub accepted-records : (d : Dialect) (xs : Bytes) (ls : List (Line Derived)) → Derives d xs ls → (r : Read) → readFile d none xs ≡ going r → Each (ShowsRecord xs) (r .done) ls
 accepted-records d xs ls k r e = go (read-acceptable d xs r e)
   where

@@ -1,4 +1,4 @@
--- A file that is read by form, within the limits and with sound records, is accepted by the reader with those records.
+-- A file that is read by form, within the limits and with records that pass the checks, is accepted by the reader with those records.
 use Prim.Native.Nat.{ℕ, suc, _+_, _≤_, _<_}
 use native.Mathlib.Omega.{arith}
 use mathlib.Core.Path.{_≡_, refl, sym, ap, _∙_}
@@ -31,7 +31,7 @@ pub data Some : List (Line Derived) → Type 0 where
 checks-line : {d : Dialect} {pre ls : List (Line Derived)} {t : Bytes} {cs : List Derived} → ChecksFrom d pre (line t cs ∷ ls) → LineSound d pre cs × ChecksFrom d (pre ++ (line t cs ∷ [])) ls
 checks-line (checks-next l k) = (l, k)
 
--- ---- a byte that meets no limit
+-- ---- a byte that reaches no limit
 
 module _ (d : Dialect) (r : Read) (b : ℕ) where
   file-free : r .offset < MAXFILE → fileFull r ≡ false
@@ -55,7 +55,7 @@ module _ (d : Dialect) (file : Bytes) (total : List (Line Derived)) (limit : len
   pub data Accepted (r : Read) (xs : Bytes) : Type 0 where
     accepted : (end : Read) → readEnd d none (readFrom d none (going r) xs) ≡ going end → Each (ShowsRecord file) (end .done) total → Accepted r xs
 
-  -- a standing, and what is left is within the limits and sound
+  -- a reading state, and what is left is within the limits and passes the checks
   pub record Ready (r : Read) (xs : Bytes) (ls : List (Line Bytes)) (seen : Bytes) (pre : List (Line Derived)) (text raw : Bytes) (cells : List Derived) : Type 0 where
     pub stands : Lies d file seen r pre text raw cells
     pub place : file ≡ seen ++ xs
@@ -81,7 +81,7 @@ module _ (d : Dialect) (file : Bytes) (total : List (Line Derived)) (limit : len
   further : (seen bs : Bytes) (b : ℕ) → file ≡ seen ++ (b ∷ bs) → file ≡ (seen ++ (b ∷ [])) ++ bs
   further seen bs b e = e ∙ sym (append-assoc seen (b ∷ []) bs)
 
-  -- a byte, from a reading that stands at f, and what stands then
+  -- a byte, from a reading in state f, and the state after it
   module _ (f h : FileState) (b : ℕ) (bs : Bytes) (r : Read) (seen : Bytes) (pre : List (Line Derived)) (p : r .state ≡ f) where
     at-step : (s : Step) → fileStep d f b ≡ s → fileStep d (r .state) b ≡ s
     at-step s e = ap (λ z. fileStep d z b) p ∙ e
@@ -104,7 +104,7 @@ module _ (d : Dialect) (file : Bytes) (total : List (Line Derived)) (limit : len
       uncounted-byte : (s : Step) → fileStep d f b ≡ s → counts (r .state) b ≡ false → readByte d none r b ≡ move d none r b s
       uncounted-byte s e c = free-byte d r b s offset-free (break-free d r b c) (at-step s e)
 
-    -- where nothing is in hand afterwards
+    -- where nothing is pending afterwards
     rest-goes :
         (s : Step) (start : ℕ) {ls : List (Line Bytes)} {text raw : Bytes} {cells : List Derived} → fileStep d f b ≡ s →
         move d none r b s ≡ going (record { done = r .done; state = h; offset = suc (r .offset); start = start; size = 0; opened = suc (r .offset); raw = []; cells = [] }) →
@@ -121,7 +121,7 @@ module _ (d : Dialect) (file : Bytes) (total : List (Line Derived)) (limit : len
           sum = y .sum;
         }))
 
-    -- where the record goes on, with `text′` read of it and these cells complete
+    -- where the record continues, with `text′` read of it and these cells complete
     record-goes :
         (s : Step) (size : ℕ) (vs : List Value) (text′ : Bytes) {ls ls′ : List (Line Bytes)} {text raw : Bytes} {cells cells′ : List Derived} →
         readByte d none r b ≡ move d none r b s →

@@ -1,5 +1,5 @@
--- A file that the reader accepts is read by form, within the limits and with sound records, and its records are those. From a state in a
--- record there is a record to come, and from a state in a cell the rest of that cell (`reads-line`, `reads-cell`).
+-- A file that the reader accepts is read by form, within the limits and with records that pass the checks, and its records are those.
+-- From a state in a record there is a record to come, and from a state in a cell the rest of that cell (`reads-line`, `reads-cell`).
 use Prim.Native.Nat.{ℕ, suc, _≤_, _<_}
 use native.Mathlib.Omega.{arith}
 use mathlib.Core.Path.{_≡_, refl, sym, ap, _∙_}
@@ -39,7 +39,7 @@ data HasLine : List (Line Bytes) → Type 0 where
 pub data HasCell : List (Line Bytes) → Type 0 where
   has-cell : {t c : Bytes} {cs : List Bytes} {ls : List (Line Bytes)} → HasCell (line t (c ∷ cs) ∷ ls)
 
--- the end does not stand clean in a record
+-- the file does not end cleanly inside a record
 data EndsIn : Stage → Ending → Type 0 where
   clean-at-rest : EndsIn at-rest Clean
   final-anywhere : {g : Stage} → EndsIn g Final
@@ -111,7 +111,7 @@ some-last : (pre : List (Line Derived)) (l : Line Derived) → Some (pre ++ (l �
 some-last [] l = some
 some-last (x ∷ pre) l = some
 
--- ---- a fault does not go on
+-- ---- reading does not continue after a fault
 
 pub not-going : {A : Type 0} (d : Dialect) (e : Fault) (r : Read) (xs : Bytes) {end : Read} → readEnd d none (readFrom d none (stopped e r) xs) ≡ going end → A
 unfolding readEnd
@@ -160,7 +160,7 @@ module _ (d : Dialect) (file : Bytes) (end : Read) where
         go (outcome ls y) =
             outcome ls (record { reads = k ls (y .reads); fit = y .fit; checks = y .checks; shows = y .shows; has-record = y .has-record; limit = y .limit })
 
-    -- the same lines, told from before the byte
+    -- the same lines, from before the byte
     told :
         {n : Read} {text raw text′ raw′ : Bytes} {cells cells′ : List Derived} {ls′ : List (Line Bytes)} (ls : List (Line Bytes)) →
         Facts n bs pre text′ raw′ cells′ ls′ → Reads d (r .state) (b ∷ bs) ls → Fit (length text) ls →

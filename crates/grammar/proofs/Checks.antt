@@ -1,4 +1,4 @@
--- What the reader asks of a complete record is what the record checks ask of a derivation's line: columns, text, distinct names and equal
+-- The reader's checks of a complete record are the record checks of a derivation's line: columns, text, distinct names and equal
 -- counts. A list of lines passes the checks one after the other (`ChecksFrom`) exactly where they hold of the whole list.
 use Prim.Native.Nat.{ℕ, suc, _≤_}
 use native.Mathlib.Omega.{arith}
@@ -19,7 +19,7 @@ use Rattle.model.proofs.Tests.{impossible, and-true, is→eq, same-byte}
 use Rattle.grammar.specs.rfc.Derived.{Derived, kindIn, contentIn, Line, line, cellsIn, Every, every-none, every-cons, Each, each-none, each-cons}
 use Rattle.grammar.specs.Accepted.{Distinct, no-names, a-name, ChecksHold, checks-hold, ShowsCell, ShowsRecord}
 
--- ---- verdicts
+-- ---- check results
 
 faulty-sound : {A : Type 0} {e : Fault} → Faulty e ≡ Sound → A
 faulty-sound p = let z : _≡_ {A = ℕ} 0 1 = cc in absurd (omega arith)
@@ -161,7 +161,7 @@ pub each-length : {A B : Type 0} {R : A → B → Type 0} {xs : List A} {ys : Li
 each-length each-none = refl
 each-length (each-cons r k) = ap suc (each-length k)
 
--- what is asked of a line that follows these
+-- the checks of a line that follows these
 pub data LineSound (d : Dialect) : List (Line Derived) → List Derived → Type 0 where
   header-sound : {cs : List Derived} → length cs ≤ MAXCOLUMNS → Every (λ c. kindIn c ≡ Text) cs → Distinct d cs → LineSound d [] cs
   data-sound :

@@ -1,5 +1,5 @@
--- Where a reading stands, told by the derivation's data: the lines so far, and the text, the raw bytes and the complete cells of the record
--- in hand (`Lies`). Each step takes a standing to the next, and the lines of the whole file stay the same (`joined`).
+-- The reading state, by the derivation's data: the lines so far, and the text, the raw bytes and the complete cells of the current
+-- record (`Lies`). Each step takes a state to the next, and the lines of the whole file stay the same (`joined`).
 use Prim.Native.Nat.{ℕ, suc, _+_, _≤_}
 use native.Mathlib.Omega.{arith}
 use mathlib.Core.Path.{_≡_, refl, sym, ap, _∙_}
@@ -25,7 +25,7 @@ each-snoc (each-cons s k) r = each-cons s (each-snoc k r)
 pub length-snoc : (xs : Bytes) (b : ℕ) → length (xs ++ (b ∷ [])) ≡ suc (length xs)
 length-snoc xs b = let h : length (xs ++ (b ∷ [])) ≡ length xs + 1 = length-append xs (b ∷ []) in omega arith
 
--- ---- lines from what is in hand and what is still to come
+-- ---- lines from what is pending and what is still to come
 
 abbrev pub prepend : Bytes → List Bytes → List Bytes
 prepend raw [] = []
@@ -89,7 +89,7 @@ rest-fit (fit-line {t} {cs} h k) = every-cons {x = line t cs} (omega arith) k
 
 -- ---- standings
 
--- what is in hand at each stage
+-- what is pending at each stage
 pub data Tidy {A : Type 0} : Stage → (text raw : Bytes) → List A → Type 0 where
   tidy-rest : Tidy at-rest [] [] []
   tidy-record : {text : Bytes} {cells : List A} → Tidy in-record text [] cells
@@ -126,7 +126,7 @@ module _ {d : Dialect} {file seen : Bytes} {r : Read} {pre : List (Line Derived)
   pub closes-now : (ys : Bytes) → file ≡ seen ++ ys → Each (ShowsCell file) (closing d true r) (cells ++ (decoded d raw ∷ []))
   closes-now ys e = each-snoc (s .complete) (shows-now ys e)
 
-  -- a byte that leaves no cell in hand
+  -- a byte that leaves no cell current
   pub stands-reset :
       (b : ℕ) (next : Read) {pre′ : List (Line Derived)} {text′ : Bytes} {cells′ : List Derived} → suc (length seen) ≤ MAXFILE →
       next .offset ≡ suc (r .offset) → next .opened ≡ suc (r .offset) → next .raw ≡ [] → next .size ≡ length text′ → length text′ ≤ MAXRECORD →
@@ -171,17 +171,17 @@ module _ {d : Dialect} {file seen : Bytes} {r : Read} {pre : List (Line Derived)
         tidy = rw g tidy-cell;
       }
 
--- ---- what a step says of what is in hand
+-- ---- what a step does to what is pending
 
--- nothing was in hand, and nothing is
+-- nothing was pending, and nothing is
 pub data Rested (d : Dialect) (h : FileState) {A : Type 0} : (text raw : Bytes) → List A → Type 0 where
   rested : stageOf d h ≡ at-rest → Rested d h [] [] []
 
--- no cell was in hand, and the record goes on
+-- no cell was current, and the record continues
 pub data Parted (d : Dialect) (h : FileState) (c : Type 0) (text : Bytes) : (raw : Bytes) → Type 0 where
   parted : c → Recording (stageOf d h) → Parted d h c text []
 
--- no cell was in hand, and the record is complete
+-- no cell was current, and the record is complete
 pub data Ended (d : Dialect) (h : FileState) (c : Type 0) (text : Bytes) : (raw : Bytes) → Type 0 where
   ended : c → stageOf d h ≡ at-rest → Ended d h c text []
 

@@ -1,4 +1,4 @@
--- The stretches of the cells that were read are those of the derivation. The reader keeps the next byte's offset and the offset at which
+-- The spans of the cells that were read are those of the derivation. The reader holds the next byte's offset and the offset at which
 -- the current cell was opened, as `Runs` does, so each step of one is a step of the other.
 use Prim.Native.Nat.{ℕ, suc}
 use mathlib.Core.Path.{_≡_, refl, sym, ap, _∙_}
@@ -28,7 +28,7 @@ use Rattle.grammar.proofs.AcceptedOnly.{not-going, same-going, stopped-
 use Rattle.grammar.proofs.dialects.FileGrammar.{derived-runs}
 use Rattle.grammar.proofs.Acceptance.{accepted-going, ten}
 
--- the complete cells of the current record stand before the rest of it
+-- the complete cells of the current record come before the rest of it
 onto : List Span → List (List Span) → List (List Span)
 onto cs [] = []
 onto cs (ps ∷ ss) = (cs ++ ps) ∷ ss
@@ -39,7 +39,7 @@ onto-none [] = refl
 onto-none (ps ∷ ss) = refl
 
 module _ (d : Dialect) (end : Read) where
-  -- reading on from r comes to the end
+  -- reading on from r reaches the end
   abbrev Comes : Read → Bytes → Type 0
   Comes r xs = readEnd d none (readFrom d none (going r) xs) ≡ going end
 
@@ -63,7 +63,7 @@ module _ (d : Dialect) (end : Read) where
   verdict-read r next bs Sound q = q
   verdict-read r next bs (Faulty x) q = not-going d x r bs q
 
-  -- the current cell closes where the walk has it
+  -- the current cell closes where the run has it
   closing-onto :
       (r : Read) {o p : ℕ} (ps : List Span) (ss : List (List Span)) → r .offset ≡ o → r .opened ≡ p →
       onto (map spanOf (closing d true r)) (ps ∷ ss) ≡ onto (map spanOf (r .cells)) ((span p o ∷ ps) ∷ ss)
@@ -71,7 +71,7 @@ module _ (d : Dialect) (end : Read) where
   closing-onto r ps ss po pp =
       rw (map-append spanOf (r .cells) (cellNow d r ∷ []), append-assoc (map spanOf (r .cells)) (spanOf (cellNow d r) ∷ []) ps, po, pp)
 
-  -- a complete record stands behind those before it
+  -- a complete record comes after those before it
   record-onto :
       (rs : List Rec) (r : Rec) (ss : List (List Span)) → shown (rs ++ (r ∷ [])) ++ onto [] ss ≡ shown rs ++ onto (map spanOf (r .cells)) ([] ∷ ss)
   unfolding onto
@@ -144,7 +144,7 @@ module _ (d : Dialect) (end : Read) where
       walk-shows k next refl (ap suc po) (ap suc po) m (verdict-read r next bs (recordFault d none (r .done) (closing d true r)) (byte-read r b bs (To g (Ends true)) s q)) ∙
       record-onto (r .done) made ss ∙ ap (λ z. shown (r .done) ++ z) (closing-onto r [] ss po pp)
 
--- the reader's stretches are those of every derivation
+-- the reader's spans are those of every derivation
 pub same-spans : (d : Dialect) (xs : Bytes) (ls : List (Line Derived)) (k : Derives d xs ls) (r : Read) → readFile d none xs ≡ going r → shown (r .done) ≡ stretches d xs ls k
 unfolding readFile readBytes nothingRead
 same-spans d xs ls k r e = walk-shows d r (derived-runs d xs ls k) nothingRead refl refl refl tidy-rest e ∙ onto-none (stretches d xs ls k)
@@ -156,7 +156,7 @@ unfolding rows concat
 rows-spans [] = refl
 rows-spans (r ∷ rs) = map-append spanOf (r .cells) (concat (rows rs)) ∙ ap (λ z. map spanOf (r .cells) ++ z) (rows-spans rs)
 
--- an accepted file is answered with all its cells
+-- the answer on an accepted file has all its cells
 answered-cells : (rs : List Rec) (room : ℕ) → answered rs (concat (rows rs)) room .report ≡ accepted → answered rs (concat (rows rs)) room .cells ≡ concat (rows rs)
 unfolding rows concat if_then_else_
 answered-cells [] room e = refl
@@ -166,7 +166,7 @@ answered-cells (h ∷ rs) room e = go (ltb room (length (concat (rows (h ∷ rs)
     go true p = ten (rw p at e)
     go false p = rw p
 
--- the cells that it answers stand, in file order, where every derivation has them
+-- the cells that it returns lie, in file order, where every derivation has them
 pub reader-spans :
     (n : ℕ) (d : Dialect) (xs : Bytes) (room : ℕ) (ls : List (Line Derived)) (k : Derives d xs ls) → dialectOf n ≡ some d →
     reader n xs room .report ≡ accepted → map spanOf (reader n xs room .cells) ≡ concat (stretches d xs ls k)

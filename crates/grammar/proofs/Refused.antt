@@ -1,6 +1,6 @@
--- The theorems refuse the mistakes: from their statement alone (`Exact`), whatever the productions are. What a mistake allows would make
--- a file that is derived; the statement has it read; and the automaton, the decoder or the reader computes that it is not. No production
--- is taken apart here, so a wider one leaves this file as it is.
+-- The theorems exclude the mistakes: from their statement alone (`Exact`), whatever the productions are. What a mistake allows would
+-- make a file that is derived; the statement has it read; and the automaton, the decoder or the reader computes that it is not. No
+-- production is analysed here, so a wider one leaves this file as it is.
 use Prim.Native.Nat.{ℕ, zero, suc, _-_, _≤_}
 use native.Mathlib.Omega.{arith}
 use mathlib.Core.Path.{_≡_, refl, sym, ap, _∙_}
@@ -78,7 +78,7 @@ reads-pass d = by-bytes d (λ f xs ls. passes d xs f ≡ true) (λ f ls m. finis
 form-passes : {d : Dialect} {xs : Bytes} {ls : List (Line Derived)} → ReadByForm d xs ls → passes d xs Top ≡ true
 form-passes {d} {xs} (read-by-form l ls r) = reads-pass d xs Top (l ∷ ls) r
 
--- ---- what the mistakes are put into
+-- ---- the files that contain the mistakes
 
 -- a CSVJ file of one value
 one-value : {raw content : Bytes} {kind : Kind} → csvj.Value (cell raw kind content) → csvj.File (((raw ++ []) ++ (0x0A ∷ [])) ++ []) (line (raw ++ []) (cell raw kind content ∷ []) ∷ [])
@@ -116,7 +116,7 @@ names-fit =
     let l : Line Derived = line twoNames (nameA ∷ nameA ∷ []) in
     record { file = omega arith; records = every-cons {x = l} (omega arith) every-none; columns = every-cons {x = l} (omega arith) every-none }
 
--- a plain field of n times a
+-- an unquoted field of n times a
 plain : (n : ℕ) → plus.Non-escaped standard (replicate n 0x61)
 plain zero = plus.no-textdata
 plain (suc n) = plus.textdata (plus.ascii {b = 0x61} (range (omega arith) (omega arith)) (λ e. omega arith) (λ e. omega arith) (λ e. omega arith) (λ e. omega arith)) (plain n)
@@ -258,7 +258,7 @@ module _ (exact : Exact) where
   refused =
       record { of-rfcs = of-rfcs; of-files = of-files; repeated-name = repeated-name; long-record = long-record; begun = begun }
 
--- ---- by stretches
+-- ---- by spans
 
 module _ (exact : ExactPlaces) where
   equal-cells :

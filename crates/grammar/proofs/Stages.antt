@@ -1,5 +1,6 @@
--- What each step of a file does to the record and the current cell, read off the walk over a file's states: a mark or a comment stands
--- where neither is; a byte of a cell leads into one, and a byte between cells into a record; and a cell is left only by closing it.
+-- What each step of a file does to the record and the current cell, from the case analysis of `fileStep`: a byte order mark or a
+-- comment is where neither is; a byte of a cell leads into one, and a byte between cells into a record; and a cell is left only by
+-- closing it.
 use Prim.Native.Nat.{ℕ}
 use mathlib.Core.Path.{_≡_, refl}
 use mathlib.Core.Bool.{Bool, false}
@@ -92,7 +93,7 @@ free-no-cell d steps.f-after = none-in-record
 leaves-no-cell : {d : Dialect} {f : FileState} {b : ℕ} → Leaves d b f false → NoCell (stageOf d f)
 leaves-no-cell {d} (steps.none e) = free-no-cell d e
 
--- ---- what a byte of each role says of the stages before and after it
+-- ---- the stages before and after a byte of each role
 
 module _ {d : Dialect} {f : FileState} {b : ℕ} where
   pub outside-rests : {h : FileState} → Transition d f b (To h Outside) → (stageOf d f ≡ at-rest) × (stageOf d h ≡ at-rest)

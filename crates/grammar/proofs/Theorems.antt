@@ -1,4 +1,4 @@
--- The theorems of this crate, each by its type; the arguments stand in the files that they are taken from.
+-- The theorems of this crate, each by its type; the proofs are in the files that they are taken from.
 use Prim.Native.Nat.{ℕ, _+_, _≤_}
 use mathlib.Core.Path.{_≡_}
 use mathlib.Core.Logic.{_↔_}
@@ -46,7 +46,7 @@ texts = text-exact
 pub textdata : (b : ℕ) → NarrowTEXTDATA (b ∷ []) ↔ (TEXTDATA standard (b ∷ []) × (b from 0x20 to 0x7E))
 textdata = textdata-exact
 
--- the decoder finds a raw cell sound exactly when the grammar derives it
+-- the decoder accepts a raw cell exactly when the grammar derives it
 pub cells : (d : Dialect) (raw : Bytes) → DerivesCell d (decoded d raw) ↔ (validateCell d raw ≡ WholeCell)
 cells = cell-exact
 
@@ -66,11 +66,11 @@ one-meaning = unambiguous
 pub accepted-exactly : (d : Dialect) (xs : Bytes) → (reportOf (readFile d none xs) ≡ accepted) ↔ ((ls : List (Line Derived)) × Acceptable d xs ls)
 accepted-exactly = acceptance
 
--- the records that were read are then those of the derivation: kinds, contents, and stretches that are the raw cells
+-- the records that were read are then those of the derivation: kinds, contents, and spans that are the raw cells
 pub same-records : (d : Dialect) (xs : Bytes) (ls : List (Line Derived)) → Derives d xs ls → (r : Read) → readFile d none xs ≡ going r → Each (ShowsRecord xs) (r .done) ls
 same-records = accepted-records
 
--- and each cell stands where the derivation's texts place it: one position runs through all of them
+-- and each cell lies where the derivation's texts place it: one position runs through all of them
 pub spans-exactly :
     (d : Dialect) (xs : Bytes) (ls : List (Line Derived)) (k : Derives d xs ls) (r : Read) → readFile d none xs ≡ going r →
     shown (r .done) ≡ stretches d xs ls k
@@ -86,13 +86,13 @@ pub reader-exactly :
     (reader n xs room .report ≡ accepted) ↔ ((ls : List (Line Derived)) × Acceptable d xs ls × (cellCount ls ≤ room))
 reader-exactly = reader-acceptance
 
--- and the cells that it answers stand, in file order, where the derivation's texts place them
+-- and the cells that it returns lie, in file order, where the derivation's texts place them
 pub reader-places :
     (n : ℕ) (d : Dialect) (xs : Bytes) (room : ℕ) (ls : List (Line Derived)) (k : Derives d xs ls) → dialectOf n ≡ some d →
     reader n xs room .report ≡ accepted → map spanOf (reader n xs room .cells) ≡ concat (stretches d xs ls k)
 reader-places = reader-spans
 
--- a byte can go on, by form alone, exactly when some derivation's text begins so
+-- a byte can continue a file, by form alone, exactly when some derivation's text begins so
 pub proceeds-on : (d : Dialect) (xs : Bytes) (b : ℕ) → CanGoOn d xs b ↔ ProceedsOn d xs b
 proceeds-on = can-go-on
 

@@ -1,5 +1,6 @@
--- A byte can go on in a file, by form alone, exactly when some derivation's text begins so. Where a record is completed the bytes up to
--- there are a file (`completes-reads`); and a file that is read can be completed by some bytes, as every state can (`reads-complete`).
+-- A byte can continue a file, by form alone, exactly when some derivation's text begins so. Where a record is completed the bytes up
+-- to there are a file (`completes-reads`); and a file that is read can be completed by some bytes, as every state can
+-- (`reads-complete`).
 use Prim.Native.Nat.{ℕ}
 use mathlib.Core.Path.{_≡_, refl}
 use mathlib.Core.Logic.{_↔_}
@@ -34,7 +35,7 @@ next-clean d n-ended = refl
 module _ (d : Dialect) where
   -- ---- where a record is completed, the bytes so far are a file
 
-  -- a record that goes on from h, after the byte b, is told from f, before it
+  -- a record that continues from h, after the byte b, seen from f, before it
   abbrev Told : (f h : FileState) (b : ℕ) (bs : Bytes) → Type 0
   Told f h b bs = (text : Bytes) (cells : List Bytes) (ls : List (Line Bytes)) → Reads d h bs (line text cells ∷ ls) → Recorded d f (b ∷ bs)
 
@@ -94,7 +95,7 @@ module _ (d : Dialect) where
   reads-complete (reading.ends e k) = next e (reads-complete k)
   reads-complete (reading.ends-closing e k) = next e (reads-complete k)
 
-  -- ---- so a byte can go on exactly when a derivation's text begins so
+  -- ---- so a byte can continue exactly when a derivation's text begins so
 
   pub can-go-on : (xs : Bytes) (b : ℕ) → CanGoOn d xs b ↔ ProceedsOn d xs b
   can-go-on xs b = (λ g. derived (g .0) (completes-reads (g .1)), λ g. completed-from (g .0) (reads-complete (derived-reads d (xs ++ (b ∷ (g .0))) (g .1) (g .2))))

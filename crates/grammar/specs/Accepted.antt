@@ -1,5 +1,5 @@
--- What the reader asks of a file beside its form, in grammar words: the limits and the record checks of the rules over a derivation's
--- records; and what it is for the reader's records to be these.
+-- What the reader requires of a file beside its form, in the terms of the grammar: the limits and the record checks of the rules over
+-- a derivation's records; and what it is for the reader's records to be these.
 use Prim.Native.Nat.{ℕ, _+_, _≤_}
 use mathlib.Core.Path.{_≡_}
 use mathlib.Core.Logic.{_≢_}
@@ -32,7 +32,7 @@ pub data ChecksHold (d : Dialect) : List (Line Derived) → Type 0 where
       {text : Bytes} {cells : List Derived} {ls : List (Line Derived)} → Every (λ c. kindIn c ≡ Text) cells → Distinct d cells →
       Every (λ l. length (cellsIn l) ≡ length cells) ls → ChecksHold d (line text cells ∷ ls)
 
--- derived with these records, within the limits and sound: what the rules accept (§2.1 §19.2)
+-- derived with these records, within the limits, and each record passes the checks: what the rules accept (§2.1 §19.2)
 pub record Acceptable (d : Dialect) (xs : Bytes) (ls : List (Line Derived)) : Type 0 where
   pub derived : Derives d xs ls
   pub limits : WithinLimits xs ls
@@ -45,7 +45,7 @@ cellCount (l ∷ ls) = length (cellsIn l) + cellCount ls
 
 -- ---- the reader's records are these
 
--- a cell's kind and content, and its stretch in the file is its raw bytes
+-- a cell's kind and content, and its span in the file is its raw bytes
 pub record ShowsCell (file : Bytes) (v : Value) (c : Derived) : Type 0 where
   pub kind : v .kind ≡ kindIn c
   pub content : v .content ≡ contentIn c

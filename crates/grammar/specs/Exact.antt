@@ -1,4 +1,4 @@
--- What the theorems say of the grammars, as one statement.
+-- The theorems about the grammars as one statement.
 use Prim.Native.Nat.{ℕ}
 use mathlib.Core.Path.{_≡_}
 use mathlib.Core.Logic.{_↔_}
@@ -28,9 +28,9 @@ pub record Exact : Type 0 where
       (d : Dialect) (target : Option Target) (xs : Bytes) (r : Read) (b : ℕ) → readBytes d target xs ≡ going r → fileFull r ≡ false →
       recordFull r b ≡ false → NextByte d target xs r b
 
--- and of where cells stand. It is told by the cases of the productions, so it stands apart from what is told of any productions
+-- and of where cells lie. It is stated by the cases of the productions, so it is separate from what is stated for any productions
 pub record ExactPlaces : Type 0 where
-  -- the cells of a file that was read stand where every derivation of it has them
+  -- the cells of a file that was read lie where every derivation of it has them
   pub stretches :
       (d : Dialect) (xs : Bytes) (ls : List (Line Derived)) (k : Derives d xs ls) (r : Read) → readFile d none xs ≡ going r →
       shown (r .done) ≡ stretches d xs ls k

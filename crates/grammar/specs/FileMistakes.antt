@@ -1,5 +1,5 @@
 -- The mistakes that these productions do not make. Each field says so of one, at the production that would be widened to make it;
--- `proofs/AbsentInFiles.antt` takes the productions apart to prove it.
+-- `proofs/AbsentInFiles.antt` proves it by case analysis of the productions.
 use Prim.Native.Nat.{ℕ}
 use mathlib.Core.Path.{_≡_}
 use mathlib.Core.Logic.{_≢_}
@@ -21,14 +21,14 @@ pub record FileMistakes : Type 0 where
   pub space-after : (kind : Kind) (content : Bytes) → ¬ plus.Field standard (cell (0x22 ∷ 0x61 ∷ 0x22 ∷ 0x20 ∷ []) kind content)
   -- a missing last CSVJ ending: `"a"` (§3.1)
   pub missing-ending : (ls : List (Line Derived)) → ¬ csvj.Data-lines (0x22 ∷ 0x61 ∷ 0x22 ∷ []) ls
-  -- the mark first in CSV+, and then `a` (§5.9)
+  -- the byte order mark first in CSV+, and then `a` (§5.9)
   pub mark-first : (ls : List (Line Derived)) → ¬ plus.File standard (0xEF ∷ 0xBB ∷ 0xBF ∷ 0x61 ∷ []) ls
   -- a doubled TDIF quote that is content of two (§4.4)
   pub two-quotes : (ts : Bytes) → tdif.Inner (0x22 ∷ 0x22 ∷ []) ts → ts ≡ 0x22 ∷ []
   -- blanks of a CSVJ line that are not of its counted text: two spaces and LF (§7.4)
   pub blanks-uncounted : (l : Line Derived) → csvj.Line (0x20 ∷ 0x20 ∷ 0x0A ∷ []) l → textIn l ≢ []
 
--- `x`, `a` and `a`, each with LF, of plain CSV+ cells
+-- `x`, `a` and `a`, each with LF, of unquoted CSV+ cells
 abbrev pub threeLines : Bytes
 threeLines = 0x78 ∷ 0x0A ∷ 0x61 ∷ 0x0A ∷ 0x61 ∷ 0x0A ∷ []
 
@@ -46,9 +46,9 @@ threeDerived n x a =
     (plus.header-then (plus.a-name (plus.name (plus.a-non-escaped x))) plus.lf
     (plus.next (plus.field (plus.a-non-escaped a)) plus.lf (plus.last (plus.field (plus.a-non-escaped a)) plus.lf)))
 
--- the same of where cells stand
+-- the same of where cells lie
 pub record Misplacements : Type 0 where
-  -- a position that starts again with each record, so that the second `a` stands at the first one's place
+  -- a position that starts again with each record, so that the second `a` lies at the first one's place
   pub equal-cells :
       (n : ¬ plus.BeginsWithBom threeLines) (x : plus.Non-escaped standard (0x78 ∷ [])) (a : plus.Non-escaped standard (0x61 ∷ [])) →
       stretches (CsvPlus standard) threeLines threeRecords (threeDerived n x a) ≡ (span 0 1 ∷ []) ∷ (span 2 3 ∷ []) ∷ (span 4 5 ∷ []) ∷ []

@@ -1,7 +1,7 @@
--- The mistakes that the theorems rule out. Each field says that one is not made, at the production that would be widened to make it, or at
--- what is required beside the productions. `proofs/Refused.antt` proves all from the statement of the theorems (`Exact`), whatever the
--- productions are; `proofs/Absent.antt` from the productions, in each crate from its own. So a production that is widened to make one makes
--- the theorems false.
+-- The mistakes that the theorems exclude. Each field says that one is not made, at the production that would be widened to make it,
+-- or at what is required beside the productions. `proofs/Refused.antt` proves all from the statement of the theorems (`Exact`),
+-- whatever the productions are; `proofs/Absent.antt` from the productions. So a production that is widened to make one makes the
+-- theorems false.
 use Prim.Native.Nat.{ℕ}
 use mathlib.Core.List.{[], _∷_}
 use lib.ListN.{replicate}
@@ -20,7 +20,7 @@ nameA = cell (0x22 ∷ 0x61 ∷ 0x22 ∷ []) Text (0x61 ∷ [])
 abbrev pub twoNames : Bytes
 twoNames = 0x22 ∷ 0x61 ∷ 0x22 ∷ 0x2C ∷ 0x22 ∷ 0x61 ∷ 0x22 ∷ []
 
--- 4,097 bytes of a plain CSV+ cell
+-- 4,097 bytes of an unquoted CSV+ cell
 abbrev pub tooLong : Bytes
 tooLong = replicate 4097 0x61
 
@@ -33,5 +33,5 @@ pub record Mistakes : Type 0 where
   pub repeated-name : ¬ ChecksHold Csvj (line twoNames (nameA ∷ nameA ∷ []) ∷ [])
   -- a record of 4,097 bytes
   pub long-record : ¬ WithinLimits tooLong (line tooLong (cell tooLong Text tooLong ∷ []) ∷ [])
-  -- a byte that is refused though a file goes on with it: the quote with which a CSVJ file begins
+  -- a byte that is refused though a file continues with it: the quote with which a CSVJ file begins
   pub begun : ¬ ¬ ProceedsOn Csvj [] 0x22

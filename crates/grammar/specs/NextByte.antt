@@ -1,4 +1,4 @@
--- Faults 2 and 3 in grammar words: which byte may follow in a file, and which is refused.
+-- Faults 2 and 3 by the grammar: which byte may follow in a file, and which is refused.
 use Prim.Native.Nat.{ℕ}
 use mathlib.Core.Path.{_≡_}
 use mathlib.Core.Logic.{_↔_}
@@ -20,6 +20,6 @@ ProceedsOn d xs b = (ys : Bytes) × (ls : List (Line Derived)) × Derives d (xs 
 pub record NextByte (d : Dialect) (target : Option Target) (xs : Bytes) (r : Read) (b : ℕ) : Type 0 where
   -- it is fault 2 or 3 exactly when no derivation's text begins so
   pub refused : ((e : ByteFault) × (readBytes d target (xs ++ (b ∷ [])) ≡ stopped (Byte e) r)) ↔ ¬ (ProceedsOn d xs b)
-  -- and 3 where it does not break the UTF-8 table in a text that it stands in
+  -- and 3 where it does not break the UTF-8 table in a text that it belongs to
   pub syntax-fault :
       (readBytes d target (xs ++ (b ∷ [])) ≡ stopped (Byte Syntax) r) ↔ (¬ (ProceedsOn d xs b) × (breaks (textAt d (r .state)) b ≡ false))

@@ -1,5 +1,5 @@
 -- The mistakes that these productions do not make. Each field says so of one, at the production that would be widened to make it;
--- `proofs/AbsentInRfcs.antt` takes the productions apart to prove it.
+-- `proofs/AbsentInRfcs.antt` proves it by case analysis of the productions.
 use mathlib.Core.Path.{_≡_}
 use mathlib.Core.List.{[], _∷_}
 use lib.ListN.{length}

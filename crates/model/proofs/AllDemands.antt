@@ -1,4 +1,4 @@
--- The demands that the definitions meet.
+-- The demands that the definitions satisfy, each from the file that proves it.
 use Rattle.model.specs.laws.Demands.{ModelDemands}
 use Rattle.model.proofs.round_trip.AllTrips.{trips}
 use Rattle.model.proofs.piece_laws.CallsMade.{preserves-ledger}

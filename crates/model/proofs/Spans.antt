@@ -1,5 +1,5 @@
--- The stretch of every cell that was read holds its raw bytes: the decoder makes of it the kind and content that reading says.
--- The file is what stood before the current cell, its bytes, and what is left (`At`).
+-- The span of every cell that was read holds its raw bytes: the decoder returns for it the kind and content that reading gave. The
+-- file is the bytes before the current cell, its bytes, and the bytes left (`At`).
 use Prim.Native.Nat.{ℕ, suc, _+_, _-_}
 use native.Mathlib.Omega.{arith}
 use native.Mathlib.Nat.{add-zero}
@@ -33,9 +33,9 @@ part-is pre raw xs s e h k =
     let n : e - s ≡ length raw = omega arith in
     rw (n, ← h, drop-append-seam pre (raw ++ xs)) (take-append-seam raw xs)
 
--- ---- cells by their stretches
+-- ---- cells by their spans
 
--- the stretch of a cell holds a sound cell, of its kind and content
+-- the span of a cell holds a cell that the decoder accepts, with its kind and content
 pub record Stretched (d : Dialect) (file : Bytes) (v : Value) : Type 0 where
   pub sound : validateCell d (slice file (v .from) (v .upto)) ≡ WholeCell
   pub kind : v .kind ≡ kindOf d (slice file (v .from) (v .upto))
@@ -45,7 +45,7 @@ abbrev pub StretchedRecord : Dialect → Bytes → Rec → Type 0
 StretchedRecord d file r = All (Stretched d file) (r .cells)
 
 module _ (d : Dialect) (target : Option Target) (file : Bytes) where
-  -- what has been read, with the bytes that are left of the file: the current cell stands right before them
+  -- the reading state, with the bytes that are left of the file: the current cell lies right before them
   record At (r : Read) (left : Bytes) : Type 0 where
     pre : Bytes
     whole : file ≡ pre ++ (r .raw ++ left)
@@ -73,7 +73,7 @@ module _ (d : Dialect) (target : Option Target) (file : Bytes) where
   taken : (pre raw left : Bytes) (b : ℕ) → pre ++ (raw ++ (b ∷ left)) ≡ (pre ++ (raw ++ (b ∷ []))) ++ left
   taken pre raw left b = sym (append-assoc pre (raw ++ (b ∷ [])) left ∙ ap (λ (l : Bytes). pre ++ l) (append-assoc raw (b ∷ []) left))
 
-  -- a byte after which no cell is in hand
+  -- a byte after which no cell is current
   moved : (r next : Read) (b : ℕ) (left : Bytes) → At r (b ∷ left) → next .raw ≡ [] → next .opened ≡ suc (r .offset) → next .offset ≡ suc (r .offset) → cellAt (next .state) ≡ Fresh → All (Stretched d file) (next .cells) → All (StretchedRecord d file) (next .done) → At next left
   moved r next b left a e o u c cs ds =
       let n : length (a .pre ++ (r .raw ++ (b ∷ []))) ≡ length (a .pre) + length (r .raw ++ (b ∷ [])) = length-append (a .pre) (r .raw ++ (b ∷ [])) in
@@ -173,7 +173,7 @@ module _ (d : Dialect) (target : Option Target) (file : Bytes) where
   unfolding readFile
   stretches = end-good (readBytes d target file) bytes-good
 
--- ---- cells are sound
+-- ---- the decoder accepts the cells
 
 sound-records : {d : Dialect} {file : Bytes} {rs : List Rec} → All (StretchedRecord d file) rs → All (SoundRecord d) rs
 sound-records {d} {file} all-none = all-none
@@ -189,7 +189,7 @@ cells-sound d target xs = sound-records (stretches-bytes d target xs)
 pub cells-sound-file : (d : Dialect) (target : Option Target) (xs : Bytes) → All (SoundRecord d) (recordsOf (readFile d target xs))
 cells-sound-file d target xs = sound-records (stretches d target xs)
 
--- ---- the decoder on a stretch
+-- ---- the decoder on a span
 
 decodes : (n : ℕ) (d : Dialect) (file : Bytes) (v : Value) → dialectOf n ≡ some d → Stretched d file v → Decodes n file v
 unfolding decoder if_then_else_
@@ -217,7 +217,7 @@ answer-decodes : (n : ℕ) (d : Dialect) (file : Bytes) (room : ℕ) (p : Progre
 answer-decodes n d file room (stopped e r) k s = all-none
 answer-decodes n d file room (going r) k s = answered-decodes n file (r .done) (concat (rows (r .done))) room (concat-decodes n d file k s)
 
--- every cell that the reader answers
+-- every cell that the reader returns
 pub reader-decodes : ReaderDecodes
 unfolding reader
 reader-decodes n file room = go (dialectOf n) refl

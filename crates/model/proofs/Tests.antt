@@ -1,5 +1,4 @@
--- What a test says, for laws that go by the tests of a definition, and the list of what the tests of the code say of them, for
--- `search`.
+-- Laws by the tests of a definition (`split`), and the list of facts that a test of the code gives about them, for `search`.
 use Prim.Native.Nat.{ℕ, _≤_}
 use native.Mathlib.Omega.{arith}
 use mathlib.Core.Path.{_≡_, refl, sym, subst}
@@ -10,7 +9,7 @@ use Rattle.model.specs.rules.Base.{if_then_else_, _is_, within}
 
 pub ruleset tests = (eq-eqb, ne-eqb, lt-ltb, le-ltb, le-leb, lt-leb)
 
--- a choice has a property if each side has it, given what the test said
+-- a choice has a property if each side has it, given the result of the test
 pub split {ℓ κ} : {A : Type ℓ} (P : A → Type κ) {x y : A} (t : Bool) → (t ≡ true → P x) → (t ≡ false → P y) → P (if t then x else y)
 unfolding if_then_else_
 split P true f g = f refl

@@ -1,4 +1,4 @@
--- Demand 1: what the calls leave of what they were lent.
+-- Demand 1: the lent lists and buffers after each call.
 use Prim.Native.Nat.{ℕ, _≤_}
 use native.Mathlib.Omega.{arith}
 use mathlib.Core.Path.{_≡_, refl, sym, ap, _∙_}

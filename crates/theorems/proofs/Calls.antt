@@ -1,5 +1,5 @@
--- Demand 3, from the contract of the piece and end calls. By induction over a list of calls its state has answered the ledger's entries,
--- and each call told and left what the ledger answers. What the ledger's laws say of its entries is then said of the calls.
+-- Demand 3, from the contract of the piece and end calls. By induction over a list of calls, the state has answered the ledger's
+-- entries, and each call returned and left what the ledger answers. So the laws of the ledger's entries hold of the calls.
 use Prim.Native.Nat.{ℕ, _+_, _-_, _≤_}
 use native.Mathlib.Omega.{arith}
 use mathlib.Core.Path.{_≡_, refl, sym, ap, ap₂, _∙_}
@@ -38,7 +38,7 @@ all-map f (all-cons {x} p ps) = all-cons (f x p) (all-map f ps)
 
 -- ---- a call and the ledger's answer to it
 
--- it told and left what the ledger answers
+-- it returned and left what the ledger answers
 record Answered (x : MadeCall) (w : Written) : Type 0 where
   told : x .told ≡ textAnswer w
   left : x .after ≡ callLeaves w (x .before)
@@ -76,7 +76,7 @@ each-wrote (one-call {x} {y} a each) = ap₂ (λ (u us : Bytes). u ++ us) (wrote
 
 -- ---- every list of calls
 
--- after these calls: the state has answered the ledger's entries, and each call told and left what they say
+-- after these calls: the state has answered the ledger's entries, and each call returned and left what they say
 record Lies (m n : ℕ) (made : List MadeCall) (s : Converter) : Type 0 where
   carries : Represents m n (entriesOf m n made) s
   each : EachAnswered made (entriesOf m n made)
@@ -162,7 +162,7 @@ module _ (new-carries : (m n : ℕ) → Represents m n [] (newConverter m n)) wh
     end-call made s next out out′ told led x h =
         ap (λ (u : TextAnswer). u .report) (x .answer m n (entriesOf m n made) (stands led .carries)) ∙ end-is-whole m n (callsOf made) (length out) h
 
-    -- the file fault that any of them reports is the one that was met
+    -- the file fault that any of them reports is the one found first
     first-fault : {made : List MadeCall} {s : Converter} → LedTo m n made s → All (λ (x : MadeCall). isFileFault (x .told .report) ≡ true → faultIn (entriesOf m n made) ≡ some (x .told .report)) made
     first-fault fresh = all-none
     first-fault (one-more {made} {s} {next} {x} led room c) =

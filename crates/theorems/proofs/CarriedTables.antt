@@ -1,7 +1,6 @@
--- Demand 2: a table that its dialect carries within the limits is written, and read back. Each part of `CarriedTable` is what one of
--- the writer's checks, in its own order, finds no fault in: so no check finds one (`no-fault`), and where none does every part holds
--- (`carried-of`). Reading back is then the round trip of model.
--- Assumes nothing.
+-- Demand 2: a table that its dialect can represent within the limits is written, and read back. Each part of `CarriedTable` says that
+-- one of the writer's checks finds no fault: so no check finds one (`no-fault`), and where none does every part holds (`carried-of`).
+-- Reading back is then the round trip of model. Assumes nothing.
 use Prim.Native.Nat.{ℕ, suc, _+_, _≤_}
 use native.Mathlib.Omega.{arith}
 use mathlib.Core.Path.{_≡_, refl, ap}
@@ -82,7 +81,7 @@ module _ (t : Dialect) where
   row-size : (h : List Value) (done : List (List Value)) (r : List Value) → tableSize (h ∷ (done ++ (r ∷ []))) ≡ tableSize (h ∷ done) + length (lineOf false r)
   row-size h done r = row-length (into t) (h ∷ done) r
 
-  -- ---- what is carried has no fault: names
+  -- ---- a table that the dialect can represent has no fault: names
 
   abbrev keyOf : Value → Bytes
   keyOf v = nameKey t (v .content)
@@ -173,7 +172,7 @@ module _ (t : Dialect) where
           let sound : rowFault (into t) [] h ≡ Sound = both-sound header target in
           rw sound (rows-sound h [] rs u v (c .short-records) (omega arith))
 
-  -- ---- what has no fault is carried
+  -- ---- a table without a fault is one that the dialect can represent
 
   texts-of : (n : ℕ) (vs : List Value) → headerKindFrom n vs ≡ Sound → All TextCell vs
   unfolding headerKindFrom
@@ -271,7 +270,7 @@ writes n t table h rs room e q c f =
     let text : Bytes = tableText (into t) (h ∷ rs) in
     rw (e, writer, q, z) (fitted-fits room text text (record { same = refl; fits = f }))
 
--- the table's rows are carried, and the text has room
+-- the dialect can represent the table's rows, and the text has room
 abbrev WritesOut : Dialect → Table → (room : ℕ) → Type 0
 WritesOut t table room =
     (h : List Value) × (rs : List (List Value)) × (rowsIn table ≡ some (h ∷ rs)) × CarriedTable t h rs × (length (tableText (into t) (h ∷ rs)) ≤ room)

@@ -1,8 +1,7 @@
--- Demand 2: what the converter accepts. Reading with a target is reading without one, and then the target's check of each record
--- (`target-file` of model), so a file is converted exactly where it is read and its records pass (`converts-exactly`). They pass exactly
--- where the writer would find no fault in their rows, the header's columns and kinds being checked by the source: so the target carries
--- them (`Carrying`). The records read show those of the derivation.
--- Assumes nothing.
+-- Demand 2: the files that the converter accepts. Reading with a target is reading without one, and then the target's check of each
+-- record (`target-file` of model), so a file is converted exactly where it is read and its records pass (`converts-exactly`). They
+-- pass exactly where the writer would find no fault in their rows, since the source checks the header's columns and kinds: so the
+-- target can represent them (`Carrying`). The records read are those of the derivation. Assumes nothing.
 use Prim.Native.Nat.{ℕ, suc, _≤_}
 use native.Mathlib.Omega.{arith}
 use mathlib.Core.Path.{_≡_, refl, sym, ap, _∙_}
@@ -154,7 +153,7 @@ shown-texts (each-cons s k) (every-cons e m) = all-cons (s .kind ∙ e) (shown-t
 
 -- ---- the converter
 
--- the file is acceptable, the target carries its rows, and the text has room
+-- the file is acceptable, the target can represent its rows, and the text has room
 abbrev Carries : (source target : Dialect) → Bytes → (room : ℕ) → Type 0
 Carries d t file room =
     (l : Line Derived) × (ls : List (Line Derived)) × Acceptable d file (l ∷ ls) × CarriedTable t (rowIn l) (map rowIn ls)

@@ -1,5 +1,5 @@
--- The ledger, call by call and against the whole converter: the ways in which it answers a call; what it has written once an end call
--- was accepted; and the fault that a call met, which the whole converter reports for the bytes consumed.
+-- The ledger, call by call and against the whole converter: the cases of its answer to a call; what it has written once an end call
+-- was accepted; and the fault that a call found, which the whole converter reports for the bytes consumed.
 use Prim.Native.Nat.{ℕ, _≤_}
 use native.Mathlib.Omega.{arith}
 use mathlib.Core.Path.{_≡_, refl, sym, ap, ap₂, _∙_}
@@ -42,7 +42,7 @@ and-none false = refl
 
 -- ---- one answer
 
--- the four ways in which it answers a call: 11; the fault that was met; 10; or the call is taken
+-- the four cases of its answer to a call: 11; the fault found before; 10; or the call is taken
 data AnsweredBy (m n : ℕ) (past : List Entry) (c : Call) : Type 0 where
   by-eleven : answerNow m n past c ≡ unwritten (refusal 11) → AnsweredBy m n past c
   by-fault : (e : Report) → faultIn past ≡ some e → answerNow m n past c ≡ unwritten e → AnsweredBy m n past c
@@ -51,7 +51,7 @@ data AnsweredBy (m n : ℕ) (past : List Entry) (c : Call) : Type 0 where
       (d t : Dialect) → dialectOf m ≡ some d → dialectOf n ≡ some t → faultIn past ≡ none → endedIn past ≡ false → checked m n past c ≡ false →
       answerNow m n past c ≡ taken (into t) (writtenIn past) (seenBy d (into t) c (consumedIn past ++ bytesOf c)) → AnsweredBy m n past c
 
--- a fault that was met is a file fault
+-- a fault found before is a file fault
 met-fault : (e : Report) (xs : List Entry) → faultIn xs ≡ some e → isFileFault e ≡ true
 unfolding faultIn if_then_else_
 met-fault e [] k = none-some k
@@ -81,7 +81,7 @@ module _ (m n : ℕ) where
     abbrev now : Written
     now = answerNow m n past c
 
-    -- what a check answers writes nothing
+    -- a call that a check refuses writes nothing
     pub silent : checked m n past c ≡ true → now .text ≡ []
     silent h = go (answered-by past c)
       where
@@ -111,7 +111,7 @@ module _ (m n : ℕ) where
         go (by-sizes s a) = s
         go (by-reading d t p q k z free a) = by-progress (seenBy d (into t) c (consumedIn past ++ bytesOf c)) (number-of (taken (into t) (writtenIn past) (seenBy d (into t) c (consumedIn past ++ bytesOf c))) a)
 
-    -- a file fault that any call reports is the one that was met
+    -- a file fault that any call reports is the one found first
     pub reports-first : isFileFault (now .report) ≡ true → faultIn (after m n past c) ≡ some (now .report)
     unfolding faultIn if_then_else_
     reports-first h = go (answered-by past c)
@@ -131,7 +131,7 @@ module _ (m n : ℕ) where
 -- ---- the ledger and the whole converter
 
 module _ (m n : ℕ) where
-  -- with a number that is no dialect no fault is met and no end accepted
+  -- with a number that is no dialect no fault is found and no end accepted
   idle :
       ((past : List Entry) (c : Call) → answerNow m n past c ≡ unwritten (refusal 11)) → (past : List Entry) (cs : List Call) → faultIn past ≡ none → endedIn past ≡ false →
       (faultIn (historyFrom m n past cs) ≡ none) × (endedIn (historyFrom m n past cs) ≡ false)
@@ -141,7 +141,7 @@ module _ (m n : ℕ) where
       let new : List Entry = record { call = c; answer = answerNow m n past c } ∷ [] in
       idle a (after m n past c) cs (fault-none new past k ∙ rw (a past c)) (ended-append new past ∙ rw (z, a past c, and-none (isFinish c)))
 
-  -- no end call is accepted where a fault was met
+  -- no end call is accepted where a fault was found
   data NotBoth (past : List Entry) : Type 0 where
     no-fault : faultIn past ≡ none → NotBoth past
     no-end : endedIn past ≡ false → NotBoth past
@@ -210,7 +210,7 @@ module _ (m n : ℕ) where
       go (some d) none p q = impossible (sym (idle (λ l c. answer-target m n d l c p q) [] cs refl refl .1) ∙ h)
       go (some d) (some t) p q = let s = history-stood m n d t p q cs in at-stage d t (s .0) p q (s .1)
 
-  -- a fault that was met is the whole converter's
+  -- a fault found is the whole converter's
   pub met-whole : (cs : List Call) (e : Report) → faultIn (history m n cs) ≡ some e → e ≡ converter m n (consumedIn (history m n cs)) MAXFILE .report
   unfolding faultIn endedIn if_then_else_
   met-whole cs e h = go (dialectOf m) (dialectOf n) refl refl
@@ -243,7 +243,7 @@ OfEveryFile m n d t bs told =
     × ((rest : Bytes) → (readFile d (some t) (bs ++ rest) ≡ stopped e r) × (converter m n (bs ++ rest) MAXFILE .report ≡ told))
 
 module _ (m n : ℕ) (d t : Dialect) (p : dialectOf m ≡ some d) (q : dialectOf n ≡ some t) (past : List Entry) (bs : Bytes) (room : ℕ) (k : faultIn past ≡ none) where
-  -- a piece call that reports a fault where none was met
+  -- a piece call that reports a fault where none was found before
   pub piece-fault : isFileFault (answerNow m n past (piece bs room) .report) ≡ true → OfEveryFile m n d (into t) (consumedIn past ++ bs) (answerNow m n past (piece bs room) .report)
   piece-fault h = go (answered-by m n past (piece bs room))
     where

@@ -81,7 +81,7 @@ converted-limit m n file room = by-source (dialectOf m)
     by-source none = omega arith
     by-source (some d) = by-target d (dialectOf n)
 
--- ten is told of a file that has a text for which there is no room
+-- ten is reported for a file that has a text for which there is no room
 pub converted-room : (m n : ℕ) (file : Bytes) (room : ℕ) → 6 * (length file + 1) ≤ room → converter m n file room .report ≢ refusal 10
 unfolding converter
 converted-room m n file room h = by-source (dialectOf m)

@@ -1,6 +1,6 @@
--- Demand 2: the reader returns what the grammar derives. The records read show those of the derivation, cell by cell (`acceptable-read`
--- of grammar), so their kinds and contents agree in file order; and a file that is accepted is answered with all its cells.
--- Assumes nothing.
+-- Demand 2: the reader returns what the grammar derives. The records read are those of the derivation, cell by cell
+-- (`acceptable-read` of grammar), so their kinds and contents agree in file order; and the answer on an accepted file has all its
+-- cells. Assumes nothing.
 use Prim.Native.Nat.{ℕ, _≤_}
 use mathlib.Core.Path.{_≡_, refl, sym, ap, ap₂, _∙_}
 use mathlib.Core.Bool.{Bool, true, false}

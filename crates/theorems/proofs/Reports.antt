@@ -1,4 +1,4 @@
--- Demand 1: what the calls report.
+-- Demand 1: the reports of the calls.
 use Prim.Native.Nat.{ℕ, _≤_}
 use native.Mathlib.Omega.{arith}
 use mathlib.Core.Path.{_≡_, refl, sym, ap, subst, _∙_}
@@ -53,7 +53,7 @@ pub writer-unknown : (n : ℕ) → dialectOf n ≡ none → (table : Table) (roo
 unfolding writer
 writer-unknown n e table room = rw (e, writer) refl
 
--- ---- what the table says
+-- ---- the table of faults
 
 abbrev cellsOf : List Rec → ℕ
 cellsOf rs = length (concat (rows rs))

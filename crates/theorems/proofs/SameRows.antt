@@ -1,6 +1,5 @@
--- Rows that are the same up to where their cells lie: what is said of the one by kinds and contents holds of the other, cell by cell and
--- row by row. Their texts are equal by model's laws of meanings.
--- Assumes nothing.
+-- Rows that are the same up to where their cells lie: what holds of the one by kinds and contents holds of the other, cell by cell
+-- and row by row. Their texts are equal by model's laws of meanings. Assumes nothing.
 use mathlib.Core.Path.{_≡_, sym, _∙_}
 use mathlib.Core.Bool.{true, false}
 use mathlib.Core.List.{List}
@@ -12,7 +11,7 @@ use Rattle.model.specs.laws.RoundTrips.{Same, SameCells, no-cells, and-cell, Sa
 use Rattle.model.proofs.round_trip.Meanings.{same-length, record-same, table-same}
 use Rattle.theorems.specs.Demands.{DistinctNames, no-names, a-name, CarriedTable, ValueRows}
 
--- ---- the other way round
+-- ---- symmetry
 
 pub cells-back : {vs ws : List Value} → SameCells vs ws → SameCells ws vs
 cells-back no-cells = no-cells
@@ -43,7 +42,7 @@ values-alike s m x =
       counts = all-rows (λ r q e p. rw (← (same-length e), ← (same-length s)) p) m (x .counts);
     }
 
--- ---- a table that a dialect carries
+-- ---- a table that a dialect can represent
 
 module _ (t : Dialect) where
   names-alike : {vs ws : List Value} → SameCells vs ws → DistinctNames t vs → DistinctNames t ws

@@ -1,4 +1,4 @@
--- The demands hold.
+-- The three demands hold: each theorem is taken from the file that proves it.
 use mathlib.Core.Path.{_≡_}
 use Rattle.model.proofs.round_trip.AllTrips.{trips}
 use Rattle.model.proofs.Laws.{laws}

@@ -1,6 +1,6 @@
--- Demands 1 and 2 over the definitions of the public calls: `readCall`, `decoder`, `converter` and `writer` of model's Api, whose texts
--- and leavings the calls' contracts repeat. Demand 3 over the contract of the piece and end calls, `CallContract` of pieces' Calling, and the
--- ledger of model. Nothing else is here.
+-- Demands 1 and 2 over the definitions of the public calls: `readCall`, `decoder`, `converter` and `writer` of model's Api, to which
+-- the calls' contracts are equations. Demand 3 over the contract of the piece and end calls, `CallContract` of piece_converter's
+-- Contract, and the ledger of model. Nothing else is here.
 use Prim.Native.Nat.{ℕ, suc, _+_, _*_, _<_, _≤_}
 use mathlib.Core.Path.{_≡_}
 use mathlib.Core.Logic.{_≢_, _↔_}
@@ -45,13 +45,14 @@ pub record Leaves (told : Report) (written : ℕ) (old new : List ℕ) : Type 0 
   pub on-refusal : told ≢ accepted → new ≡ old
   pub past-written : drop written new ≡ drop written old
 
--- what is told of a file: the fault at which reading stopped, by its row of the table; 10 if the answer has no room; acceptance (§6.14 §6.15)
+-- the report on a file: the fault at which reading stopped, by its row of the table; 10 if the answer has no room; acceptance (§6.14
+-- §6.15)
 pub data ReportsFile (needs : List Rec → ℕ) (room : ℕ) : Progress → Report → Type 0 where
   fault : {e : Fault} {r : Read} → ReportsFile needs room (stopped e r) (report (numberOf e) (suc (length (r .done))) (columnOf e) (placeOf e r))
   no-room : {r : Read} → room < needs (r .done) → ReportsFile needs room (going r) (refusal 10)
   accepts : {r : Read} → needs (r .done) ≤ room → ReportsFile needs room (going r) accepted
 
--- the same of a raw cell, which stands in no record (§11.2 §11.6)
+-- the same of a raw cell, which is in no record (§11.2 §11.6)
 pub data ReportsCell (needs room : ℕ) : CellCheck → Report → Type 0 where
   fault : {e : Fault} {o : ℕ} → ReportsCell needs room (Unsound e o) (report (numberOf e) 0 0 o)
   no-room : room < needs → ReportsCell needs room WholeCell (refusal 10)
@@ -65,7 +66,7 @@ pub data ReportsTable (t : Target) (room : ℕ) : Option (List (List Value)) →
   accepts : {rs : List (List Value)} → rowsFault t rs ≡ none → length (tableText t rs) ≤ room → ReportsTable t room (some rs) accepted
 
 pub record Demand1 : Type 0 where
-  -- what each call leaves of what it was lent
+  -- each lent list or buffer after the call
   pub reader-leaves :
       (n : ℕ) (file : Bytes) (starts ends kinds : List ℕ) (c : ReadCall) → c ≡ readCall n file starts ends kinds →
       Leaves (c .report) (c .cells) starts (c .starts) × Leaves (c .report) (c .cells) ends (c .ends) × Leaves (c .report) (c .cells) kinds (c .kinds)
@@ -85,7 +86,7 @@ pub record Demand1 : Type 0 where
       × ((raw : Bytes) (room : ℕ) → decoder n raw room .report ≡ refusal 11)
       × ((m : ℕ) (file : Bytes) (room : ℕ) → (converter n m file room .report ≡ refusal 11) × (converter m n file room .report ≡ refusal 11))
       × ((table : Table) (room : ℕ) → writer n table room .report ≡ refusal 11)
-  -- otherwise what the table of faults says
+  -- otherwise the report that the table of faults gives
   pub reader-tells :
       (n : ℕ) (d : Dialect) (file : Bytes) (room : ℕ) → dialectOf n ≡ some d →
       ReportsFile (λ rs. length (concat (rows rs))) room (readFile d none file) (reader n file room .report)
@@ -108,8 +109,8 @@ pub data DistinctNames (d : Dialect) : List Value → Type 0 where
       {v : Value} {vs : List Value} → All (λ (w : Value). nameKey d (w .content) ≢ nameKey d (v .content)) vs → DistinctNames d vs →
       DistinctNames d (v ∷ vs)
 
--- a table that the dialect carries within the limits, by its cells, its names and its text, whatever the order of the checks (§2.5 §3.10 §4.9
--- §7.1 §7.2 §7.3 §8.2 §8.3 §8.4 §8.5 §8.6)
+-- a table that the dialect can represent within the limits, by its cells, its names and its text, whatever the order of the checks
+-- (§2.5 §3.10 §4.9 §7.1 §7.2 §7.3 §8.2 §8.3 §8.4 §8.5 §8.6)
 pub record CarriedTable (t : Dialect) (h : List Value) (rs : List (List Value)) : Type 0 where
   pub columns : length h ≤ MAXCOLUMNS
   pub has-cells : hasCells t h ≡ true
@@ -212,8 +213,8 @@ pub record Demand2 : Type 0 where
       reader n file room .report ≡ accepted → map spanOf (reader n file room .cells) ≡ concat (stretches d file ls k)
   -- and each decodes from there to its kind and content
   pub decodes : ReaderDecodes
-  -- the converter accepts exactly the files that are acceptable in the source and whose rows the target carries within the limits, if the
-  -- text has room (§8.1 §12.1 §12.2 §12.3)
+  -- the converter accepts exactly the files that are acceptable in the source and whose rows the target can represent within the
+  -- limits, if the text has room (§8.1 §12.1 §12.2 §12.3)
   pub converted-exactly :
       (m n : ℕ) (d t : Dialect) (file : Bytes) (room : ℕ) → dialectOf m ≡ some d → dialectOf n ≡ some t →
       (converter m n file room .report ≡ accepted)
@@ -223,21 +224,23 @@ pub record Demand2 : Type 0 where
   pub converted-text :
       (m n : ℕ) (d t : Dialect) (file : Bytes) (room : ℕ) (ls : List (Line Derived)) → dialectOf m ≡ some d → dialectOf n ≡ some t →
       Acceptable d file ls → converter m n file room .report ≡ accepted → converter m n file room .text ≡ tableText (into t) (map rowIn ls)
-  -- a fault met in the first bytes of a file is the file's: no later one is reported in its place
+  -- a fault found in the first bytes of a file is the file's: no later one is reported in its place
   pub first-fault :
       (d : Dialect) (target : Option Target) (e : Fault) (r : Read) (xs ys : Bytes) → readBytes d target xs ≡ stopped e r →
       readFile d target (xs ++ ys) ≡ stopped e r
-  -- in the words of the grammar: within the limits, a byte is fault 2 or 3 exactly when no derivation's text begins with the bytes before it
-  -- and then this byte (§6.2 §6.3)
+  -- in the terms of the grammar: within the limits, a byte is fault 2 or 3 exactly when no derivation's text begins with the bytes
+  -- before it and then this byte (§6.2 §6.3)
   pub next-byte :
       (d : Dialect) (target : Option Target) (xs : Bytes) (r : Read) (b : ℕ) → readBytes d target xs ≡ going r → fileFull r ≡ false →
       recordFull r b ≡ false → NextByte d target xs r b
-  -- the writer accepts exactly the tables that the dialect carries within the limits, if the text has room (§13.2 §13.11 §13.13)
+  -- the writer accepts exactly the tables that the dialect can represent within the limits, if the text has room (§13.2 §13.11
+  -- §13.13)
   pub written-exactly :
       (n : ℕ) (t : Dialect) (table : Table) (room : ℕ) → dialectOf n ≡ some t →
       (writer n table room .report ≡ accepted)
       ↔ ((h : List Value) × (rs : List (List Value)) × (rowsIn table ≡ some (h ∷ rs)) × CarriedTable t h rs × (length (tableText (into t) (h ∷ rs)) ≤ room))
-  -- from the table's side: given room, each table that the dialect carries within the limits is written, and read back the same (§19.3)
+  -- from the table's side: given room, each table that the dialect can represent within the limits is written, and read back the same
+  -- (§19.3)
   pub carried-comes-back :
       (n : ℕ) (t : Dialect) (table : Table) (h : List Value) (rs : List (List Value)) (room places : ℕ) → dialectOf n ≡ some t →
       rowsIn table ≡ some (h ∷ rs) → CarriedTable t h rs → length (tableText (into t) (h ∷ rs)) ≤ room → length (concat (h ∷ rs)) ≤ places →
@@ -246,8 +249,8 @@ pub record Demand2 : Type 0 where
   -- any rows of values, and no others, are those of a table, up to where the contents lie: nothing hides in how its lists are laid out (§13.1
   -- §13.2)
   pub every-table : (h : List Value) (rs : List (List Value)) → ValueRows h rs ↔ ((table : Table) × TableOf h rs table)
-  -- so rows of values that the dialect carries within the limits have a table; each table of them is written, as the same text; and the text
-  -- is read back as these rows (§19.3)
+  -- so rows of values that the dialect can represent within the limits have a table; each table of them is written, as the same text;
+  -- and the text is read back as these rows (§19.3)
   pub rows-come-back :
       (n : ℕ) (t : Dialect) (h : List Value) (rs : List (List Value)) (room places : ℕ) → dialectOf n ≡ some t → ValueRows h rs → CarriedTable t h rs →
       length (tableText (into t) (h ∷ rs)) ≤ room → length (concat (h ∷ rs)) ≤ places →
@@ -268,7 +271,7 @@ pub record Demand2 : Type 0 where
 
 -- ---- demand 3
 
--- a call as it was made on the code: its lent output before it, what it told, and its output after it (§15.1 §15.3)
+-- a call as it was made on the code: its lent output before it, what it returned, and its output after it (§15.1 §15.3)
 pub record MadeCall : Type 0 where
   pub call : Call
   pub before : List ℕ
@@ -282,7 +285,7 @@ pub data LedTo (m n : ℕ) : List MadeCall → Converter → Type 0 where
       {made : List MadeCall} {s next : Converter} {x : MadeCall} → LedTo m n made s → roomOf (x .call) ≡ length (x .before) →
       CallContract s (x .call) (x .before) (x .told) next (x .after) → LedTo m n (made ++ (x ∷ [])) next
 
--- what the ledger is fed of them (§16.2)
+-- the calls as the ledger sees them (§16.2)
 abbrev pub callsOf : List MadeCall → List Call
 callsOf made = map (λ (x : MadeCall). x .call) made
 
@@ -304,7 +307,7 @@ pub record Demand3 : Type 0 where
       (m n : ℕ) (made : List MadeCall) (s : Converter) → LedTo m n made s →
       (map (λ (x : MadeCall). x .told) made ≡ map textAnswer (ledger m n (callsOf made)))
       × (map (λ (x : MadeCall). x .after) made ≡ zipWith callLeaves (ledger m n (callsOf made)) (map (λ (x : MadeCall). x .before) made))
-  -- a call that one of the four checks answers changes neither the state nor its output (§15.8)
+  -- a call that one of the four checks refuses changes neither the state nor its output (§15.8)
   pub refused :
       (m n : ℕ) (made : List MadeCall) (s next : Converter) (c : Call) (out out′ : List ℕ) (told : TextAnswer) → LedTo m n made s →
       CallContract s c out told next out′ → checked m n (entriesOf m n made) c ≡ true → (next ≡ s) × (out′ ≡ out)
@@ -316,7 +319,7 @@ pub record Demand3 : Type 0 where
   pub whole-text :
       (m n : ℕ) (made : List MadeCall) (s : Converter) → LedTo m n made s → endedIn (entriesOf m n made) ≡ true →
       converter m n (consumedBy m n made) MAXFILE ≡ record { report = accepted; text = joinedOutputs made }
-  -- an end call that no check answers reports what the whole converter does for the bytes consumed (§16.6)
+  -- an end call that no check refuses reports what the whole converter does for the bytes consumed (§16.6)
   pub end-is-whole :
       (m n : ℕ) (made : List MadeCall) (s next : Converter) (out out′ : List ℕ) (told : TextAnswer) → LedTo m n made s →
       CallContract s (finish (length out)) out told next out′ → checked m n (entriesOf m n made) (finish (length out)) ≡ false →
@@ -325,7 +328,8 @@ pub record Demand3 : Type 0 where
   pub fault-is-whole :
       (m n : ℕ) (made : List MadeCall) (s : Converter) → LedTo m n made s →
       All (λ (x : MadeCall). isFileFault (x .told .report) ≡ true → x .told .report ≡ converter m n (consumedBy m n made) MAXFILE .report) made
-  -- a fault that a piece call meets, and the records before it, are those of every file that begins with the bytes consumed (§16.5 §16.7)
+  -- a fault that a piece call finds, and the records before it, are those of every file that begins with the bytes consumed (§16.5
+  -- §16.7)
   pub fault-of-every-file :
       (m n : ℕ) (d t : Dialect) (made : List MadeCall) (s next : Converter) (bs out out′ : List ℕ) (told : TextAnswer) → dialectOf m ≡ some d →
       dialectOf n ≡ some t → LedTo m n made s → faultIn (entriesOf m n made) ≡ none → CallContract s (piece bs (length out)) out told next out′ →
@@ -342,12 +346,12 @@ pub record Demand3 : Type 0 where
   pub ten :
       (m n : ℕ) (made : List MadeCall) (s : Converter) → LedTo m n made s →
       All (λ (x : MadeCall). x .told .report .number ≡ 10 → tooSmall (x .call) ≡ true) made
-  -- the state shows the records that the bytes consumed complete before any fault, after a fault and an accepted end too: how many they are,
-  -- the header's columns, and its names as they are spelt in the file. A last record that only the end completes is not counted (§15.2)
+  -- the state shows the records that the bytes consumed complete before any fault, after a fault and an accepted end too: how many
+  -- they are, the header's columns, and the raw bytes of its names. A last record that only the end completes is not counted (§15.2)
   pub shown :
       (m n : ℕ) (d t : Dialect) (made : List MadeCall) (s : Converter) → dialectOf m ≡ some d → dialectOf n ≡ some t → LedTo m n made s →
       StateShows d t (consumedBy m n made) s
-  -- and how many bytes were consumed, as long as no fault was met (§15.2)
+  -- and how many bytes were consumed, as long as no fault was found (§15.2)
   pub counted :
       (m n : ℕ) (made : List MadeCall) (s : Converter) → LedTo m n made s → faultIn (entriesOf m n made) ≡ none →
       s .offset ≡ length (consumedBy m n made)

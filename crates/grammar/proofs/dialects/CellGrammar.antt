@@ -1,5 +1,5 @@
--- A raw cell is one that the grammar derives exactly where the decoder finds it sound, and then the derivation gives the decoder's kind
--- and content: over the dialect.
+-- The grammar derives a raw cell exactly where the decoder accepts it, and then the derivation gives the decoder's kind and content:
+-- over the dialect.
 use mathlib.Core.Path.{_≡_}
 use mathlib.Core.Logic.{_↔_}
 use Rattle.grammar.specs.rfc.Types.{Dialect, Csvj, Tdif, CsvPlus, Fresh}

@@ -1,5 +1,5 @@
--- A cell in a file, over the dialect: its bytes are read as a file's where they are read as a cell's and what follows is read after any
--- whole cell (`cell-reads`); and a file that stands in a cell goes on with the rest of a cell and then with what follows one
+-- A cell in a file, over the dialect: its bytes are read as a file's where they are read as a cell's and what follows is read after
+-- any whole cell (`cell-reads`); and a file in a cell continues with the rest of a cell and then with what follows one
 -- (`in-cell-byte`).
 use Prim.Native.Nat.{ℕ}
 use mathlib.Core.Path.{_≡_, refl, sym, _∙_}
@@ -23,7 +23,7 @@ use Rattle.grammar.proofs.dialects.Steps as steps
 -- ---- a cell is read
 
 -- after any whole cell, which ends at o, these bytes are read, with the rest of the record's text, the cells after that one and their
--- stretches
+-- spans
 abbrev pub Follows : Dialect → (o : ℕ) → Bytes → (text : Bytes) (cells : List Bytes) (ls : List (Line Bytes)) (ps : List Span) (ss : List (List Span)) → Type 0
 Follows d o ys text cells ls ps ss =
     (c : Cell) (p : ℕ) → Reached d c → isWhole d c ≡ true → Runs d (Inside c) o p ys (line text ([] ∷ cells) ∷ ls) ((span p o ∷ ps) ∷ ss)
@@ -56,10 +56,10 @@ spells-first n (byte s k) ys = first-of-cell s
 pub other-byte : (d : Dialect) (b n : ℕ) (e : Cell) → cellStep d Fresh b ≡ More e → cellStep d Fresh n ≡ Refuse Syntax → (b is n) ≡ false
 other-byte d b n e s r = ne-eqb b n (λ q. no-more (sym r ∙ (rw q at s)))
 
--- ---- what is read is a cell and what follows it
+-- ---- the bytes read are a cell and what follows it
 
--- the rest of a cell that stands at c, and then what After says of the rest: its bytes, the rest of the record's text, the cells after
--- this one and the records after this one
+-- the rest of a cell in state c, and then what After says of the rest: its bytes, the rest of the record's text, the cells after this
+-- one and the records after this one
 pub data CellThen (d : Dialect) (After : Bytes → Bytes → List Bytes → List (Line Bytes) → Type 0) (c : Cell) : Bytes → List (Line Bytes) → Type 0 where
   cell-then :
       {raw ys text : Bytes} {cells : List Bytes} {ls : List (Line Bytes)} → Spells d c raw → After ys text cells ls →

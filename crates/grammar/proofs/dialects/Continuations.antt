@@ -1,6 +1,6 @@
--- What is still to come of a file that is read by form, where it stands (`ToResult`), over the dialect. A dialect gives the types of what may
--- come where a record begins, after a cell and at the top (`Grammar`), and says what the bytes there do (`Facts`); what comes in every
--- other state follows, in the states that it never reads too.
+-- What is still to come of a file that is read by form, in each state (`ToResult`), over the dialect. A dialect gives the types of
+-- what may come where a record begins, after a cell and at the top (`Grammar`), and says what the bytes there do (`Facts`); what
+-- comes in every other state follows, in the states that it never reaches too.
 use Prim.Native.Nat.{ℕ, _≤_, _<_}
 use native.Mathlib.Omega.{arith}
 use mathlib.Core.Path.{_≡_, refl}
@@ -47,7 +47,7 @@ pub record Grammar : Type 1 where
 -- ---- what comes in each state
 
 module _ (Lines : Outcome) where
-  -- the mark without its first byte, and without its second
+  -- the byte order mark without its first byte, and without its second
   pub data MarkRest : Bytes → List (Line Bytes) → Type 0 where
     mark-bb : {xs : Bytes} {ls : List (Line Bytes)} → Lines xs ls → MarkRest (0xBB ∷ 0xBF ∷ xs) ls
 
@@ -79,7 +79,7 @@ pub data WantedThen (d : Dialect) (Further : CellOutcome) : Bytes → List (Line
       {ws xs text : Bytes} {cells : List Bytes} {ls : List (Line Bytes)} → Ws ws → CellThen d Further Fresh xs (line text cells ∷ ls) →
       WantedThen d Further (ws ++ xs) (line (ws ++ text) cells ∷ ls)
 
--- bytes that complete the mark: after its first, and after its second
+-- bytes that complete the byte order mark: after its first, and after its second
 pub data CompletesBom : Bytes → Type 0 where
   then-bb : {xs : Bytes} → CompletesBom (0xBB ∷ 0xBF ∷ xs)
 
@@ -92,7 +92,7 @@ completes-bom then-bb = (refl, then-bf)
 ends-bom : {b : ℕ} {bs : Bytes} → EndsBom (b ∷ bs) → b ≡ 0xBF
 ends-bom then-bf = refl
 
--- a plain cell of which the mark's first byte was read, and its second
+-- an unquoted cell of which the byte order mark's first byte was read, and its second
 abbrev pub afterEf : Cell
 afterEf = Plain (Within (Second EeToEf))
 
@@ -138,7 +138,7 @@ blank-ws b p w = split-on (b is 0x20) (λ q. rw (is→eq b 0x20 q) (space w)) λ
 -- ---- a byte
 
 module _ (d : Dialect) (g : Grammar) where
-  -- what the bytes after this one give, by the state that it leads to
+  -- the lines that the bytes after this one give, by the state that it leads to
   abbrev pub Then : Bytes → FileState → List (Line Bytes) → Type 0
   Then bs f ls = ToResult d g f bs ls
 

@@ -1,5 +1,5 @@
--- The grammar of CSVJ derives exactly the files that its automaton reads by form. After a value, and after a space or a tab that follows
--- one, the same may come (`Continues`, `AfterThen`); before a record's first value the same may come as at its beginning.
+-- The grammar of CSVJ derives exactly the files that its automaton reads by form. After a value, and after a space or a tab that
+-- follows one, the same may come (`Continues`, `AfterThen`); before a record's first value the same may come as at its beginning.
 use Prim.Native.Nat.{ℕ, suc}
 use mathlib.Core.Path.{_≡_, refl, _∙_}
 use mathlib.Core.Bool.{Bool, true, false}
@@ -25,7 +25,7 @@ use Rattle.grammar.proofs.dialects.PlacedReads.{Runs, ends-clean, outsi
 use Rattle.grammar.proofs.dialects.CellReads.{Follows, cell-reads, after-whole, FirstOfCell, first-of-cell, spells-first, other-byte, CellThen, cell-then, AfterByte, ended-before, ends-now}
 use Rattle.grammar.proofs.dialects.Continuations.{Grammar, MarkRest, mark-bb, AfterCr, then-lf, WantedThen, wanted-then, blank-ws, Then, cell-byte, Facts, reads-coming}
 
--- ---- what is derived is read
+-- ---- a derived file is read
 
 -- after a value, and after blanks that follow one
 record Continues (o : ℕ) (ys text : Bytes) (cells : List Bytes) (ls : List (Line Bytes)) (ps : List Span) (ss : List (List Span)) : Type 0 where
@@ -203,7 +203,7 @@ unfolding fileStep beginFile if_then_else_
 file-reads (unmarked k) = table-reads 0 k Top at-top
 file-reads (marked k) = outside refl (outside refl (passed refl (table-reads 3 k Begin at-begin)))
 
--- ---- what is read is derived
+-- ---- a file that is read is derived
 
 abbrev DerivedLines : Bytes → List (Line Bytes) → Type 0
 DerivedLines xs ls = Data-lines xs (map (decodedLine Csvj) ls)

@@ -24,7 +24,7 @@ pub data Cells (d : Dialect) : Bytes → List Bytes → Type 0 where
   one-cell : {raw : Bytes} → Spells d Fresh raw → Cells d raw (raw ∷ [])
   more-cells : {raw text : Bytes} {cells : List Bytes} → Spells d Fresh raw → Cells d text cells → Cells d (raw ++ (delimiterOf d ∷ text)) (raw ∷ cells)
 
--- their stretches, from o on
+-- their spans, from o on
 abbrev pub cellsAt : {d : Dialect} {text : Bytes} {cells : List Bytes} → ℕ → Cells d text cells → List Span
 cellsAt o (one-cell {raw} m) = cellAt o raw ∷ []
 cellsAt o (more-cells {raw} m n) = cellAt o raw ∷ cellsAt (suc (past raw o)) n

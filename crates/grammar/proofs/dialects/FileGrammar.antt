@@ -103,7 +103,7 @@ lines-decoded d (every-cons {x = l} {xs = ls} v k) = rw (line-decoded v, lines-d
 
 -- ---- the theorem
 
--- what is derived is read, and each cell stands where the derivation has it
+-- a derived file is read, and each cell lies where the derivation has it
 pub derived-runs : (d : Dialect) (xs : Bytes) (ls : List (Line Derived)) (k : Derives d xs ls) → Runs d Top 0 0 xs (map spelling ls) (stretches d xs ls k)
 derived-runs Csvj xs ls k = csvj-files.file-reads k
 derived-runs Tdif xs ls k = tdif-files.file-reads k

@@ -1,5 +1,5 @@
--- Reading by form with the places of cells: `Reads`, and beside each line the stretches of its cells (`Runs`). The next byte is at o, and
--- the current cell, if one is, was opened at p.
+-- Reading by form with the places of cells: `Reads`, and beside each line the spans of its cells (`Runs`). The next byte is at o, and
+-- the current cell, if there is one, was opened at p.
 use Prim.Native.Nat.{ℕ, suc, _+_}
 use native.Mathlib.Omega.{arith}
 use mathlib.Core.Path.{_≡_, refl, _∙_}
@@ -64,7 +64,7 @@ reads (tail-closing e k) = reading.tail-closing e (reads k)
 reads (ends e k) = reading.ends e (reads k)
 reads (ends-closing e k) = reading.ends-closing e (reads k)
 
--- a byte's step is all that is asked of a state
+-- a byte's step is all that is required of a state
 pub from-state :
     {d : Dialect} {f g : FileState} {o p b : ℕ} {bs : Bytes} {ls : List (Line Bytes)} {ss : List (List Span)} →
     fileStep d f b ≡ fileStep d g b → Runs d g o p (b ∷ bs) ls ss → Runs d f o p (b ∷ bs) ls ss

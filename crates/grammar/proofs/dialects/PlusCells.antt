@@ -51,7 +51,7 @@ separate s = go (s .delimiter) (s .quote)
     go Bar Single = omega arith
 
 module _ (s : Settings) where
-  -- ---- what stands between quotes is doubled text
+  -- ---- the bytes between quotes are doubled text
 
   inner-doubled : {bs ts : Bytes} → Inner s bs ts → Doubled (DQUOTE s) bs ts
   inner-doubled nothing = no-char
@@ -75,13 +75,13 @@ module _ (s : Settings) where
   doubled-inner (long-char l m) = inner-textdata (utf8-data (long-data l)) (doubled-inner m)
   doubled-inner (two-quotes m) = plus.two-quotes dquote dquote (doubled-inner m)
 
-  -- ---- plain text
+  -- ---- unquoted text
 
   plain-state : TextState (CsvPlus s) Plain
   unfolding cellStep isWhole
   plain-state = record { inner = λ i b. refl; unfinished = λ i. refl }
 
-  -- where a plain cell may go on
+  -- where an unquoted cell may continue
   data Start : Cell → Type 0 where
     at-fresh : Start Fresh
     at-plain : Start (Plain Whole)
@@ -114,7 +114,7 @@ module _ (s : Settings) where
       byte (plain-step b i (ne-eqb b (DQUOTE s) n) (no-separator b x y z) ∙ ap (textByte Plain) (ascii-whole b (r .high))) (plain-spells m at-plain)
   plain-spells (textdata (utf8-data u) m) i = long-spells plain-state (plain-high i) (data-long u) (plain-spells m at-plain)
 
-  -- what is still to come in a plain cell
+  -- what is still to come in an unquoted cell
   data PlainRest (c : Char) : Bytes → Type 0 where
     plain-rest : {cs bs : Bytes} → Finishes c cs → Non-escaped s bs → PlainRest c (cs ++ bs)
 

@@ -1,5 +1,5 @@
 -- The grammar of CSV+ derives exactly the files that its automaton reads by form, for every delimiter and quote. At offset 0 the
--- automaton shadows a plain cell that begins like the mark; it refuses only where the mark is complete (`top-reads`).
+-- automaton shadows an unquoted cell that begins like the byte order mark; it refuses only where the mark is complete (`top-reads`).
 use Prim.Native.Nat.{ℕ, suc}
 use mathlib.Core.Path.{_≡_, refl, ap, _∙_}
 use mathlib.Core.Bool.{Bool, true, false}
@@ -93,7 +93,7 @@ module _ (s : Settings) where
   records-table (last r e) = header-alone (record-header r) e
   records-table (next r e k) = header-then (record-header r) e k
 
-  -- ---- what is derived is read
+  -- ---- a derived file is read
 
   after-lf : afterCell (CsvPlus s) true LF ≡ To Begin (Ends true)
   unfolding afterCell if_then_else_
@@ -199,7 +199,7 @@ module _ (s : Settings) where
   pub file-reads : {xs : Bytes} {ls : List (Line Derived)} (k : File s xs ls) → Runs (CsvPlus s) Top 0 0 xs (map spelling ls) (plusFile s k)
   file-reads (file n k) = rw (← (table-placed 0 k)) (top-reads n (records-read 0 (table-records k)))
 
-  -- ---- what is read is derived
+  -- ---- a file that is read is derived
 
   -- where a record may begin
   data Rows : Bytes → List (Line Bytes) → Type 0 where

@@ -1,5 +1,5 @@
--- A whole cell stops at every byte that may follow a cell: a delimiter, CR and LF, and in CSVJ a space or a tab, since
--- no cell of CSVJ is plain (`Reached`).
+-- A whole cell stops at every byte that may follow a cell: a delimiter, CR and LF, and in CSVJ a space or a tab, since no cell of
+-- CSVJ is unquoted text (`Reached`).
 use Prim.Native.Nat.{ℕ}
 use mathlib.Core.Path.{_≡_, refl}
 use mathlib.Core.Bool.{true, false, _||_}
@@ -51,7 +51,7 @@ not-in-cell by-tab = record { quote = refl; digit = refl; point = refl; e = refl
 
 -- ---- states that are reached
 
--- in CSVJ no cell is plain
+-- in CSVJ no cell is unquoted text
 abbrev pub Reached : Dialect → Cell → Type 0
 Reached Csvj Fresh = Unit {0}
 Reached Csvj (Quoted c) = Unit {0}
@@ -144,7 +144,7 @@ numeral-stops d E b w k = impossible w
 numeral-stops d ESign b w k = impossible w
 numeral-stops d Exponent b w k = rw (k .digit)
 
--- where a cell may be plain, blanks separate nothing
+-- where a cell may be unquoted text, blanks separate nothing
 separator-test : {d : Dialect} {b : ℕ} → Reached d (Plain Whole) → Separates d b → (b is delimiterOf d || b is CR || b is LF) ≡ true
 separator-test r (by-delimiter {d}) = rw (same-byte (delimiterOf d))
 separator-test r (by-cr {d}) = cr-separates d

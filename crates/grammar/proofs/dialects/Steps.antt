@@ -1,4 +1,4 @@
--- Reading by form, a byte at a time: what a byte's step says of the records that it and the bytes after it give.
+-- Reading by form, a byte at a time: the records that a byte and the bytes after it give, by the byte's step.
 use Prim.Native.Nat.{ℕ}
 use mathlib.Core.Path.{_≡_, refl, ap}
 use mathlib.Core.Bool.{true, false}
@@ -18,7 +18,7 @@ pub data Finishes : Ending → List (Line Bytes) → Type 0 where
   clean : Finishes Clean []
   final : Finishes Final (line [] ([] ∷ []) ∷ [])
 
--- what a byte's step gives, where K f ls says that the bytes after it, read on from f, give ls
+-- the lines that a byte's step gives, where K f ls says that the bytes after it, read on from f, give ls
 pub data Takes (K : FileState → List (Line Bytes) → Type 0) (b : ℕ) : Step → List (Line Bytes) → Type 0 where
   outside : {f : FileState} {ls : List (Line Bytes)} → K f ls → Takes K b (To f Outside) ls
   passed : {f : FileState} {ls : List (Line Bytes)} → K f ls → Takes K b (To f Passed) ls
@@ -61,7 +61,7 @@ first-byte K k (reading.ends-closing {g} {ls} e r) = rw e (ends-closing (k g ls 
 pub cut-off : {A : Type 0} {ls : List (Line Bytes)} → Finishes Cut ls → A
 cut-off = elim [ ]
 
--- what holds at the end of a file, and before a byte if it holds after it, holds of what is read
+-- a property that holds at the end of a file, and before a byte if it holds after it, holds of all that is read
 pub by-bytes :
     (d : Dialect) (P : FileState → Bytes → List (Line Bytes) → Type 0) →
     ((f : FileState) (ls : List (Line Bytes)) → Finishes (fileEnd d f) ls → P f [] ls) →

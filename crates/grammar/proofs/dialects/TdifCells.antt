@@ -22,7 +22,7 @@ use Rattle.grammar.proofs.rfc.Chars.{data-long, long-data}
 use Rattle.grammar.proofs.rfc.Spelling.{Spells, whole, byte, DerivedFrom, derived-from, last-letter}
 use Rattle.grammar.proofs.rfc.Doubled.{Doubled, no-char, ascii-char, long-char, two-quotes as doubled-quotes, doubled-spells, Closing, closing, spells-doubled, doubled-content}
 
--- ---- what stands between the quotes is doubled text
+-- ---- the bytes between the quotes are doubled text
 
 inner-doubled : {bs ts : Bytes} → Inner bs ts → Doubled QUOTE bs ts
 inner-doubled nothing = no-char

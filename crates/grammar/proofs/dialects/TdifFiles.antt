@@ -47,7 +47,7 @@ cells-fields : {text : Bytes} {cells : List Bytes} → Cells Tdif text cells →
 cells-fields (one-cell {raw} m) = field (spells-derived Tdif raw m)
 cells-fields (more-cells {raw} m n) = fields (spells-derived Tdif raw m) comma (cells-fields n)
 
--- ---- what is derived is read
+-- ---- a derived file is read
 
 -- where a line may begin
 data Opening : FileState → Type 0 where
@@ -158,7 +158,7 @@ file-reads k = go 0 k Top at-top
     go o (comment-first {cs} c k) = comment-reads c (go (past cs o) k)
     go o (header-first {bs} (header r) k) = record-reads o r (lines-read (past bs o) k)
 
--- ---- what is read is derived
+-- ---- a file that is read is derived
 
 abbrev DerivedLines : Bytes → List (Line Bytes) → Type 0
 DerivedLines xs ls = tdif.Lines xs (map (decodedLine Tdif) ls)

@@ -1,5 +1,6 @@
--- The characters of RFC 3629 are exactly what takes the table's automaton from one whole character to the next. A first byte opens a
--- row of the table (`row-first`), the bytes after it finish the character (`Finishes`), and each row is a production of the RFC.
+-- The characters of RFC 3629 are exactly the bytes that take the table's automaton from one whole character to the next. A first byte
+-- selects a row of the table (`row-first`), the bytes after it finish the character (`Finishes`), and each row is a production of the
+-- RFC.
 use Prim.Native.Nat.{ℕ, _≤_, _<_}
 use native.Mathlib.Omega.{arith}
 use mathlib.Core.Path.{_≡_, refl, sym}
@@ -14,7 +15,7 @@ use Rattle.grammar.specs.rfc.Rfc5234.{_from_to_}
 use Rattle.grammar.specs.rfc.Rfc3629.{UTF8-tail, tail, c2-df, UTF8-3, e0, e1-ec, ed, ee-ef, UTF8-4, f0, f1-f3, f4, UTF8-data, of-two, of-three, of-four}
 use Rattle.grammar.proofs.rfc.Ranges.{range, within-range, range-within, above-within}
 
--- ---- what a step of a character says
+-- ---- the steps of a character
 
 -- bytes that finish a character
 pub data Finishes : Char → Bytes → Type 0 where
@@ -80,7 +81,7 @@ data-long (of-four (f0 b c d)) = row-long F0 (just 0xF0) b (two-more c d)
 data-long (of-four (f1-f3 a (tail b) c d)) = row-long F1ToF3 a b (two-more c d)
 data-long (of-four (f4 b c d)) = row-long F4 (just 0xF4) b (two-more c d)
 
--- ---- what is read is of a production
+-- ---- the bytes read are of a production
 
 data Tail : Bytes → Type 0 where
   a-tail : {b : ℕ} → UTF8-tail b → Tail (b ∷ [])

@@ -1,5 +1,5 @@
 -- Text between quotes with quotes doubled, as TDIF and CSV+ have it, over the quote: what the automaton reads after the opening quote
--- is exactly a list of characters and doubled quotes and then one quote, and what they stand for is what the decoder undoubles.
+-- is exactly a list of characters and doubled quotes and then one quote, and what they denote is what the decoder undoubles.
 use Prim.Native.Nat.{ℕ, _≤_}
 use native.Mathlib.Omega.{arith}
 use mathlib.Core.Path.{_≡_, refl, sym, ap, _∙_}
@@ -19,7 +19,7 @@ use Rattle.model.proofs.cell_laws.CellContent.{no-stop, same-more, char-on, Dou
 use Rattle.grammar.proofs.rfc.Chars.{Finishes, finished, finishing, Long, long, whole-ascii, first-high}
 use Rattle.grammar.proofs.rfc.Spelling.{Spells, whole, byte, TextState, long-spells}
 
--- characters and doubled quotes, and what they stand for
+-- characters and doubled quotes, and the content that they denote
 pub data Doubled (q : ℕ) : (raw content : Bytes) → Type 0 where
   no-char : Doubled q [] []
   ascii-char : {b : ℕ} {bs ts : Bytes} → b ≤ 0x7F → b ≢ q → Doubled q bs ts → Doubled q (b ∷ bs) (b ∷ ts)
@@ -46,7 +46,7 @@ module _ {d : Dialect} (k : Doubles d) where
   at-high : (b : ℕ) → 0x80 ≤ b → cellStep d (Quoted Whole) b ≡ textByte Quoted (charStep Whole b)
   at-high b h = let q : quoteOf d ≤ 0x7F = quote-ascii d in at-other b (λ e. omega arith)
 
-  -- ---- what is derived is read
+  -- ---- derived text is read
 
   pub doubled-spells : {bs ts : Bytes} → Doubled (quoteOf d) bs ts → Spells d (Quoted Whole) (bs ++ (quoteOf d ∷ []))
   unfolding isWhole
@@ -56,7 +56,7 @@ module _ {d : Dialect} (k : Doubles d) where
       rw (append-assoc cs bs (quoteOf d ∷ [])) (long-spells (quoted-state d) at-high l (doubled-spells m))
   doubled-spells (two-quotes m) = byte at-quote (byte again (doubled-spells m))
 
-  -- ---- what is read is derived
+  -- ---- text that is read is derived
 
   -- what is still to come in quotes
   data Open : Cell → Bytes → Type 0 where
@@ -125,7 +125,7 @@ spells-doubled {d} k {xs} m = go (spells-open k m (in-quoted Whole))
     go : {xs : Bytes} → Open k (Quoted Whole) xs → Closing (quoteOf d) xs
     go (open-quoted finished m) = closing m
 
--- ---- what it stands for
+-- ---- the content it denotes
 
 module _ (q : ℕ) (a : q ≤ 0x7F) where
   undouble-other : (b : ℕ) (bs : Bytes) → b ≢ q → undouble q false (b ∷ bs) ≡ b ∷ undouble q false bs

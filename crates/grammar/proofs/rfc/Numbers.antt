@@ -1,5 +1,5 @@
--- The numbers of RFC 8259 are exactly what the automaton reads as a number. Each of its states says which parts of `number` are still to
--- come (`NumberRest`).
+-- The numbers of RFC 8259 are exactly what the automaton reads as a number. Each of its states determines which parts of `number` are
+-- still to come (`NumberRest`).
 use Prim.Native.Nat.{ℕ, _≤_, _<_}
 use native.Mathlib.Omega.{arith}
 use mathlib.Core.Path.{_≡_, refl, sym, ap, _∙_}
@@ -36,7 +36,7 @@ digits-spell : {n : Numeral} {bs ys : Bytes} → Loops n → Digits bs → Spell
 digits-spell l no-digit k = k
 digits-spell l (digit r ds) k = byte (loop-digit l r) (digits-spell l ds k)
 
--- the states that want a digit, and where it leads
+-- the states that need a digit, and the state after it
 data Wants : Numeral → Numeral → Type 0 where
   after-point : Wants Point Fraction
   after-e : Wants types.E Exponent
@@ -146,7 +146,7 @@ unfolding cellStep firstByte if_then_else_
 number-spells (number no-minus i f e) = int-spells int-fresh i f e
 number-spells (number (a-minus minus) i f e) = byte refl (int-spells int-minus i f e)
 
--- ---- what is read is a number
+-- ---- the bytes read are a number
 
 -- what is still to come of a number
 pub data NumberRest : Numeral → Bytes → Type 0 where
@@ -279,7 +279,7 @@ rest-nought (rest-zero f e) = number no-minus (a-zero zero) f e
 pub rest-positive : {b : ℕ} {bs : Bytes} → b from 0x31 to 0x39 → NumberRest Integer bs → Number (b ∷ bs)
 rest-positive r (rest-integer ds f e) = number no-minus (nonzero (digit1-9 r) ds) f e
 
--- ---- what it stands for
+-- ---- the content of a number
 
 -- a number begins with a minus or a digit
 pub data NumberFirst : Bytes → Type 0 where

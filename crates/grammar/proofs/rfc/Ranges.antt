@@ -11,7 +11,7 @@ use Rattle.grammar.specs.rfc.Rfc5234.{_from_to_}
 pub range : {b lo hi : ℕ} → lo ≤ b → b ≤ hi → b from lo to hi
 range h k = record { low = h; high = k }
 
--- the test says what the range does
+-- the test holds exactly in the range
 pub within-range : (lo hi b : ℕ) → within lo hi b ≡ true → b from lo to hi
 within-range lo hi b e = let w = within-true lo hi b e in range (w .0) (w .1)
 

@@ -1,5 +1,5 @@
--- Bytes that take the cell automaton from a state to a whole cell. From a fresh cell they are the raw cells that the decoder finds
--- sound (`spells-validated`, `validated-spells`); in a text they go by characters (`long-spells`); a word has one spelling.
+-- Bytes that take the cell automaton from a state to a whole cell. From a fresh cell they are the raw cells that the decoder accepts
+-- (`spells-validated`, `validated-spells`); in a text they are characters (`long-spells`); each word has one such list of bytes.
 use Prim.Native.Nat.{ℕ, _≤_}
 use mathlib.Core.Path.{_≡_, refl, ap, _∙_}
 use mathlib.Core.Bool.{Bool, true, false}

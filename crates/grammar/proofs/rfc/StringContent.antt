@@ -1,6 +1,6 @@
--- What a string of RFC 8259 stands for is what the decoder makes of it: its chars are the decoder's units (`chars-units`), the octets of
--- a code point are `pack` (`octets-pack`), and pairs are joined in the same places (`content-text`). Every list of chars stands for
--- something (`has-content`).
+-- The content of a string of RFC 8259 is what the decoder returns for it: its chars are the decoder's units (`chars-units`), the
+-- octets of a code point are `pack` (`octets-pack`), and pairs are joined in the same places (`content-text`). Every list of chars
+-- denotes some content (`has-content`).
 use Prim.Native.Nat.{ℕ, _+_, _*_, _/_, _%_, _≤_, _<_}
 use native.Mathlib.Omega.{arith}
 use mathlib.Core.Path.{_≡_, refl, sym, ap, _∙_}
@@ -166,7 +166,7 @@ chars-items : {bs : Bytes} {us : List Item} → Chars bs us → Items us
 chars-items no-char = no-item
 chars-items (char c k) = char-items c (chars-items k)
 
--- ---- what they stand for
+-- ---- the content they denote
 
 octets-text : (cs : Bytes) (us : List Unit16) → textOf (map decode.byte cs ++ us) ≡ cs ++ textOf us
 unfolding textOf
@@ -207,7 +207,7 @@ content-text (paired {h} {l} {us} p o c) k =
     rw (octets-pack o) (pair-text h l (unitsOf us) (pair-of p) ∙ ap (λ t. pack (joined h l) ++ t) (content-text c (tail-items (tail-items k))))
 content-text (single {u} n o c) k = rw (octets-pack o) (lone-text u (tail-items k) n ∙ ap (λ t. pack u ++ t) (content-text c (tail-items k)))
 
--- ---- every list of items stands for something
+-- ---- every list of items denotes some content
 
 data HasContent (us : List Item) : Type 0 where
   has-content-of : {ts : Bytes} → Content us ts → HasContent us

@@ -1,5 +1,5 @@
--- The strings of RFC 8259 are exactly what the automaton reads in quotes of CSVJ: each of its states says which part of a char is still
--- to come (`StringRest`).
+-- The strings of RFC 8259 are exactly what the automaton reads in quotes of CSVJ: each of its states determines which part of a char
+-- is still to come (`StringRest`).
 use Prim.Native.Nat.{ℕ, _≤_, _<_}
 use native.Mathlib.Omega.{arith}
 use mathlib.Core.Path.{_≡_, refl, ap, _∙_}
@@ -68,7 +68,7 @@ unfolding cellStep quotedByte isWhole if_then_else_
 chars-spell no-char = byte refl (whole refl)
 chars-spell (char {cs} {bs} c k) = rw (append-assoc cs bs (QUOTE ∷ [])) (char-spells c (chars-spell k))
 
--- ---- what is read is a string
+-- ---- the bytes read are a string
 
 -- the digits that are still to come
 data Hexes : HexLeft → Bytes → Type 0 where

@@ -19,8 +19,8 @@ pub data BeginsWithBom : Bytes → Type 0 where
 
 module _ (s : Settings) where
   mutual
-    -- file = [header CRLF] record *(CRLF record) [CRLF]. The rules depart: the header stands and the records may be none (§2.1),
-    -- and the file does not begin with the mark (§5.9)
+    -- file = [header CRLF] record *(CRLF record) [CRLF]. The rules depart: the header is required and the records may be none (§2.1),
+    -- and the file does not begin with the byte order mark (§5.9)
     pub data File : Bytes → List (Line Derived) → Type 0 where
       file : {xs : Bytes} {ls : List (Line Derived)} → ¬ BeginsWithBom xs → Table xs ls → File xs ls
 
@@ -35,7 +35,7 @@ module _ (s : Settings) where
           {text es xs : Bytes} {cells : List Derived} {ls : List (Line Derived)} → Header text cells → CRLF es → Records xs ls →
           Table (text ++ (es ++ xs)) (line text cells ∷ ls)
 
-    -- record *(CRLF record) [CRLF], with the same said of its end
+    -- record *(CRLF record) [CRLF], with the same departure at its end
     pub data Records : Bytes → List (Line Derived) → Type 0 where
       unended : {b : ℕ} {text : Bytes} {cells : List Derived} → Record (b ∷ text) cells → Records (b ∷ text) (line (b ∷ text) cells ∷ [])
       last : {text es : Bytes} {cells : List Derived} → Record text cells → CRLF es → Records (text ++ es) (line text cells ∷ [])
@@ -61,7 +61,7 @@ module _ (s : Settings) where
     pub data Name : Derived → Type 0 where
       name : {c : Derived} → Field c → Name c
 
-    -- field = (escaped / non-escaped). Spaces belong to the field, and none stands beside an escaped one (§5.8)
+    -- field = (escaped / non-escaped). Spaces belong to the field, and none is beside an escaped one (§5.8)
     pub data Field : Derived → Type 0 where
       an-escaped : {bs ts : Bytes} → Escaped bs ts → Field (cell bs types.Text ts)
       a-non-escaped : {bs : Bytes} → Non-escaped bs → Field (cell bs types.Text bs)
@@ -70,7 +70,7 @@ module _ (s : Settings) where
     pub data Escaped : (raw content : Bytes) → Type 0 where
       escaped : {q r : ℕ} {bs ts : Bytes} → DQUOTE q → Inner bs ts → DQUOTE r → Escaped (q ∷ (bs ++ (r ∷ []))) ts
 
-    -- *(TEXTDATA / COMMA / CR / LF / 2DQUOTE), and what it stands for: two quotes for one (§5.4)
+    -- *(TEXTDATA / COMMA / CR / LF / 2DQUOTE), and the content that it denotes: two quotes are one (§5.4)
     pub data Inner : (raw content : Bytes) → Type 0 where
       nothing : Inner [] []
       inner-textdata : {cs bs ts : Bytes} → TEXTDATA cs → Inner bs ts → Inner (cs ++ bs) (cs ++ ts)

@@ -10,8 +10,8 @@ use Rattle.grammar.specs.rfc.Derived.{Derived, cell}
 use Rattle.grammar.specs.rfc.Derived as derived
 
 mutual
-  -- The file, with or without a mark. The page says so beside its ABNF: a parser "may ignore one if present at the start of input";
-  -- here it is passed over (§3.8)
+  -- The file, with or without a byte order mark. The page says so beside its ABNF: a parser "may ignore one if present at the start
+  -- of input"; here it is skipped (§3.8)
   pub data File : Bytes → List (derived.Line Derived) → Type 0 where
     unmarked : {xs : Bytes} {ls : List (derived.Line Derived)} → Csvj-file xs ls → File xs ls
     marked : {xs : Bytes} {ls : List (derived.Line Derived)} → Csvj-file xs ls → File (0xEF ∷ 0xBB ∷ 0xBF ∷ xs) ls

@@ -1,4 +1,4 @@
--- Reading by form alone: what the automaton of model makes of a file's bytes, without limits and record checks.
+-- Reading by form alone: the records that the automaton of model gives for a file's bytes, without limits and record checks.
 use Prim.Native.Nat.{ℕ}
 use mathlib.Core.Path.{_≡_}
 use mathlib.Core.Bool.{true, false}
@@ -9,8 +9,8 @@ use Rattle.model.specs.rules.File.{fileStep, fileEnd}
 use Rattle.model.specs.rules.Decode.{kindOf, contentOf}
 use Rattle.grammar.specs.rfc.Derived.{Derived, cell, Line, line}
 
--- Read on from where the file stands, the bytes give these records up to the file's end. The first line is the rest of the record in
--- hand, if one is, and its first cell the rest of the current cell.
+-- Read on from this state of the file, the bytes give these records up to the file's end. The first line is the rest of the current
+-- record, if there is one, and its first cell the rest of the current cell.
 pub data Reads (d : Dialect) : FileState → Bytes → List (Line Bytes) → Type 0 where
   ends-clean : {f : FileState} → fileEnd d f ≡ Clean → Reads d f [] []
   ends-final : {f : FileState} → fileEnd d f ≡ Final → Reads d f [] (line [] ([] ∷ []) ∷ [])

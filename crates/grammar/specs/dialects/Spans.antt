@@ -1,5 +1,5 @@
--- Where each cell of a derivation stands in the file. One position runs through the derivation's texts, in their order: the mark, comments,
--- blanks, cells, what separates them, and the endings of records.
+-- Where each cell of a derivation lies in the file. One position runs through the derivation's texts, in their order: the byte order
+-- mark, comments, blanks, cells, what separates them, and the endings of records.
 use Prim.Native.Nat.{ℕ, suc}
 use mathlib.Core.List.{List, [], _∷_, map}
 use Rattle.grammar.specs.rfc.Types.{Settings, Dialect, Csvj, Tdif, CsvPlus}
@@ -49,7 +49,7 @@ csvjLines o (csvj.a-line {bs} (csvj.data-line l) ls) = csvjLine o l ∷ csvjLine
 abbrev pub csvjTable : ℕ → {xs : Bytes} {ls : List (Line Derived)} → csvj.Csvj-file xs ls → List (List Span)
 csvjTable o (csvj.csvj-file {bs} (csvj.header-line l) ls) = csvjLine o l ∷ csvjLines (past bs o) ls
 
--- the mark has three bytes
+-- the byte order mark has three bytes
 abbrev pub csvjFile : {xs : Bytes} {ls : List (Line Derived)} → csvj.File xs ls → List (List Span)
 csvjFile (csvj.unmarked t) = csvjTable 0 t
 csvjFile (csvj.marked t) = csvjTable 3 t
@@ -99,13 +99,13 @@ module _ (s : Settings) where
 
 -- ---- over the dialect
 
--- the stretches of a derivation's cells, record by record
+-- the spans of a derivation's cells, record by record
 abbrev pub stretches : (d : Dialect) (xs : Bytes) (ls : List (Line Derived)) → Derives d xs ls → List (List Span)
 stretches Csvj xs ls k = csvjFile k
 stretches Tdif xs ls k = tdifFile 0 k
 stretches (CsvPlus s) xs ls k = plusFile s k
 
--- the stretches of the cells that were read, record by record
+-- the spans of the cells that were read, record by record
 abbrev pub spanOf : Value → Span
 spanOf v = span (v .from) (v .upto)
 

@@ -45,7 +45,7 @@ mutual
   pub data Value : (raw content : Bytes) → Type 0 where
     value : {bs ts : Bytes} → Inner bs ts → Value (DQUOTE ∷ (bs ++ (DQUOTE ∷ []))) ts
 
-  -- *(textdata / 2DQUOTE), and what it stands for: two quotes for one (§4.4)
+  -- *(textdata / 2DQUOTE), and the content that it denotes: two quotes are one (§4.4)
   pub data Inner : (raw content : Bytes) → Type 0 where
     nothing : Inner [] []
     textdata : {cs bs ts : Bytes} → Textdata cs → Inner bs ts → Inner (cs ++ bs) (cs ++ ts)

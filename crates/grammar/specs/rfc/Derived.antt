@@ -3,7 +3,7 @@ use mathlib.Core.List.{List, [], _∷_, map}
 use Rattle.grammar.specs.rfc.Types.{Kind}
 use Rattle.model.specs.rules.Base.{Bytes}
 
--- a cell: its raw spelling, with its quotes, and its kind and content (§2.3 §10.3)
+-- a cell: its raw bytes, with its quotes, and its kind and content (§2.3 §10.3)
 pub data Derived : Type 0 where
   cell : (raw : Bytes) (kind : Kind) (content : Bytes) → Derived
 
@@ -30,7 +30,7 @@ cellsIn (line text cells) = cells
 unfoldable pub spelling : Line Derived → Line Bytes
 spelling (line text cells) = line text (map rawOf cells)
 
--- ---- of every element, and of the elements of two lists in turn
+-- ---- of every element, and of the elements of two lists pairwise
 
 pub data Every {A : Type 0} (P : A → Type 0) : List A → Type 0 where
   every-none : Every P []

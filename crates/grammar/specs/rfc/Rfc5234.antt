@@ -1,8 +1,8 @@
 -- The notation of RFC 5234 (ABNF) and, of its core rules (appendix B.1), those that the grammars use, in its order. A production is a
 -- predicate of the bytes that it derives; where the bytes have a meaning, of that too. Two productions one after the other derive the
--- bytes of the one and then of the other (`++`), and a choice ("/") is a constructor for each side. What a production repeats or leaves
--- out at will, `*P`, `1*P` and `[ P ]`, has a type of its own directly after it. A grammar is one `mutual` block, so its productions
--- stand in the order of their source.
+-- bytes of the one and then of the other (`++`), and a choice ("/") is a constructor for each side. What a production repeats or
+-- leaves out at will, `*P`, `1*P` and `[ P ]`, has a type of its own directly after it. A grammar is one `mutual` block, so its
+-- productions are in the order of their source.
 use Prim.Native.Nat.{ℕ, _≤_, _-_}
 use mathlib.Core.List.{[], _∷_}
 use Rattle.model.specs.rules.Base.{Bytes}
@@ -38,7 +38,7 @@ pub data SomeDigits : Bytes → Type 0 where
 abbrev pub DQUOTE : ℕ
 DQUOTE = 0x22
 
--- HEXDIG = DIGIT / "A" / "B" / "C" / "D" / "E" / "F", where a quoted letter stands for both cases; and its value
+-- HEXDIG = DIGIT / "A" / "B" / "C" / "D" / "E" / "F", where a quoted letter denotes both cases; and its value
 pub data HEXDIG : (b value : ℕ) → Type 0 where
   decimal : {b : ℕ} → DIGIT b → HEXDIG b (b - 0x30)
   upper : {b : ℕ} → b from 0x41 to 0x46 → HEXDIG b (b - 0x37)

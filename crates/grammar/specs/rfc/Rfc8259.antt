@@ -1,12 +1,12 @@
--- JSON's literals, numbers and strings by RFC 8259, sections 3, 6 and 7, production by production in its order. Before them, since the
--- RFC has it in prose, what a string's chars stand for.
+-- JSON's literals, numbers and strings by RFC 8259, sections 3, 6 and 7, production by production in its order. Before them, since
+-- the RFC has it in prose, the content that a string's chars denote.
 use Prim.Native.Nat.{ℕ, _+_, _-_, _*_}
 use mathlib.Core.List.{List, [], _∷_, _++_}
 use Rattle.model.specs.rules.Base.{Bytes}
 use Rattle.grammar.specs.rfc.Rfc5234.{_from_to_, Digits, SomeDigits, HEXDIG}
 use Rattle.grammar.specs.rfc.Rfc3629.{UTF8-data, Octets}
 
--- ---- what chars stand for
+-- ---- the content of chars
 
 -- a char: octets, or the code unit that \u names
 pub data Item : Type 0 where

@@ -1,4 +1,4 @@
--- The content of a sound cell of TDIF and CSV+ is UTF-8, and so is a number's spelling in CSVJ.
+-- The content of an accepted cell of TDIF and CSV+ is UTF-8, and so is a number of CSVJ.
 use Prim.Native.Nat.{ℕ, _≤_}
 use native.Mathlib.Omega.{arith}
 use mathlib.Core.Path.{_≡_, refl, sym, _∙_}
@@ -26,7 +26,7 @@ no-stop e = let z : _≡_ {A = ℕ} 0 1 = cc in absurd (omega arith)
 pub same-more : {x y : Cell} → More x ≡ More y → x ≡ y
 same-more e = cc
 
--- a byte of text goes on with a character
+-- a byte of text continues a character
 pub record CharOn (f : Char → Cell) (c : Char) (b : ℕ) (c′ : Cell) : Type 0 where
   pub char : Char
   pub step : charStep c b ≡ On char
@@ -119,7 +119,7 @@ module _ (d : Dialect) (k : Doubles d) where
   undoubled (in-quoted {c = Within i}) (there {c′} {b} {bs} x r) w = un-quoted (quoted-inner i b c′ bs x (undoubled (stays b in-quoted x) r w))
   undoubled in-closed (there {c′} {b} {bs} x r) w = un-closed (closed-next b c′ bs x (undoubled (stays b in-closed x) r w))
 
--- ---- plain cells of CSV+
+-- ---- unquoted cells of CSV+
 
 module _ (s : Settings) where
   data InPlain : Cell → Bytes → Type 0 where
@@ -128,7 +128,7 @@ module _ (s : Settings) where
   plain-text : {c : Char} {bs : Bytes} → InPlain (Plain c) bs → textFrom c bs ≡ true
   plain-text (in-plain e) = e
 
-  -- a plain cell's byte is a byte of text
+  -- a byte of an unquoted cell is a byte of text
   plain-byte : (c : Char) (b : ℕ) (c′ : Cell) → cellStep (CsvPlus s) (Plain c) b ≡ More c′ → CharOn Plain c b c′
   unfolding cellStep plainByte if_then_else_
   plain-byte (Within i) b c′ e = char-on Plain (Within i) b c′ e

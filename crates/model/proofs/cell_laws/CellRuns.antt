@@ -1,4 +1,4 @@
--- Runs of a cell's bytes: a run to a whole cell is what the decoder finds sound (`runs-sound`, `sound-runs`).
+-- Runs of a cell's bytes: the decoder accepts exactly the runs to a whole cell (`runs-sound`, `sound-runs`).
 use Prim.Native.Nat.{ℕ, suc}
 use native.Mathlib.Omega.{arith}
 use mathlib.Core.Path.{_≡_, refl}
@@ -15,7 +15,7 @@ pub use Rattle.model.specs.rules.Cell.{Runs, here, there}
 use Rattle.model.specs.rules.Decode.{validateFrom}
 use Rattle.model.specs.laws.Laws.{All, all-none, all-cons}
 
--- ---- a cell that begins like the mark
+-- ---- a cell that begins like the byte order mark
 
 -- EF is no delimiter and no quote
 pub bom-cell : (s : Settings) → cellStep (CsvPlus s) Fresh 0xEF ≡ More (Plain (Within (Second EeToEf)))

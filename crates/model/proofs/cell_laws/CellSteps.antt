@@ -1,6 +1,6 @@
--- Every step of a cell by what it is: one walk over `cellStep`. A cell stops only where it is whole, and a byte is refused as
--- fault 2 exactly where it breaks the UTF-8 table of a text it stands in. A quote, a delimiter, CR and LF never break it: they
--- are ASCII.
+-- Every step of a cell by its kind, in one case analysis of `cellStep`. A cell stops only where it is whole, and a byte is refused as
+-- fault 2 exactly where it breaks the UTF-8 table of a text it belongs to. A quote, a delimiter, CR and LF never break it: they are
+-- ASCII.
 use Prim.Native.Nat.{ℕ, _≤_, _<_}
 use native.Mathlib.Omega.{arith}
 use mathlib.Core.Path.{_≡_, refl, ap}
@@ -31,7 +31,7 @@ text-takes : {d : Dialect} {c : Cell} (f : Char → Cell) (o : Advance) → Cell
 text-takes f (On c) = takes-more
 text-takes f Broken = takes-two
 
--- the same of a byte that the table takes
+-- the same of a byte that the table allows
 ascii-takes : {d : Dialect} {c : Cell} (b : ℕ) {a : CellStep} → b ≤ 0x7F → CellTransition d c false a → CellTransition d c (isBroken (charStep Whole b)) a
 ascii-takes b h k = rw (broken-not b h) k
 

@@ -1,5 +1,5 @@
--- The current cell: each byte of a file either goes on with it or leaves none, and closes only a whole one (`step-fits`); the end
--- of the file completes a record only after a whole cell (`file-ends`).
+-- The current cell: each byte of a file either continues it or leaves none, and closes only a whole one (`step-fits`); the end of the
+-- file completes a record only after a whole cell (`file-ends`).
 use Prim.Native.Nat.{ℕ}
 use mathlib.Core.Path.{_≡_, refl}
 use mathlib.Core.Bool.{Bool, true, false}
@@ -20,7 +20,7 @@ abbrev pub Closes : Dialect → Cell → Bool → Type 0
 Closes d c true = isWhole d c ≡ true
 Closes d c false = Unit {0}
 
--- a byte of a cell goes on with the current cell; any other leaves none, and closes only a whole one
+-- a byte of a cell continues the current cell; any other leaves none, and closes only a whole one
 pub data Fits (d : Dialect) (c : Cell) (b : ℕ) : Step → Type 0 where
   rejects : {e : ByteFault} → Fits d c b (Reject e)
   leaves : {f : FileState} → cellAt f ≡ Fresh → Fits d c b (To f Outside)

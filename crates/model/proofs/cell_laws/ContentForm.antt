@@ -1,4 +1,4 @@
--- The content of every cell that the decoder finds sound has the document's form, over the dialect.
+-- The content of every cell that the decoder accepts has the form that the rules give it, over the dialect.
 use Prim.Native.Nat.{ℕ}
 use mathlib.Core.Path.{_≡_, refl, _∙_}
 use mathlib.Core.Bool.{Bool, true, false, _||_}

@@ -1,4 +1,4 @@
--- Fault 2 is given exactly where a byte breaks the UTF-8 table of a text it stands in (`encoding-iff`), so fault 3 is not
+-- Fault 2 is given exactly where a byte breaks the UTF-8 table of a text it belongs to (`encoding-iff`), so fault 3 is not
 -- (`syntax-whole`).
 use Prim.Native.Nat.{ℕ}
 use native.Mathlib.Omega.{arith}

@@ -1,6 +1,6 @@
--- The content of a sound CSVJ string has the document's form. A code unit's bytes, and a joined pair's, take content from gap to gap
--- (`unit-run`, `pair-run`); so does every list of code units in which no low surrogate is left after a high one (`good-content`);
--- and what stands between the quotes of a sound string is such a list (`json-units`).
+-- The content of an accepted CSVJ string has the form that the rules give it. A code unit's bytes, and a joined pair's, take content
+-- from gap to gap (`unit-run`, `pair-run`); so does every list of code units in which no low surrogate is left after a high one
+-- (`good-content`); and the units between the quotes of an accepted string are such a list (`json-units`).
 use Prim.Native.Nat.{ℕ, _+_, _*_, _/_, _%_, _≤_, _<_}
 use native.Mathlib.Omega.{arith}
 use mathlib.Core.Path.{_≡_, refl, sym, ap, _∙_}
@@ -313,7 +313,7 @@ good-content (g-unit {u} m (g-byte {b} {us} e g)) w (near-gap {h}) f = unit-fine
 good-content (g-unit {u} m (g-unit {u = l} {us} k g)) w (near-gap {h}) f =
     unit-fine h u (unit l ∷ us) m f (λ x y. good-content (g-unit k g) (gap x) near-gap y) (λ x y. good-content g (gap x) near-gap y)
 
--- ---- what stands between the quotes
+-- ---- the units between the quotes
 
 -- the value of the digits read so far
 data Sofar : HexLeft → ℕ → Type 0 where

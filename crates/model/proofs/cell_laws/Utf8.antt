@@ -81,7 +81,7 @@ inner-no-quote d i b c e =
 
 -- ---- texts
 
--- what a text's first byte says
+-- what the first byte of a text shows
 pub data TextStep (c : Char) (b : ℕ) (bs : Bytes) : Type 0 where
   text-step : (c′ : Char) → charStep c b ≡ On c′ → textFrom c′ bs ≡ true → TextStep c b bs
 
@@ -100,7 +100,7 @@ text-more (Within i) c′ b bs e = rw (e, textFrom)
 
 -- ---- a text is content
 
--- content stands where its text does; ED alone is told apart
+-- the state of content next to the state of its text; ED alone is distinguished
 pub data Near : Char → Wide → Type 0 where
   near-gap : {h : Bool} → Near Whole (gap h)
   near-ed : {h : Bool} → Near (Within (Second Ed)) (ed h)

@@ -189,7 +189,7 @@ steady (steps.ends-cr t e p) = y-over
 pub step-steady : (d : Dialect) (f : FileState) (b : ℕ) → Steady f (fileStep d f b)
 step-steady d f b = steady (step-transition d f b)
 
--- where the end of the file completes a record no CR waits
+-- where the end of the file completes a record no CR is pending
 data EndsSteady (f : FileState) : Ending → Type 0 where
   e-clean : EndsSteady f Clean
   e-final : slack f ≡ 0 → EndsSteady f Final
@@ -217,7 +217,7 @@ end-steady d After = e-cut
 end-steady d Cr = e-cut
 
 module _ (d : Dialect) (target : Option Target) where
-  -- the cells in hand weigh no more than the bytes counted, and every complete record is bounded
+  -- the weight of the current cells is at most the bytes counted, and every complete record is bounded
   pub record Counted (r : Read) : Type 0 where
     pub sum : ℕ
     pub cells : Weighs d (r .cells) sum
@@ -228,7 +228,7 @@ module _ (d : Dialect) (target : Option Target) where
     c-going : {r : Read} → Counted r → CountedTo (going r)
     c-stopped : {e : Fault} {r : Read} → All BoundedRecord (r .done) → CountedTo (stopped e r)
 
-  -- the cells, with the one in hand
+  -- the cells, with the current one
   close-weighs : (r : Read) (k : Bool) (i : Counted r) → Weighs d (closing d k r) (i .sum + suc (length (r .raw)))
   close-weighs r true i = weigh-last (cellNow d r) (r .raw) (record { kind = refl; content = refl }) (i .cells)
   close-weighs r false i = weigh-more (omega arith) (i .cells)

@@ -1,4 +1,4 @@
--- What a verdict without a fault says of its checks, and of the limits of a record that the target carries.
+-- A check result without a fault: each of its checks holds, and so do the limits of a record that the target can represent.
 use Prim.Native.Nat.{ℕ, _+_, _≤_}
 use native.Mathlib.Omega.{arith}
 use mathlib.Core.Path.{_≡_, refl}

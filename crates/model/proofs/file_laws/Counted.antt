@@ -127,7 +127,7 @@ cell-break {b} {e} d (Plain (Within i)) q x k =
     absurd (omega arith)
 cell-break d Complete q x k = no-stop k
 
--- ---- what is counted
+-- ---- the bytes counted
 
 pub counted : (f : FileState) (b : ℕ) → b ≢ LF → b ≢ CR → counts f b ≡ true
 unfolding counts

@@ -1,5 +1,5 @@
--- Every step of a file by what it is: one walk over `fileStep`, from which the other families follow without a test. Beside the
--- states before and after it says of each byte whether the record counts it and whether it breaks a text.
+-- Every step of a file by its kind, in one case analysis of `fileStep`, from which the other families follow without a test. Beside
+-- the states before and after, it gives for each byte whether the record counts it and whether it breaks a text.
 use Prim.Native.Nat.{ℕ, _≤_}
 use native.Mathlib.Omega.{arith}
 use mathlib.Core.Path.{_≡_, refl, ap, _∙_}
@@ -28,7 +28,7 @@ pub data Rests : FileState → Type 0 where
   bom2 : Rests Bom2
   comment : {c : Char} → Rests (Comment c)
 
--- a comment may begin here, or goes on: between records, or in a state that TDIF never reads
+-- a comment may begin here, or continues: between records, or in a state that TDIF never reaches
 pub data Around : Dialect → FileState → Type 0 where
   rests : {d : Dialect} {f : FileState} → Rests f → Around d f
   unread : Around Tdif Blanks
@@ -89,7 +89,7 @@ pub data Next : FileState → Type 0 where
   n-begin : Next Begin
   n-ended : Next Ended
 
--- no cell is in hand, or the one in hand is whole and stops before the byte
+-- no cell is current, or the current one is whole and stops before the byte
 pub data Leaves (d : Dialect) (b : ℕ) (f : FileState) : Bool → Type 0 where
   none : Free f → Leaves d b f false
   stops : {c : Cell} → Holds f c → cellStep d c b ≡ Stop → isWhole d c ≡ true → Leaves d b f true
@@ -98,13 +98,13 @@ pub data Breaks (b : ℕ) : Type 0 where
   lf : (b is LF) ≡ true → Breaks b
   cr : (b is CR) ≡ true → Breaks b
 
--- what a step says of the text in which the byte stands: fault 2 exactly where it breaks the UTF-8 table
+-- fault 2 is given exactly where the byte breaks the UTF-8 table of the text that it belongs to
 pub data Reports : (breaks : Bool) → Step → Type 0 where
   reports-to : {f : FileState} {p : ByteRole} → Reports false (To f p)
   reports-two : Reports true (Reject Encoding)
   reports-three : Reports false (Reject Syntax)
 
--- the text in which the next byte stands takes this one, or there is none
+-- the text that the next byte belongs to allows this one, or there is none
 abbrev Fine : Dialect → FileState → ℕ → Type 0
 Fine d f b = breaks (textAt d f) b ≡ false
 
@@ -217,7 +217,7 @@ bom-two-fine = refl
 blank-ascii : (b : ℕ) → isBlank b ≡ true → b ≤ 0x7F
 blank-ascii b e = split-on (b is 0x20) (λ p. is-ascii b 0x20 (omega arith) p) λ p. is-ascii b 0x09 (omega arith) (rw p at e)
 
--- ---- the walk
+-- ---- the case analysis
 
 -- after a cell, or blanks after one
 module _ {f : FileState} (b : ℕ) where
@@ -262,7 +262,7 @@ comment-transition : {d : Dialect} (b : ℕ) (c : Char) (o : Advance) → charSt
 comment-transition b c Broken e = refuses {e = Encoding} (rw e reports-two)
 comment-transition b c (On x) e = outside (rw e) (rests comment) comment
 
--- a byte of the mark that is one of a plain cell is counted
+-- a byte of the byte order mark that belongs to an unquoted cell is counted
 high-counted : (f : FileState) (b n : ℕ) → 0x0E ≤ n → (b is n) ≡ true → counts f b ≡ true
 high-counted f b n h p = let z : b ≡ n = is→eq b n p in counted f b (λ y. omega arith) (λ y. omega arith)
 

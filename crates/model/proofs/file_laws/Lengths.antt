@@ -1,5 +1,5 @@
--- How long content and text are: content at most its raw cell, the text of a string at most 6 bytes for each of its content, doubled
--- text at most twice its content.
+-- The lengths of content and text: content is at most as long as its raw cell, the text of a string has at most 6 bytes for each byte
+-- of its content, doubled text is at most twice its content.
 use Prim.Native.Nat.{ℕ, suc, _+_, _*_, _≤_}
 use native.Mathlib.Omega.{arith}
 use mathlib.Core.Bool.{Bool, true, false}
@@ -63,7 +63,7 @@ digitsLeft Three = 3
 digitsLeft Two = 2
 digitsLeft One = 1
 
--- what the n bytes to come weigh, given what the bytes of an open escape have paid for
+-- a bound for the n bytes to come, less what the bytes of an open escape have already paid for
 abbrev Paid : InString → ℕ → ℕ → Type 0
 Paid between w n = w ≤ n
 Paid escape w n = w ≤ n + 1

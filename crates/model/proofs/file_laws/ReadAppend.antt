@@ -1,4 +1,4 @@
--- Reading goes on from where it stands (the append law), a fault stays whatever follows, and complete records stay.
+-- Reading continues from its state (the append law), a fault stays whatever follows, and complete records stay.
 use Prim.Native.Nat.{ℕ, suc}
 use mathlib.Core.Path.{_≡_, refl, sym, ap, _∙_}
 use mathlib.Core.Bool.{true}
@@ -27,7 +27,7 @@ module _ (d : Dialect) (target : Option Target) where
   read-stopped e r [] = refl
   read-stopped e r (y ∷ ys) = refl
 
-  -- a fault met on xs, with the records before it, is that of every file that begins with xs, cut or whole
+  -- a fault found in xs, with the records before it, is that of every file that begins with xs, cut or whole
   pub fault-stays : (e : Fault) (r : Read) (xs ys : Bytes) → readBytes d target xs ≡ stopped e r → readBytes d target (xs ++ ys) ≡ stopped e r
   unfolding readBytes
   fault-stays e r xs ys h = rw (read-append, h, read-stopped)

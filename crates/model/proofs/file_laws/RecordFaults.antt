@@ -1,4 +1,4 @@
--- The place of every fault of a complete record is the record's start: faults at a byte are of form alone.
+-- The offset of every fault of a complete record is the record's start: faults at a byte are of form alone.
 use Prim.Native.Nat.{ℕ, suc}
 use native.Mathlib.Omega.{arith}
 use mathlib.Core.Path.{_≡_, refl}
@@ -13,7 +13,7 @@ use Rattle.model.specs.rules.Report.{isAtByte}
 use Rattle.model.specs.rules.Records.{Rec, _orElse_, when, nameKey, repeatFrom, repeatFault, headerKindFrom, headerFault, dataFault, hasKind, losesSurrogate, uncarriedFrom, clashFault, targetFault, converting, recordFault}
 use Rattle.model.proofs.Tests.{split}
 
--- a verdict without a fault, or with one whose place is the record's start
+-- a check result without a fault, or with one whose offset is the record's start
 pub data OfRecord : CheckResult → Type 0 where
   of-sound : OfRecord Sound
   of-fault : {e : Fault} → isAtByte e ≡ false → OfRecord (Faulty e)

@@ -1,4 +1,4 @@
--- Laws of reading that go record by record: what every record keeps, and that an accepted file has a header.
+-- Induction over the records that are read: a property that every record preserves holds of all, and an accepted file has a header.
 use Prim.Native.Nat.{ℕ, suc}
 use native.Mathlib.Omega.{arith}
 use mathlib.Core.Path.{_≡_, refl}
@@ -12,7 +12,7 @@ use Rattle.model.specs.rules.Text.{Value}
 use Rattle.model.specs.rules.Records.{Rec, Read, Progress, going, stopped, nothingRead, readByte, readFrom, readBytes, readEnd, readFile, recordsOf, recordFault, move, complete, validated, closing, endBetween, endAt}
 use Rattle.model.proofs.Tests.{split}
 
--- ---- what every sound record keeps, all records keep
+-- ---- a property that every record preserves
 
 module _ (d : Dialect) (target : Option Target) (B : List Rec → Type 0) (one-more : (ds : List Rec) (x : Rec) → B ds → recordFault d target ds (x .cells) ≡ Sound → B (ds ++ (x ∷ []))) where
   validated-keeps : (r next : Read) (v : CheckResult) → (v ≡ Sound → B (next .done)) → B (r .done) → B (recordsOf (validated r next v))

@@ -1,6 +1,6 @@
--- The table of faults in its own words. After bytes that were read without fault, within the limits: the next byte is fault 2 or 3
--- exactly where no file goes on with it (`refused-file`), it is 2 exactly where it breaks the UTF-8 table of a text it stands in
--- (`encoding-file`), and so it is 3 exactly where it is neither (`syntax-file`).
+-- The table of faults as the rules define it. After bytes that were read without a fault, within the limits: the next byte is fault 2
+-- or 3 exactly where no file continues with it (`refused-file`), it is 2 exactly where it breaks the UTF-8 table of a text it belongs
+-- to (`encoding-file`), and so it is 3 exactly where it is neither (`syntax-file`).
 use Prim.Native.Nat.{ℕ, _<_}
 use native.Mathlib.Omega.{arith}
 use mathlib.Core.Path.{_≡_, refl, sym, ap, _∙_}
@@ -21,7 +21,7 @@ use Rattle.model.proofs.cell_laws.Encoding.{encoding-iff, syntax-whole}
 use Rattle.model.specs.rules.Report.{isAtByte}
 use Rattle.model.proofs.file_laws.RecordFaults.{OfRecord, of-sound, of-fault, fault-record}
 
--- ---- where a file stands is where its bytes lead, by form alone
+-- ---- the state of a file is the one that its bytes lead to, by form alone
 
 data Leads (d : Dialect) : FileState → Bytes → FileState → Type 0 where
   leads-here : {f : FileState} → Leads d f [] f
@@ -119,7 +119,7 @@ module _ (d : Dialect) (target : Option Target) where
     file-viable : CanGoOn d xs b → Viable d (r .state) b
     file-viable g = (g .0, completes-after (b ∷ (g .0)) (omega arith) (file-leads xs r read) (g .1))
 
-    -- fault 2 or 3, exactly where no file goes on with this byte
+    -- fault 2 or 3, exactly where no file continues with this byte
     pub refused-file : ((e : ByteFault) × (readBytes d target (xs ++ (b ∷ [])) ≡ stopped (Byte e) r)) ↔ ¬ (CanGoOn d xs b)
     refused-file =
         let v = refused-iff d (r .state) b in (
@@ -133,7 +133,7 @@ module _ (d : Dialect) (target : Option Target) where
         let v = encoding-iff d (r .state) b in
         (λ h. v .0 (refused Encoding h), λ t. rejected Encoding (v .1 t))
 
-    -- fault 3, exactly where no file goes on with it and it does not break the table
+    -- fault 3, exactly where no file continues with it and it does not break the table
     pub syntax-file : (readBytes d target (xs ++ (b ∷ [])) ≡ stopped (Byte Syntax) r) ↔ (¬ (CanGoOn d xs b) × (breaks (textAt d (r .state)) b ≡ false))
     syntax-file =
         let v = refused-file in

@@ -1,4 +1,4 @@
--- What a history says when more calls are added to it, and the ledger's answer by each of the four checks.
+-- A history with more calls appended, and the ledger's answer by each of the four checks.
 use Prim.Native.Nat.{ℕ}
 use native.Mathlib.Omega.{arith}
 use mathlib.Core.Path.{_≡_, refl, sym, ap, _∙_}

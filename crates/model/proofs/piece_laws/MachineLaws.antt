@@ -1,4 +1,4 @@
--- The ledger goes as the machine does.
+-- The ledger follows the machine of Machine: after any list of calls the stage gives the ledger's next answer.
 use Prim.Native.Nat.{ℕ}
 use mathlib.Core.Path.{_≡_, refl, sym, ap, _∙_}
 use mathlib.Core.Bool.{true, false}
@@ -28,7 +28,7 @@ module _ (d : Dialect) (t : Target) where
   abbrev pub textOf : Progress → Bytes
   textOf p = tableText t (rows (recordsOf p))
 
-  -- what a call sees, from where reading stands
+  -- what a call has read, from the reading state
   seen-from : (xs : Bytes) (r : Read) (c : Call) → readBytes d (some t) xs ≡ going r → seenBy d t c (xs ++ bytesOf c) ≡ seenFrom d t r c
   unfolding readBytes readFile
   seen-from xs r (piece bs room) e = read-append d (some t) (going nothingRead) xs bs ∙ ap (λ p. readFrom d (some t) p bs) e
@@ -58,7 +58,7 @@ module _ (d : Dialect) (t : Target) where
   unfolding writtenIn
   silent past c e = written-append (made c (unwritten e)) past ∙ append-nil (writtenIn past)
 
-  -- a call that is taken, with what it saw
+  -- a call that is taken, with what it has read
   module _ (past : List Entry) (r : Read) (k : faultIn past ≡ none) (h : endedIn past ≡ false) (b : readBytes d (some t) (consumedIn past) ≡ going r) (w : writtenIn past ≡ tableText t (rows (r .done))) where
     -- a call that was too small
     stays-taking : (c : Call) → LiesAt d t (past ++ made c (unwritten (refusal 10))) (taking r)
@@ -82,7 +82,7 @@ module _ (d : Dialect) (t : Target) where
         ∙ ap (λ l. l ++ new) w
         ∙ joined (going r) q refl g
 
-    -- what the calls have shown once a fault was met
+    -- what the calls have shown once a fault was found
     meets : (c : Call) (f : Fault) (r′ : Read) → seenBy d t c (consumedIn past ++ bytesOf c) ≡ stopped f r′ → Grows (r .done) (r′ .done) → LiesAt d t (past ++ made c (taken t (tableText t (rows (r .done))) (stopped f r′))) (faulted (faultReport f r′))
     unfolding faultIn consumedIn closedIn if_then_else_
     meets c f r′ e g =
@@ -169,7 +169,7 @@ machine m n d t p q =
 -- ---- every list of calls
 
 module _ (m n : ℕ) (d t : Dialect) (p : dialectOf m ≡ some d) (q : dialectOf n ≡ some t) where
-  -- where the machine stands after a list of calls
+  -- the stage after a list of calls
   stood-from : (past : List Entry) (cs : List Call) (w : ConverterStage) → LiesAt d (into t) past w → (w′ : ConverterStage) × LiesAt d (into t) (historyFrom m n past cs) w′
   unfolding historyFrom
   stood-from past [] w s = (w, s)

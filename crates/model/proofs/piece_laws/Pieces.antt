@@ -1,5 +1,5 @@
--- The ledger against the whole converter: no call writes more than its room, a file handed over in pieces is converted as it is
--- whole, and a fault that a piece meets is that of every file that begins with the bytes consumed.
+-- The ledger against the whole converter: no call writes more than its room, a file in pieces is converted as it is whole, and a
+-- fault found by a piece is that of every file that begins with the bytes consumed.
 use Prim.Native.Nat.{ℕ, _+_, _-_, _≤_}
 use native.Mathlib.Omega.{arith}
 use mathlib.Core.Path.{_≡_, refl, sym, ap, _∙_}
@@ -104,7 +104,7 @@ module _ (m n : ℕ) (d t : Dialect) (p : dialectOf m ≡ some d) (q : dialectOf
   unfolding converter
   converter-known bs room = rw (p, converter, q)
 
-  -- a piece after these calls meets a fault only where they have shown no end of the file
+  -- a piece after these calls finds a fault only where they have shown no end of the file
   still-open : (past : List Entry) (w : ConverterStage) (bs : Bytes) (room : ℕ) (e : Report) → LiesAt d (into t) past w → faultIn past ≡ none → faultIn (after m n past (piece bs room)) ≡ some e → endedIn past ≡ false
   unfolding faultIn if_then_else_
   still-open past (taking r) bs room e (stood-taking k h b w) i g = h

@@ -1,4 +1,4 @@
--- The raw cells of a scan are stretches of what was scanned, and cells that are kept one after another have the record's values.
+-- The raw cells of a scan are spans of the bytes scanned, and cells buffered one after another have the record's values.
 use Prim.Native.Nat.{ℕ, suc, _+_, _-_, _≤_}
 use native.Mathlib.Omega.{arith}
 use mathlib.Core.Path.{_≡_, refl, sym, ap, _∙_}
@@ -19,7 +19,7 @@ use Rattle.model.proofs.Spans.{part-is}
 use Rattle.model.proofs.Tests.{split}
 use Rattle.model.proofs.cell_laws.CellRuns.{all-snoc}
 
--- ---- stretches
+-- ---- spans
 
 module _ (bytes : Bytes) where
   part-none : (o : ℕ) → [] ≡ slice bytes o o
@@ -89,7 +89,7 @@ module _ (bytes : Bytes) where
 pub stretches : Spans
 stretches d limit bytes s i = comes bytes d limit (drop (s .offset) bytes) s refl i
 
--- ---- cells that were kept one after another
+-- ---- cells buffered one after another
 
 pub buffered-cells : BufferedCells
 unfolding valuesIn bufferedBytes bufferedStarts bufferedEnds

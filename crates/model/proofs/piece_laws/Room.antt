@@ -1,7 +1,7 @@
--- How much a call can write. The current record was validated, so its text is at most 4,096 bytes and its ending 2; every other record
+-- How much a call can write. The current record was checked, so its text is at most 4,096 bytes and its ending 2; every other record
 -- that a call completes lies in its bytes and is written as at most 6 for each. So `cost`, what is written and at most 6 for each
--- byte of the current record, but no more than 4,098, grows by at most 6 with each byte: 4,098 + 6 × 4,096 is under 49,152.
--- And all that is written stays within the limit of a file.
+-- byte of the current record, but no more than 4,098, grows by at most 6 with each byte: 4,098 + 6 × 4,096 is under 49,152. And all
+-- that is written stays within the limit of a file.
 use Prim.Native.Nat.{ℕ, suc, _+_, _*_, _≤_, min}
 use native.Mathlib.Omega.{arith}
 use mathlib.Core.Path.{_≡_, refl, ap, _∙_}

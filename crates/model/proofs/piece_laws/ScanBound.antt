@@ -18,7 +18,7 @@ use Rattle.model.proofs.file_laws.Bound.{weigh-none, slack, Steady, y-e
 use Rattle.model.proofs.piece_laws.ScanLaws.{values-closing}
 
 module _ (d : Dialect) (limit : ℕ) where
-  -- what scanning comes to, of at most so many bytes
+  -- the result of a scan of at most `room` bytes
   data Fitting (room : ℕ) : ScanResult → Type 0 where
     fit-pends : {s : Scan} → Fitting room (pends s)
     fit-fails : {e : Fault} {s : Scan} → Fitting room (fails e s)

@@ -1,4 +1,4 @@
--- The bytes kept of a current record have room in the record's limit: every byte of a cell counts, and so does every byte between
+-- The buffered bytes of the current record fit into the record's limit: every byte of a cell counts, and so does every byte between
 -- cells, and a byte that counts is refused where the record is full.
 use Prim.Native.Nat.{ℕ, suc, _+_, _≤_}
 use native.Mathlib.Omega.{arith}

@@ -1,5 +1,6 @@
--- Scanning that starts with bytes and cells in hand is scanning from none, with these put before. In a record nothing is outside it
--- (`step-stays`), so the cells kept stay before all others; a cell that is opened later is opened behind where the part began.
+-- A scan that starts with buffered bytes and cells is a scan that starts with none, and these before it. In a record no byte is
+-- outside it (`step-stays`), so the buffered cells stay before all others; a cell that is opened later is opened after the place
+-- where the part began.
 use Prim.Native.Nat.{ℕ, suc, _+_, _-_, _≤_}
 use native.Mathlib.Omega.{arith}
 use mathlib.Core.Path.{_≡_, refl, sym, ap, _∙_}
@@ -19,7 +20,7 @@ use Rattle.model.proofs.piece_laws.ScanLaws.{scan-reads, shift}
 
 -- ---- in a record
 
--- a byte of a record goes on in it, or ends it
+-- a byte of a record continues it, or ends it
 data Stays : Step → Type 0 where
   y-fault : {e : ByteFault} → Stays (Reject e)
   y-cell : {g : FileState} → inRecord g ≡ true → Stays (To g OfCell)
@@ -64,7 +65,7 @@ step-stays d (Inside c) b h = in-cell-stays d c b
 step-stays d After b h = after-stays d false b
 step-stays d Cr b h = split Stays _ (λ _. y-ends) λ _. y-fault
 
--- ---- what is kept, a byte on
+-- ---- what is buffered, one byte on
 
 module _ (d : Dialect) (limit : ℕ) (k : Buffered) (began : ℕ) where
   -- a place behind where the part began
@@ -133,7 +134,7 @@ module _ (d : Dialect) (limit : ℕ) (k : Buffered) (began : ℕ) where
     none-kept : k .cells ≡ [] → k .cells ++ [] ≡ []
     none-kept q = append-nil (k .cells) ∙ q
 
-    -- nothing is in hand
+    -- nothing is pending
     none-seen : k .raw ≡ [] → k .cells ≡ [] → (x : Step) → Seen x
     unfolding scanStep
     none-seen p q (Reject e) = refl

@@ -1,4 +1,4 @@
--- The trip laws, each from the file that proves it.
+-- The round trips, each from the file that proves it.
 use Prim.Native.Nat.{ℕ, _≤_}
 use mathlib.Core.Path.{_≡_, sym, ap, subst, _∙_}
 use mathlib.Core.Option.{none, some}

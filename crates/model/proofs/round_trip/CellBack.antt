@@ -1,5 +1,5 @@
--- The text of every cell that a table may hold and the target carries is a sound cell of its kind and content: one case for each
--- kind, by the files for strings and texts.
+-- The decoder accepts the text of every cell that a table may hold and the target can represent, with its kind and content: one case
+-- for each kind, by the files for strings and texts.
 use Prim.Native.Nat.{ℕ}
 use mathlib.Core.Path.{_≡_, refl, sym, _∙_}
 use mathlib.Core.Bool.{Bool, true, false, _&&_, _||_}
@@ -20,7 +20,7 @@ use Rattle.model.proofs.cell_laws.CellContent.{Doubles, d-tdif, d-plus,
 use Rattle.model.proofs.round_trip.TextBack.{or-false, content-text, quoted-sound, quoted-content, quoted-kind, plain-sound, plain-content}
 use Rattle.model.proofs.round_trip.JsonRuns.{json-sound, json-content}
 
--- ---- the cells that can stand in a table
+-- ---- the cells that a table can hold
 
 pub data Valid : Kind → Bytes → Type 0 where
   v-text : {bs : Bytes} → isContent bs ≡ true → Valid Text bs
@@ -136,7 +136,7 @@ plus-cell s only first f u v-true c n = impossible c
 plus-cell s only first f u v-false c n = impossible c
 plus-cell s only first f u v-null c n = impossible c
 
--- the text of any such cell is a sound cell of its kind and content, in every dialect
+-- the decoder accepts the text of any such cell, with its kind and content, in every dialect
 pub cell-back : CellTrip
 cell-back Csvj only first v c = json-cell only first (v .from) (v .upto) (valid-cases (v .kind) (v .content) (c .value))
 cell-back Tdif only first v c = tdif-cell only first (v .from) (v .upto) (valid-cases (v .kind) (v .content) (c .value)) (c .has-kind) (c .keeps-text)

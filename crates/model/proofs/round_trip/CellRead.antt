@@ -1,5 +1,5 @@
--- Reading a cell's text, over every dialect. Where a cell may begin, the file acts as the current cell does (`Like`), unless the
--- bytes are the mark (`NoBom`); so the bytes of a cell are read as its automaton runs.
+-- Reading a cell's text, over every dialect. Where a cell may begin, the file behaves as the current cell does (`Like`), unless the
+-- bytes are the byte order mark (`NoBom`); so the bytes of a cell are read as its automaton runs.
 use Prim.Native.Nat.{ℕ, suc, _+_, _≤_, _<_}
 use native.Mathlib.Omega.{arith}
 use native.Mathlib.Nat.{add-zero}
@@ -20,7 +20,7 @@ use Rattle.model.specs.rules.Records.{Rec, Read, Progress, going, fileFu
 use Rattle.model.proofs.Tests.{is→eq}
 use Rattle.model.proofs.cell_laws.CellRuns.{Runs, here, there, bom-cell, bom-rest}
 
--- ---- forms that act as a cell in hand does
+-- ---- states that behave as a current cell does
 
 pub data Like : Dialect → FileState → Cell → Type 0 where
   like-in : {d : Dialect} {c : Cell} → Like d (Inside c) c
@@ -30,7 +30,7 @@ pub data Like : Dialect → FileState → Cell → Type 0 where
   like-bom1 : {s : Settings} → Like (CsvPlus s) PlainBom1 (Plain (Within (Second EeToEf)))
   like-bom2 : {s : Settings} → Like (CsvPlus s) PlainBom2 (Plain (Within Last))
 
--- these bytes do not complete the mark
+-- these bytes do not complete the byte order mark
 abbrev marks2 : Bytes → Bool
 marks2 [] = false
 marks2 (b ∷ []) = false
@@ -149,7 +149,7 @@ module _ (d : Dialect) (T : Option Target) (ds : List Rec) (s p : ℕ) (vs : Lis
   unfolding readByte move if_then_else_
   byte-read f f′ b o z raw e h k = rw (file-free (reading ds f o s z p raw vs) h, record-free (reading ds f o s z p raw vs) b k, e)
 
-  -- where the reader stands after these bytes of a cell
+  -- the reading state after these bytes of a cell
   pub record Ran (f : FileState) (c : Cell) (o z : ℕ) (raw bs : Bytes) : Type 0 where
     pub state : FileState
     pub like : Like d state c

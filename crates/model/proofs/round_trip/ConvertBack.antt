@@ -1,5 +1,5 @@
--- What a file is converted to is read back, in the target, as the records that were read; and converting canonical text to its
--- own dialect gives the same text. Each record that was validated sound for the target adds a row to a table that is read back.
+-- The text of a converted file is read back, in the target, as the records that were read; and converting canonical text to its own
+-- dialect gives the same text. Each record that passed the checks of the target adds a row to a table that is read back.
 use Prim.Native.Nat.{ℕ, suc, _+_}
 use native.Mathlib.Omega.{arith}
 use mathlib.Core.Path.{_≡_, refl, sym, ap, _∙_}
@@ -32,7 +32,7 @@ use Rattle.model.proofs.TargetLaws.{file-alone}
 use Rattle.model.proofs.file_laws.RecordInduction.{file-keeps, file-header}
 use Rattle.model.proofs.round_trip.RoundTrip.{accepts, no-refusal, fault-number, Fitted, fitted-accepts, fitted-fits, writer-wrote, reader-known}
 
--- ---- a record that the target carries
+-- ---- a record that the target can represent
 
 -- the same names repeat, whatever the fault is called
 repeat-alike : (t : Dialect) (f g : ℕ → Fault) (seen : List Bytes) (n : ℕ) (vs : List Value) → repeatFrom t f seen n vs ≡ Sound → repeatFrom t g seen n vs ≡ Sound

@@ -15,7 +15,7 @@ use Rattle.model.specs.rules.Decode.{Unit16, byte, unit, units, between,
 use Rattle.model.specs.rules.Text.{escaped, hexDigit, surrogate, jsonBody}
 use Rattle.model.proofs.Tests.{split, split-on, impossible, and-true, is→eq}
 
--- a code unit that is no high surrogate stands alone
+-- a code unit that is no high surrogate is decoded alone
 unit-alone : (h : ℕ) (us : List Unit16) → isHigh h ≡ false → textOf (unit h ∷ us) ≡ pack h ++ textOf us
 unfolding textOf if_then_else_
 unit-alone h [] e = sym (append-nil (pack h))
@@ -85,7 +85,7 @@ module _ (b c : ℕ) (hb : 0xA0 ≤ b) (hb′ : b ≤ 0xBF) (hc : 0x80 ≤ c) (h
 
 -- ---- a content
 
--- a content goes on after its first byte
+-- a content continues after its first byte
 pub data Onward (bs : Bytes) : Option Wide → Type 0 where
   onward : {w : Wide} → wideFrom w bs ≡ true → Onward bs (some w)
 
@@ -136,7 +136,7 @@ lone-after h b c bs k e =
     last true m n o = nothing-ahead o
     last false m n o = let r = lone-end false c bs (ahead o) in low refl (omega arith) n (r .0) (r .1) (r .2)
 
--- ED stands in no character but as its first byte
+-- ED is in no character but as its first byte
 pub inner-ed : (i : Inner) → charStep (Within i) 0xED ≡ Broken
 unfolding charStep innerStep rowOf if_then_else_
 inner-ed (Second C2ToDf) = refl

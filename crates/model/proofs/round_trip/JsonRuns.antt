@@ -1,5 +1,5 @@
--- The text of a CSVJ string is a sound cell of its content: each escape, raw byte and surrogate runs from between characters to
--- where content stands after it.
+-- The decoder accepts the text of a CSVJ string, with its content: each escape, raw byte and surrogate runs from between characters
+-- to the state of content after it.
 use Prim.Native.Nat.{ℕ, _+_, _-_, _*_, _/_, _%_, _≤_, _<_}
 use native.Mathlib.Omega.{arith}
 use mathlib.Core.Path.{_≡_, refl}
@@ -46,7 +46,7 @@ short : (b : ℕ) → cellStep Csvj Escape b ≡ More (Quoted Whole) → Runs Cs
 unfolding cellStep quotedByte if_then_else_
 short b e = there {c′ = Escape} refl (there {c′ = Quoted Whole} e here)
 
--- as it stands
+-- a byte written as it is
 raw-byte : (a : ℕ) (c : Char) → (a is QUOTE) ≡ false → (a is 0x5C) ≡ false → leb 0x20 a ≡ true → charStep Whole a ≡ On c → Runs Csvj (Quoted Whole) (a ∷ []) (Quoted c)
 unfolding cellStep quotedByte if_then_else_
 raw-byte a c q s l e = let k : 0x20 ≤ a = leb-true 0x20 a l in let x : cellStep Csvj (Quoted Whole) a ≡ More (Quoted c) = rw (q, s, le-ltb a 0x20 k, e) in there x here

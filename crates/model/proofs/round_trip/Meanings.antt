@@ -1,4 +1,4 @@
--- Checks and canonical texts depend on the kinds and contents of cells alone, and not on where they stand.
+-- Checks and canonical texts depend on the kinds and contents of cells alone, and not on where they lie.
 use Prim.Native.Nat.{ℕ, suc}
 use mathlib.Core.Path.{_≡_, refl, ap}
 use mathlib.Core.Bool.{Bool, true, false}

@@ -1,4 +1,4 @@
--- Every cell that is read can stand in a table given to the writer, in every dialect.
+-- Every cell that is read may be in a table given to the writer, in every dialect.
 use Prim.Native.Nat.{ℕ}
 use native.Mathlib.Omega.{arith}
 use mathlib.Core.Path.{_≡_, refl}

@@ -1,5 +1,5 @@
--- Reading the canonical text of a record with its ending gives its cells, over every dialect. A whole cell stops before a
--- delimiter or an ending (`whole-stops`); each law says what reading comes to whatever follows the text, so that they compose.
+-- Reading the canonical text of a record with its ending gives its cells, over every dialect. A whole cell stops before a delimiter
+-- or an ending (`whole-stops`); each law gives the result of reading whatever follows the text, so that they compose.
 use Prim.Native.Nat.{ℕ, suc, _+_, _≤_, _<_}
 use native.Mathlib.Omega.{arith}
 use native.Mathlib.Nat.{add-zero}
@@ -47,7 +47,7 @@ delimiter-no-quote (CsvPlus s) = go (s .delimiter) (s .quote)
     go Bar Double = refl
     go Bar Single = refl
 
--- a byte that no number goes on with, and that begins no mark
+-- a byte that continues no number and begins no byte order mark
 record Breaks (b : ℕ) : Type 0 where
   no-digit : isDigit b ≡ false
   no-point : (b is 0x2E) ≡ false

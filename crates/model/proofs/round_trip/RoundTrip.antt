@@ -1,4 +1,4 @@
--- What the writer accepted is the canonical text of the table's rows, and the reader answers those rows.
+-- A text that the writer accepted is the canonical text of the table's rows, and the reader returns those rows.
 use Prim.Native.Nat.{ℕ, suc, _≤_}
 use native.Mathlib.Omega.{arith}
 use mathlib.Core.Path.{_≡_, refl, ap, _∙_}
@@ -110,7 +110,7 @@ writer-wrote n table room text e = by-dialect (dialectOf n) refl e
     by-dialect none p k = no-refusal k (λ h. absurd (omega arith))
     by-dialect (some t) p k = by-rows t p (rowsIn table) refl k
 
--- ---- what the reader answers
+-- ---- the reader's answer
 
 pub reader-known : (n : ℕ) (d : Dialect) (text : Bytes) (room : ℕ) → dialectOf n ≡ some d → reader n text room ≡ readAnswer (readFile d none text) room
 unfolding reader

@@ -1,5 +1,5 @@
--- The canonical text of a table is read back as the same rows, over every dialect: alone, and for conversion into its own
--- dialect, whose checks see as many bytes written as were read.
+-- The canonical text of a table is read back as the same rows, over every dialect: alone, and for conversion into its own dialect,
+-- whose checks see as many bytes written as were read.
 use Prim.Native.Nat.{ℕ, _+_, _≤_}
 use native.Mathlib.Omega.{arith}
 use native.Mathlib.Nat.{add-zero}
@@ -64,7 +64,7 @@ module _ (d : Dialect) (T : Option Target) (own : Own d T) (h : Rec) where
   one-more : (ds recs : List Rec) (x : Rec) (p q : ℕ) → p ≡ q → going (between-records ((h ∷ (ds ++ (x ∷ []))) ++ recs) Begin p) ≡ going (between-records ((h ∷ ds) ++ (x ∷ recs)) Begin q)
   one-more ds recs x p q e = rw (append-assoc ds (x ∷ []) recs, e)
 
-  -- how many bytes the records before have taken
+  -- how many bytes the records before have
   text-snoc : (ds : List Rec) (x : Rec) (r : List Value) (o : ℕ) → SameCells (x .cells) r → length (tableText (into d) (rows (h ∷ ds))) ≡ o → length (tableText (into d) (rows (h ∷ (ds ++ (x ∷ []))))) ≡ o + length (recordText (into d) false r ++ ending d)
   unfolding rows
   text-snoc ds x r o e k =

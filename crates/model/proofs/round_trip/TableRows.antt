@@ -1,4 +1,4 @@
--- The rows of a table given to the writer: cells that a table may hold, rows of one length, and as many as it says.
+-- The rows of a table given to the writer: cells that a table may hold, rows of one length, and as many as the table says.
 use Prim.Native.Nat.{ℕ, zero, suc, _+_, _*_, _<_}
 use native.Mathlib.Omega.{arith}
 use native.Mathlib.Nat.{mul-suc}

@@ -1,4 +1,4 @@
--- The text of a cell is a sound cell of its content: quotes doubled (TDIF, CSV+) and plain (CSV+). Content without a lone
+-- The decoder accepts the text of a cell, with its content: quotes doubled (TDIF, CSV+) and unquoted (CSV+). Content without a lone
 -- surrogate is UTF-8 (`content-text`), and UTF-8 runs through the automaton of a cell.
 use Prim.Native.Nat.{ℕ, _<_}
 use native.Mathlib.Omega.{arith}
@@ -207,9 +207,9 @@ unfolding kindOf quotedText if_then_else_
 quoted-kind bs d-tdif = refl
 quoted-kind bs d-plus = refl
 
--- ---- Plain (CSV+)
+-- ---- unquoted (CSV+)
 
--- a byte that may stand in a Plain cell
+-- a byte that an unquoted cell may hold
 record Usual (s : Settings) (b : ℕ) : Type 0 where
   no-quote : (b is quoteOf (CsvPlus s)) ≡ false
   no-end : (b is delimiterOf (CsvPlus s) || b is CR || b is LF) ≡ false

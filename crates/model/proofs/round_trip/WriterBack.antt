@@ -30,7 +30,7 @@ use Rattle.model.proofs.round_trip.TableText.{row-length}
 use Rattle.model.proofs.file_laws.CheckResults.{else-sound, when-sound, target-sound}
 use Rattle.model.proofs.round_trip.TableRead.{DataBack, TableBack, table-back}
 
--- ---- what no fault says
+-- ---- what follows from no fault
 
 pub not-false : (x : Bool) → not x ≡ false → x ≡ true
 not-false true e = refl
@@ -79,7 +79,7 @@ data-row Tdif [] f all-none = impossible f
 data-row (CsvPlus s) [] f all-none = impossible f
 data-row d (v ∷ vs) f (all-cons x xs) = row-cells like-begin tt (cell-back d (isEmpty vs) false v x) (more-all d xs)
 
--- the first header cell does not begin with the mark
+-- the first header cell does not begin with the byte order mark
 begins-quote : (q : ℕ) (xs : Bytes) → (q is 0xEF) ≡ false → beginsBom (q ∷ xs) ≡ false
 begins-quote q [] e = refl
 begins-quote q (x ∷ []) e = refl
@@ -126,7 +126,7 @@ has-even d (v ∷ vs) (w ∷ ws) e f = refl
 
 -- ---- a record
 
--- the current record is validated sound, so that its text, read where a record begins, completes it
+-- the checks of the current record find no fault, so that its text, read where a record begins, completes it
 pub record-trip : RecordTrip
 record-trip d target [] o vs c f s k m =
     let E = record-read d target [] Top true vs o (header-back d d vs f c (unfold recordFault in else-sound (headerFault d vs) _ s .0)) m k (λ ws e. fault-same d target [] e ∙ s) in

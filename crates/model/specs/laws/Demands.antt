@@ -1,4 +1,4 @@
--- Demand 3 as statements over the definitions, and demand 2's round trip beside them. They are proved in proofs/AllDemands.antt.
+-- Demand 3 as statements over the definitions, with demand 2's round trip. Proved in proofs/AllDemands.antt.
 use Prim.Native.Nat.{ℕ, _≤_}
 use mathlib.Core.Path.{_≡_}
 use mathlib.Core.Bool.{true, false}
@@ -28,13 +28,13 @@ JoinedOutputs =
     (m n : ℕ) (d t : Dialect) (cs : List Call) → dialectOf m ≡ some d → dialectOf n ≡ some t →
     writtenIn (history m n cs) ≡ tableText (into t) (rows (recordsOf (seenIn d (into t) (history m n cs))))
 
--- no call writes more than its room: the output that a call asks for is enough (§15.11)
+-- no call writes more than its room: the output that the rules require is enough (§15.11)
 abbrev pub OutputFits : Type 0
 OutputFits = (m n : ℕ) (cs : List Call) → All (λ (x : Entry). length (x .answer .text) ≤ roomOf (x .call)) (history m n cs)
 
 -- ---- whole and pieces
 
--- a file handed over in these pieces, each with the least output that is taken (§15.1)
+-- a file in these pieces, each with the least output that the rules accept (§15.1)
 abbrev pub pieces : List Bytes → List Call
 pieces ps = map (λ (p : Bytes). piece p LEASTOUTPUT) ps
 
@@ -53,13 +53,13 @@ pub record SameAsWhole (m n : ℕ) (ps : List Bytes) : Type 0 where
 abbrev pub WholeAndPieces : Type 0
 WholeAndPieces = (m n : ℕ) (ps : List Bytes) → All (λ (p : Bytes). length p ≤ MAXPIECE) ps → SameAsWhole m n ps
 
--- an end call that no check answers reports what the whole converter, with room enough, does for the bytes consumed (§16.6)
+-- an end call that no check refuses reports what the whole converter, with room enough, reports for the bytes consumed (§16.6)
 abbrev pub EndIsWhole : Type 0
 EndIsWhole =
     (m n : ℕ) (cs : List Call) (room : ℕ) → checked m n (history m n cs) (finish room) ≡ false →
     answerNow m n (history m n cs) (finish room) .report ≡ converter m n (consumedIn (history m n cs)) MAXFILE .report
 
--- a fault that a piece call met is that of every file that begins with the bytes consumed (§16.5 §16.7)
+-- a fault found by a piece call is the fault of every file that begins with the bytes consumed (§16.5 §16.7)
 abbrev pub FaultOfEveryFile : Type 0
 FaultOfEveryFile =
     (m n : ℕ) (cs : List Call) (bs rest : Bytes) (room : ℕ) (e : Report) → faultIn (history m n cs) ≡ none →
@@ -68,7 +68,7 @@ FaultOfEveryFile =
 
 -- ---- demand 3: code
 
--- what `piece` and `end` promise: Carries says which calls a state has answered (§15.3 §15.8 §16.1)
+-- the contract of `piece` and `end`: Carries relates a state to the calls that it has answered (§15.3 §15.8 §16.1)
 abbrev pub Answers : {S : Type 0} → (ℕ → ℕ → List Entry → S → Type 0) → S → Call → Written → S → Type 0
 Answers Carries s c a next =
     (m n : ℕ) (past : List Entry) → Carries m n past s →
@@ -88,7 +88,8 @@ PreservesLedger {S} Carries =
     (m n : ℕ) (made : List Entry) (s : S) → CallsMade Carries m n made s →
     map (λ (x : Entry). x .answer) made ≡ ledger m n (map (λ (x : Entry). x .call) made)
 
--- the demands that the definitions alone can meet; for the calls of a converter each comes with its contract (§19.3 §19.4)
+-- the demands that the definitions alone can satisfy; for the calls of a converter each follows from the call's contract (§19.3
+-- §19.4)
 pub record ModelDemands : Type 1 where
   pub round-trip : RoundTrip
   pub joined-outputs : JoinedOutputs

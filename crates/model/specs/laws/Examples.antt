@@ -1,4 +1,4 @@
--- The sixteen examples of the rules as one statement; and what rules out the mistakes that they name.
+-- The sixteen examples of the rules as one statement, and examples that exclude the mistakes that the rules name.
 use Prim.Native.Nat.{ℕ}
 use mathlib.Core.Path.{_≡_}
 use mathlib.Core.List.{List, [], _∷_, _++_}
@@ -14,7 +14,7 @@ use Rattle.model.specs.rules.Ledger.{piece, finish, ledger}
 abbrev pub read : (dialect : ℕ) → Bytes → Report
 read d bs = reader d bs 64 .report
 
--- columns and data records that the reader answers with (§17.17)
+-- columns and data records that the reader returns (§17.17)
 abbrev pub extent : (dialect : ℕ) → Bytes → ℕ × ℕ
 extent d bs = (reader d bs 64 .columns, reader d bs 64 .records)
 
@@ -67,12 +67,12 @@ cutInTwo d t before after = ledger d t (piece before 49152 ∷ piece after 49152
 abbrev pub writes : (first second end : Bytes) → List Written
 writes a b c = makes a ∷ makes b ∷ makes c ∷ []
 
--- what rules out the mistakes that the rules name, and others like them, each by the answer that it would change (§18.1
--- §18.2 §18.3 §18.4)
+-- examples that exclude the mistakes that the rules name, and others like them, each by an answer that the mistake would change
+-- (§18.1 §18.2 §18.3 §18.4)
 pub record Mistakes : Type 0 where
   -- a CR at the end of a CSVJ file is no ending (§6.25)
   pub lone-cr : (read 1 (ascii "\"a\"\r") ≡ report 4 1 0 4) × (read 1 (ascii "\r") ≡ report 4 1 0 1)
-  -- header names are compared by content: the second is a spelt with an escape (§18.2)
+  -- header names are compared by content: the second is an a written as an escape (§18.2)
   pub raw-names : read 1 (ascii "\"a\",\"\\u0061\"\n") ≡ report 6 1 2 0
   -- an empty one-column CSV+ record is written as two quotes (§18.3)
   pub empty-record : convert 1 3 (ascii "\"a\"\n\"\"\n") ≡ makes (ascii "a\r\n\"\"\r\n")
@@ -82,7 +82,7 @@ pub record Mistakes : Type 0 where
   pub comment-uncounted : (extent 2 (ascii "#x\n\"a\"\n#y\r\n") ≡ (1, 0)) × (read 2 (ascii "#x\n\"a\"\n\n") ≡ report 3 2 0 7)
   -- with 4,096 bytes counted, a byte that would be 3 is 8 (§7.6)
   pub limit-first : (read 3 (longCell 4096 0x22) ≡ report 8 1 0 4096) × (read 3 (longCell 4095 0x22) ≡ report 3 1 0 4095)
-  -- the mark is ordinary text inside quotes (§5.9)
+  -- inside quotes the byte order mark is ordinary text (§5.9)
   pub mark-in-quotes : convert 3 3 (0x22 ∷ 0xEF ∷ 0xBB ∷ 0xBF ∷ 0x22 ∷ []) ≡ makes (0x22 ∷ 0xEF ∷ 0xBB ∷ 0xBF ∷ 0x22 ∷ 0x0D ∷ 0x0A ∷ [])
   -- an LF after a CR that ended a TDIF record is no empty line (§4.2)
   pub crlf-ends-once : extent 2 (ascii "\"a\"\r\n\"b\"\r\n") ≡ (1, 1)
@@ -90,7 +90,7 @@ pub record Mistakes : Type 0 where
   pub cr-before-cut :
       (cutInTwo 1 1 (ascii "\"a\"\r") (ascii "\n\"b\"\n") ≡ writes [] (ascii "\"a\"\n\"b\"\n") [])
       × (cutInTwo 1 1 (ascii "\"a\"\r") (ascii "\"b\"\n") ≡ makes [] ∷ unwritten (report 3 1 0 4) ∷ unwritten (report 3 1 0 4) ∷ [])
-  -- a CR at the end of a TDIF piece completes a record at once, and the LF that opens the next piece is no empty line (§18.1)
+  -- a CR at the end of a TDIF piece completes a record at once, and the LF at the start of the next piece is no empty line (§18.1)
   pub lf-after-cut : cutInTwo 2 1 (ascii "\"a\"\r") (ascii "\n\\N\r") ≡ writes (ascii "\"a\"\n") (ascii "null\n") []
   -- two escape halves with a cut between them are one code point (§18.4)
   pub halves-cut : cutInTwo 1 2 (ascii "\"a\"\n\"\\ud83d") (ascii "\\ude00\"\n") ≡ writes (ascii "\"a\"\n") (0x22 ∷ 0xF0 ∷ 0x9F ∷ 0x98 ∷ 0x80 ∷ 0x22 ∷ 0x0A ∷ []) []

@@ -1,4 +1,4 @@
--- The laws of the definitions, as statements over the dialect and over a target or none. They are proved in proofs/Laws.antt.
+-- The laws of the definitions, as statements over any dialect, with a target or without. Proved in proofs/Laws.antt.
 use Prim.Native.Nat.{ℕ, _+_, _*_, _≤_}
 use mathlib.Core.Path.{_≡_}
 use mathlib.Core.Logic.{_↔_}
@@ -21,19 +21,19 @@ pub data All {ℓ κ} {A : Type ℓ} (P : A → Type κ) : List A → Type (ℓ 
   all-none : All P []
   all-cons : {x : A} {xs : List A} → P x → All P xs → All P (x ∷ xs)
 
--- b is a with something added, as the records completed grow and are never taken back (§16.7)
+-- b is a with something appended: the records completed grow and are never taken back (§16.7)
 pub record Grows {ℓ} {A : Type ℓ} (a b : List A) : Type ℓ where
   pub added : List A
   pub sum : b ≡ a ++ added
 
--- a cell that was read is a raw cell that the decoder finds sound, with its kind and content (§11.1)
+-- a cell that was read is a raw cell that the decoder accepts, with this kind and content (§11.1)
 pub record SoundCell (d : Dialect) (v : Value) : Type 0 where
   pub raw : Bytes
   pub sound : validateCell d raw ≡ WholeCell
   pub kind : v .kind ≡ kindOf d raw
   pub content : v .content ≡ contentOf d raw
 
--- every cell of a record is sound for the decoder (§11.1)
+-- the decoder accepts every cell of a record (§11.1)
 abbrev pub SoundRecord : Dialect → Rec → Type 0
 SoundRecord d r = All (SoundCell d) (r .cells)
 
@@ -49,25 +49,25 @@ BoundedRecord r = Bounded (r .size) (r .cells)
 
 -- a file may be cut anywhere: what was read of the bytes consumed stays when more bytes join them (§15.10 §16.4 §16.5)
 pub record ReadingLaws (d : Dialect) (target : Option Target) : Type 0 where
-  -- reading goes on from where it stands
+  -- reading continues from its state
   pub append : (xs ys : Bytes) → readBytes d target (xs ++ ys) ≡ readFrom d target (readBytes d target xs) ys
   -- a fault, and the records before it, are the same for every file that begins with the bytes read so far
   pub fault-stays : (e : Fault) (r : Read) (xs ys : Bytes) → readBytes d target xs ≡ stopped e r → (readBytes d target (xs ++ ys) ≡ stopped e r) × (readFile d target (xs ++ ys) ≡ stopped e r)
   -- a complete record stays, with all before it
   pub records-stay : (xs ys : Bytes) → Grows (recordsOf (readBytes d target xs)) (recordsOf (readBytes d target (xs ++ ys)))
-  -- every cell that was read is sound for the decoder, with the same kind and content
+  -- the decoder accepts every cell that was read, with the same kind and content
   pub cells-sound : (xs : Bytes) → All (SoundRecord d) (recordsOf (readBytes d target xs)) × All (SoundRecord d) (recordsOf (readFile d target xs))
   -- every record that was read is bounded when written
   pub records-bounded : (xs : Bytes) → All BoundedRecord (recordsOf (readBytes d target xs)) × All BoundedRecord (recordsOf (readFile d target xs))
 
--- faults 2 and 3 are given exactly when the table says: for the byte b after the bytes xs, which were read without fault,
--- within the limits (§6.2 §6.3 §6.24)
+-- faults 2 and 3 are given exactly when the table says: for the byte b after the bytes xs, which were read without a fault, within
+-- the limits (§6.2 §6.3 §6.24)
 pub record NextByteLaws (d : Dialect) (target : Option Target) (xs : Bytes) (r : Read) (b : ℕ) : Type 0 where
-  -- fault 2 or 3, exactly where no file goes on with it
+  -- fault 2 or 3, exactly where no file continues with it
   pub refused : ((e : ByteFault) × (readBytes d target (xs ++ (b ∷ [])) ≡ stopped (Byte e) r)) ↔ ¬ (CanGoOn d xs b)
   -- fault 2, exactly where it breaks the UTF-8 table
   pub encoding : (readBytes d target (xs ++ (b ∷ [])) ≡ stopped (Byte Encoding) r) ↔ (breaks (textAt d (r .state)) b ≡ true)
-  -- fault 3, exactly where no file goes on with it and it does not break the table
+  -- fault 3, exactly where no file continues with it and it does not break the table
   pub syntax-fault : (readBytes d target (xs ++ (b ∷ [])) ≡ stopped (Byte Syntax) r) ↔ (¬ (CanGoOn d xs b) × (breaks (textAt d (r .state)) b ≡ false))
 
 -- the laws, over every dialect (§19.8)

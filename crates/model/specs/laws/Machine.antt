@@ -1,5 +1,5 @@
--- The ledger as a machine, a call at a time: what a converter has to know of the calls before is where reading stands, or the fault
--- that was met, or that the end was accepted. Stated here, proved in proofs/piece_laws/MachineLaws.antt.
+-- The ledger as a state machine, one call at a time. All that a converter needs from the earlier calls is the reading state, or the
+-- fault found, or that the end was accepted. Proved in proofs/piece_laws/MachineLaws.antt.
 use Prim.Native.Nat.{ℕ}
 use mathlib.Core.Path.{_≡_}
 use mathlib.Core.Bool.{Bool, true, false}
@@ -18,36 +18,36 @@ use Rattle.model.specs.laws.Demands.{seenIn, Answers}
 
 -- ---- the machine
 
--- where a converter stands: it takes bytes, or met a fault, or its end was accepted (§15.5 §15.6)
+-- the stage of a converter: it takes bytes, or has found a fault, or its end was accepted (§15.5 §15.6)
 pub data ConverterStage : Type 0 where
   taking : Read → ConverterStage
   faulted : Report → ConverterStage
   ended : ConverterStage
 
--- what a call that is taken comes to (§16.5 §16.6)
+-- what a call that is taken has read, with its own bytes (§16.5 §16.6)
 abbrev pub seenFrom : Dialect → Target → Read → Call → Progress
 seenFrom d t r (piece bs room) = readFrom d (some t) (going r) bs
 seenFrom d t r (finish room) = readEnd d (some t) (going r)
 
--- the answer to a call by where the converter stands (§15.5 §15.6 §15.7 §16.7)
+-- the answer to a call at a stage (§15.5 §15.6 §15.7 §16.7)
 unfoldable pub answerAt : Dialect → Target → ConverterStage → Call → Written
 answerAt d t (taking r) c = if tooSmall c then unwritten (refusal 10) else taken t (tableText t (rows (r .done))) (seenFrom d t r c)
 answerAt d t (faulted e) c = unwritten e
 answerAt d t ended c = unwritten (refusal 11)
 
--- where it stands after a call that is taken, by what the call saw (§15.5 §15.6)
+-- the stage after a call that is taken, by what it has read (§15.5 §15.6)
 abbrev pub stageThen : (isEnd : Bool) → Progress → ConverterStage
 stageThen true (going r) = ended
 stageThen false (going r) = taking r
 stageThen isEnd (stopped e r) = faulted (faultReport e r)
 
--- where it stands after a call (§15.3)
+-- the stage after a call (§15.3)
 unfoldable pub stageAfter : Dialect → Target → ConverterStage → Call → ConverterStage
 stageAfter d t (taking r) c = if tooSmall c then taking r else stageThen (isFinish c) (seenFrom d t r c)
 stageAfter d t (faulted e) c = faulted e
 stageAfter d t ended c = ended
 
--- a check answers the call (§15.8)
+-- one of the checks refuses the call (§15.8)
 abbrev pub checkedAt : ConverterStage → Call → Bool
 checkedAt (taking r) c = tooSmall c
 checkedAt (faulted e) c = true
@@ -55,7 +55,7 @@ checkedAt ended c = true
 
 -- ---- the machine and the ledger
 
--- after these calls the machine stands there, and they have written the canonical text of the records completed (§16.3 §16.7)
+-- after these calls the converter is at this stage, and they have written the canonical text of the records completed (§16.3 §16.7)
 pub data LiesAt (d : Dialect) (t : Target) (past : List Entry) : ConverterStage → Type 0 where
   stood-taking :
       {r : Read} → faultIn past ≡ none → endedIn past ≡ false → readBytes d (some t) (consumedIn past) ≡ going r →
@@ -67,7 +67,7 @@ pub data LiesAt (d : Dialect) (t : Target) (past : List Entry) : ConverterStage 
       (r : Read) → faultIn past ≡ none → endedIn past ≡ true → readFile d (some t) (consumedIn past) ≡ going r →
       writtenIn past ≡ tableText t (rows (r .done)) → LiesAt d t past ended
 
--- the ledger between two known dialects goes as the machine does (§16.1 §16.3)
+-- between two known dialects the ledger follows the machine (§16.1 §16.3)
 pub record MachineLaws (m n : ℕ) (d : Dialect) (t : Target) : Type 0 where
   pub new : LiesAt d t [] (taking nothingRead)
   pub answers : (past : List Entry) (w : ConverterStage) (c : Call) → LiesAt d t past w → answerNow m n past c ≡ answerAt d t w c
@@ -93,7 +93,7 @@ pub record Unknown : Type 0 where
 
 -- ---- a state of the code
 
--- Models says where a state stands, by its dialect numbers; with a number that is no dialect it stands as after an end. This state
+-- Models relates a state to its dialect numbers and its stage; with a number of no dialect the stage is that after an end. This state
 -- has answered these calls (§15.3)
 pub data Carries {S : Type 0} (Models : ℕ → ℕ → ConverterStage → S → Type 0) (m n : ℕ) (past : List Entry) (s : S) : Type 0 where
   carries-known :
@@ -102,7 +102,7 @@ pub data Carries {S : Type 0} (Models : ℕ → ℕ → ConverterStage → S →
   carries-source : dialectOf m ≡ none → Models m n ended s → Carries Models m n past s
   carries-target : dialectOf n ≡ none → Models m n ended s → Carries Models m n past s
 
--- a call's contract that speaks of no other call: its answer and the next state, by where the state stands (§15.3 §15.8)
+-- a call's contract that depends on no other call: its answer and the next state, by the stage of the state (§15.3 §15.8)
 pub record Steps {S : Type 0} (Models : ℕ → ℕ → ConverterStage → S → Type 0) (s : S) (c : Call) (a : Written) (next : S) : Type 0 where
   pub known :
       (m n : ℕ) (d t : Dialect) (w : ConverterStage) → dialectOf m ≡ some d → dialectOf n ≡ some t → Models m n w s →
@@ -110,7 +110,7 @@ pub record Steps {S : Type 0} (Models : ℕ → ℕ → ConverterStage → S →
   pub source : (m n : ℕ) → dialectOf m ≡ none → Models m n ended s → (a ≡ unwritten (refusal 11)) × (next ≡ s)
   pub target : (m n : ℕ) → dialectOf n ≡ none → Models m n ended s → (a ≡ unwritten (refusal 11)) × (next ≡ s)
 
--- it is what Demands asks of a call, so a list of such calls keeps the ledger (§16.1)
+-- such a call satisfies `Answers` of Demands, so a list of such calls follows the ledger (§16.1)
 abbrev pub StepsAnswer : {S : Type 0} → (ℕ → ℕ → ConverterStage → S → Type 0) → Type 0
 StepsAnswer {S} Models =
     (s : S) (c : Call) (a : Written) (next : S) → Steps Models s c a next → Answers (Carries Models) s c a next

@@ -1,6 +1,5 @@
--- Where cells stand. What is asked of a record and how it is written do not depend on it (`PlaceFree`), so a converter may keep a
--- record's bytes elsewhere, one after another (`BufferedCells`). And the raw cells of a scan are stretches of what was scanned
--- (`Spans`).
+-- Where cells lie. The checks of a record and its text do not depend on it (`PlaceFree`), so a converter may buffer a record's bytes
+-- elsewhere, one cell after another (`BufferedCells`). And the raw cells of a scan are spans of the bytes scanned (`Spans`).
 use Prim.Native.Nat.{ℕ, suc, _+_, _≤_}
 use mathlib.Core.Path.{_≡_}
 use mathlib.Core.Bool.{Bool}
@@ -26,22 +25,22 @@ pub record PlaceFree : Type 0 where
       (d : Dialect) (target : Option Target) (done : List Rec) (vs ws : List Value) → SameCells vs ws →
       recordFault d target done vs ≡ recordFault d target done ws
 
--- ---- stretches
+-- ---- spans
 
--- a raw cell that stands in these bytes (§10.3)
+-- a raw cell that lies in these bytes (§10.3)
 pub record SpanIn (bytes : Bytes) (c : RawCell) : Type 0 where
   pub raw : c .bytes ≡ slice bytes (c .from) (c .upto)
   pub forward : c .from ≤ c .upto
   pub within : c .upto ≤ length bytes
 
--- scanning of these bytes stands at its offset, with the current cell a stretch up to there (§10.3)
+-- a scan of these bytes is at its offset, and the current cell is the span that ends there (§10.3)
 pub record ScanIn (bytes : Bytes) (s : Scan) : Type 0 where
   pub raw : s .raw ≡ slice bytes (s .opened) (s .offset)
   pub forward : s .opened ≤ s .offset
   pub within : s .offset ≤ length bytes
   pub cells : All (SpanIn bytes) (s .cells)
 
--- what a scan of these bytes comes to: its cells are stretches of them (§10.3)
+-- the cells in the result of a scan of these bytes are spans of them (§10.3)
 pub data ScanResultIn (bytes : Bytes) : ScanResult → Type 0 where
   pends-in : {s : Scan} → ScanIn bytes s → s .offset ≡ length bytes → ScanResultIn bytes (pends s)
   fails-in : {e : Fault} {s : Scan} → ScanIn bytes s → ScanResultIn bytes (fails e s)
@@ -49,14 +48,14 @@ pub data ScanResultIn (bytes : Bytes) : ScanResult → Type 0 where
       {s : Scan} {cs : List RawCell} {f : FileState} {left : Bytes} → ScanIn bytes s → All (SpanIn bytes) cs → suc (s .offset) ≤ length bytes →
       left ≡ drop (suc (s .offset)) bytes → ScanResultIn bytes (completes s cs f (suc (s .offset)) left)
 
--- the raw cells of any scan are stretches of the bytes scanned (§10.3)
+-- the raw cells of any scan are spans of the bytes scanned (§10.3)
 abbrev pub Spans : Type 0
 Spans =
     (d : Dialect) (limit : ℕ) (bytes : Bytes) (s : Scan) → ScanIn bytes s → ScanResultIn bytes (scan d limit s (drop (s .offset) bytes))
 
--- ---- cells that were kept one after another
+-- ---- cells buffered one after another
 
--- the cells of these stretches, as validation takes them (§2.3 §10.3)
+-- the cells of these spans, as the checks take them (§2.3 §10.3)
 unfoldable pub valuesIn : Dialect → (bytes : Bytes) → (starts ends : List ℕ) → List Value
 valuesIn d bytes [] ends = []
 valuesIn d bytes (i ∷ starts) [] = []
@@ -78,7 +77,7 @@ unfoldable pub bufferedEnds : ℕ → List RawCell → List ℕ
 bufferedEnds o [] = []
 bufferedEnds o (c ∷ cs) = (o + length (c .bytes)) ∷ bufferedEnds (o + length (c .bytes)) cs
 
--- the bytes of a record's cells, kept anywhere one after another, have its values there but for places (§15.2)
+-- the bytes of a record's cells, buffered anywhere one after another, have its values there, up to places (§15.2)
 abbrev pub BufferedCells : Type 0
 BufferedCells =
     (d : Dialect) (before after : Bytes) (cs : List RawCell) →

@@ -1,4 +1,4 @@
--- Written and read back: the trip laws as statements, over the dialect. They are proved in proofs/round_trip/AllTrips.antt.
+-- The round trips, written and read back, as statements over any dialect. Proved in proofs/round_trip/AllTrips.antt.
 use Prim.Native.Nat.{ℕ, suc, _+_, _≤_}
 use mathlib.Core.Path.{_≡_}
 use mathlib.Core.Bool.{Bool, true, false, not, _&&_}
@@ -21,7 +21,7 @@ use Rattle.model.specs.laws.Laws.{All}
 abbrev pub meaning : Value → Kind × Bytes
 meaning v = (v .kind, v .content)
 
--- the same kind and content, wherever they stand (§2.3)
+-- the same kind and content, wherever they lie (§2.3)
 pub record Same (v w : Value) : Type 0 where
   pub kind : v .kind ≡ w .kind
   pub content : v .content ≡ w .content
@@ -36,13 +36,13 @@ pub data SameRows : List (List Value) → List (List Value) → Type 0 where
   no-rows : SameRows [] []
   and-row : {r q : List Value} {rs qs : List (List Value)} → SameCells r q → SameRows rs qs → SameRows (r ∷ rs) (q ∷ qs)
 
--- a cell that a table given to the writer may hold, and that the target carries (§8.3 §13.2)
+-- a cell that a table given to the writer may hold, and that the target can represent (§8.3 §13.2)
 pub record Carried (t : Dialect) (v : Value) : Type 0 where
   pub value : isValue (v .kind) (v .content) ≡ true
   pub has-kind : hasKind t (v .kind) ≡ true
   pub keeps-text : losesSurrogate t v ≡ false
 
--- these raw bytes are a cell that the decoder finds sound, of this cell's kind and content (§11.1)
+-- these raw bytes are a cell that the decoder accepts, with this cell's kind and content (§11.1)
 pub record Back (d : Dialect) (raw : Bytes) (v : Value) : Type 0 where
   pub sound : validateCell d raw ≡ WholeCell
   pub kind : kindOf d raw ≡ v .kind
@@ -81,13 +81,13 @@ pub record ReadAs (d : Dialect) (target : Option Target) (text : Bytes) (rs : Li
   pub run : readFile d target text ≡ going end
   pub same : map (map meaning) (rows (end .done)) ≡ map (map meaning) rs
 
--- the decoder makes of a cell's stretch what the reader's definition says of it (§10.3 §11.1)
+-- the decoder gives for a cell's span what the reader's definition says of the cell (§10.3 §11.1)
 abbrev pub Decodes : (dialect : ℕ) → (file : Bytes) → Value → Type 0
 Decodes n file v =
     decoder n (slice file (v .from) (v .upto)) (length (v .content))
     ≡ record { report = accepted; kind = kindNumber (v .kind); content = v .content }
 
--- the reader's answer on what the writer made of a table (§19.3)
+-- the reader's answer on the text that the writer made of a table (§19.3)
 pub record ReadsBack (n : ℕ) (table : Table) (rs : List (List Value)) (text : Bytes) (a : Answer) : Type 0 where
   pub report : a .report ≡ accepted
   pub columns : a .columns ≡ table .columns
@@ -95,7 +95,7 @@ pub record ReadsBack (n : ℕ) (table : Table) (rs : List (List Value)) (text : 
   pub cells : map meaning (a .cells) ≡ map meaning (concat rs)
   pub decoded : All (Decodes n text) (a .cells)
 
--- two answers of the reader that differ at most in where the cells stand (§19.3)
+-- two answers of the reader that differ at most in where the cells lie (§19.3)
 pub record SameAnswer (a b : Answer) : Type 0 where
   pub report : a .report ≡ b .report
   pub columns : a .columns ≡ b .columns
@@ -120,7 +120,7 @@ RecordTrip =
 abbrev pub TableTrip : Type 0
 TableTrip = (d : Dialect) (rs : List (List Value)) → Writable d rs → ReadAs d none (tableText (into d) rs) rs × ReadAs d (some (into d)) (tableText (into d) rs) rs
 
--- what the writer accepted is read back by the reader, each stretch decoded as the cell that was written (§19.3)
+-- what the writer accepted is read back by the reader, and each span decodes to the cell that was written (§19.3)
 abbrev pub RoundTrip : Type 0
 RoundTrip =
     (n : ℕ) (table : Table) (rs : List (List Value)) (room places : ℕ) (text : Bytes) → rowsIn table ≡ some rs →
@@ -145,7 +145,7 @@ ConvertedOnce =
     (m n : ℕ) (file text : Bytes) (room : ℕ) → converter m n file room ≡ record { report = accepted; text = text } →
     converter n n text room ≡ record { report = accepted; text = text }
 
--- every cell that the reader answers is decoded, from its stretch of the file, as what the reader says of it (§10.3 §11.1)
+-- every cell that the reader returns decodes, from its span of the file, to what the reader says of it (§10.3 §11.1)
 abbrev pub ReaderDecodes : Type 0
 ReaderDecodes = (n : ℕ) (file : Bytes) (places : ℕ) → All (Decodes n file) (reader n file places .cells)
 

@@ -1,7 +1,7 @@
--- Reading a part of a file, up to the end of the current record, by form and size alone: no record is validated, and no kind or
--- content is told. What is read of a cell is its raw bytes. The laws that tie it to `readFrom` of Records are stated here and
--- proved in proofs/: reading goes from record to record so, with or without a target (`ScanReads`); places may be counted from
--- anywhere (`Shift`); and what lies before the part may be put before it afterwards (`View`).
+-- Reading a part of a file up to the end of the current record, by form and size alone: no record is checked, and a cell is its raw
+-- bytes, without kind or content. The laws that relate it to `readFrom` of Records are stated here and proved in proofs/piece_laws:
+-- reading is scanning from record to record, with or without a target (`ScanReads`); places may be counted from anywhere (`Shift`);
+-- and what was read before the part may be prepended afterwards (`View`).
 use Prim.Native.Nat.{ℕ, suc, _+_, _-_, _≤_}
 use mathlib.Core.Path.{_≡_}
 use mathlib.Core.Bool.{Bool, true, false, _&&_}
@@ -18,13 +18,13 @@ use Rattle.model.specs.rules.Report.{MAXFILE, MAXRECORD}
 use Rattle.model.specs.rules.Records.{Rec, Read, Progress, going, stopped, complete, readFrom, recordFault}
 use Rattle.model.specs.laws.Laws.{Bounded}
 
--- a cell as it stands in the file: its stretch and its raw bytes (§10.3)
+-- a cell of the file: its span and its raw bytes (§10.3)
 pub record RawCell : Type 0 where
   pub from : ℕ
   pub upto : ℕ
   pub bytes : Bytes
 
--- the current record and where the file stands: `Read` of Records without the records before, and with raw cells (§15.2)
+-- the current record and the state of the file: `Read` of Records without the earlier records, and with raw cells (§15.2)
 pub record Scan : Type 0 where
   pub state : FileState
   pub offset : ℕ
@@ -34,14 +34,14 @@ pub record Scan : Type 0 where
   pub raw : Bytes
   pub cells : List RawCell
 
--- what scanning comes to: the bytes are at an end; or a fault; or the current record is complete, with these cells, where the
--- file stands then, the next offset, and the bytes that are left (§16.8)
+-- the result of a scan: the bytes are at an end; or a fault; or the current record is complete, with its cells, the state of the file
+-- after it, the next offset, and the bytes that are left (§16.8)
 pub data ScanResult : Type 0 where
   pends : Scan → ScanResult
   fails : Fault → Scan → ScanResult
   completes : Scan → List RawCell → FileState → (next : ℕ) → (left : Bytes) → ScanResult
 
--- the record's cells, with the one in hand where it closes (§10.3)
+-- the record's cells, with the current one where it closes (§10.3)
 abbrev pub closingRaw : (closes : Bool) → Scan → List RawCell
 closingRaw true s = s .cells ++ (record { from = s .opened; upto = s .offset; bytes = s .raw } ∷ [])
 closingRaw false s = s .cells
@@ -50,7 +50,7 @@ closingRaw false s = s .cells
 abbrev pub scan-between : FileState → ℕ → Scan
 scan-between f o = record { state = f; offset = o; start = o; size = 0; opened = o; raw = []; cells = [] }
 
--- the byte b takes this step; `more` says what comes of scanning after it, and `left` are the bytes after it (§7.4 §6.20)
+-- the byte b takes this step; `more` is the result of scanning after it, and `left` are the bytes after it (§7.4 §6.20)
 unfoldable pub scanStep : Scan → (b : ℕ) → (left : Bytes) → (more : Scan → ScanResult) → Step → ScanResult
 scanStep s b left more (Reject e) = fails (Byte e) s
 scanStep s b left more (To f Outside) =
@@ -78,7 +78,7 @@ scan d limit s (b ∷ bs) =
 abbrev pub valueOf : Dialect → RawCell → Value
 valueOf d c = record { from = c .from; upto = c .upto; kind = kindOf d (c .bytes); content = contentOf d (c .bytes) }
 
--- reading stands there, after the records `done` (§15.2)
+-- the reading state of a scan, after the records `done` (§15.2)
 abbrev pub readOf : Dialect → (done : List Rec) → Scan → Read
 readOf d done s =
     record {
@@ -92,7 +92,7 @@ readOf d done s =
       cells = map (valueOf d) (s .cells);
     }
 
--- reading goes on from what scanning came to: a complete record is validated (§7.8)
+-- reading continues from the result of a scan: a complete record is checked (§7.8)
 abbrev pub resume : Dialect → (target : Option Target) → (done : List Rec) → ScanResult → Progress
 resume d target done (pends s) = going (readOf d done s)
 resume d target done (fails e s) = stopped e (readOf d done s)
@@ -124,7 +124,7 @@ moved n s =
       cells = map (movedCell n) (s .cells);
     }
 
--- what a scan comes to, with its places counted from n bytes before (§6.19)
+-- the result of a scan, with its places counted from n bytes before (§6.19)
 abbrev pub movedTo : ℕ → ScanResult → ScanResult
 movedTo n (pends s) = pends (moved n s)
 movedTo n (fails e s) = fails e (moved n s)
@@ -152,31 +152,31 @@ inRecord (Inside c) = true
 inRecord After = true
 inRecord Cr = true
 
--- what was read of the current record before the part: where it starts, where its open cell was opened, that cell's bytes so
--- far, and its complete cells (§15.2)
+-- what was read of the current record before the part: where it starts, where its open cell was opened, that cell's bytes so far, and
+-- its complete cells (§15.2)
 pub record Buffered : Type 0 where
   pub start : ℕ
   pub opened : ℕ
   pub raw : Bytes
   pub cells : List RawCell
 
--- of a cell that was opened where the part began, the bytes kept come first (§15.2)
+-- a cell that was opened where the part began starts with the buffered bytes (§15.2)
 unfoldable pub joinedCell : Buffered → (began : ℕ) → RawCell → RawCell
 joinedCell k began c = if c .from is began then record { from = k .opened; upto = c .upto; bytes = k .raw ++ c .bytes } else c
 
--- the open cell's bytes, with those kept first if it was opened where the part began (§15.2)
+-- the open cell's bytes; if it was opened where the part began, the buffered ones come first (§15.2)
 unfoldable pub joinedRaw : Buffered → (began opened : ℕ) → Bytes → Bytes
 joinedRaw k began opened raw = if opened is began then k .raw ++ raw else raw
 
--- a place that is still that where the part began is the one kept (§15.2)
+-- a place that is still where the part began is the buffered one (§15.2)
 unfoldable pub joinedPlace : (kept began place : ℕ) → ℕ
 joinedPlace kept began place = if place is began then kept else place
 
--- what was kept, put before what was scanned of a part that began there (§15.2)
+-- the buffered cells before those scanned of a part that began there (§15.2)
 abbrev pub joinedCells : Buffered → (began : ℕ) → List RawCell → List RawCell
 joinedCells k began cs = k .cells ++ map (joinedCell k began) cs
 
--- a scan of the part, with what was kept put before it (§15.2)
+-- a scan of the part, with the buffered bytes and cells before it (§15.2)
 abbrev pub joined : Buffered → (began : ℕ) → Scan → Scan
 joined k began s =
     record {
@@ -189,18 +189,18 @@ joined k began s =
       cells = joinedCells k began (s .cells);
     }
 
--- what the scan of the part comes to, with what was kept put before it (§15.2)
+-- the result of a scan of the part, with the buffered bytes and cells before it (§15.2)
 abbrev pub joinedTo : Buffered → (began : ℕ) → ScanResult → ScanResult
 joinedTo k began (pends s) = pends (joined k began s)
 joinedTo k began (fails e s) = fails e (joined k began s)
 joinedTo k began (completes s cs f next left) = completes (joined k began s) (joinedCells k began cs) f next left
 
--- something may be kept where a record is in hand; elsewhere there are no bytes and no cells (§15.2)
+-- bytes and cells may be buffered where a record is current; elsewhere there are none (§15.2)
 pub data Holds (f : FileState) (k : Buffered) : Type 0 where
   current : inRecord f ≡ true → Holds f k
   nothing-current : k .raw ≡ [] → k .cells ≡ [] → Holds f k
 
--- scanning that starts with what was kept is scanning from none, with that put before it (§15.2)
+-- a scan that starts with buffered bytes and cells is a scan that starts with none, and these before it (§15.2)
 abbrev pub View : Type 0
 View =
     (d : Dialect) (limit : ℕ) (k : Buffered) (began : ℕ) (s : Scan) (bs : Bytes) → Holds (s .state) k → began ≤ s .offset →
@@ -212,12 +212,13 @@ View =
 abbrev pub fresh : FileState → (size began : ℕ) → Scan
 fresh f size began = record { state = f; offset = began; start = began; size = size; opened = began; raw = []; cells = [] }
 
--- where reading stands in the file: n bytes before the part, of which `began` were read (§15.2)
+-- the scan of the file at this point: n bytes lie before the part, of which `began` were read (§15.2)
 abbrev pub standing : ℕ → Buffered → FileState → (size began : ℕ) → Scan
 standing n k f size began =
     record { state = f; offset = n + began; start = k .start; size = size; opened = k .opened; raw = k .raw; cells = k .cells }
 
--- reading on from there is scanning the part by form and size alone, moved to its place, with what was kept put before it (§15.2 §16.4)
+-- reading on from there is scanning the part by form and size alone, moved to its place, with what was buffered before it (§15.2
+-- §16.4)
 abbrev pub PartReads : Type 0
 PartReads =
     (d : Dialect) (target : Option Target) (done : List Rec) (n : ℕ) (k : Buffered) (f : FileState) (size began : ℕ) (bs : Bytes) → n ≤ MAXFILE →
@@ -225,13 +226,13 @@ PartReads =
     readFrom d target (going (readOf d done (standing n k f size began))) bs
     ≡ resume d target done (joinedTo k (n + began) (movedTo n (scan d (MAXFILE - n) (fresh f size began) bs)))
 
--- the same where nothing is in hand and the place is known, as after a record of the part (§16.4)
+-- the same where nothing is pending and the place is known, as after a record of the part (§16.4)
 abbrev pub PartMoved : Type 0
 PartMoved =
     (d : Dialect) (target : Option Target) (done : List Rec) (n : ℕ) (s : Scan) (bs : Bytes) → n ≤ MAXFILE →
     readFrom d target (going (readOf d done (moved n s))) bs ≡ resume d target done (movedTo n (scan d (MAXFILE - n) s bs))
 
--- a complete record that is sound is done, and reading goes on behind it; one with a fault stops reading (§7.8)
+-- a complete record without a fault is done, and reading continues after it; one with a fault stops reading (§7.8)
 pub record CompleteLaws (d : Dialect) (target : Option Target) (done : List Rec) (s : Scan) (cs : List RawCell) (f : FileState) (next : ℕ) (left : Bytes) : Type 0 where
   pub sound :
       recordFault d target done (map (valueOf d) cs) ≡ Sound →
@@ -267,13 +268,13 @@ pub record Sized (s : Scan) : Type 0 where
   pub held : bytesIn (s .cells) + length (s .raw) ≤ s .size
   pub limit : s .size ≤ MAXRECORD
 
--- what a scan comes to is within the limit of a record (§15.2)
+-- the result of a scan is within the limit of a record (§15.2)
 pub data SizedTo : ScanResult → Type 0 where
   sized-pends : {s : Scan} → Sized s → SizedTo (pends s)
   sized-fails : {e : Fault} {s : Scan} → Sized s → SizedTo (fails e s)
   sized-completes : {s : Scan} {cs : List RawCell} {f : FileState} {next : ℕ} {left : Bytes} → Sized s → bytesIn cs ≤ s .size → SizedTo (completes s cs f next left)
 
--- scanning keeps the current record within its limit (§15.2)
+-- scanning leaves the current record within its limit (§15.2)
 abbrev pub ScanSize : Type 0
 ScanSize = (d : Dialect) (limit : ℕ) (s : Scan) (bs : Bytes) → Sized s → SizedTo (scan d limit s bs)
 

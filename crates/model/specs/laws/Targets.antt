@@ -1,5 +1,5 @@
--- Reading with a target is reading without one, and then fault 9: a converter may scan first and ask the target afterwards, record
--- by record. Stated here, proved in proofs/TargetLaws.antt.
+-- Reading with a target is reading without one, and then fault 9: a converter may scan first and check the target afterwards, record
+-- by record. Proved in proofs/TargetLaws.antt.
 use Prim.Native.Nat.{ℕ, suc}
 use mathlib.Core.Path.{_≡_}
 use mathlib.Core.Option.{none, some}
@@ -21,21 +21,21 @@ RecordTarget =
 
 -- ---- the records of a file
 
--- the target carries each of these records, which follow `done` (§8.7)
+-- the target can represent each of these records, which follow `done` (§8.7)
 pub data Passes (t : Target) : (done added : List Rec) → Type 0 where
   passes-none : {done : List Rec} → Passes t done []
   passes-more :
       {done : List Rec} {x : Rec} {xs : List Rec} → targetNext t (rows done) (x .cells) ≡ Sound → Passes t (done ++ (x ∷ [])) xs →
       Passes t done (x ∷ xs)
 
--- the first record that it cannot carry comes after `kept` and starts there (§8.7)
+-- the first record that it can't represent comes after `kept` and starts there (§8.7)
 pub data Refuses (t : Target) (e : Fault) (kept : List Rec) (start : ℕ) : (done added : List Rec) → Type 0 where
   refuses-here : {x : Rec} {xs : List Rec} → targetNext t (rows kept) (x .cells) ≡ Faulty e → x .start ≡ start → Refuses t e kept start kept (x ∷ xs)
   refuses-later :
       {done : List Rec} {x : Rec} {xs : List Rec} → targetNext t (rows done) (x .cells) ≡ Sound → Refuses t e kept start (done ++ (x ∷ [])) xs →
       Refuses t e kept start done (x ∷ xs)
 
--- what reading comes to without a target, from where `done` was read, and with one: the same, or fault 9 (§8.7 §12.2)
+-- the results of reading without a target and with one, after `done` was read: the same, or fault 9 with the target (§8.7 §12.2)
 pub data WithTarget (t : Target) (done : List Rec) : (without with : Progress) → Type 0 where
   same : {p : Progress} (added : List Rec) → recordsOf p ≡ done ++ added → Passes t done added → WithTarget t done p p
   refused :
@@ -52,7 +52,7 @@ TargetFile = (d : Dialect) (t : Target) (bs : Bytes) → WithTarget t [] (readFi
 
 -- ---- the same as a function
 
--- what is told of a reading, and the records completed before any fault (§6.14)
+-- the report of a reading, and the records completed before any fault (§6.14)
 pub record Outcome : Type 0 where
   pub report : Report
   pub records : List Rec
@@ -61,7 +61,7 @@ pub record Outcome : Type 0 where
 abbrev pub outcomeOf : Progress → Outcome
 outcomeOf p = record { report = reportOf p; records = recordsOf p }
 
--- asking the target of each record in its turn; `end` is what is told if it carries them all (§8.7)
+-- the target is checked record by record; `end` is the report if it can represent them all (§8.7)
 unfoldable pub targeted : Target → (done added : List Rec) → (end : Report) → Outcome
 targeted t done [] end = record { report = end; records = done }
 targeted t done (x ∷ xs) end =
@@ -70,7 +70,7 @@ targeted t done (x ∷ xs) end =
       | Faulty e ↦ record { report = report (numberOf e) (suc (length done)) (columnOf e) (x .start); records = done }
     ]
 
--- a converter's outcome is the reader's, with the target asked of each record in its turn (§8.7 §12.2)
+-- a converter's outcome is the reader's, with the target checked record by record (§8.7 §12.2)
 abbrev pub TargetOutcome : Type 0
 TargetOutcome =
     (d : Dialect) (t : Target) (bs : Bytes) →

@@ -1,4 +1,4 @@
--- Faults 2 and 3 in the words of the table of faults: what can go on by form alone, and where a byte breaks the table of UTF-8.
+-- Faults 2 and 3 as the table of faults defines them: what can continue by form alone, and where a byte breaks the table of UTF-8.
 use Prim.Native.Nat.{ℕ}
 use mathlib.Core.Path.{_≡_}
 use mathlib.Core.Bool.{Bool, true, false}
@@ -15,18 +15,18 @@ pub data Completes (d : Dialect) : FileState → Bytes → Type 0 where
   completed : {f f′ : FileState} {k : Bool} {b : ℕ} → fileStep d f b ≡ To f′ (Ends k) → Completes d f (b ∷ [])
   onward : {f f′ : FileState} {p : ByteRole} {b : ℕ} {bs : Bytes} → fileStep d f b ≡ To f′ p → Completes d f′ bs → Completes d f (b ∷ bs)
 
--- after this byte a file can go on: some file that begins with these bytes, and this one after them, completes a record by
--- form (§6.3 §6.24)
+-- after this byte a file can continue: some file that begins with these bytes, and this one after them, completes a record by form
+-- (§6.3 §6.24)
 abbrev pub CanGoOn : Dialect → Bytes → ℕ → Type 0
 CanGoOn d xs b = (ys : Bytes) × Completes d Top (xs ++ (b ∷ ys))
 
--- the text that a cell's first byte would stand in: in CSV+ that of a plain cell (§6.2 §6.22)
+-- the text that a cell's first byte would belong to: in CSV+ that of an unquoted cell (§6.2 §6.22)
 abbrev pub freshText : Dialect → Option Char
 freshText Csvj = none
 freshText Tdif = none
 freshText (CsvPlus s) = some Whole
 
--- the text that the next byte of a cell would stand in: that of a quoted or a plain cell, none inside an escape (§6.2 §6.23)
+-- the text that the next byte of a cell would belong to: that of a quoted or an unquoted cell, none inside an escape (§6.2 §6.23)
 abbrev pub cellTextAt : Dialect → Cell → Option Char
 cellTextAt d Fresh = freshText d
 cellTextAt d (Quoted c) = some c
@@ -38,7 +38,7 @@ cellTextAt d (InWord w) = none
 cellTextAt d (Plain c) = some c
 cellTextAt d Complete = none
 
--- the text that the next byte of a file would stand in: that of a cell or of a comment (§6.2)
+-- the text that the next byte of a file would belong to: that of a cell or of a comment (§6.2)
 abbrev pub textAt : Dialect → FileState → Option Char
 textAt d Top = freshText d
 textAt d Begin = freshText d
@@ -59,7 +59,7 @@ abbrev pub isBroken : Advance → Bool
 isBroken (On c) = false
 isBroken Broken = true
 
--- the byte breaks the table in the text that it would stand in, if it would stand in one (§6.2 §6.21)
+-- the byte breaks the table in the text that it would belong to, if there is one (§6.2 §6.21)
 abbrev pub breaks : Option Char → ℕ → Bool
 breaks none b = false
 breaks (some c) b = isBroken (charStep c b)

@@ -1,5 +1,5 @@
--- The reader, the decoder, the whole converter and the writer. Each takes dialect numbers and says what is reported and what
--- every lent list or buffer holds afterwards.
+-- The reader, the decoder, the whole converter and the writer. Each takes dialect numbers and defines the report and the content of
+-- every lent list or buffer afterwards.
 use Prim.Native.Nat.{ℕ, zero, suc, _+_, _-_, _*_}
 use mathlib.Core.Bool.{Bool, true, false, _&&_}
 use mathlib.Core.Option.{Option, none, some}
@@ -28,15 +28,15 @@ pub record Answer : Type 0 where
 abbrev pub noAnswer : Report → Answer
 noAnswer e = record { report = e; columns = 0; records = 0; cells = [] }
 
--- the answer on a file that the rules accept: 10 exactly when its cells are more than the places of the shortest list. (No
--- file without a header is accepted: that is fault 1.) (§10.1 §10.5)
+-- the answer on a file that the rules accept: 10 exactly when it has more cells than the shortest list has places. (No file without a
+-- header is accepted: that is fault 1.) (§10.1 §10.5)
 abbrev pub answered : List Rec → List Value → (room : ℕ) → Answer
 answered [] vs room = noAnswer accepted
 answered (h ∷ rs) vs room =
     if ltb room (length vs) then noAnswer (refusal 10)
     else record { report = accepted; columns = length (h .cells); records = length rs; cells = vs }
 
--- the reader's answer on what was read of a file and its end: the fault, if one was met (§10.1 §10.5)
+-- the reader's answer on what was read of a file and its end: the fault, if there was one (§10.1 §10.5)
 abbrev pub readAnswer : Progress → (room : ℕ) → Answer
 readAnswer (stopped e r) room = noAnswer (faultReport e r)
 readAnswer (going r) room = answered (r .done) (concat (rows (r .done))) room
@@ -61,7 +61,7 @@ endsOf = map (λ (v : Value). v .upto)
 abbrev pub kindsOf : List Value → List ℕ
 kindsOf = map (λ (v : Value). kindNumber (v .kind))
 
--- what a call of the reader comes to: its answer, and the three lent lists as they are afterwards (§10.1 §10.2)
+-- the result of a call of the reader: its answer, and the three lent lists afterwards (§10.1 §10.2)
 pub record ReadCall : Type 0 where
   pub report : Report
   pub columns : ℕ
@@ -98,8 +98,8 @@ pub record Decoded : Type 0 where
 abbrev pub notDecoded : Report → Decoded
 notDecoded e = record { report = e; kind = 0; content = [] }
 
--- the answer on a cell that was validated: its fault with record and column 0, or 10 for too little room, or its kind and
--- content (§11.2 §11.6)
+-- the answer on a cell that was checked: its fault with record and column 0, or 10 for too little room, or its kind and content
+-- (§11.2 §11.6)
 abbrev pub decodedAs : Dialect → Bytes → (room : ℕ) → CellCheck → Decoded
 decodedAs d bs room (Unsound e o) = notDecoded (report (numberOf e) 0 0 o)
 decodedAs d bs room WholeCell =
@@ -110,7 +110,7 @@ decodedAs d bs room WholeCell =
 unfoldable pub decoder : (dialect : ℕ) → Bytes → (room : ℕ) → Decoded
 decoder n bs room = elim (dialectOf n) [ none ↦ notDecoded (refusal 11) | some d ↦ decodedAs d bs room (validateCell d bs) ]
 
--- the lent room after the call: the content, and then what stood there (§9.3 §9.4 §11.1)
+-- the lent room after the call: the content, and then what was there before (§9.3 §9.4 §11.1)
 unfoldable pub decoderLeaves : (dialect : ℕ) → Bytes → (room : List ℕ) → List ℕ
 decoderLeaves n bs room = over (decoder n bs (length room) .content) room
 
@@ -129,7 +129,7 @@ unwritten e = record { report = e; text = [] }
 abbrev pub fitted : (room : ℕ) → Bytes → Written
 fitted room bs = if ltb room (length bs) then unwritten (refusal 10) else record { report = accepted; text = bs }
 
--- the canonical text of the records that were read for this target, or the fault that was met (§12.1 §12.2)
+-- the canonical text of the records that were read for this target, or the fault found (§12.1 §12.2)
 abbrev pub convertedAs : (target : Target) → (room : ℕ) → Progress → Written
 convertedAs t room (stopped e r) = unwritten (faultReport e r)
 convertedAs t room (going r) = fitted room (tableText t (rows (r .done)))
@@ -145,14 +145,13 @@ converter m n bs room =
       ]
     ]
 
--- the lent output after the call: the text, and then what stood there (§9.3 §9.4 §12.1)
+-- the lent output after the call: the text, and then what was there before (§9.3 §9.4 §12.1)
 unfoldable pub converterLeaves : (source target : ℕ) → Bytes → (out : List ℕ) → List ℕ
 converterLeaves m n bs out = over (converter m n bs (length out) .text) out
 
 -- ---- the writer
 
--- what the writer is given: content, and a stretch and a kind for each cell, record by record. `records` counts the header
--- (§13.1)
+-- what the writer is given: content, and a span and a kind for each cell, record by record. `records` counts the header (§13.1)
 pub record Table : Type 0 where
   pub content : Bytes
   pub starts : List ℕ
@@ -188,12 +187,11 @@ isValue True bs = isEmpty bs
 isValue False bs = isEmpty bs
 isValue Null bs = isEmpty bs
 
--- the bytes of a stretch (§10.3 §13.4)
+-- the bytes of a span (§10.3 §13.4)
 abbrev pub slice : Bytes → (from upto : ℕ) → Bytes
 slice bs s e = take (e - s) (drop s bs)
 
--- one cell of a table, or none: its kind is known, its stretch lies in the content, its bytes can be of its kind (§13.4
--- §13.6)
+-- one cell of a table, or none: its kind is known, its span lies in the content, its bytes can be of its kind (§13.4 §13.6)
 unfoldable pub tableCell : (content : Bytes) (from upto kind : ℕ) → Option Value
 tableCell bs s e n =
     elim (kindNamed n) [
@@ -209,7 +207,7 @@ cons none vs = none
 cons (some v) none = none
 cons (some v) (some vs) = some (v ∷ vs)
 
--- the cells of a table, or none where one is not sound or the lists differ in length (§13.2 §13.3)
+-- the cells of a table, or none where one of them is none or the lists differ in length (§13.2 §13.3)
 unfoldable pub tableCells : (content : Bytes) (starts ends kinds : List ℕ) → Option (List Value)
 tableCells bs [] [] [] = some []
 tableCells bs [] [] (k ∷ ks) = none
@@ -218,13 +216,12 @@ tableCells bs (s ∷ ss) [] ks = none
 tableCells bs (s ∷ ss) (e ∷ es) [] = none
 tableCells bs (s ∷ ss) (e ∷ es) (k ∷ ks) = cons (tableCell bs s e k) (tableCells bs ss es ks)
 
--- cells as so many records of so many columns (§13.1)
+-- cells as rows: this number of records, each of this number of columns (§13.1)
 unfoldable pub rowsOf : (records columns : ℕ) → List Value → List (List Value)
 rowsOf zero columns vs = []
 rowsOf (suc n) columns vs = take columns vs ∷ rowsOf n columns (drop columns vs)
 
--- the records of a table whose cells are sound: none where their number is not columns times records, or there is no record
--- (§13.9 §13.10)
+-- the records of a table, given its cells: none where their number is not columns times records, or there is no record (§13.9 §13.10)
 abbrev pub tableRows : (columns records : ℕ) → Option (List Value) → Option (List (List Value))
 tableRows columns records none = none
 tableRows columns records (some vs) =
@@ -269,7 +266,7 @@ writer n table room =
       | some t ↦ elim (rowsIn table) [ none ↦ unwritten (refusal 12) | some rs ↦ writtenRows (into t) room rs (rowsFault (into t) rs) ]
     ]
 
--- the lent output after the call: the text, and then what stood there (§9.3 §9.4 §13.1)
+-- the lent output after the call: the text, and then what was there before (§9.3 §9.4 §13.1)
 unfoldable pub writerLeaves : (target : ℕ) → Table → (out : List ℕ) → List ℕ
 writerLeaves n table out = over (writer n table (length out) .text) out
 

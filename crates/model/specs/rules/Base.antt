@@ -1,4 +1,4 @@
--- Choices, byte tests and list walks that the definitions share.
+-- Choices, byte tests and list functions that the definitions share.
 use Prim.Native.Nat.{ℕ}
 use mathlib.Core.Bool.{Bool, true, false, _&&_, _||_}
 use mathlib.Core.List.{List, [], _∷_, _++_}
@@ -28,11 +28,11 @@ within lo hi b = leb lo b && leb b hi
 abbrev pub LF : ℕ
 LF = 0x0A
 
--- the carriage return, which ends a TDIF record and elsewhere stands before the LF of an ending (§3.1 §4.1 §5.1 §5.7)
+-- the carriage return, which ends a TDIF record and elsewhere comes before the LF of an ending (§3.1 §4.1 §5.1 §5.7)
 abbrev pub CR : ℕ
 CR = 0x0D
 
--- the comma, which stands between two cells (§3.3 §4.5 §5.3)
+-- the comma, which separates two cells (§3.3 §4.5 §5.3)
 abbrev pub COMMA : ℕ
 COMMA = 0x2C
 
@@ -51,17 +51,17 @@ same [] (b ∷ bs) = false
 same (a ∷ s) [] = false
 same (a ∷ s) (b ∷ bs) = eqb a b && same s bs
 
--- some byte passes the test, as where CSV+ asks for quotes (§14.7)
+-- some byte passes the test, as where CSV+ requires quotes (§14.7)
 unfoldable pub holds : (ℕ → Bool) → Bytes → Bool
 holds p [] = false
 holds p (b ∷ bs) = p b || holds p bs
 
--- the first byte is b, which tells the kind of a whole raw cell (§3.4 §4.3)
+-- the first byte is b, which decides the kind of a whole raw cell (§3.4 §4.3)
 abbrev pub begins : ℕ → Bytes → Bool
 begins b [] = false
 begins b (a ∷ bs) = a is b
 
--- nothing is in it: a header with no cells, an empty stretch, empty content (§8.2 §13.5 §14.7)
+-- the list is empty: a header with no cells, an empty span, empty content (§8.2 §13.5 §14.7)
 abbrev pub isEmpty {ℓ} : {A : Type ℓ} → List A → Bool
 isEmpty [] = true
 isEmpty (x ∷ xs) = false
@@ -71,8 +71,8 @@ unfoldable pub concat {ℓ} : {A : Type ℓ} → List (List A) → List A
 concat [] = []
 concat (x ∷ xs) = x ++ concat xs
 
--- what a lent list or buffer holds once `new` is written at its beginning: what is past it, and on refusal all of it, is as
--- it was (§9.3 §9.4)
+-- a lent list or buffer after `new` was written at its beginning: the places past it, and on refusal all places, are as they were
+-- (§9.3 §9.4)
 abbrev pub over : (new old : List ℕ) → List ℕ
 over new old = new ++ drop (length new) old
 

@@ -1,5 +1,5 @@
--- One cell, a byte at a time: what a single cell can be, in each dialect. A record is cells with delimiters between them
--- (File), and the decoder is a run of this alone (Decode).
+-- One cell, a byte at a time, in each dialect. A record is cells with delimiters between them (File), and the decoder runs this
+-- automaton alone (Decode).
 use Prim.Native.Nat.{ℕ}
 use mathlib.Core.Path.{_≡_}
 use mathlib.Core.Bool.{Bool, true, false, _||_}
@@ -37,7 +37,7 @@ isShort b =
 abbrev isE : ℕ → Bool
 isE b = b is 0x65 || b is 0x45
 
--- the digits of a \u escape are counted down from four, and then the string goes on (§3.6)
+-- the digits of a \u escape are counted down from four, and then the string continues (§3.6)
 abbrev pub afterHex : HexLeft → Cell
 afterHex Four = Hex Three
 afterHex Three = Hex Two
@@ -63,7 +63,7 @@ numeralStep E b =
 numeralStep ESign b = if isDigit b then More (InNumber Exponent) else Refuse Syntax
 numeralStep Exponent b = if isDigit b then More (InNumber Exponent) else Stop
 
--- the letter that goes on with a word: true, false, null, and the N of TDIF's null (§3.4 §4.3)
+-- the next letter of a word: true, false, null, and the N of TDIF's null (§3.4 §4.3)
 abbrev pub letterOf : Word → ℕ
 letterOf T = 0x72
 letterOf Tr = 0x75
@@ -93,9 +93,9 @@ afterLetter Backslash = Complete
 
 -- ---- cells
 
--- the first byte of a cell. CSVJ: of a string, a number or a word. TDIF: of a quoted cell or of null. CSV+: of a quoted cell
--- or a plain one, which is empty if the byte is a delimiter, CR or LF; only a plain cell's first byte can be fault 2 (§3.4
--- §4.3 §5.3 §5.5 §6.22)
+-- the first byte of a cell. CSVJ: of a string, a number or a word. TDIF: of a quoted cell or of null. CSV+: of a quoted cell or an
+-- unquoted one, which is empty if the byte is a delimiter, CR or LF; only an unquoted cell's first byte can be fault 2 (§3.4 §4.3
+-- §5.3 §5.5 §6.22)
 unfoldable pub firstByte : Dialect → ℕ → CellStep
 firstByte Csvj b =
     if b is QUOTE then More (Quoted Whole)
@@ -126,16 +126,16 @@ quotedByte Csvj b =
 quotedByte Tdif b = if b is QUOTE then More Closed else textByte Quoted (charStep Whole b)
 quotedByte (CsvPlus s) b = if b is quoteOf (CsvPlus s) then More Closed else textByte Quoted (charStep Whole b)
 
--- a byte of a plain CSV+ cell, at a character's start after the first: a quote has no place in it, also not after a space
--- (§5.5 §5.8)
+-- a byte of an unquoted CSV+ cell, at a character's start after the first: a quote has no place in it, also not after a space (§5.5
+-- §5.8)
 unfoldable pub plainByte : Dialect → ℕ → CellStep
 plainByte d b =
     if b is quoteOf d then Refuse Syntax
     else if b is delimiterOf d || b is CR || b is LF then Stop
     else textByte Plain (charStep Whole b)
 
--- the next byte of a cell: it belongs to the cell, or the cell has ended before it, or it is fault 2 or 3. Where a character
--- has to go on a byte that breaks the table is 2, inside an escape every wrong byte is 3 (§6.2 §6.3 §6.21 §6.23)
+-- the next byte of a cell: it belongs to the cell, or the cell has ended before it, or it is fault 2 or 3. Inside a character a byte
+-- that breaks the table is 2, inside an escape every wrong byte is 3 (§6.2 §6.3 §6.21 §6.23)
 unfoldable pub cellStep : Dialect → Cell → ℕ → CellStep
 cellStep d Fresh b = firstByte d b
 cellStep d (Quoted Whole) b = quotedByte d b
@@ -187,16 +187,16 @@ isWhole d (InWord w) = false
 isWhole d (Plain c) = betweenCharacters c
 isWhole d Complete = true
 
--- ---- what the bytes of a cell lead to
+-- ---- runs over the bytes of a cell
 
 -- the bytes bs take the cell from c to c′ (§6.2 §6.3)
 pub data Runs (d : Dialect) : Cell → Bytes → Cell → Type 0 where
   here : {c : Cell} → Runs d c [] c
   there : {c c′ c″ : Cell} {b : ℕ} {bs : Bytes} → cellStep d c b ≡ More c′ → Runs d c′ bs c″ → Runs d c (b ∷ bs) c″
 
--- ---- the next byte stands inside quotes
+-- ---- inside quotes
 
--- the next byte stands inside quotes, where CR and LF are counted in a record (§7.4)
+-- the next byte is inside quotes, where CR and LF are counted in a record (§7.4)
 abbrev pub inQuotes : Cell → Bool
 inQuotes Fresh = false
 inQuotes (Quoted c) = true

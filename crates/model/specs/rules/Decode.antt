@@ -1,4 +1,4 @@
--- What a raw cell means, its kind and content; and whether raw bytes are a single cell.
+-- The kind and the content of a raw cell, and whether raw bytes are a single cell.
 use Prim.Native.Nat.{ℕ, suc, _+_, _-_, _*_}
 use mathlib.Core.Bool.{Bool, true, false, _&&_, _||_}
 use mathlib.Core.List.{List, [], _∷_, _++_}
@@ -33,8 +33,8 @@ kindOf (CsvPlus s) bs = Text
 
 -- ---- text with quotes doubled
 
--- what follows the opening quote, up to the closing one, with each doubled quote taken once. `seen`: the byte before was a
--- quote, which ends the cell unless another follows (§4.4 §5.4)
+-- the bytes after the opening quote, up to the closing one, with each doubled quote once. `seen`: the byte before was a quote, which
+-- ends the cell unless another follows (§4.4 §5.4)
 unfoldable pub undouble : (q : ℕ) (seen : Bool) → Bytes → Bytes
 undouble q seen [] = []
 undouble q false (b ∷ bs) = if b is q then undouble q true bs else b ∷ undouble q false bs
@@ -42,8 +42,7 @@ undouble q true (b ∷ bs) = if b is q then b ∷ undouble q false bs else []
 
 -- ---- strings of CSVJ
 
--- what a string is made of: bytes as they stand or as an escape of one letter gives them, and code units that \u escapes
--- name (§2.7 §3.6)
+-- the units of a string: bytes, as they are or as an escape of one letter gives them, and code units that \u escapes name (§2.7 §3.6)
 pub data Unit16 : Type 0 where
   byte : ℕ → Unit16
   unit : ℕ → Unit16
@@ -52,7 +51,7 @@ pub data Unit16 : Type 0 where
 abbrev pub hexOf : ℕ → ℕ
 hexOf b = if leb b 0x39 then b - 0x30 else if leb b 0x46 then b - 0x37 else b - 0x57
 
--- what an escape of one letter stands for (§3.6)
+-- the byte that an escape of one letter denotes (§3.6)
 abbrev pub shortOf : ℕ → ℕ
 shortOf b =
     if b is 0x62 then 0x08
@@ -62,13 +61,13 @@ shortOf b =
     else if b is 0x74 then 0x09
     else b
 
--- where a string stands: between escapes, after a backslash, or in a \u escape with the value of its digits so far (§3.6)
+-- the state inside a string: between escapes, after a backslash, or in a \u escape with the value of its digits so far (§3.6)
 pub data InString : Type 0 where
   between : InString
   escape : InString
   digits : HexLeft → (sofar : ℕ) → InString
 
--- what stands between the quotes of a string, up to the closing one (§3.6)
+-- the units between the quotes of a string, up to the closing one (§3.6)
 unfoldable pub units : InString → Bytes → List Unit16
 units e [] = []
 units between (b ∷ bs) =

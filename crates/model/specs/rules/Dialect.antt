@@ -21,7 +21,7 @@ quoteByte Single = 0x27
 abbrev pub standard : Settings
 standard = record { delimiter = Comma; quote = Double }
 
--- the dialect of a number, or none if the number is unknown; nothing else tells a dialect (§1.1 §1.2 §1.3 §1.4 §1.8)
+-- the dialect of a number, or none if the number is unknown; nothing else selects a dialect (§1.1 §1.2 §1.3 §1.4 §1.8)
 unfoldable pub dialectOf : ℕ → Option Dialect
 dialectOf n =
     if n is 1 then some Csvj
@@ -29,11 +29,11 @@ dialectOf n =
     else if n is 3 then some (CsvPlus standard)
     else none
 
--- the target that a dialect's number in a call stands for (§1.1 §12.1)
+-- the target that a dialect's number in a call denotes (§1.1 §12.1)
 abbrev pub into : Dialect → Target
 into d = record { dialect = d }
 
--- what stands between two cells: the comma, in CSV+ the delimiter of its settings (§3.3 §4.5 §5.3 §5.12)
+-- the byte between two cells: the comma, in CSV+ the delimiter of its settings (§3.3 §4.5 §5.3 §5.12)
 abbrev pub delimiterOf : Dialect → ℕ
 delimiterOf Csvj = COMMA
 delimiterOf Tdif = COMMA
@@ -45,7 +45,7 @@ quoteOf Csvj = QUOTE
 quoteOf Tdif = QUOTE
 quoteOf (CsvPlus s) = quoteByte (s .quote)
 
--- the dialect is CSVJ, which alone carries a header with no cells and lone surrogates (§8.2 §8.3)
+-- the dialect is CSVJ, which alone can represent a header with no cells and lone surrogates (§8.2 §8.3)
 abbrev pub isCsvj : Dialect → Bool
 isCsvj Csvj = true
 isCsvj Tdif = false

@@ -1,5 +1,5 @@
--- The form of a file, a byte at a time: the mark, comments, and records of cells with delimiters and endings. By form alone:
--- counts, names, kinds and limits are left to Records.
+-- The form of a file, a byte at a time: the byte order mark, comments, and records of cells with delimiters and endings. By form
+-- alone: counts, names, kinds and limits are left to Records.
 use Prim.Native.Nat.{ℕ}
 use mathlib.Core.Bool.{Bool, true, false, not, _||_}
 use Rattle.model.specs.rules.Types.{Dialect, Csvj, Tdif, CsvPlus, EeToEf, Second, Last, Whole, Within, Advance, On, Broken}
@@ -11,7 +11,7 @@ use Rattle.model.specs.rules.Dialect.{delimiterOf}
 use Rattle.model.specs.rules.Utf8.{charStep}
 use Rattle.model.specs.rules.Cell.{cellStep, isWhole, inQuotes}
 
--- a space or a tab, which may stand around values and commas of CSVJ (§3.2)
+-- a space or a tab, which may surround values and commas of CSVJ (§3.2)
 abbrev pub isBlank : ℕ → Bool
 isBlank b = b is 0x20 || b is 0x09
 
@@ -41,8 +41,7 @@ grow (More c) s = To (Inside c) OfCell
 grow Stop s = s
 grow (Refuse e) s = Reject e
 
--- the next byte of a record that stands in a cell: the cell's own, or after it a delimiter or the record's ending (§3.3 §4.5
--- §5.3)
+-- the next byte of a record inside a cell: the cell's own, or after it a delimiter or the record's ending (§3.3 §4.5 §5.3)
 unfoldable pub inCell : Dialect → Cell → ℕ → Step
 inCell d c b = grow (cellStep d c b) (afterCell d true b)
 
@@ -58,7 +57,7 @@ beginRecord Csvj b =
 beginRecord Tdif b = if b is 0x23 then To (Comment Whole) Outside else inCell Tdif Fresh b
 beginRecord (CsvPlus s) b = inCell (CsvPlus s) Fresh b
 
--- the file's first byte, which may begin the mark: CSVJ passes over it, TDIF has none, CSV+ refuses it at its third byte
+-- the file's first byte, which may begin the byte order mark: CSVJ skips the mark, TDIF has none, CSV+ refuses it at its third byte
 -- (§3.8 §4.11 §5.9)
 unfoldable pub beginFile : Dialect → ℕ → Step
 beginFile Csvj b = if b is 0xEF then To Bom1 Outside else beginRecord Csvj b
@@ -70,19 +69,19 @@ abbrev pub commented : Advance → Step
 commented Broken = Reject Encoding
 commented (On c) = To (Comment c) Outside
 
--- the next byte of a file: where the file stands then and what the byte is to its record, or fault 2 or 3 (§6.2 §6.3)
+-- the next byte of a file: the next state of the file and the byte's role in its record, or fault 2 or 3 (§6.2 §6.3)
 unfoldable pub fileStep : Dialect → FileState → ℕ → Step
 fileStep d Top b = beginFile d b
 fileStep d Begin b = beginRecord d b
--- the LF of a CRLF whose CR ended a record or a comment; a second one would open an empty line (§4.2 §4.6)
+-- the LF of a CRLF whose CR ended a record or a comment; a second one would begin an empty line (§4.2 §4.6)
 fileStep d Ended b = if b is LF then To Begin Passed else beginRecord d b
--- after EF at offset 0 the mark has to go on (§3.9); in CSV+ the third byte of a mark is the fault, and any other is a plain
--- cell's (§5.9)
+-- after EF at offset 0 the byte order mark has to continue (§3.9); in CSV+ its third byte is the fault, and any other is of an
+-- unquoted cell (§5.9)
 fileStep d Bom1 b = if b is 0xBB then To Bom2 Outside else Reject Syntax
 fileStep d Bom2 b = if b is 0xBF then To Begin Passed else Reject Syntax
 fileStep d PlainBom1 b = if b is 0xBB then To PlainBom2 OfCell else inCell d (Plain (Within (Second EeToEf))) b
 fileStep d PlainBom2 b = if b is 0xBF then Reject Syntax else inCell d (Plain (Within Last)) b
--- a comment goes up to its line break (§4.7)
+-- a comment extends to its line break (§4.7)
 fileStep d (Comment Whole) b =
     if b is LF then To Begin Passed else if b is CR then To Ended Passed else commented (charStep Whole b)
 fileStep d (Comment (Within i)) b = commented (charStep (Within i) b)
@@ -90,7 +89,7 @@ fileStep d Blanks b = beginRecord d b
 fileStep d ExpectCell b = if isBlank b then To ExpectCell (Between false) else inCell d Fresh b
 fileStep d (Inside c) b = inCell d c b
 fileStep d After b = afterCell d false b
--- a CR outside quotes waits for its LF (§3.1 §5.7)
+-- a CR outside quotes is followed by its LF (§3.1 §5.7)
 fileStep d Cr b = if b is LF then To Begin (Ends false) else Reject Syntax
 
 -- ---- the end of the file
@@ -101,8 +100,8 @@ lastCell Csvj c = Cut
 lastCell Tdif c = Cut
 lastCell (CsvPlus s) c = if isWhole (CsvPlus s) c then Final else Cut
 
--- what the end of the file means where the file stands: between records nothing; else fault 4, or the end of a last CSV+
--- record (§5.2 §6.4 §6.25)
+-- the meaning of the end of the file in each state: between records nothing; else fault 4, or the end of a last CSV+ record (§5.2
+-- §6.4 §6.25)
 unfoldable pub fileEnd : Dialect → FileState → Ending
 fileEnd d Top = Clean
 fileEnd d Begin = Clean
@@ -120,8 +119,8 @@ fileEnd d Cr = Cut
 
 -- ---- the open cell
 
--- how far the open cell has got: what could be the start of the mark in CSV+ is a plain cell so far; where none is open, one that has no
--- byte yet (§5.9 §15.2)
+-- the state of the open cell: in CSV+ bytes that may begin the byte order mark are those of an unquoted cell; where no cell is open,
+-- the state is that before a cell's first byte (§5.9 §15.2)
 unfoldable pub cellAt : FileState → Cell
 cellAt Top = Fresh
 cellAt Begin = Fresh
@@ -139,7 +138,7 @@ cellAt Cr = Fresh
 
 -- ---- what counts in a record
 
--- the next byte of a file stands inside quotes (§7.4)
+-- the next byte of a file is inside quotes (§7.4)
 abbrev pub quotesOpen : FileState → Bool
 quotesOpen Top = false
 quotesOpen Begin = false
@@ -155,8 +154,8 @@ quotesOpen (Inside c) = inQuotes c
 quotesOpen After = false
 quotesOpen Cr = false
 
--- the byte would be counted in its record: all but a CR or LF outside quotes. It is asked of a record's bytes; comments and
--- the mark are of none (Records, `move`) (§7.4)
+-- the byte would be counted in its record: all but a CR or LF outside quotes. Used for a record's bytes only; comments and the byte
+-- order mark belong to none (Records, `move`) (§7.4)
 unfoldable pub counts : FileState → ℕ → Bool
 counts f b = quotesOpen f || not (b is LF || b is CR)
 

@@ -1,4 +1,4 @@
--- The ledger of piece and end calls: what each call of a list answers, by the calls before it and their own reports.
+-- The ledger of piece and end calls: the answer to each call of a list, by the calls before it and their own reports.
 use Prim.Native.Nat.{ℕ}
 use mathlib.Core.Bool.{Bool, true, false, _&&_, _||_}
 use mathlib.Core.Option.{Option, none, some}
@@ -13,7 +13,7 @@ use Rattle.model.specs.rules.Report.{refusal, MAXPIECE, LEASTOUTPUT}
 use Rattle.model.specs.rules.Records.{rows, Progress, readBytes, readFile, reportOf, recordsOf}
 use Rattle.model.specs.rules.Api.{Written, unwritten}
 
--- a call as the ledger is fed it: its piece, if it is no end call, and the size of its output (§15.1 §16.2)
+-- a call as the ledger sees it: its piece, if it is no end call, and the size of its output (§15.1 §16.2)
 pub data Call : Type 0 where
   piece : Bytes → (room : ℕ) → Call
   finish : (room : ℕ) → Call
@@ -23,7 +23,7 @@ pub record Entry : Type 0 where
   pub call : Call
   pub answer : Written
 
--- the bytes that a call hands in; an end call has none (§16.4)
+-- the bytes of a call; an end call has none (§16.4)
 abbrev pub bytesOf : Call → Bytes
 bytesOf (piece bs room) = bs
 bytesOf (finish room) = []
@@ -38,7 +38,7 @@ abbrev pub isFinish : Call → Bool
 isFinish (piece bs room) = false
 isFinish (finish room) = true
 
--- ---- what earlier reports say
+-- ---- the earlier reports
 
 -- acceptance; no other report has number 0 (§6.15)
 abbrev pub isAccepted : Report → Bool
@@ -48,7 +48,7 @@ isAccepted e = e .number is 0
 abbrev pub isFileFault : Report → Bool
 isFileFault e = within 1 9 (e .number)
 
--- the file fault that an earlier call met (§15.5)
+-- the file fault that an earlier call reported (§15.5)
 unfoldable pub faultIn : List Entry → Option Report
 faultIn [] = none
 faultIn (x ∷ xs) = if isFileFault (x .answer .report) then some (x .answer .report) else faultIn xs
@@ -58,7 +58,7 @@ unfoldable pub endedIn : List Entry → Bool
 endedIn [] = false
 endedIn (x ∷ xs) = isFinish (x .call) && isAccepted (x .answer .report) || endedIn xs
 
--- the bytes consumed: those of the accepted calls, and of the call that met the fault; the calls after it repeat its report and
+-- the bytes consumed: those of the accepted calls, and of the call that found the fault; the calls after it repeat its report and
 -- consume nothing (§15.8 §16.4)
 unfoldable pub consumedIn : List Entry → Bytes
 consumedIn [] = []
@@ -66,7 +66,7 @@ consumedIn (x ∷ xs) =
     if isFileFault (x .answer .report) then bytesOf (x .call)
     else (if isAccepted (x .answer .report) then bytesOf (x .call) else []) ++ consumedIn xs
 
--- an end call was taken, so that the end of the file is shown: an accepted one, or one that met the fault (§16.6)
+-- an end call was taken, so that the end of the file is known: an accepted one, or one that found the fault (§16.6)
 unfoldable pub closedIn : List Entry → Bool
 closedIn [] = false
 closedIn (x ∷ xs) =
@@ -117,7 +117,7 @@ answerNow m n past c =
       | some d ↦ elim (dialectOf n) [ none ↦ unwritten (refusal 11) | some t ↦ answerTo d (into t) past c ]
     ]
 
--- one of the four checks answers this call after these entries: it consumes and changes nothing (§15.4 §15.5 §15.6 §15.7 §15.8)
+-- one of the four checks refuses this call after these entries: it consumes and changes nothing (§15.4 §15.5 §15.6 §15.7 §15.8)
 unfoldable pub checked : (source target : ℕ) → (past : List Entry) → Call → Bool
 checked m n past c =
     elim (dialectOf m) [
@@ -128,7 +128,7 @@ checked m n past c =
       ]
     ]
 
--- each call in its turn with its answer, by the entries before it (§16.3)
+-- each call with its answer, by the entries before it (§16.3)
 unfoldable pub historyFrom : (source target : ℕ) → (past : List Entry) → List Call → List Entry
 historyFrom m n past [] = past
 historyFrom m n past (c ∷ cs) = historyFrom m n (past ++ (record { call = c; answer = answerNow m n past c } ∷ [])) cs
@@ -137,12 +137,12 @@ historyFrom m n past (c ∷ cs) = historyFrom m n (past ++ (record { call = c; a
 abbrev pub history : (source target : ℕ) → List Call → List Entry
 history m n cs = historyFrom m n [] cs
 
--- the ledger's answers to a list of calls on a converter made with these two numbers, which is what demand 3 is stated over.
--- It says nothing of a state that no calls could have made (§15.4 §15.9 §16.1 §16.2 §16.9 §19.4)
+-- the ledger's answers to a list of calls on a converter made with these two numbers; demand 3 is stated over it. It defines nothing
+-- for a state that no calls could have made (§15.4 §15.9 §16.1 §16.2 §16.9 §19.4)
 unfoldable pub ledger : (source target : ℕ) → List Call → List Written
 ledger m n cs = map (λ (x : Entry). x .answer) (history m n cs)
 
--- a call's lent output after it: what it writes, and then what stood there (§9.5 §16.7)
+-- a call's lent output after it: what it writes, and then what was there before (§9.5 §16.7)
 abbrev pub callLeaves : Written → (out : List ℕ) → List ℕ
 callLeaves a out = over (a .text) out
 

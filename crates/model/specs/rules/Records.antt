@@ -1,4 +1,4 @@
--- What is asked of a complete record, and reading, over any dialect: offsets, record numbers, limits, stretches.
+-- The checks of a complete record, and reading, over any dialect: offsets, record numbers, limits, spans.
 use Prim.Native.Nat.{ℕ, suc, _+_}
 use mathlib.Core.Bool.{Bool, true, false, not, _&&_}
 use mathlib.Core.Option.{Option, none, some}
@@ -76,20 +76,20 @@ unfoldable pub headerKindFrom : ℕ → List Value → CheckResult
 headerKindFrom n [] = Sound
 headerKindFrom n (v ∷ vs) = when (not (isText (v .kind))) (HeaderKind n) orElse headerKindFrom (suc n) vs
 
--- what is asked of a header: 8 for columns, 7 of all its cells, 6 (§6.6 §6.7 §6.13 §7.3 §7.8 §7.10)
+-- the checks of a header: 8 for columns, 7 for all its cells, 6 (§6.6 §6.7 §6.13 §7.3 §7.8 §7.10)
 unfoldable pub headerFault : Dialect → List Value → CheckResult
 headerFault d vs =
     when (ltb MAXCOLUMNS (length vs)) TooManyColumns
     orElse headerKindFrom 1 vs
     orElse repeatFault d RepeatedName vs
 
--- what is asked of a data record: 8 for columns, 5 (§2.2 §6.5 §6.13 §7.8 §7.9)
+-- the checks of a data record: 8 for columns, 5 (§2.2 §6.5 §6.13 §7.8 §7.9)
 unfoldable pub dataFault : (columns : ℕ) → List Value → CheckResult
 dataFault columns vs =
     when (ltb MAXCOLUMNS (length vs)) TooManyColumns
     orElse when (not (eqb (length vs) columns)) CellCount
 
--- ---- what the target asks
+-- ---- the checks of a target
 
 -- the dialect has cells of this kind (§2.5 §8.3)
 abbrev pub hasKind : Dialect → Kind → Bool
@@ -105,7 +105,7 @@ hasKind (CsvPlus s) k = isText k
 abbrev pub losesSurrogate : Dialect → Value → Bool
 losesSurrogate t v = not (isCsvj t) && isText (v .kind) && holdsLone (v .content)
 
--- the first cell, from column n on, that the target can't carry, by its kind or by a lone surrogate (§8.3)
+-- the first cell, from column n on, that the target can't represent, by its kind or by a lone surrogate (§8.3)
 unfoldable pub uncarriedFrom : Dialect → (n : ℕ) → List Value → CheckResult
 uncarriedFrom t n [] = Sound
 uncarriedFrom t n (v ∷ vs) =
@@ -132,13 +132,13 @@ targetFault t header written vs =
 abbrev pub targetNext : Target → (done : List (List Value)) → List Value → CheckResult
 targetNext t done vs = targetFault t (isEmpty done) (length (tableText t done)) vs
 
--- what is asked only where there is a target (§7.8 §12.2)
+-- a check that is made only where there is a target (§7.8 §12.2)
 abbrev pub converting : Option Target → (Target → CheckResult) → CheckResult
 converting none f = Sound
 converting (some t) f = f t
 
--- the fault of the record that follows `done`: what its source asks, read in d, and then what its target asks if there is
--- one (§7.8 §8.7)
+-- the fault of the record that follows `done`: the checks of its source, read in d, and then those of its target if there is one
+-- (§7.8 §8.7)
 unfoldable pub recordFault : Dialect → (target : Option Target) → (done : List Rec) → List Value → CheckResult
 recordFault d target [] vs = headerFault d vs orElse converting target (λ t. targetNext t [] vs)
 recordFault d target (h ∷ rs) vs =
@@ -147,9 +147,9 @@ recordFault d target (h ∷ rs) vs =
 
 -- ---- reading, a byte at a time
 
--- what has been read: the complete records; where the file stands; the next byte's offset; where the current record starts,
--- or the next one; how many of its bytes are counted; where the current cell starts, or the next one; its bytes; the
--- record's complete cells (§6.18 §6.20 §7.4 §10.3)
+-- the reading state: the complete records; the state of the file; the next byte's offset; where the current record starts, or the
+-- next one; how many of its bytes are counted; where the current cell starts, or the next one; its bytes; the record's complete cells
+-- (§6.18 §6.20 §7.4 §10.3)
 pub record Read : Type 0 where
   pub done : List Rec
   pub state : FileState
@@ -168,16 +168,16 @@ between-records rs f o = record { done = rs; state = f; offset = o; start = o; s
 unfoldable pub nothingRead : Read
 nothingRead = between-records [] Top 0
 
--- reading goes on, or met a fault, with what had been read before it (§7.5)
+-- reading continues, or found a fault, with the reading state before it (§7.5)
 pub data Progress : Type 0 where
   going : Read → Progress
   stopped : Fault → Read → Progress
 
--- the cell that ends before the next byte: its stretch, its kind and its content (§2.3 §10.3 §10.4)
+-- the cell that ends before the next byte: its span, its kind and its content (§2.3 §10.3 §10.4)
 abbrev pub cellNow : Dialect → Read → Value
 cellNow d r = record { from = r .opened; upto = r .offset; kind = kindOf d (r .raw); content = contentOf d (r .raw) }
 
--- the record's cells, with the one in hand where it closes (§10.3)
+-- the record's cells, with the current one where it closes (§10.3)
 abbrev pub closing : Dialect → (closes : Bool) → Read → List Value
 closing d true r = r .cells ++ (cellNow d r ∷ [])
 closing d false r = r .cells
@@ -187,8 +187,7 @@ abbrev pub validated : Read → Read → CheckResult → Progress
 validated before next Sound = going next
 validated before next (Faulty e) = stopped e before
 
--- a record ends and is validated: the current record, with these cells; where the file stands then, and the next offset (§7.5
--- §7.8)
+-- a record ends and is checked: the current record, with these cells, the state of the file after it, and the next offset (§7.5 §7.8)
 unfoldable pub complete : Dialect → (target : Option Target) → Read → List Value → FileState → ℕ → Progress
 complete d target r vs f o =
     validated r (between-records (r .done ++ (record { start = r .start; size = r .size; cells = vs } ∷ [])) f o)
@@ -241,8 +240,7 @@ abbrev pub endBetween : Read → List Rec → Progress
 endBetween r [] = stopped NoRecord r
 endBetween r (h ∷ rs) = going r
 
--- the end of the file: between records, or completing a last CSV+ record, which is validated there, or fault 4 (§5.11 §6.4
--- §6.26)
+-- the end of the file: between records, or completing a last CSV+ record, which is checked there, or fault 4 (§5.11 §6.4 §6.26)
 abbrev pub endAt : Dialect → (target : Option Target) → Read → Ending → Progress
 endAt d target r Clean = endBetween r (r .done)
 endAt d target r Final = complete d target r (closing d true r) Begin (r .offset)
@@ -257,13 +255,13 @@ readEnd d target (going r) = endAt d target r (fileEnd d (r .state))
 unfoldable pub readFile : Dialect → (target : Option Target) → Bytes → Progress
 readFile d target bs = readEnd d target (readBytes d target bs)
 
--- ---- what is reported
+-- ---- reports
 
 -- the record that a fault names (§6.17 §6.18)
 abbrev pub recordNow : Read → ℕ
 recordNow r = suc (length (r .done))
 
--- the offset of a fault: where reading stands, or where the record starts (§6.19 §6.20)
+-- the offset of a fault: the byte where reading is, or the start of the record (§6.19 §6.20)
 abbrev pub placeOf : Fault → Read → ℕ
 placeOf e r = if isAtByte e then r .offset else r .start
 

@@ -1,5 +1,5 @@
--- Reports, limits, and what the table of faults says of each reason: its number and its column, and whether its place is a byte
--- or the record's start.
+-- Reports, limits, and the table of faults: the number and the column of each reason, and whether its offset is a byte or the
+-- record's start.
 use Prim.Native.Nat.{ℕ}
 use mathlib.Core.Bool.{Bool, true, false}
 use Rattle.model.specs.rules.Types.{Report, Encoding, Syntax, Fault, NoRecord, Byte, CutShort, CellCount, RepeatedName, HeaderKind, FileTooLong, RecordTooLong, TooManyColumns, NoCells, LacksKind, LoneSurrogate, Clash, TextTooLong, OutputTooLong}
@@ -75,8 +75,8 @@ columnOf (Clash c) = c
 columnOf TextTooLong = 0
 columnOf OutputTooLong = 0
 
--- the table's offset is where reading stands, that is the faulty byte, the first byte too many or the file's length, and not
--- the record's start (§6.1 §6.2 §6.3 §6.4 §6.8)
+-- the fault's offset is where reading is, that is the faulty byte, the first byte too many or the file's length, and not the record's
+-- start (§6.1 §6.2 §6.3 §6.4 §6.8)
 abbrev pub isAtByte : Fault → Bool
 isAtByte NoRecord = true
 isAtByte (Byte e) = true

@@ -8,8 +8,7 @@ use Rattle.model.specs.rules.Base.{if_then_else_, _is_, Bytes, QUOTE, BA
 use Rattle.model.specs.rules.Dialect.{delimiterOf, quoteOf}
 use Rattle.model.specs.rules.Utf8.{isSurrogate}
 
--- a cell: its kind and its content; from and upto are its stretch, where it was read from or lies in a table's content (§2.3
--- §2.4 §10.3)
+-- a cell: its kind and its content; from and upto are its span, where it was read from or lies in a table's content (§2.3 §2.4 §10.3)
 pub record Value : Type 0 where
   pub from : ℕ
   pub upto : ℕ
@@ -30,7 +29,7 @@ isText Null = false
 abbrev pub hexDigit : ℕ → ℕ
 hexDigit n = if leb n 9 then 0x30 + n else 0x57 + n
 
--- a byte of a text in CSVJ: as it stands, or as its escape (§14.3)
+-- a byte of a text in CSVJ: as it is, or as its escape (§14.3)
 abbrev pub escaped : ℕ → Bytes
 escaped b =
     if b is QUOTE then BACKSLASH ∷ QUOTE ∷ []
@@ -60,7 +59,7 @@ jsonBody (a ∷ b ∷ c ∷ bs) =
 -- a cell in CSVJ (§14.3 §14.5)
 unfoldable pub jsonCell : Kind → Bytes → Bytes
 jsonCell Text bs = QUOTE ∷ jsonBody bs ++ (QUOTE ∷ [])
--- a number is its spelling (§14.5)
+-- a number is written as it is spelt (§14.5)
 jsonCell Number bs = bs
 jsonCell True bs = 0x74 ∷ 0x72 ∷ 0x75 ∷ 0x65 ∷ []
 jsonCell False bs = 0x66 ∷ 0x61 ∷ 0x6C ∷ 0x73 ∷ 0x65 ∷ []
@@ -79,19 +78,19 @@ quotedText q bs = q ∷ doubled q bs ++ (q ∷ [])
 
 -- ---- CSV+
 
--- content begins like the mark (§14.7)
+-- content begins like the byte order mark (§14.7)
 abbrev pub beginsBom : Bytes → Bool
 beginsBom [] = false
 beginsBom (a ∷ []) = false
 beginsBom (a ∷ b ∷ []) = false
 beginsBom (a ∷ b ∷ c ∷ bs) = a is 0xEF && b is 0xBB && c is 0xBF
 
--- a byte that has to stand in quotes, by the settings (§5.12 §14.7)
+-- a byte that requires quotes, by the settings (§5.12 §14.7)
 abbrev pub special : Settings → ℕ → Bool
 special s b = b is quoteOf (CsvPlus s) || b is delimiterOf (CsvPlus s) || b is CR || b is LF
 
--- content stands in quotes: it holds a byte that has to, or is empty in a table of one column, or begins like the mark in the
--- header's first cell. `only`: its record has no other cell; `first`: it is the first header cell (§14.7)
+-- content is written in quotes: it holds a byte that requires them, or is empty in a table of one column, or begins like the byte
+-- order mark in the header's first cell. `only`: its record has no other cell; `first`: it is the first header cell (§14.7)
 abbrev pub hasQuotes : Settings → (only first : Bool) → Bytes → Bool
 hasQuotes s only first bs = holds (special s) bs || only && isEmpty bs || first && beginsBom bs
 
@@ -101,7 +100,7 @@ csvPlusCell s only first bs = if hasQuotes s only first bs then quotedText (quot
 
 -- ---- records and tables
 
--- a cell in the dialect, which carries its kind; TDIF's other kind beside text is null (§14.5 §14.6 §14.7)
+-- a cell in a dialect that can represent its kind; TDIF's other kind beside text is null (§14.5 §14.6 §14.7)
 unfoldable pub cellText : Dialect → (only first : Bool) → Value → Bytes
 cellText Csvj only first v = jsonCell (v .kind) (v .content)
 cellText Tdif only first v = if isText (v .kind) then quotedText QUOTE (v .content) else BACKSLASH ∷ 0x4E ∷ []

@@ -22,7 +22,7 @@ pub record Row : Type 0 where
 abbrev row : ℕ → ℕ → ℕ → ℕ → ℕ → Row
 row lo hi size lo2 hi2 = record { lo = lo; hi = hi; size = size; lo2 = lo2; hi2 = hi2 }
 
--- the table, from its second row on; its first row, 00 to 7F, is a character of one byte and stands in `charStep` (§2.11)
+-- the table, from its second row on; its first row, 00 to 7F, is a character of one byte and is in `charStep` (§2.11)
 --                  | first |    | length | second |
 unfoldable pub rowOf : Lead → Row
 rowOf C2ToDf = row 0xC2 0xDF 2 0x80 0xBF
@@ -66,7 +66,7 @@ textFrom c (b ∷ bs) = elim (charStep c b) [ Broken ↦ false | On c′ ↦ tex
 
 -- ---- code points
 
--- a code point as one to four bytes; a surrogate as the three bytes that a lone one is kept in (§2.6 §2.10)
+-- a code point as one to four bytes; a surrogate as the three bytes that represent a lone one (§2.6 §2.10)
 unfoldable pub pack : ℕ → Bytes
 pack u =
     if leb u 0x7F then u ∷ []
@@ -92,24 +92,24 @@ joined h l = 0x10000 + (h - 0xD800) * 0x400 + (l - 0xDC00)
 abbrev pub isSurrogate : ℕ → ℕ → Bool
 isSurrogate a b = a is 0xED && leb 0xA0 b
 
--- a lone surrogate stands somewhere in a content (§2.6 §8.3)
+-- content contains a lone surrogate (§2.6 §8.3)
 unfoldable pub holdsLone : Bytes → Bool
 holdsLone [] = false
 holdsLone (a ∷ []) = false
 holdsLone (a ∷ b ∷ bs) = if isSurrogate a b then true else holdsLone (b ∷ bs)
 
--- where content stands, with what is needed to tell a high surrogate directly before a low one (§2.6 §2.9)
+-- the state inside content, with what is needed to recognise a high surrogate directly before a low one (§2.6 §2.9)
 pub data Wide : Type 0 where
   -- between characters, directly after a high surrogate or not
   gap : (high : Bool) → Wide
-  -- after ED, which stands directly after a high surrogate or not
+  -- after ED, directly after a high surrogate or not
   ed : (high : Bool) → Wide
   -- in a surrogate, before its last byte, a high one or not
   lone : (high : Bool) → Wide
   -- in another character
   inner : Inner → Wide
 
--- where content stands after a byte of the table's text, which is of no surrogate (§2.6)
+-- the state after a byte of the table's text, which is of no surrogate (§2.6)
 abbrev pub settled : Char → Wide
 settled Whole = gap false
 settled (Within i) = inner i
