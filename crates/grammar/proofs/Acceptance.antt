@@ -56,7 +56,9 @@ unfolding spelling
 encoded-fit every-none = every-none
 encoded-fit (every-cons {x = line text cells} h k) = every-cons h (encoded-fit k)
 
-decoded-fit : (d : Dialect) {ls : List (Line Bytes)} → Every (λ l. length (textIn l) ≤ MAXRECORD) ls → Every (λ l. length (textIn l) ≤ MAXRECORD) (map (decodedLine d) ls)
+decoded-fit :
+    (d : Dialect) {ls : List (Line Bytes)} → Every (λ l. length (textIn l) ≤ MAXRECORD) ls →
+    Every (λ l. length (textIn l) ≤ MAXRECORD) (map (decodedLine d) ls)
 unfolding decodedLine
 decoded-fit d every-none = every-none
 decoded-fit d (every-cons {x = line text cells} h k) = every-cons h (decoded-fit d k)
@@ -169,7 +171,9 @@ acceptance d xs = (only, suffices)
 
 -- and the reader's records are those of every derivation: cells in order, with their kinds and contents, and each span is the raw
 -- cell
-pub accepted-records : (d : Dialect) (xs : Bytes) (ls : List (Line Derived)) → Derives d xs ls → (r : Read) → readFile d none xs ≡ going r → Each (ShowsRecord xs) (r .done) ls
+pub accepted-records :
+    (d : Dialect) (xs : Bytes) (ls : List (Line Derived)) → Derives d xs ls → (r : Read) → readFile d none xs ≡ going r →
+    Each (ShowsRecord xs) (r .done) ls
 accepted-records d xs ls k r e = go (read-acceptable d xs r e)
   where
     go : AcceptedAs d xs r → Each (ShowsRecord xs) (r .done) ls
@@ -191,7 +195,9 @@ pub ten : {A : Type 0} → refusal 10 ≡ accepted → A
 ten e = let k : _≡_ {A = ℕ} 10 0 = ap (λ (z : Report). z .number) e in absurd (omega arith)
 
 -- an accepted file is reported so exactly where its cells have room
-roomy : {file : Bytes} {rs : List Rec} {ls : List (Line Derived)} (vs : List Value) (room : ℕ) → Each (ShowsRecord file) rs ls → Some ls → answered rs vs room .report ≡ accepted → length vs ≤ room
+roomy :
+    {file : Bytes} {rs : List Rec} {ls : List (Line Derived)} (vs : List Value) (room : ℕ) → Each (ShowsRecord file) rs ls → Some ls →
+    answered rs vs room .report ≡ accepted → length vs ≤ room
 unfolding if_then_else_
 roomy vs room (each-cons {x = h} {xs = rs} s k) some e = go (ltb room (length vs)) refl
   where
@@ -199,7 +205,9 @@ roomy vs room (each-cons {x = h} {xs = rs} s k) some e = go (ltb room (length vs
     go true p = ten (rw p at e)
     go false p = ltb-false room (length vs) p
 
-has-room : {file : Bytes} {rs : List Rec} {ls : List (Line Derived)} (vs : List Value) (room : ℕ) → Each (ShowsRecord file) rs ls → length vs ≤ room → answered rs vs room .report ≡ accepted
+has-room :
+    {file : Bytes} {rs : List Rec} {ls : List (Line Derived)} (vs : List Value) (room : ℕ) → Each (ShowsRecord file) rs ls →
+    length vs ≤ room → answered rs vs room .report ≡ accepted
 unfolding if_then_else_
 has-room vs room each-none h = refl
 has-room vs room (each-cons s k) h = rw (le-ltb room (length vs) h)
@@ -209,13 +217,18 @@ pub reader-acceptance :
     (n : ℕ) (d : Dialect) (xs : Bytes) (room : ℕ) → dialectOf n ≡ option.some d →
     (reader n xs room .report ≡ accepted) ↔ ((ls : List (Line Derived)) × Acceptable d xs ls × (cellCount ls ≤ room))
 unfolding reader
-reader-acceptance n d xs room dialect = (λ e. only (readFile d none xs) refl (rw (dialect, reader) at e), λ a. suffices (a .2) (acceptable-read d xs (a .0) (a .1)))
+reader-acceptance n d xs room dialect =
+    (λ e. only (readFile d none xs) refl (rw (dialect, reader) at e), λ a. suffices (a .2) (acceptable-read d xs (a .0) (a .1)))
   where
-    fits : {end : Read} → AcceptedAs d xs end → answered (end .done) (concat (rows (end .done))) room .report ≡ accepted → (ls : List (Line Derived)) × Acceptable d xs ls × (cellCount ls ≤ room)
+    fits :
+        {end : Read} → AcceptedAs d xs end → answered (end .done) (concat (rows (end .done))) room .report ≡ accepted →
+        (ls : List (Line Derived)) × Acceptable d xs ls × (cellCount ls ≤ room)
     fits {end} (accepted-as ls a k) e =
         (ls, a, rw (count-cells k) at (roomy (concat (rows (end .done))) room k (some-lines (file-derived d xs ls (a .derived))) e))
 
-    only : (p : Progress) → readFile d none xs ≡ p → readAnswer p room .report ≡ accepted → (ls : List (Line Derived)) × Acceptable d xs ls × (cellCount ls ≤ room)
+    only :
+        (p : Progress) → readFile d none xs ≡ p → readAnswer p room .report ≡ accepted →
+        (ls : List (Line Derived)) × Acceptable d xs ls × (cellCount ls ≤ room)
     only (going r) q e = fits (read-acceptable d xs r q) e
     only (stopped x r) q e = let z = accepted-going (stopped x r) e in stopped-going (z .1)
 

@@ -13,7 +13,8 @@ use Rattle.model.specs.rules.Base.{Bytes, if_then_else_}
 use Rattle.model.specs.rules.File.{fileStep, fileEnd, counts}
 use Rattle.model.specs.rules.Text.{Value}
 use Rattle.model.specs.rules.Report.{MAXFILE, MAXRECORD}
-use Rattle.model.specs.rules.Records.{Rec, Read, going, between-records, closing, validated, complete, move, fileFull, recordFull, recordFault, readByte, readFrom, endBetween, readEnd}
+use Rattle.model.specs.rules.Records.{Rec, Read, going, between-records, closing, validated, complete, move, fileFull, recordFull, recordFault}
+use Rattle.model.specs.rules.Records.{readByte, readFrom, endBetween, readEnd}
 use Rattle.grammar.specs.rfc.Derived.{Derived, Line, line, Each, each-none, each-cons}
 use Rattle.grammar.specs.dialects.FormReads.{Reads, decoded}
 use Rattle.grammar.specs.dialects.FormReads as reading
@@ -21,14 +22,18 @@ use Rattle.grammar.specs.Accepted.{ShowsCell, ShowsRecord}
 use Rattle.model.proofs.file_laws.FileSteps.{Transition, tail-uncounted, ends-uncounted, its-transition}
 use Rattle.grammar.proofs.Stages.{at-rest, stageOf, Recording, cell-stage, between-stage, tail-stage, ends-stage}
 use Rattle.grammar.proofs.Checks.{LineSound, ChecksFrom, checks-next, record-sound-checked}
-use Rattle.grammar.proofs.DerivationState.{each-snoc, length-snoc, joined, joined-rest, joined-of-cell, joined-between, joined-between-closing, joined-tail-closing, joined-ends, joined-ends-closing, Fit, fit-line, fit-rest, Lies, closes-now, stands-reset, stands-more, Rested, rested, Parted, parted, Ended, ended, recording-tidy, rest-tidy}
+use Rattle.grammar.proofs.DerivationState.{each-snoc, length-snoc, joined, joined-rest, joined-of-cell, joined-between, joined-between-closing}
+use Rattle.grammar.proofs.DerivationState.{joined-tail-closing, joined-ends, joined-ends-closing, Fit, fit-line, fit-rest, Lies, closes-now}
+use Rattle.grammar.proofs.DerivationState.{stands-reset, stands-more, Rested, rested, Parted, parted, Ended, ended, recording-tidy, rest-tidy}
 use Rattle.grammar.proofs.DerivationState.{moved-outside, moved-passed, moved-between, moved-tail, moved-ends}
 
 -- at least one line
 pub data Some : List (Line Derived) → Type 0 where
   some : {l : Line Derived} {ls : List (Line Derived)} → Some (l ∷ ls)
 
-checks-line : {d : Dialect} {pre ls : List (Line Derived)} {t : Bytes} {cs : List Derived} → ChecksFrom d pre (line t cs ∷ ls) → LineSound d pre cs × ChecksFrom d (pre ++ (line t cs ∷ [])) ls
+checks-line :
+    {d : Dialect} {pre ls : List (Line Derived)} {t : Bytes} {cs : List Derived} → ChecksFrom d pre (line t cs ∷ ls) →
+    LineSound d pre cs × ChecksFrom d (pre ++ (line t cs ∷ [])) ls
 checks-line (checks-next l k) = (l, k)
 
 -- ---- a byte that reaches no limit
@@ -56,7 +61,8 @@ module _ (d : Dialect) (file : Bytes) (total : List (Line Derived)) (limit : len
     accepted : (end : Read) → readEnd d none (readFrom d none (going r) xs) ≡ going end → Each (ShowsRecord file) (end .done) total → Accepted r xs
 
   -- a reading state, and what is left is within the limits and passes the checks
-  pub record Ready (r : Read) (xs : Bytes) (ls : List (Line Bytes)) (seen : Bytes) (pre : List (Line Derived)) (text raw : Bytes) (cells : List Derived) : Type 0 where
+  pub record Ready (r : Read) (xs : Bytes) (ls : List (Line Bytes)) (seen : Bytes) (pre : List (Line Derived)) (text raw : Bytes)
+      (cells : List Derived) : Type 0 where
     pub stands : Lies d file seen r pre text raw cells
     pub place : file ≡ seen ++ xs
     pub fit : Fit (length text) ls
@@ -107,10 +113,29 @@ module _ (d : Dialect) (file : Bytes) (total : List (Line Derived)) (limit : len
     -- where nothing is pending afterwards
     rest-goes :
         (s : Step) (start : ℕ) {ls : List (Line Bytes)} {text raw : Bytes} {cells : List Derived} → fileStep d f b ≡ s →
-        move d none r b s ≡ going (record { done = r .done; state = h; offset = suc (r .offset); start = start; size = 0; opened = suc (r .offset); raw = []; cells = [] }) →
+        move d none r b s ≡ going (record {
+          done = r .done;
+          state = h;
+          offset = suc (r .offset);
+          start = start;
+          size = 0;
+          opened = suc (r .offset);
+          raw = [];
+          cells = [];
+        }) →
         Goes h bs ls → Ready r (b ∷ bs) ls seen pre text raw cells → Rested d h text raw cells → Accepted r (b ∷ bs)
     rest-goes s start e m k y (rested g) =
-        let next : Read = record { done = r .done; state = h; offset = suc (r .offset); start = start; size = 0; opened = suc (r .offset); raw = []; cells = [] } in
+        let next : Read
+        = record {
+          done = r .done;
+          state = h;
+          offset = suc (r .offset);
+          start = start;
+          size = 0;
+          opened = suc (r .offset);
+          raw = [];
+          cells = [];
+        } in
         next-accepted r next b (counted-byte y s e (omega arith) ∙ m)
         (k next (seen ++ (b ∷ [])) pre [] [] [] refl
         (record {
@@ -125,11 +150,30 @@ module _ (d : Dialect) (file : Bytes) (total : List (Line Derived)) (limit : len
     record-goes :
         (s : Step) (size : ℕ) (vs : List Value) (text′ : Bytes) {ls ls′ : List (Line Bytes)} {text raw : Bytes} {cells cells′ : List Derived} →
         readByte d none r b ≡ move d none r b s →
-        move d none r b s ≡ going (record { done = r .done; state = h; offset = suc (r .offset); start = r .start; size = size; opened = suc (r .offset); raw = []; cells = vs }) →
+        move d none r b s ≡ going (record {
+          done = r .done;
+          state = h;
+          offset = suc (r .offset);
+          start = r .start;
+          size = size;
+          opened = suc (r .offset);
+          raw = [];
+          cells = vs;
+        }) →
         Goes h bs ls′ → Ready r (b ∷ bs) ls seen pre text raw cells → size ≡ length text′ → length text′ ≤ MAXRECORD → Each (ShowsCell file) vs cells′ →
         Recording (stageOf d h) → Fit (length text′) ls′ → joined d text raw cells ls ≡ joined d text′ [] cells′ ls′ → Accepted r (b ∷ bs)
     record-goes s size vs text′ {cells′} e m k y z l c g f q =
-        let next : Read = record { done = r .done; state = h; offset = suc (r .offset); start = r .start; size = size; opened = suc (r .offset); raw = []; cells = vs } in
+        let next : Read
+        = record {
+          done = r .done;
+          state = h;
+          offset = suc (r .offset);
+          start = r .start;
+          size = size;
+          opened = suc (r .offset);
+          raw = [];
+          cells = vs;
+        } in
         next-accepted r next b (e ∙ m)
         (k next (seen ++ (b ∷ [])) pre text′ [] cells′ refl
         (record {
@@ -154,7 +198,9 @@ module _ (d : Dialect) (file : Bytes) (total : List (Line Derived)) (limit : len
         next-accepted r next b (e ∙ m ∙ ap (validated r next) v)
         (k next (seen ++ (b ∷ [])) (pre ++ (line text cells′ ∷ [])) [] [] [] refl
         (record {
-          stands = stands-reset (y .stands) b next (has-room y) refl refl refl refl (omega arith) (each-snoc (y .stands .done) (record { size = y .stands .size; cells = c })) each-none (rest-tidy g);
+          stands =
+              stands-reset (y .stands) b next (has-room y) refl refl refl refl (omega arith)
+              (each-snoc (y .stands .done) (record { size = y .stands .size; cells = c })) each-none (rest-tidy g);
           place = further seen bs b (y .place);
           fit = f;
           checks = a;
@@ -167,12 +213,14 @@ module _ (d : Dialect) (file : Bytes) (total : List (Line Derived)) (limit : len
     after-outside : (ls : List (Line Bytes)) → fileStep d f b ≡ To h Outside → Goes h bs ls → Goes f (b ∷ bs) ls
     unfolding move
     after-outside ls e k r seen pre text raw cells p y =
-        rest-goes f h b bs r seen pre p (To h Outside) (r .start) e refl k y (moved-outside (read-transition f h b bs r seen pre p (To h Outside) e) (y .stands .tidy))
+        rest-goes f h b bs r seen pre p (To h Outside) (r .start) e refl k y
+        (moved-outside (read-transition f h b bs r seen pre p (To h Outside) e) (y .stands .tidy))
 
     after-passed : (ls : List (Line Bytes)) → fileStep d f b ≡ To h Passed → Goes h bs ls → Goes f (b ∷ bs) ls
     unfolding move
     after-passed ls e k r seen pre text raw cells p y =
-        rest-goes f h b bs r seen pre p (To h Passed) (suc (r .offset)) e refl k y (moved-passed (read-transition f h b bs r seen pre p (To h Passed) e) (y .stands .tidy))
+        rest-goes f h b bs r seen pre p (To h Passed) (suc (r .offset)) e refl k y
+        (moved-passed (read-transition f h b bs r seen pre p (To h Passed) e) (y .stands .tidy))
 
     module _ (t : Bytes) (cs : List Bytes) (ls : List (Line Bytes)) where
       after-of-cell : (c : Bytes) → fileStep d f b ≡ To h OfCell → Goes h bs (line t (c ∷ cs) ∷ ls) → Goes f (b ∷ bs) (line (b ∷ t) ((b ∷ c) ∷ cs) ∷ ls)
@@ -180,7 +228,17 @@ module _ (d : Dialect) (file : Bytes) (total : List (Line Derived)) (limit : len
       after-of-cell c e k r seen pre text raw cells p y = go (y .fit)
         where
           next : Read
-          next = record { done = r .done; state = h; offset = suc (r .offset); start = r .start; size = suc (r .size); opened = r .opened; raw = r .raw ++ (b ∷ []); cells = r .cells }
+          next =
+              record {
+                done = r .done;
+                state = h;
+                offset = suc (r .offset);
+                start = r .start;
+                size = suc (r .size);
+                opened = r .opened;
+                raw = r .raw ++ (b ∷ []);
+                cells = r .cells;
+              }
 
           go : Fit (length text) (line (b ∷ t) ((b ∷ c) ∷ cs) ∷ ls) → Accepted r (b ∷ bs)
           go (fit-line x m) =
@@ -189,7 +247,9 @@ module _ (d : Dialect) (file : Bytes) (total : List (Line Derived)) (limit : len
               next-accepted r next b (counted-byte f h b bs r seen pre p y (To h OfCell) e (omega arith))
               (k next (seen ++ (b ∷ [])) pre (text ++ (b ∷ [])) (raw ++ (b ∷ [])) cells refl
               (record {
-                stands = stands-more (y .stands) b next (has-room f h b bs r seen pre p y) refl refl refl refl (omega arith) refl refl (cell-stage (its-transition e));
+                stands =
+                    stands-more (y .stands) b next (has-room f h b bs r seen pre p y) refl refl refl refl (omega arith) refl refl
+                    (cell-stage (its-transition e));
                 place = further seen bs b (y .place);
                 fit = fit-line (omega arith) m;
                 checks = rw q at (y .checks);
@@ -198,9 +258,12 @@ module _ (d : Dialect) (file : Bytes) (total : List (Line Derived)) (limit : len
 
       after-between : fileStep d f b ≡ To h (Between false) → Goes h bs (line t cs ∷ ls) → Goes f (b ∷ bs) (line (b ∷ t) cs ∷ ls)
       unfolding move
-      after-between e k r seen pre text raw cells p y = go y (y .fit) (moved-between (read-transition f h b bs r seen pre p (To h (Between false)) e) (y .stands .tidy))
+      after-between e k r seen pre text raw cells p y =
+          go y (y .fit) (moved-between (read-transition f h b bs r seen pre p (To h (Between false)) e) (y .stands .tidy))
         where
-          go : {raw : Bytes} → Ready r (b ∷ bs) (line (b ∷ t) cs ∷ ls) seen pre text raw cells → Fit (length text) (line (b ∷ t) cs ∷ ls) → Parted d h (counts (r .state) b ≡ true) text raw → Accepted r (b ∷ bs)
+          go :
+              {raw : Bytes} → Ready r (b ∷ bs) (line (b ∷ t) cs ∷ ls) seen pre text raw cells → Fit (length text) (line (b ∷ t) cs ∷ ls) →
+              Parted d h (counts (r .state) b ≡ true) text raw → Accepted r (b ∷ bs)
           go y (fit-line x m) (parted c g) =
               let l : length (text ++ (b ∷ [])) ≡ suc (length text) = length-snoc text b in
               let z : r .size ≡ length text = y .stands .size in
@@ -217,16 +280,20 @@ module _ (d : Dialect) (file : Bytes) (total : List (Line Derived)) (limit : len
               let l : length (text ++ (b ∷ [])) ≡ suc (length text) = length-snoc text b in
               let z : r .size ≡ length text = y .stands .size in
               record-goes f h b bs r seen pre p (To h (Between true)) (suc (r .size)) (closing d true r) (text ++ (b ∷ []))
-              (counted-byte f h b bs r seen pre p y (To h (Between true)) e (omega arith)) refl k y (ap suc z ∙ sym l) (omega arith) (closes-now (y .stands) (b ∷ bs) (y .place)) (between-stage (its-transition e))
+              (counted-byte f h b bs r seen pre p y (To h (Between true)) e (omega arith)) refl k y (ap suc z ∙ sym l) (omega arith)
+              (closes-now (y .stands) (b ∷ bs) (y .place)) (between-stage (its-transition e))
               (fit-line (omega arith) m) (joined-between-closing d text raw cells b t cs ls)
 
       after-tail : fileStep d f b ≡ To h (Tail false) → Goes h bs (line t cs ∷ ls) → Goes f (b ∷ bs) (line t cs ∷ ls)
       unfolding move
       after-tail e k r seen pre text raw cells p y = go y (moved-tail (read-transition f h b bs r seen pre p (To h (Tail false)) e) (y .stands .tidy))
         where
-          go : {raw : Bytes} → Ready r (b ∷ bs) (line t cs ∷ ls) seen pre text raw cells → Parted d h (counts (r .state) b ≡ false) text raw → Accepted r (b ∷ bs)
+          go :
+              {raw : Bytes} → Ready r (b ∷ bs) (line t cs ∷ ls) seen pre text raw cells →
+              Parted d h (counts (r .state) b ≡ false) text raw → Accepted r (b ∷ bs)
           go y (parted c g) =
-              record-goes f h b bs r seen pre p (To h (Tail false)) (r .size) (r .cells) text (uncounted-byte f h b bs r seen pre p y (To h (Tail false)) e c) refl k y
+              record-goes f h b bs r seen pre p (To h (Tail false)) (r .size) (r .cells) text
+              (uncounted-byte f h b bs r seen pre p y (To h (Tail false)) e c) refl k y
               (y .stands .size) (y .stands .fits) (y .stands .complete) g (y .fit) refl
 
       after-tail-closing : fileStep d f b ≡ To h (Tail true) → Goes h bs (line t cs ∷ ls) → Goes f (b ∷ bs) (line t ([] ∷ cs) ∷ ls)
@@ -235,18 +302,24 @@ module _ (d : Dialect) (file : Bytes) (total : List (Line Derived)) (limit : len
         where
           go : Fit (length text) (line t ([] ∷ cs) ∷ ls) → Accepted r (b ∷ bs)
           go (fit-line x m) =
-              record-goes f h b bs r seen pre p (To h (Tail true)) (r .size) (closing d true r) text (uncounted-byte f h b bs r seen pre p y (To h (Tail true)) e (tail-uncounted (read-transition f h b bs r seen pre p (To h (Tail true)) e))) refl k y
-              (y .stands .size) (y .stands .fits) (closes-now (y .stands) (b ∷ bs) (y .place)) (tail-stage (its-transition e)) (fit-line x m) (joined-tail-closing d text raw cells b t cs ls)
+              record-goes f h b bs r seen pre p (To h (Tail true)) (r .size) (closing d true r) text
+              (uncounted-byte f h b bs r seen pre p y (To h (Tail true)) e
+              (tail-uncounted (read-transition f h b bs r seen pre p (To h (Tail true)) e))) refl k y
+              (y .stands .size) (y .stands .fits) (closes-now (y .stands) (b ∷ bs) (y .place)) (tail-stage (its-transition e))
+              (fit-line x m) (joined-tail-closing d text raw cells b t cs ls)
 
     after-ends : (ls : List (Line Bytes)) → fileStep d f b ≡ To h (Ends false) → Goes h bs ls → Goes f (b ∷ bs) (line [] [] ∷ ls)
     unfolding move
     after-ends ls e k r seen pre text raw cells p y = go y (y .fit) (moved-ends (read-transition f h b bs r seen pre p (To h (Ends false)) e) (y .stands .tidy))
       where
-        go : {raw : Bytes} → Ready r (b ∷ bs) (line [] [] ∷ ls) seen pre text raw cells → Fit (length text) (line [] [] ∷ ls) → Ended d h (counts (r .state) b ≡ false) text raw → Accepted r (b ∷ bs)
+        go :
+            {raw : Bytes} → Ready r (b ∷ bs) (line [] [] ∷ ls) seen pre text raw cells → Fit (length text) (line [] [] ∷ ls) →
+            Ended d h (counts (r .state) b ≡ false) text raw → Accepted r (b ∷ bs)
         go y (fit-line x m) (ended c g) =
             let a : LineSound d pre cells × ChecksFrom d (pre ++ (line text cells ∷ [])) (joined d [] [] [] ls) =
             rw (append-nil text, append-nil cells, ← (joined-rest d ls)) at (checks-line (y .checks)) in
-            complete-goes f h b bs r seen pre p (To h (Ends false)) (r .cells) (uncounted-byte f h b bs r seen pre p y (To h (Ends false)) e c) refl k y (y .stands .complete) g
+            complete-goes f h b bs r seen pre p (To h (Ends false)) (r .cells)
+            (uncounted-byte f h b bs r seen pre p y (To h (Ends false)) e c) refl k y (y .stands .complete) g
             (fit-rest ls m) (joined-ends d pre text [] cells ls) (a .0) (a .1)
 
     after-ends-closing : (ls : List (Line Bytes)) → fileStep d f b ≡ To h (Ends true) → Goes h bs ls → Goes f (b ∷ bs) (line [] ([] ∷ []) ∷ ls)
@@ -258,8 +331,11 @@ module _ (d : Dialect) (file : Bytes) (total : List (Line Derived)) (limit : len
             let cells′ : List Derived = cells ++ (decoded d raw ∷ []) in
             let a : LineSound d pre cells′ × ChecksFrom d (pre ++ (line text cells′ ∷ [])) (joined d [] [] [] ls) =
             rw (append-nil text, append-nil raw, ← (joined-rest d ls)) at (checks-line (y .checks)) in
-            complete-goes f h b bs r seen pre p (To h (Ends true)) (closing d true r) (uncounted-byte f h b bs r seen pre p y (To h (Ends true)) e (ends-uncounted (read-transition f h b bs r seen pre p (To h (Ends true)) e))) refl k y
-            (closes-now (y .stands) (b ∷ bs) (y .place)) (ends-stage (its-transition e)) (fit-rest ls m) (joined-ends-closing d pre text raw cells ls) (a .0) (a .1)
+            complete-goes f h b bs r seen pre p (To h (Ends true)) (closing d true r)
+            (uncounted-byte f h b bs r seen pre p y (To h (Ends true)) e
+            (ends-uncounted (read-transition f h b bs r seen pre p (To h (Ends true)) e))) refl k y
+            (closes-now (y .stands) (b ∷ bs) (y .place)) (ends-stage (its-transition e)) (fit-rest ls m)
+            (joined-ends-closing d pre text raw cells ls) (a .0) (a .1)
 
   -- ---- the end
 

@@ -9,13 +9,16 @@ use mathlib.Core.List.{List, [], _∷_, _++_, map, append-assoc, append-nil}
 use lib.ListN.{length}
 use lib.Dec.{leb}
 use borrow.Author.Tests.{leb-false}
-use Rattle.grammar.specs.rfc.Types.{Dialect, Csvj, Tdif, CsvPlus, Cell, Fault, FileState, Top, Begin, Ended, Bom1, Bom2, PlainBom1, PlainBom2, Comment, Blanks, ExpectCell, Inside, After, Cr, OfCell, Outside, Passed, Between, Tail, Ends, Step, To, Reject, Ending, Clean, Final, Cut, CheckResult, Sound, Faulty}
+use Rattle.grammar.specs.rfc.Types.{Dialect, Csvj, Tdif, CsvPlus, Cell, Fault, FileState, Top, Begin, Ended, Bom1, Bom2, PlainBom1, PlainBom2}
+use Rattle.grammar.specs.rfc.Types.{Comment, Blanks, ExpectCell, Inside, After, Cr, OfCell, Outside, Passed, Between, Tail, Ends, Step, To}
+use Rattle.grammar.specs.rfc.Types.{Reject, Ending, Clean, Final, Cut, CheckResult, Sound, Faulty}
 use Rattle.model.specs.rules.Base.{Bytes, if_then_else_}
 use Rattle.model.specs.rules.Cell.{isWhole}
 use Rattle.model.specs.rules.File.{fileStep, fileEnd, lastCell, counts}
 use Rattle.model.specs.rules.Text.{Value}
 use Rattle.model.specs.rules.Report.{MAXFILE, MAXRECORD}
-use Rattle.model.specs.rules.Records.{Rec, Read, going, stopped, between-records, closing, validated, complete, move, fileFull, recordFull, recordFault, readByte, readFrom, endBetween, endAt, readEnd}
+use Rattle.model.specs.rules.Records.{Rec, Read, going, stopped, between-records, closing, validated, complete, move, fileFull, recordFull}
+use Rattle.model.specs.rules.Records.{recordFault, readByte, readFrom, endBetween, endAt, readEnd}
 use Rattle.model.proofs.Tests.{split}
 use Rattle.model.proofs.file_laws.ReadAppend.{read-stopped}
 use Rattle.model.proofs.file_laws.FileSteps.{cell-counts, between-counts, its-transition}
@@ -23,9 +26,12 @@ use Rattle.grammar.specs.rfc.Derived.{Derived, Line, line, every-none, E
 use Rattle.grammar.specs.dialects.FormReads.{Reads, decoded, decodedLine}
 use Rattle.grammar.specs.dialects.FormReads as reading
 use Rattle.grammar.specs.Accepted.{ShowsCell, ShowsRecord}
-use Rattle.grammar.proofs.Stages.{Stage, at-rest, in-cell, stageOf, Recording, record-open, cell-open, NoCell, outside-rests, passed-rests, cell-stage, between-stage, tail-stage, ends-stage, between-no-cell, tail-no-cell, ends-no-cell}
+use Rattle.grammar.proofs.Stages.{Stage, at-rest, in-cell, stageOf, Recording, record-open, cell-open, NoCell, outside-rests, passed-rests}
+use Rattle.grammar.proofs.Stages.{cell-stage, between-stage, tail-stage, ends-stage, between-no-cell, tail-no-cell, ends-no-cell}
 use Rattle.grammar.proofs.Checks.{LineSound, ChecksFrom, checks-none, checks-next, record-checked}
-use Rattle.grammar.proofs.DerivationState.{each-snoc, length-snoc, joined, joined-rest, joined-of-cell, joined-between, joined-between-closing, joined-tail-closing, joined-ends, joined-ends-closing, Fit, fit-none, fit-line, rest-fit, Lies, closes-now, stands-reset, stands-more, Rested, rested, Parted, parted, recording-tidy, rest-tidy}
+use Rattle.grammar.proofs.DerivationState.{each-snoc, length-snoc, joined, joined-rest, joined-of-cell, joined-between, joined-between-closing}
+use Rattle.grammar.proofs.DerivationState.{joined-tail-closing, joined-ends, joined-ends-closing, Fit, fit-none, fit-line, rest-fit, Lies}
+use Rattle.grammar.proofs.DerivationState.{closes-now, stands-reset, stands-more, Rested, rested, Parted, parted, recording-tidy, rest-tidy}
 use Rattle.grammar.proofs.DerivationState as standing
 use Rattle.grammar.specs.rfc.Types as types
 use Rattle.grammar.proofs.DerivationState.{moved-outside, moved-passed, moved-between, moved-tail, moved-ends}
@@ -143,20 +149,50 @@ module _ (d : Dialect) (file : Bytes) (end : Read) where
       (r : Read) (seen : Bytes) (pre : List (Line Derived)) (text raw : Bytes) (cells : List Derived) → Lies d file seen r pre text raw cells →
       file ≡ seen ++ xs → readEnd d none (readFrom d none (going r) xs) ≡ going end → Outcome r xs pre text raw cells
 
-  module _ (b : ℕ) (bs : Bytes) (ih : Comes bs) (r : Read) (seen : Bytes) (pre : List (Line Derived)) (room : suc (length seen) ≤ MAXFILE) (place : file ≡ seen ++ (b ∷ bs)) where
+  module _ (b : ℕ) (bs : Bytes) (ih : Comes bs) (r : Read) (seen : Bytes) (pre : List (Line Derived))
+      (room : suc (length seen) ≤ MAXFILE) (place : file ≡ seen ++ (b ∷ bs)) where
     further : file ≡ (seen ++ (b ∷ [])) ++ bs
     further = place ∙ sym (append-assoc seen (b ∷ []) bs)
 
     rest-comes :
         (h : FileState) (start : ℕ) {text raw : Bytes} {cells : List Derived} → Lies d file seen r pre text raw cells → Rested d h text raw cells →
         ((ls : List (Line Bytes)) → Reads d h bs ls → Reads d (r .state) (b ∷ bs) ls) →
-        readEnd d none (readFrom d none (going (record { done = r .done; state = h; offset = suc (r .offset); start = start; size = 0; opened = suc (r .offset); raw = []; cells = [] })) bs) ≡ going end →
+        readEnd d none (readFrom d none (going (record {
+          done = r .done;
+          state = h;
+          offset = suc (r .offset);
+          start = start;
+          size = 0;
+          opened = suc (r .offset);
+          raw = [];
+          cells = [];
+        })) bs) ≡ going end →
         Outcome r (b ∷ bs) pre text raw cells
     rest-comes h start s (rested g) k q =
-        let next : Read = record { done = r .done; state = h; offset = suc (r .offset); start = start; size = 0; opened = suc (r .offset); raw = []; cells = [] } in
+        let next : Read
+        = record {
+          done = r .done;
+          state = h;
+          offset = suc (r .offset);
+          start = start;
+          size = 0;
+          opened = suc (r .offset);
+          raw = [];
+          cells = [];
+        } in
         go (ih next (seen ++ (b ∷ [])) pre [] [] [] (stands-reset s b next room refl refl refl refl (omega arith) (s .done) each-none (rest-tidy g)) further q)
       where
-        go : Outcome (record { done = r .done; state = h; offset = suc (r .offset); start = start; size = 0; opened = suc (r .offset); raw = []; cells = [] }) bs pre [] [] [] → Outcome r (b ∷ bs) pre [] [] []
+        go :
+            Outcome (record {
+              done = r .done;
+              state = h;
+              offset = suc (r .offset);
+              start = start;
+              size = 0;
+              opened = suc (r .offset);
+              raw = [];
+              cells = [];
+            }) bs pre [] [] [] → Outcome r (b ∷ bs) pre [] [] []
         go (outcome ls y) =
             outcome ls (record { reads = k ls (y .reads); fit = y .fit; checks = y .checks; shows = y .shows; has-record = y .has-record; limit = y .limit })
 
@@ -169,19 +205,40 @@ module _ (d : Dialect) (file : Bytes) (end : Read) where
         outcome ls
         (record { reads = k; fit = f; checks = rw q (y .checks); shows = rw q (y .shows); has-record = rw q (y .has-record); limit = y .limit })
 
-    longer : (text : Bytes) {t : Bytes} {cs cs′ : List Bytes} {ls : List (Line Bytes)} → Fit (length (text ++ (b ∷ []))) (line t cs ∷ ls) → Fit (length text) (line (b ∷ t) cs′ ∷ ls)
+    longer :
+        (text : Bytes) {t : Bytes} {cs cs′ : List Bytes} {ls : List (Line Bytes)} → Fit (length (text ++ (b ∷ []))) (line t cs ∷ ls) →
+        Fit (length text) (line (b ∷ t) cs′ ∷ ls)
     longer text {t} (fit-line x m) = let l : length (text ++ (b ∷ [])) ≡ suc (length text) = length-snoc text b in fit-line {t = b ∷ t} (omega arith) m
 
     cell-comes :
         (h : FileState) {text raw : Bytes} {cells : List Derived} → Lies d file seen r pre text raw cells → fileStep d (r .state) b ≡ To h OfCell →
         stageOf d h ≡ in-cell → length text < MAXRECORD →
-        readEnd d none (readFrom d none (going (record { done = r .done; state = h; offset = suc (r .offset); start = r .start; size = suc (r .size); opened = r .opened; raw = r .raw ++ (b ∷ []); cells = r .cells })) bs) ≡ going end →
+        readEnd d none (readFrom d none (going (record {
+          done = r .done;
+          state = h;
+          offset = suc (r .offset);
+          start = r .start;
+          size = suc (r .size);
+          opened = r .opened;
+          raw = r .raw ++ (b ∷ []);
+          cells = r .cells;
+        })) bs) ≡ going end →
         Outcome r (b ∷ bs) pre text raw cells
     cell-comes h {text} {raw} {cells} s e g f q =
         go (ih next (seen ++ (b ∷ [])) pre (text ++ (b ∷ [])) (raw ++ (b ∷ [])) cells (stands-more s b next room refl refl refl refl f refl refl g) further q)
       where
         next : Read
-        next = record { done = r .done; state = h; offset = suc (r .offset); start = r .start; size = suc (r .size); opened = r .opened; raw = r .raw ++ (b ∷ []); cells = r .cells }
+        next =
+            record {
+              done = r .done;
+              state = h;
+              offset = suc (r .offset);
+              start = r .start;
+              size = suc (r .size);
+              opened = r .opened;
+              raw = r .raw ++ (b ∷ []);
+              cells = r .cells;
+            }
 
         shaped : {ls : List (Line Bytes)} → HasCell ls → Facts next bs pre (text ++ (b ∷ [])) (raw ++ (b ∷ [])) cells ls → Outcome r (b ∷ bs) pre text raw cells
         shaped (has-cell {t} {c} {cs} {ls}) y =
@@ -193,8 +250,18 @@ module _ (d : Dialect) (file : Bytes) (end : Read) where
     record-comes :
         (h : FileState) (size : ℕ) (vs : List Value) (text′ : Bytes) (cells′ : List Derived) {text raw : Bytes} {cells : List Derived} →
         Lies d file seen r pre text raw cells → size ≡ length text′ → length text′ ≤ MAXRECORD → Each (ShowsCell file) vs cells′ → Recording (stageOf d h) →
-        ((n : Read) (t : Bytes) (cs : List Bytes) (ls : List (Line Bytes)) → Reads d h bs (line t cs ∷ ls) → Facts n bs pre text′ [] cells′ (line t cs ∷ ls) → Outcome r (b ∷ bs) pre text raw cells) →
-        readEnd d none (readFrom d none (going (record { done = r .done; state = h; offset = suc (r .offset); start = r .start; size = size; opened = suc (r .offset); raw = []; cells = vs })) bs) ≡ going end →
+        ((n : Read) (t : Bytes) (cs : List Bytes) (ls : List (Line Bytes)) → Reads d h bs (line t cs ∷ ls) →
+        Facts n bs pre text′ [] cells′ (line t cs ∷ ls) → Outcome r (b ∷ bs) pre text raw cells) →
+        readEnd d none (readFrom d none (going (record {
+          done = r .done;
+          state = h;
+          offset = suc (r .offset);
+          start = r .start;
+          size = size;
+          opened = suc (r .offset);
+          raw = [];
+          cells = vs;
+        })) bs) ≡ going end →
         Outcome r (b ∷ bs) pre text raw cells
     record-comes h size vs text′ cells′ {text} {raw} {cells} s z l c g k q =
         go (ih next (seen ++ (b ∷ [])) pre text′ [] cells′ (stands-reset s b next room refl refl refl z l (s .done) c (recording-tidy g)) further q)
@@ -222,7 +289,9 @@ module _ (d : Dialect) (file : Bytes) (end : Read) where
         next = between-records (r .done ++ (record { start = r .start; size = r .size; cells = vs } ∷ [])) h (suc (r .offset))
 
         stands : Lies d file (seen ++ (b ∷ [])) next (pre ++ (line text cells′ ∷ [])) [] [] []
-        stands = stands-reset s b next room refl refl refl refl (omega arith) (each-snoc (s .done) (record { size = s .size; cells = c })) each-none (rest-tidy g)
+        stands =
+            stands-reset s b next room refl refl refl refl (omega arith) (each-snoc (s .done) (record { size = s .size; cells = c }))
+            each-none (rest-tidy g)
 
         go : LineSound d pre cells′ → Outcome next bs (pre ++ (line text cells′ ∷ [])) [] [] [] → Outcome r (b ∷ bs) pre text raw cells
         go l (outcome ls y) =
@@ -238,11 +307,15 @@ module _ (d : Dialect) (file : Bytes) (end : Read) where
               limit = y .limit;
             })
 
-        verdict : (v : CheckResult) → recordFault d none (r .done) vs ≡ v → readEnd d none (readFrom d none (validated r next v) bs) ≡ going end → Outcome r (b ∷ bs) pre text raw cells
+        verdict :
+            (v : CheckResult) → recordFault d none (r .done) vs ≡ v → readEnd d none (readFrom d none (validated r next v) bs) ≡ going end →
+            Outcome r (b ∷ bs) pre text raw cells
         verdict Sound e q = go (record-checked d (s .done) c e) (ih next (seen ++ (b ∷ [])) (pre ++ (line text cells′ ∷ [])) [] [] [] stands further q)
         verdict (Faulty x) e q = not-going d x r bs q
 
-    size-left : {text raw : Bytes} {cells : List Derived} → Lies d file seen r pre text raw cells → recordFull r b ≡ false → counts (r .state) b ≡ true → length text < MAXRECORD
+    size-left :
+        {text raw : Bytes} {cells : List Derived} → Lies d file seen r pre text raw cells → recordFull r b ≡ false →
+        counts (r .state) b ≡ true → length text < MAXRECORD
     unfolding recordFull
     size-left {text} s f c =
         let z : r .size ≡ length text = s .size in
@@ -255,7 +328,8 @@ module _ (d : Dialect) (file : Bytes) (end : Read) where
 
     between-comes :
         (h : FileState) {text raw : Bytes} {cells : List Derived} → Lies d file seen r pre text raw cells → fileStep d (r .state) b ≡ To h (Between false) →
-        recordFull r b ≡ false → Parted d h (counts (r .state) b ≡ true) text raw → readEnd d none (readFrom d none (move d none r b (To h (Between false))) bs) ≡ going end →
+        recordFull r b ≡ false → Parted d h (counts (r .state) b ≡ true) text raw →
+        readEnd d none (readFrom d none (move d none r b (To h (Between false))) bs) ≡ going end →
         Outcome r (b ∷ bs) pre text raw cells
     unfolding move
     between-comes h {text} {cells} s e f (parted c g) q =
@@ -272,8 +346,11 @@ module _ (d : Dialect) (file : Bytes) (end : Read) where
     between-closing-comes h {text} {raw} {cells} s e f q =
         let l : length (text ++ (b ∷ [])) ≡ suc (length text) = length-snoc text b in
         let w : length text < MAXRECORD = size-left s f (between-counts (its-transition e)) in
-        record-comes h (suc (r .size)) (closing d true r) (text ++ (b ∷ [])) (cells ++ (decoded d raw ∷ [])) s (ap suc (s .size) ∙ sym l) (omega arith) (closes-now s (b ∷ bs) place) (between-stage (its-transition e))
-        (λ n t cs ls m y. told (line (b ∷ t) ([] ∷ cs) ∷ ls) y (reading.between-closing e m) (longer text (y .fit)) (joined-between-closing d text raw cells b t cs ls)) q
+        record-comes h (suc (r .size)) (closing d true r) (text ++ (b ∷ [])) (cells ++ (decoded d raw ∷ [])) s
+        (ap suc (s .size) ∙ sym l) (omega arith) (closes-now s (b ∷ bs) place) (between-stage (its-transition e))
+        (λ n t cs ls m y.
+        told (line (b ∷ t) ([] ∷ cs) ∷ ls) y (reading.between-closing e m) (longer text (y .fit))
+        (joined-between-closing d text raw cells b t cs ls)) q
 
     tail-comes :
         (h : FileState) {text raw : Bytes} {cells : List Derived} → Lies d file seen r pre text raw cells → fileStep d (r .state) b ≡ To h (Tail false) →
@@ -292,7 +369,8 @@ module _ (d : Dialect) (file : Bytes) (end : Read) where
         readEnd d none (readFrom d none (move d none r b (To h (Tail true))) bs) ≡ going end → Outcome r (b ∷ bs) pre text raw cells
     unfolding move
     tail-closing-comes h {text} {raw} {cells} s e q =
-        record-comes h (r .size) (closing d true r) text (cells ++ (decoded d raw ∷ [])) s (s .size) (s .fits) (closes-now s (b ∷ bs) place) (tail-stage (its-transition e))
+        record-comes h (r .size) (closing d true r) text (cells ++ (decoded d raw ∷ [])) s (s .size) (s .fits)
+        (closes-now s (b ∷ bs) place) (tail-stage (its-transition e))
         (λ n t cs ls m y. told (line t ([] ∷ cs) ∷ ls) y (reading.tail-closing e m) (same-fit (y .fit)) (joined-tail-closing d text raw cells b t cs ls)) q
 
     ends-comes :
@@ -309,7 +387,8 @@ module _ (d : Dialect) (file : Bytes) (end : Read) where
         readEnd d none (readFrom d none (move d none r b (To h (Ends true))) bs) ≡ going end → Outcome r (b ∷ bs) pre text raw cells
     unfolding move
     ends-closing-comes h {text} {raw} {cells} s e q =
-        complete-comes h (closing d true r) (cells ++ (decoded d raw ∷ [])) s (closes-now s (b ∷ bs) place) (ends-stage (its-transition e)) ([] ∷ []) (λ ls m. reading.ends-closing e m)
+        complete-comes h (closing d true r) (cells ++ (decoded d raw ∷ [])) s (closes-now s (b ∷ bs) place)
+        (ends-stage (its-transition e)) ([] ∷ []) (λ ls m. reading.ends-closing e m)
         (λ ls. joined-ends-closing d pre text raw cells ls) (λ ls. rw (append-nil text, append-nil raw)) q
 
     step-comes :
@@ -341,7 +420,9 @@ module _ (d : Dialect) (file : Bytes) (end : Read) where
 
   -- ---- the end
 
-  whole-file : {seen : Bytes} {r : Read} {pre : List (Line Derived)} {text raw : Bytes} {cells : List Derived} → Lies d file seen r pre text raw cells → file ≡ seen ++ [] → length file ≤ MAXFILE
+  whole-file :
+      {seen : Bytes} {r : Read} {pre : List (Line Derived)} {text raw : Bytes} {cells : List Derived} →
+      Lies d file seen r pre text raw cells → file ≡ seen ++ [] → length file ≤ MAXFILE
   whole-file {seen} s e = rw (e ∙ append-nil seen) (s .short)
 
   done-some : (r : Read) {rs : List Rec} {ls : List (Line Derived)} → Each (ShowsRecord file) rs ls → endBetween r rs ≡ going end → Some ls × (r ≡ end)
@@ -349,7 +430,8 @@ module _ (d : Dialect) (file : Bytes) (end : Read) where
   done-some r (each-cons v k) q = (some, same-going q)
 
   clean-comes :
-      (r : Read) {seen : Bytes} {pre : List (Line Derived)} {text raw : Bytes} {cells : List Derived} → Lies d file seen r pre text raw cells → length file ≤ MAXFILE →
+      (r : Read) {seen : Bytes} {pre : List (Line Derived)} {text raw : Bytes} {cells : List Derived} →
+      Lies d file seen r pre text raw cells → length file ≤ MAXFILE →
       fileEnd d (r .state) ≡ Clean → endBetween r (r .done) ≡ going end → Outcome r [] pre text raw cells
   clean-comes r {pre} s l e q =
       let x = done-some r (s .done) q in
@@ -380,7 +462,9 @@ module _ (d : Dialect) (file : Bytes) (end : Read) where
       c : Each (ShowsCell file) vs cells′
       c = closes-now s [] place
 
-      final : fileEnd d (r .state) ≡ Final → (v : CheckResult) → recordFault d none (r .done) vs ≡ v → validated r next v ≡ going end → Outcome r [] pre text raw cells
+      final :
+          fileEnd d (r .state) ≡ Final → (v : CheckResult) → recordFault d none (r .done) vs ≡ v → validated r next v ≡ going end →
+          Outcome r [] pre text raw cells
       final e (Faulty x) w q = stopped-going q
       final e Sound w q =
           let z : next ≡ end = same-going q in

@@ -10,7 +10,8 @@ use mathlib.Core.List.{List, [], _∷_, _++_}
 use lib.ListN.{length}
 use lib.Dec.{ltb, eqb}
 use borrow.Author.Tests.{ltb-false, le-ltb, eqb-true, eq-eqb, not-false}
-use Rattle.grammar.specs.rfc.Types.{Kind, Text, Number, True, False, Null, Dialect, Fault, TooManyColumns, HeaderKind, RepeatedName, CellCount, CheckResult, Sound, Faulty}
+use Rattle.grammar.specs.rfc.Types.{Kind, Text, Number, True, False, Null, Dialect, Fault, TooManyColumns, HeaderKind, RepeatedName, CellCount}
+use Rattle.grammar.specs.rfc.Types.{CheckResult, Sound, Faulty}
 use Rattle.model.specs.rules.Base.{Bytes, if_then_else_, same}
 use Rattle.model.specs.rules.Text.{Value, isText}
 use Rattle.model.specs.rules.Report.{MAXCOLUMNS}
@@ -121,7 +122,9 @@ module _ (d : Dialect) where
   cons-unseen y seen (every-cons {x = c} n k) (every-cons p m) = every-cons (cons-among (keyOf c) y seen n p) (cons-unseen y seen k m)
 
   module _ {file : Bytes} where
-    distinct : {vs : List Value} {cs : List Derived} (seen : List Bytes) (n : ℕ) → Each (ShowsCell file) vs cs → repeatFrom d RepeatedName seen n vs ≡ Sound → Unseen seen cs × Distinct d cs
+    distinct :
+        {vs : List Value} {cs : List Derived} (seen : List Bytes) (n : ℕ) → Each (ShowsCell file) vs cs →
+        repeatFrom d RepeatedName seen n vs ≡ Sound → Unseen seen cs × Distinct d cs
     unfolding repeatFrom if_then_else_
     distinct seen n each-none p = (every-none, no-names)
     distinct seen n (each-cons {x = v} {xs = vs} {y = c} {ys = cs} s k) p = go (among key seen) refl (λ q. distinct (key ∷ seen) (suc n) k q)
@@ -132,7 +135,10 @@ module _ (d : Dialect) where
         key-is : key ≡ keyOf c
         key-is = ap (nameKey d) (s .content)
 
-        go : (t : Bool) → among key seen ≡ t → (repeatFrom d RepeatedName (key ∷ seen) (suc n) vs ≡ Sound → Unseen (key ∷ seen) cs × Distinct d cs) → Unseen seen (c ∷ cs) × Distinct d (c ∷ cs)
+        go :
+            (t : Bool) → among key seen ≡ t →
+            (repeatFrom d RepeatedName (key ∷ seen) (suc n) vs ≡ Sound → Unseen (key ∷ seen) cs × Distinct d cs) →
+            Unseen seen (c ∷ cs) × Distinct d (c ∷ cs)
         go true q ih = faulty-sound (rw q at p)
         go false q ih =
             let m = ih (rw q at p) in
@@ -140,7 +146,9 @@ module _ (d : Dialect) where
             let w : Every (λ x. keyOf x ≢ keyOf c) cs = rw key-is at (u .0) in
             (every-cons (rw key-is at q) (u .1), a-name w (m .1))
 
-    all-distinct : {vs : List Value} {cs : List Derived} (seen : List Bytes) (n : ℕ) → Each (ShowsCell file) vs cs → Unseen seen cs → Distinct d cs → repeatFrom d RepeatedName seen n vs ≡ Sound
+    all-distinct :
+        {vs : List Value} {cs : List Derived} (seen : List Bytes) (n : ℕ) → Each (ShowsCell file) vs cs → Unseen seen cs → Distinct d cs →
+        repeatFrom d RepeatedName seen n vs ≡ Sound
     unfolding repeatFrom if_then_else_
     all-distinct seen n each-none u m = refl
     all-distinct seen n (each-cons {x = v} {xs = vs} {y = c} {ys = cs} s k) (every-cons p u) (a-name w m) =
@@ -233,15 +241,21 @@ pub data ChecksFrom (d : Dialect) : List (Line Derived) → List (Line Derived) 
 
 module _ (d : Dialect) where
   -- the data records
-  data-hold : {h : Line Derived} {hs ls : List (Line Derived)} → ChecksFrom d (h ∷ hs) ls → Every (λ l. length (cellsIn l) ≡ length (cellsIn h)) ls × Every (λ l. length (cellsIn l) ≤ MAXCOLUMNS) ls
+  data-hold :
+      {h : Line Derived} {hs ls : List (Line Derived)} → ChecksFrom d (h ∷ hs) ls →
+      Every (λ l. length (cellsIn l) ≡ length (cellsIn h)) ls × Every (λ l. length (cellsIn l) ≤ MAXCOLUMNS) ls
   data-hold checks-none = (every-none, every-none)
   data-hold (checks-next (data-sound c e) k) = let m = data-hold k in (every-cons e (m .0), every-cons c (m .1))
 
-  hold-data : {h : Line Derived} (hs : List (Line Derived)) {ls : List (Line Derived)} → Every (λ l. length (cellsIn l) ≡ length (cellsIn h)) ls → Every (λ l. length (cellsIn l) ≤ MAXCOLUMNS) ls → ChecksFrom d (h ∷ hs) ls
+  hold-data :
+      {h : Line Derived} (hs : List (Line Derived)) {ls : List (Line Derived)} → Every (λ l. length (cellsIn l) ≡ length (cellsIn h)) ls →
+      Every (λ l. length (cellsIn l) ≤ MAXCOLUMNS) ls → ChecksFrom d (h ∷ hs) ls
   hold-data hs every-none every-none = checks-none
   hold-data hs (every-cons {x = line text cells} e k) (every-cons c m) = checks-next (data-sound c e) (hold-data (hs ++ (line text cells ∷ [])) k m)
 
-  pub checks-all : {l : Line Derived} {ls : List (Line Derived)} → ChecksFrom d [] (l ∷ ls) → ChecksHold d (l ∷ ls) × Every (λ l. length (cellsIn l) ≤ MAXCOLUMNS) (l ∷ ls)
+  pub checks-all :
+      {l : Line Derived} {ls : List (Line Derived)} → ChecksFrom d [] (l ∷ ls) →
+      ChecksHold d (l ∷ ls) × Every (λ l. length (cellsIn l) ≤ MAXCOLUMNS) (l ∷ ls)
   checks-all (checks-next (header-sound c t m) k) = let x = data-hold k in (checks-hold t m (x .0), every-cons c (x .1))
 
   pub all-checks : {ls : List (Line Derived)} → ChecksHold d ls → Every (λ l. length (cellsIn l) ≤ MAXCOLUMNS) ls → ChecksFrom d [] ls

@@ -16,9 +16,13 @@ use Rattle.grammar.specs.rfc.Derived.{Derived, Line, line, textIn, Every
 use Rattle.grammar.specs.dialects.FormReads.{decoded, decodedLine}
 use Rattle.grammar.specs.Accepted.{ShowsCell, ShowsRecord}
 use Rattle.model.proofs.file_laws.FileSteps.{Transition, between-counts, tail-uncounted, ends-uncounted}
-use Rattle.grammar.proofs.Stages.{Stage, at-rest, in-record, in-cell, stageOf, Recording, record-open, cell-open, NoCell, none-at-rest, none-in-record, outside-rests, passed-rests, between-stage, tail-stage, ends-stage, between-no-cell, tail-no-cell, ends-no-cell}
+use Rattle.grammar.proofs.Stages.{Stage, at-rest, in-record, in-cell, stageOf, Recording, record-open, cell-open, NoCell, none-at-rest}
+use Rattle.grammar.proofs.Stages.{none-in-record, outside-rests, passed-rests, between-stage, tail-stage, ends-stage, between-no-cell}
+use Rattle.grammar.proofs.Stages.{tail-no-cell, ends-no-cell}
 
-pub each-snoc : {A B : Type 0} {R : A → B → Type 0} {xs : List A} {ys : List B} {x : A} {y : B} → Each R xs ys → R x y → Each R (xs ++ (x ∷ [])) (ys ++ (y ∷ []))
+pub each-snoc :
+    {A B : Type 0} {R : A → B → Type 0} {xs : List A} {ys : List B} {x : A} {y : B} → Each R xs ys → R x y →
+    Each R (xs ++ (x ∷ [])) (ys ++ (y ∷ []))
 each-snoc each-none r = each-cons r each-none
 each-snoc (each-cons s k) r = each-cons s (each-snoc k r)
 
@@ -108,7 +112,8 @@ pub record Lies (d : Dialect) (file seen : Bytes) (r : Read) (pre : List (Line D
   pub short : length seen ≤ MAXFILE
   pub tidy : Tidy (stageOf d (r .state)) text raw cells
 
-module _ {d : Dialect} {file seen : Bytes} {r : Read} {pre : List (Line Derived)} {text raw : Bytes} {cells : List Derived} (s : Lies d file seen r pre text raw cells) where
+module _ {d : Dialect} {file seen : Bytes} {r : Read} {pre : List (Line Derived)} {text raw : Bytes} {cells : List Derived}
+    (s : Lies d file seen r pre text raw cells) where
   -- the current cell, were it to end here
   shows-now : (ys : Bytes) → file ≡ seen ++ ys → ShowsCell file (cellNow d r) (decoded d raw)
   shows-now ys e =
@@ -192,13 +197,17 @@ recording-tidy cell-open = tidy-cell
 pub rest-tidy : {A : Type 0} {g : Stage} → g ≡ at-rest → Tidy {A = A} g [] [] []
 rest-tidy e = rw e tidy-rest
 
-pub rested-none : {d : Dialect} {h : FileState} {A : Type 0} {text raw : Bytes} {cells : List A} → Rested d h text raw cells → (cells ≡ []) × (stageOf d h ≡ at-rest)
+pub rested-none :
+    {d : Dialect} {h : FileState} {A : Type 0} {text raw : Bytes} {cells : List A} → Rested d h text raw cells →
+    (cells ≡ []) × (stageOf d h ≡ at-rest)
 rested-none (rested g) = (refl, g)
 
 pub parted-tidy : {d : Dialect} {h : FileState} {c A : Type 0} {text raw : Bytes} {cells : List A} → Parted d h c text raw → Tidy (stageOf d h) text [] cells
 parted-tidy (parted c g) = recording-tidy g
 
-rest-stays : {d : Dialect} {h : FileState} {A : Type 0} {text raw : Bytes} {cells : List A} → stageOf d h ≡ at-rest → Tidy at-rest text raw cells → Rested d h text raw cells
+rest-stays :
+    {d : Dialect} {h : FileState} {A : Type 0} {text raw : Bytes} {cells : List A} → stageOf d h ≡ at-rest → Tidy at-rest text raw cells →
+    Rested d h text raw cells
 rest-stays e tidy-rest = rested e
 
 no-raw : {g : Stage} {A : Type 0} {text raw : Bytes} {cells : List A} → NoCell g → Tidy g text raw cells → raw ≡ []

@@ -7,13 +7,15 @@ use mathlib.Core.Option.{none, some}
 use mathlib.Core.List.{List, [], _∷_, _++_, map, map-append, append-assoc, append-nil}
 use lib.ListN.{length}
 use lib.Dec.{ltb}
-use Rattle.grammar.specs.rfc.Types.{Dialect, FileState, Begin, OfCell, Outside, Passed, Between, Tail, Ends, Step, To, Clean, Final, CheckResult, Sound, Faulty}
+use Rattle.grammar.specs.rfc.Types.{Dialect, FileState, Begin, OfCell, Outside, Passed, Between, Tail, Ends, Step, To, Clean, Final}
+use Rattle.grammar.specs.rfc.Types.{CheckResult, Sound, Faulty}
 use Rattle.grammar.specs.rfc.Types as types
 use Rattle.model.specs.rules.Base.{Bytes, if_then_else_, concat}
 use Rattle.model.specs.rules.Dialect.{dialectOf}
 use Rattle.model.specs.rules.File.{fileStep, fileEnd}
 use Rattle.model.specs.rules.Report.{accepted}
-use Rattle.model.specs.rules.Records.{Rec, rows, Progress, stopped, Read, going, nothingRead, between-records, cellNow, closing, validated, complete, move, fileFull, recordFull, recordFault, readByte, readFrom, readBytes, endBetween, readEnd, readFile}
+use Rattle.model.specs.rules.Records.{Rec, rows, Progress, stopped, Read, going, nothingRead, between-records, cellNow, closing, validated, complete}
+use Rattle.model.specs.rules.Records.{move, fileFull, recordFull, recordFault, readByte, readFrom, readBytes, endBetween, readEnd, readFile}
 use Rattle.model.specs.rules.Api.{answered, readAnswer, reader}
 use Rattle.grammar.specs.rfc.Derived.{Derived, Line}
 use Rattle.grammar.specs.dialects.Derives.{Derives}
@@ -76,7 +78,12 @@ module _ (d : Dialect) (end : Read) where
       (rs : List Rec) (r : Rec) (ss : List (List Span)) → shown (rs ++ (r ∷ [])) ++ onto [] ss ≡ shown rs ++ onto (map spanOf (r .cells)) ([] ∷ ss)
   unfolding onto
   record-onto rs r ss =
-      rw (map-append (λ (r : Rec). map spanOf (r .cells)) rs (r ∷ []), append-assoc (shown rs) (map spanOf (r .cells) ∷ []) (onto [] ss), onto-none ss, append-nil (map spanOf (r .cells)))
+      rw (
+        map-append (λ (r : Rec). map spanOf (r .cells)) rs (r ∷ []),
+        append-assoc (shown rs) (map spanOf (r .cells) ∷ []) (onto [] ss),
+        onto-none ss,
+        append-nil (map spanOf (r .cells)),
+      )
 
   between-same : (r : Read) (rs : List Rec) → endBetween r rs ≡ going end → r ≡ end
   between-same r [] q = stopped-going q
@@ -135,17 +142,22 @@ module _ (d : Dialect) (end : Read) where
       let made : Rec = record { start = r .start; size = r .size; cells = r .cells } in
       let next : Read = between-records (r .done ++ (made ∷ [])) g (suc (r .offset)) in
       let m = rest-tidy (ends-stage (its-transition s)) in
-      walk-shows k next refl (ap suc po) (ap suc po) m (verdict-read r next bs (recordFault d none (r .done) (r .cells)) (byte-read r b bs (To g (Ends false)) s q)) ∙ record-onto (r .done) made ss
+      walk-shows k next refl (ap suc po) (ap suc po) m
+      (verdict-read r next bs (recordFault d none (r .done) (r .cells)) (byte-read r b bs (To g (Ends false)) s q))
+      ∙ record-onto (r .done) made ss
   walk-shows (walks.ends-closing {g} {b} {bs} {ss} e k) r pf po pp t q =
       let s = stepped r b (To g (Ends true)) pf e in
       let made : Rec = record { start = r .start; size = r .size; cells = closing d true r } in
       let next : Read = between-records (r .done ++ (made ∷ [])) g (suc (r .offset)) in
       let m = rest-tidy (ends-stage (its-transition s)) in
-      walk-shows k next refl (ap suc po) (ap suc po) m (verdict-read r next bs (recordFault d none (r .done) (closing d true r)) (byte-read r b bs (To g (Ends true)) s q)) ∙
+      walk-shows k next refl (ap suc po) (ap suc po) m
+      (verdict-read r next bs (recordFault d none (r .done) (closing d true r)) (byte-read r b bs (To g (Ends true)) s q)) ∙
       record-onto (r .done) made ss ∙ ap (λ z. shown (r .done) ++ z) (closing-onto r [] ss po pp)
 
 -- the reader's spans are those of every derivation
-pub same-spans : (d : Dialect) (xs : Bytes) (ls : List (Line Derived)) (k : Derives d xs ls) (r : Read) → readFile d none xs ≡ going r → shown (r .done) ≡ stretches d xs ls k
+pub same-spans :
+    (d : Dialect) (xs : Bytes) (ls : List (Line Derived)) (k : Derives d xs ls) (r : Read) → readFile d none xs ≡ going r →
+    shown (r .done) ≡ stretches d xs ls k
 unfolding readFile readBytes nothingRead
 same-spans d xs ls k r e = walk-shows d r (derived-runs d xs ls k) nothingRead refl refl refl tidy-rest e ∙ onto-none (stretches d xs ls k)
 
@@ -157,7 +169,9 @@ rows-spans [] = refl
 rows-spans (r ∷ rs) = map-append spanOf (r .cells) (concat (rows rs)) ∙ ap (λ z. map spanOf (r .cells) ++ z) (rows-spans rs)
 
 -- the answer on an accepted file has all its cells
-answered-cells : (rs : List Rec) (room : ℕ) → answered rs (concat (rows rs)) room .report ≡ accepted → answered rs (concat (rows rs)) room .cells ≡ concat (rows rs)
+answered-cells :
+    (rs : List Rec) (room : ℕ) → answered rs (concat (rows rs)) room .report ≡ accepted →
+    answered rs (concat (rows rs)) room .cells ≡ concat (rows rs)
 unfolding rows concat if_then_else_
 answered-cells [] room e = refl
 answered-cells (h ∷ rs) room e = go (ltb room (length (concat (rows (h ∷ rs))))) refl

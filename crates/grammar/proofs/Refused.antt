@@ -81,7 +81,9 @@ form-passes {d} {xs} (read-by-form l ls r) = reads-pass d xs Top (l ∷ ls) r
 -- ---- the files that contain the mistakes
 
 -- a CSVJ file of one value
-one-value : {raw content : Bytes} {kind : Kind} → csvj.Value (cell raw kind content) → csvj.File (((raw ++ []) ++ (0x0A ∷ [])) ++ []) (line (raw ++ []) (cell raw kind content ∷ []) ∷ [])
+one-value :
+    {raw content : Bytes} {kind : Kind} → csvj.Value (cell raw kind content) →
+    csvj.File (((raw ++ []) ++ (0x0A ∷ [])) ++ []) (line (raw ++ []) (cell raw kind content ∷ []) ∷ [])
 one-value v = csvj.unmarked (csvj.csvj-file (csvj.header-line (csvj.ended (csvj.filled csvj.no-ws (csvj.value v) csvj.no-ws) csvj.lf)) csvj.no-line)
 
 -- a CSVJ string of one char
@@ -97,11 +99,13 @@ numeric b h k = decimal (range h k)
 
 high : json.Char (0x5C ∷ 0x75 ∷ 0x64 ∷ 0x38 ∷ 0x33 ∷ 0x64 ∷ []) (json.unit 0xD83D)
 high =
-    json.uXXXX json.escape (small 0x64 (omega arith) (omega arith)) (numeric 0x38 (omega arith) (omega arith)) (numeric 0x33 (omega arith) (omega arith)) (small 0x64 (omega arith) (omega arith))
+    json.uXXXX json.escape (small 0x64 (omega arith) (omega arith)) (numeric 0x38 (omega arith) (omega arith))
+    (numeric 0x33 (omega arith) (omega arith)) (small 0x64 (omega arith) (omega arith))
 
 low : json.Char (0x5C ∷ 0x75 ∷ 0x64 ∷ 0x65 ∷ 0x30 ∷ 0x30 ∷ []) (json.unit 0xDE00)
 low =
-    json.uXXXX json.escape (small 0x64 (omega arith) (omega arith)) (small 0x65 (omega arith) (omega arith)) (numeric 0x30 (omega arith) (omega arith)) (numeric 0x30 (omega arith) (omega arith))
+    json.uXXXX json.escape (small 0x64 (omega arith) (omega arith)) (small 0x65 (omega arith) (omega arith))
+    (numeric 0x30 (omega arith) (omega arith)) (numeric 0x30 (omega arith) (omega arith))
 
 -- `"a","a"` and LF
 value-a : csvj.Value nameA
@@ -109,7 +113,11 @@ value-a = one-char (json.above-backslash (range (omega arith) (omega arith)))
 
 two-names : csvj.File (twoNames ++ (0x0A ∷ [])) (line twoNames (nameA ∷ nameA ∷ []) ∷ [])
 two-names =
-    csvj.unmarked (csvj.csvj-file (csvj.header-line (csvj.ended (csvj.filled csvj.no-ws (csvj.values value-a (csvj.comma csvj.no-ws csvj.no-ws) (csvj.value value-a)) csvj.no-ws) csvj.lf)) csvj.no-line)
+    csvj.unmarked
+    (csvj.csvj-file
+    (csvj.header-line
+    (csvj.ended (csvj.filled csvj.no-ws (csvj.values value-a (csvj.comma csvj.no-ws csvj.no-ws) (csvj.value value-a)) csvj.no-ws)
+    csvj.lf)) csvj.no-line)
 
 names-fit : WithinLimits (twoNames ++ (0x0A ∷ [])) (line twoNames (nameA ∷ nameA ∷ []) ∷ [])
 names-fit =
@@ -119,7 +127,10 @@ names-fit =
 -- an unquoted field of n times a
 plain : (n : ℕ) → plus.Non-escaped standard (replicate n 0x61)
 plain zero = plus.no-textdata
-plain (suc n) = plus.textdata (plus.ascii {b = 0x61} (range (omega arith) (omega arith)) (λ e. omega arith) (λ e. omega arith) (λ e. omega arith) (λ e. omega arith)) (plain n)
+plain (suc n) =
+    plus.textdata
+    (plus.ascii {b = 0x61} (range (omega arith) (omega arith)) (λ e. omega arith) (λ e. omega arith) (λ e. omega arith) (λ e. omega arith))
+    (plain n)
 
 long-file : plus.File standard tooLong (line tooLong (cell tooLong Text tooLong ∷ []) ∷ [])
 long-file = plus.file unmarked (plus.header-unended (plus.a-name (plus.name (plus.a-non-escaped (plain 4097)))))
@@ -135,7 +146,9 @@ firstText (l ∷ ls) = textIn l
 blanks-read : {ls : List (Line Derived)} → ReadByForm Csvj (0x20 ∷ 0x20 ∷ 0x0A ∷ []) ls → firstText ls ≡ 0x20 ∷ 0x20 ∷ []
 unfolding computes decodedLine firstText
 blanks-read (read-by-form l ls r) =
-    let e : l ∷ ls ≡ line (0x20 ∷ 0x20 ∷ []) [] ∷ [] = reads-once (0x20 ∷ 0x20 ∷ 0x0A ∷ []) Top (l ∷ ls) (line (0x20 ∷ 0x20 ∷ []) [] ∷ []) r (between refl (between refl (ends refl (ends-clean refl)))) in
+    let e : l ∷ ls ≡ line (0x20 ∷ 0x20 ∷ []) [] ∷ []
+    = reads-once (0x20 ∷ 0x20 ∷ 0x0A ∷ []) Top (l ∷ ls) (line (0x20 ∷ 0x20 ∷ []) [] ∷ []) r
+    (between refl (between refl (ends refl (ends-clean refl)))) in
     ap (λ ls. firstText (map (decodedLine Csvj) ls)) e
 
 module _ (exact : Exact) where
@@ -148,7 +161,11 @@ module _ (exact : Exact) where
   unfolding computes passes taken ended
   empty-line ls k =
       refuse Tdif (0x22 ∷ 0x61 ∷ 0x22 ∷ 0x0A ∷ 0x0A ∷ []) (line (0x22 ∷ 0x61 ∷ 0x22 ∷ []) (nameA ∷ []) ∷ ls) refl
-      (tdif.header-first (tdif.header (tdif.ended (tdif.field (tdif.a-value (tdif.value (tdif.textdata (tdif.above-quote (range (omega arith) (omega arith))) tdif.nothing)))) tdif.lf)) k)
+      (tdif.header-first
+      (tdif.header
+      (tdif.ended
+      (tdif.field (tdif.a-value (tdif.value (tdif.textdata (tdif.above-quote (range (omega arith) (omega arith))) tdif.nothing))))
+      tdif.lf)) k)
 
   -- a CSV+ file of one field and no ending
   one-field :
@@ -199,7 +216,9 @@ module _ (exact : Exact) where
   blanks-uncounted : (l : Line Derived) → csvj.Line (0x20 ∷ 0x20 ∷ 0x0A ∷ []) l → textIn l ≢ []
   unfolding firstText
   blanks-uncounted l k e =
-      let t : textIn l ≡ 0x20 ∷ 0x20 ∷ [] = blanks-read (exact .files Csvj (0x20 ∷ 0x20 ∷ 0x0A ∷ []) (l ∷ []) .0 (csvj.unmarked (csvj.csvj-file (csvj.header-line k) csvj.no-line))) in
+      let t : textIn l ≡ 0x20 ∷ 0x20 ∷ []
+      = blanks-read
+      (exact .files Csvj (0x20 ∷ 0x20 ∷ 0x0A ∷ []) (l ∷ []) .0 (csvj.unmarked (csvj.csvj-file (csvj.header-line k) csvj.no-line))) in
       let z : _≡_ {A = ℕ} 0 1 = cc in omega arith
 
   -- ---- by content
@@ -208,7 +227,9 @@ module _ (exact : Exact) where
   unfolding computes
   halves-apart ts k =
       let raw : Bytes = 0x22 ∷ 0x5C ∷ 0x75 ∷ 0x64 ∷ 0x38 ∷ 0x33 ∷ 0x64 ∷ 0x5C ∷ 0x75 ∷ 0x64 ∷ 0x65 ∷ 0x30 ∷ 0x30 ∷ 0x22 ∷ [] in
-      let e : cell raw Text ts ≡ decoded Csvj raw = exact .contents Csvj (cell raw Text ts) (csvj.a-string (json.string json.a-quotation-mark (json.char high (json.char low json.no-char)) json.a-quotation-mark k)) in
+      let e : cell raw Text ts ≡ decoded Csvj raw
+      = exact .contents Csvj (cell raw Text ts)
+      (csvj.a-string (json.string json.a-quotation-mark (json.char high (json.char low json.no-char)) json.a-quotation-mark k)) in
       ap (λ c. length (contentIn c)) e
 
   two-quotes : (ts : Bytes) → tdif.Inner (0x22 ∷ 0x22 ∷ []) ts → ts ≡ 0x22 ∷ []
@@ -223,13 +244,22 @@ module _ (exact : Exact) where
   repeated-name : ¬ ChecksHold Csvj (line twoNames (nameA ∷ nameA ∷ []) ∷ [])
   unfolding computes
   repeated-name k =
-      let e : reportOf (readFile Csvj none (twoNames ++ (0x0A ∷ []))) ≡ accepted = exact .acceptance Csvj (twoNames ++ (0x0A ∷ [])) .1 (_, record { derived = two-names; limits = names-fit; checks = k }) in
+      let e : reportOf (readFile Csvj none (twoNames ++ (0x0A ∷ []))) ≡ accepted
+      = exact .acceptance Csvj (twoNames ++ (0x0A ∷ [])) .1 (_, record { derived = two-names; limits = names-fit; checks = k }) in
       let z : _≡_ {A = ℕ} 6 0 = ap (λ r. r .number) e in omega arith
 
   long-record : ¬ WithinLimits tooLong (line tooLong (cell tooLong Text tooLong ∷ []) ∷ [])
   unfolding computes
   long-record w =
-      let e : reportOf (readFile (CsvPlus standard) none tooLong) ≡ accepted = exact .acceptance (CsvPlus standard) tooLong .1 (_, record { derived = long-file; limits = w; checks = checks-hold (every-cons refl every-none) (a-name every-none no-names) every-none }) in
+      let e : reportOf (readFile (CsvPlus standard) none tooLong) ≡ accepted
+      = exact .acceptance (CsvPlus standard) tooLong .1 (
+        _,
+        record {
+          derived = long-file;
+          limits = w;
+          checks = checks-hold (every-cons refl every-none) (a-name every-none no-names) every-none;
+        },
+      ) in
       let z : _≡_ {A = ℕ} 8 0 = ap (λ r. r .number) e in omega arith
 
   -- ---- by the next byte

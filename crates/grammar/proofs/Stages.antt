@@ -5,7 +5,8 @@ use Prim.Native.Nat.{ℕ}
 use mathlib.Core.Path.{_≡_, refl}
 use mathlib.Core.Bool.{Bool, false}
 use Rattle.grammar.specs.rfc.Types.{Dialect, Csvj, Tdif, CsvPlus}
-use Rattle.grammar.specs.rfc.Types.{FileState, Top, Begin, Ended, Bom1, Bom2, PlainBom1, PlainBom2, Comment, Blanks, ExpectCell, Inside, After, Cr, Outside, Passed, OfCell, Between, Tail, Ends, To}
+use Rattle.grammar.specs.rfc.Types.{FileState, Top, Begin, Ended, Bom1, Bom2, PlainBom1, PlainBom2, Comment, Blanks, ExpectCell, Inside, After}
+use Rattle.grammar.specs.rfc.Types.{Cr, Outside, Passed, OfCell, Between, Tail, Ends, To}
 use Rattle.model.proofs.file_laws.FileSteps as steps
 use Rattle.model.proofs.file_laws.FileSteps.{Rests, Around, Grown, Free, Opens, Next, Leaves, Transition, starts-free}
 

@@ -67,7 +67,9 @@ pub accepted-exactly : (d : Dialect) (xs : Bytes) → (reportOf (readFile d none
 accepted-exactly = acceptance
 
 -- the records that were read are then those of the derivation: kinds, contents, and spans that are the raw cells
-pub same-records : (d : Dialect) (xs : Bytes) (ls : List (Line Derived)) → Derives d xs ls → (r : Read) → readFile d none xs ≡ going r → Each (ShowsRecord xs) (r .done) ls
+pub same-records :
+    (d : Dialect) (xs : Bytes) (ls : List (Line Derived)) → Derives d xs ls → (r : Read) → readFile d none xs ≡ going r →
+    Each (ShowsRecord xs) (r .done) ls
 same-records = accepted-records
 
 -- and each cell lies where the derivation's texts place it: one position runs through all of them

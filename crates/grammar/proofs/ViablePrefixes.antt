@@ -66,7 +66,8 @@ module _ (d : Dialect) where
   completes-reads (onward {p = Passed} {b} {bs} e k) = rest-reads b bs (λ ls r. reading.passed e r) (completes-reads k)
   completes-reads (onward {p = OfCell} {b} {bs} e k) = of-cell-reads b bs e (cell-stage (its-transition e)) (completes-reads k)
   completes-reads (onward {p = Between false} {b} {bs} e k) = record-reads b bs (λ text cells ls r. recorded _ _ (reading.between e r)) (completes-reads k)
-  completes-reads (onward {p = Between true} {b} {bs} e k) = record-reads b bs (λ text cells ls r. recorded _ _ (reading.between-closing e r)) (completes-reads k)
+  completes-reads (onward {p = Between true} {b} {bs} e k) =
+      record-reads b bs (λ text cells ls r. recorded _ _ (reading.between-closing e r)) (completes-reads k)
   completes-reads (onward {p = Tail false} {b} {bs} e k) = record-reads b bs (λ text cells ls r. recorded _ _ (reading.tail e r)) (completes-reads k)
   completes-reads (onward {p = Tail true} {b} {bs} e k) = record-reads b bs (λ text cells ls r. recorded _ _ (reading.tail-closing e r)) (completes-reads k)
   completes-reads (onward {p = Ends k} {b} {bs} e m) = next-reads b bs k e (completes-reads m)
@@ -98,7 +99,12 @@ module _ (d : Dialect) where
   -- ---- so a byte can continue exactly when a derivation's text begins so
 
   pub can-go-on : (xs : Bytes) (b : ℕ) → CanGoOn d xs b ↔ ProceedsOn d xs b
-  can-go-on xs b = (λ g. derived (g .0) (completes-reads (g .1)), λ g. completed-from (g .0) (reads-complete (derived-reads d (xs ++ (b ∷ (g .0))) (g .1) (g .2))))
+  can-go-on xs b = (
+    λ g.
+        derived (g .0) (completes-reads (g .1)),
+    λ g. completed-from (g .0)
+        (reads-complete (derived-reads d (xs ++ (b ∷ (g .0))) (g .1) (g .2))),
+  )
     where
       derived : (ys : Bytes) → Recorded d Top (xs ++ (b ∷ ys)) → ProceedsOn d xs b
       derived ys (recorded l ls r) = (ys, map (decodedLine d) (l ∷ ls), reads-derived d r)
@@ -106,7 +112,9 @@ module _ (d : Dialect) where
       completed-from : (ys : Bytes) → Completed Top (xs ++ (b ∷ ys)) → CanGoOn d xs b
       completed-from ys (by-adding ws k) = (ys ++ ws, rw (append-assoc xs (b ∷ ys) ws) at k)
 
-  pub next-byte-exact : (target : Option Target) (xs : Bytes) (r : Read) (b : ℕ) → readBytes d target xs ≡ going r → fileFull r ≡ false → recordFull r b ≡ false → NextByte d target xs r b
+  pub next-byte-exact :
+      (target : Option Target) (xs : Bytes) (r : Read) (b : ℕ) → readBytes d target xs ≡ going r → fileFull r ≡ false →
+      recordFull r b ≡ false → NextByte d target xs r b
   next-byte-exact target xs r b read file size =
       let m = laws .next-byte d target xs r b read file size in
       let g = can-go-on xs b in

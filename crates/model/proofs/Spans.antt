@@ -11,20 +11,23 @@ use lib.Seq.{take-append-seam, drop-append-seam}
 use lib.ListN.{length, length-append}
 use lib.Dec.{ltb}
 use borrow.Author.Tests.{le-ltb}
-use Rattle.model.specs.rules.Types.{Dialect, Target, Fresh, FileState, Outside, Passed, OfCell, Between, Tail, Ends, Step, To, Reject, Ending, Clean, Final, Cut, Fault, CheckResult, Sound, Faulty, WholeCell}
+use Rattle.model.specs.rules.Types.{Dialect, Target, Fresh, FileState, Outside, Passed, OfCell, Between, Tail, Ends, Step, To, Reject, Ending}
+use Rattle.model.specs.rules.Types.{Clean, Final, Cut, Fault, CheckResult, Sound, Faulty, WholeCell}
 use Rattle.model.specs.rules.Base.{Bytes, concat, if_then_else_}
 use Rattle.model.specs.rules.Dialect.{dialectOf}
 use Rattle.model.specs.rules.File.{fileStep, fileEnd}
 use Rattle.model.specs.rules.Decode.{kindOf, contentOf, validateCell}
 use Rattle.model.specs.rules.Text.{Value}
 use Rattle.model.specs.rules.Report.{refusal}
-use Rattle.model.specs.rules.Records.{Rec, Read, rows, Progress, going, stopped, nothingRead, readByte, readFrom, readBytes, readEnd, readFile, recordsOf, recordFault, move, complete, validated, closing, endBetween, endAt}
+use Rattle.model.specs.rules.Records.{Rec, Read, rows, Progress, going, stopped, nothingRead, readByte, readFrom, readBytes, readEnd, readFile}
+use Rattle.model.specs.rules.Records.{recordsOf, recordFault, move, complete, validated, closing, endBetween, endAt}
 use Rattle.model.specs.rules.Api.{Answer, answered, readAnswer, noAnswer, reader, slice, decoder}
 use Rattle.model.specs.laws.Laws.{All, all-none, all-cons, SoundCell, SoundRecord}
 use Rattle.model.specs.laws.RoundTrips.{Decodes, ReaderDecodes}
 use Rattle.model.proofs.Tests.{split}
 use Rattle.model.proofs.cell_laws.CellRuns.{Runs, here, snoc, runs-sound, all-snoc}
-use Rattle.model.proofs.cell_laws.Cells.{cellAt, Closes, Fits, rejects, leaves, passes, adds, parts, turns, completes, step-fits, EndsAfter, ends-clean, ends-final, ends-cut, file-ends}
+use Rattle.model.proofs.cell_laws.Cells.{cellAt, Closes, Fits, rejects, leaves, passes, adds, parts, turns, completes, step-fits, EndsAfter}
+use Rattle.model.proofs.cell_laws.Cells.{ends-clean, ends-final, ends-cut, file-ends}
 
 -- ---- a part of a list
 
@@ -74,7 +77,10 @@ module _ (d : Dialect) (target : Option Target) (file : Bytes) where
   taken pre raw left b = sym (append-assoc pre (raw ++ (b ∷ [])) left ∙ ap (λ (l : Bytes). pre ++ l) (append-assoc raw (b ∷ []) left))
 
   -- a byte after which no cell is current
-  moved : (r next : Read) (b : ℕ) (left : Bytes) → At r (b ∷ left) → next .raw ≡ [] → next .opened ≡ suc (r .offset) → next .offset ≡ suc (r .offset) → cellAt (next .state) ≡ Fresh → All (Stretched d file) (next .cells) → All (StretchedRecord d file) (next .done) → At next left
+  moved :
+      (r next : Read) (b : ℕ) (left : Bytes) → At r (b ∷ left) → next .raw ≡ [] → next .opened ≡ suc (r .offset) →
+      next .offset ≡ suc (r .offset) → cellAt (next .state) ≡ Fresh → All (Stretched d file) (next .cells) →
+      All (StretchedRecord d file) (next .done) → At next left
   moved r next b left a e o u c cs ds =
       let n : length (a .pre ++ (r .raw ++ (b ∷ []))) ≡ length (a .pre) + length (r .raw ++ (b ∷ [])) = length-append (a .pre) (r .raw ++ (b ∷ [])) in
       let m : length (r .raw ++ (b ∷ [])) ≡ length (r .raw) + 1 = length-append (r .raw) (b ∷ []) in
@@ -91,7 +97,18 @@ module _ (d : Dialect) (target : Option Target) (file : Bytes) where
       }
 
   -- a byte of the current cell
-  added : (r : Read) (b : ℕ) (left : Bytes) (f : FileState) (z : ℕ) → At r (b ∷ left) → Runs d Fresh (r .raw ++ (b ∷ [])) (cellAt f) → At (record { done = r .done; state = f; offset = suc (r .offset); start = r .start; size = z; opened = r .opened; raw = r .raw ++ (b ∷ []); cells = r .cells }) left
+  added :
+      (r : Read) (b : ℕ) (left : Bytes) (f : FileState) (z : ℕ) → At r (b ∷ left) → Runs d Fresh (r .raw ++ (b ∷ [])) (cellAt f) →
+      At (record {
+        done = r .done;
+        state = f;
+        offset = suc (r .offset);
+        start = r .start;
+        size = z;
+        opened = r .opened;
+        raw = r .raw ++ (b ∷ []);
+        cells = r .cells;
+      }) left
   added r b left f z a k =
       let m : length (r .raw ++ (b ∷ [])) ≡ length (r .raw) + 1 = length-append (r .raw) (b ∷ []) in
       let q : r .opened + length (r .raw) ≡ r .offset = a .offset in
@@ -109,7 +126,9 @@ module _ (d : Dialect) (target : Option Target) (file : Bytes) where
   validated-good r next left Sound h i = good-going i
   validated-good r next left (Faulty e) h i = good-stopped h
 
-  complete-good : (r : Read) (b : ℕ) (left : Bytes) (vs : List Value) (f : FileState) → At r (b ∷ left) → All (Stretched d file) vs → cellAt f ≡ Fresh → Good (complete d target r vs f (suc (r .offset))) left
+  complete-good :
+      (r : Read) (b : ℕ) (left : Bytes) (vs : List Value) (f : FileState) → At r (b ∷ left) → All (Stretched d file) vs → cellAt f ≡ Fresh →
+      Good (complete d target r vs f (suc (r .offset))) left
   unfolding complete
   complete-good r b left vs f a s e =
       validated-good r _ left (recordFault d target (r .done) vs) (a .done) (moved r _ b left a refl refl refl e all-none (all-snoc (a .done) s))
@@ -141,14 +160,17 @@ module _ (d : Dialect) (target : Option Target) (file : Bytes) where
   between-good r [] h = h
   between-good r (x ∷ rs) h = h
 
-  validated-done : (r next : Read) (v : CheckResult) → All (StretchedRecord d file) (r .done) → All (StretchedRecord d file) (next .done) → All (StretchedRecord d file) (recordsOf (validated r next v))
+  validated-done :
+      (r next : Read) (v : CheckResult) → All (StretchedRecord d file) (r .done) → All (StretchedRecord d file) (next .done) →
+      All (StretchedRecord d file) (recordsOf (validated r next v))
   validated-done r next Sound h k = k
   validated-done r next (Faulty e) h k = h
 
   at-end : (r : Read) (x : Ending) → At r [] → EndsAfter d (cellAt (r .state)) x → All (StretchedRecord d file) (recordsOf (endAt d target r x))
   unfolding complete
   at-end r Clean a ends-clean = between-good r (r .done) (a .done)
-  at-end r Final a (ends-final w) = validated-done r _ (recordFault d target (r .done) (closing d true r)) (a .done) (all-snoc (a .done) (closed-cells r [] true a w))
+  at-end r Final a (ends-final w) =
+      validated-done r _ (recordFault d target (r .done) (closing d true r)) (a .done) (all-snoc (a .done) (closed-cells r [] true a w))
   at-end r Cut a ends-cut = a .done
 
   end-good : (p : Progress) → Good p [] → All (StretchedRecord d file) (recordsOf (readEnd d target p))
@@ -159,7 +181,8 @@ module _ (d : Dialect) (target : Option Target) (file : Bytes) where
   bytes-good : Good (readBytes d target file) []
   unfolding readBytes nothingRead cellAt
   bytes-good =
-      read-good (going nothingRead) file (good-going (record { pre = []; whole = refl; opened = refl; offset = refl; runs = here; cells = all-none; done = all-none }))
+      read-good (going nothingRead) file
+      (good-going (record { pre = []; whole = refl; opened = refl; offset = refl; runs = here; cells = all-none; done = all-none }))
 
   -- every cell of every record that was read, without the file's end and with it
   stretches-bytes : All (StretchedRecord d file) (recordsOf (readBytes d target file))
@@ -200,7 +223,9 @@ all-append {ℓ} : {A : Type 0} {P : A → Type ℓ} {xs ys : List A} → All P 
 all-append all-none k = k
 all-append (all-cons p ps) k = all-cons p (all-append ps k)
 
-concat-decodes : (n : ℕ) (d : Dialect) (file : Bytes) → dialectOf n ≡ some d → {ds : List Rec} → All (StretchedRecord d file) ds → All (Decodes n file) (concat (rows ds))
+concat-decodes :
+    (n : ℕ) (d : Dialect) (file : Bytes) → dialectOf n ≡ some d → {ds : List Rec} → All (StretchedRecord d file) ds →
+    All (Decodes n file) (concat (rows ds))
 unfolding concat rows
 concat-decodes n d file e all-none = all-none
 concat-decodes n d file e (all-cons s ss) = all-append (cells s) (concat-decodes n d file e ss)
@@ -209,11 +234,15 @@ concat-decodes n d file e (all-cons s ss) = all-append (cells s) (concat-decodes
     cells all-none = all-none
     cells (all-cons {x} k ks) = all-cons (decodes n d file x e k) (cells ks)
 
-answered-decodes : (n : ℕ) (file : Bytes) (ds : List Rec) (vs : List Value) (room : ℕ) → All (Decodes n file) vs → All (Decodes n file) (answered ds vs room .cells)
+answered-decodes :
+    (n : ℕ) (file : Bytes) (ds : List Rec) (vs : List Value) (room : ℕ) → All (Decodes n file) vs →
+    All (Decodes n file) (answered ds vs room .cells)
 answered-decodes n file [] vs room k = all-none
 answered-decodes n file (h ∷ rs) vs room k = split (λ (a : Answer). All (Decodes n file) (a .cells)) (ltb room (length vs)) (λ _. all-none) λ _. k
 
-answer-decodes : (n : ℕ) (d : Dialect) (file : Bytes) (room : ℕ) (p : Progress) → dialectOf n ≡ some d → All (StretchedRecord d file) (recordsOf p) → All (Decodes n file) (readAnswer p room .cells)
+answer-decodes :
+    (n : ℕ) (d : Dialect) (file : Bytes) (room : ℕ) (p : Progress) → dialectOf n ≡ some d → All (StretchedRecord d file) (recordsOf p) →
+    All (Decodes n file) (readAnswer p room .cells)
 answer-decodes n d file room (stopped e r) k s = all-none
 answer-decodes n d file room (going r) k s = answered-decodes n file (r .done) (concat (rows (r .done))) room (concat-decodes n d file k s)
 
@@ -222,6 +251,9 @@ pub reader-decodes : ReaderDecodes
 unfolding reader
 reader-decodes n file room = go (dialectOf n) refl
   where
-    go : (o : Option Dialect) → dialectOf n ≡ o → All (Decodes n file) ((elim o as (λ _. Answer) [ none ↦ noAnswer (refusal 11) | some d ↦ readAnswer (readFile d none file) room ]) .cells)
+    go :
+        (o : Option Dialect) → dialectOf n ≡ o →
+        All (Decodes n file)
+        ((elim o as (λ _. Answer) [ none ↦ noAnswer (refusal 11) | some d ↦ readAnswer (readFile d none file) room ]) .cells)
     go none e = all-none
     go (some d) e = answer-decodes n d file room (readFile d none file) e (stretches d none file)

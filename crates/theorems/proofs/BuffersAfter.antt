@@ -21,7 +21,9 @@ use Rattle.model.specs.rules.Decode.{kindNumber, contentOf, validateCell}
 use Rattle.model.specs.rules.Text.{Value, tableText}
 use Rattle.model.specs.rules.Report.{accepted, refusal}
 use Rattle.model.specs.rules.Records.{Rec, rows, Progress, going, stopped, readFile}
-use Rattle.model.specs.rules.Api.{Answer, answered, readAnswer, reader, least, startsOf, endsOf, kindsOf, ReadCall, readCall, Decoded, decodedAs, decoder, decoderLeaves, Written, fitted, convertedAs, converter, converterLeaves, Table, rowsIn, rowsFault, writtenRows, writer, writerLeaves}
+use Rattle.model.specs.rules.Api.{Answer, answered, readAnswer, reader, least, startsOf, endsOf, kindsOf, ReadCall, readCall, Decoded, decodedAs}
+use Rattle.model.specs.rules.Api.{decoder, decoderLeaves, Written, fitted, convertedAs, converter, converterLeaves, Table, rowsIn, rowsFault}
+use Rattle.model.specs.rules.Api.{writtenRows, writer, writerLeaves}
 use Rattle.model.proofs.Tests.{split}
 use Rattle.theorems.specs.Demands.{Leaves}
 
@@ -61,7 +63,11 @@ reader-fits n file room = by-dialect (dialectOf n)
     by-end (going r) = answered-fits (r .done) (concat (rows (r .done))) room
 
     by-dialect : (o : Option Dialect) →
-        let a : Answer = elim o as (λ _. Answer) [ none ↦ record { report = refusal 11; columns = 0; records = 0; cells = [] } | some d ↦ readAnswer (readFile d none file) room ] in
+        let a : Answer
+        = elim o as (λ _. Answer) [
+          | none ↦ record { report = refusal 11; columns = 0; records = 0; cells = [] }
+          | some d ↦ readAnswer (readFile d none file) room
+        ] in
         Fits (a .report) (a .cells) room
     by-dialect none = nothing-fits (refusal 11) room
     by-dialect (some d) = by-end (readFile d none file)
@@ -73,13 +79,18 @@ pub least-second : (a b : ℕ) → least a b ≤ b
 least-second a b = split (λ (n : ℕ). n ≤ b) (leb a b) (λ e. leb-true a b e) λ _. omega arith
 
 -- a list of numbers, one for each cell
-mapped-leaves : {told : Report} (vs : List Value) (f : Value → ℕ) (room : ℕ) (old : List ℕ) → Fits told vs room → room ≤ length old → Leaves told (length vs) old (over (map f vs) old)
+mapped-leaves :
+    {told : Report} (vs : List Value) (f : Value → ℕ) (room : ℕ) (old : List ℕ) → Fits told vs room → room ≤ length old →
+    Leaves told (length vs) old (over (map f vs) old)
 mapped-leaves {told} vs f room old h q =
     let long : length (map f vs) ≡ length vs = length-map vs f in
     let fits : Fits told (map f vs) (length old) = record { few = omega (arith, long, h .few, q); nothing = λ r. ap (map f) (h .nothing r) } in
     rw (← long) (leaves-over (map f vs) old fits)
 
-pub reader-leaves : (n : ℕ) (file : Bytes) (starts ends kinds : List ℕ) (c : ReadCall) → c ≡ readCall n file starts ends kinds → Leaves (c .report) (c .cells) starts (c .starts) × Leaves (c .report) (c .cells) ends (c .ends) × Leaves (c .report) (c .cells) kinds (c .kinds)
+pub reader-leaves :
+    (n : ℕ) (file : Bytes) (starts ends kinds : List ℕ) (c : ReadCall) → c ≡ readCall n file starts ends kinds →
+    Leaves (c .report) (c .cells) starts (c .starts) × Leaves (c .report) (c .cells) ends (c .ends)
+    × Leaves (c .report) (c .cells) kinds (c .kinds)
 unfolding readCall
 reader-leaves n file starts ends kinds c e =
     let both : ℕ = least (length ends) (length kinds) in
@@ -98,18 +109,25 @@ reader-leaves n file starts ends kinds c e =
 
 -- ---- the decoder
 
-pub decoder-leaves : (n : ℕ) (raw : Bytes) (room : List ℕ) → Leaves (decoder n raw (length room) .report) (length (decoder n raw (length room) .content)) room (decoderLeaves n raw room)
+pub decoder-leaves :
+    (n : ℕ) (raw : Bytes) (room : List ℕ) →
+    Leaves (decoder n raw (length room) .report) (length (decoder n raw (length room) .content)) room (decoderLeaves n raw room)
 unfolding decoder decoderLeaves
 decoder-leaves n raw room = leaves-over _ room (by-dialect (dialectOf n))
   where
     by-check : (d : Dialect) (c : CellCheck) → Fits (decodedAs d raw (length room) c .report) (decodedAs d raw (length room) c .content) (length room)
     by-check d (Unsound e o) = nothing-fits _ (length room)
     by-check d WholeCell =
-        split (λ (a : Decoded). Fits (a .report) (a .content) (length room)) (ltb (length room) (length (contentOf d raw))) (λ _. nothing-fits (refusal 10) (length room))
+        split (λ (a : Decoded). Fits (a .report) (a .content) (length room)) (ltb (length room) (length (contentOf d raw)))
+        (λ _. nothing-fits (refusal 10) (length room))
         λ e. all-fits (contentOf d raw) (length room) (ltb-false (length room) (length (contentOf d raw)) e)
 
     by-dialect : (o : Option Dialect) →
-        let a : Decoded = elim o as (λ _. Decoded) [ none ↦ record { report = refusal 11; kind = 0; content = [] } | some d ↦ decodedAs d raw (length room) (validateCell d raw) ] in
+        let a : Decoded
+        = elim o as (λ _. Decoded) [
+          | none ↦ record { report = refusal 11; kind = 0; content = [] }
+          | some d ↦ decodedAs d raw (length room) (validateCell d raw)
+        ] in
         Fits (a .report) (a .content) (length room)
     by-dialect none = nothing-fits (refusal 11) (length room)
     by-dialect (some d) = by-check d (validateCell d raw)
@@ -130,7 +148,9 @@ converter-fits m n file room = by-source (dialectOf m)
     by-end t (going r) = fitted-fits room (tableText t (rows (r .done)))
 
     by-target : (d : Dialect) (o : Option Dialect) →
-        let w : Written = elim o as (λ _. Written) [ none ↦ record { report = refusal 11; text = [] } | some t ↦ convertedAs (into t) room (readFile d (some (into t)) file) ] in
+        let w : Written
+        = elim o as (λ _. Written)
+        [ none ↦ record { report = refusal 11; text = [] } | some t ↦ convertedAs (into t) room (readFile d (some (into t)) file) ] in
         Fits (w .report) (w .text) room
     by-target d none = nothing-fits (refusal 11) room
     by-target d (some t) = by-end (into t) (readFile d (some (into t)) file)
@@ -138,13 +158,17 @@ converter-fits m n file room = by-source (dialectOf m)
     by-source : (o : Option Dialect) →
         let w : Written = elim o as (λ _. Written) [
           | none ↦ record { report = refusal 11; text = [] }
-          | some d ↦ elim (dialectOf n) as (λ _. Written) [ none ↦ record { report = refusal 11; text = [] } | some t ↦ convertedAs (into t) room (readFile d (some (into t)) file) ]
+          | some d ↦ elim (dialectOf n) as (λ _. Written)
+              [ none ↦ record { report = refusal 11; text = [] } | some t ↦ convertedAs (into t) room (readFile d (some (into t)) file) ]
         ] in
         Fits (w .report) (w .text) room
     by-source none = nothing-fits (refusal 11) room
     by-source (some d) = by-target d (dialectOf n)
 
-pub converter-leaves : (m n : ℕ) (file : Bytes) (room : List ℕ) → Leaves (converter m n file (length room) .report) (length (converter m n file (length room) .text)) room (converterLeaves m n file room)
+pub converter-leaves :
+    (m n : ℕ) (file : Bytes) (room : List ℕ) →
+    Leaves (converter m n file (length room) .report) (length (converter m n file (length room) .text)) room
+    (converterLeaves m n file room)
 unfolding converterLeaves
 converter-leaves m n file room = leaves-over _ room (converter-fits m n file (length room))
 
@@ -165,12 +189,15 @@ writer-fits n table room = by-dialect (dialectOf n)
     by-dialect : (o : Option Dialect) →
         let w : Written = elim o as (λ _. Written) [
           | none ↦ record { report = refusal 11; text = [] }
-          | some t ↦ elim (rowsIn table) as (λ _. Written) [ none ↦ record { report = refusal 12; text = [] } | some rs ↦ writtenRows (into t) room rs (rowsFault (into t) rs) ]
+          | some t ↦ elim (rowsIn table) as (λ _. Written)
+              [ none ↦ record { report = refusal 12; text = [] } | some rs ↦ writtenRows (into t) room rs (rowsFault (into t) rs) ]
         ] in
         Fits (w .report) (w .text) room
     by-dialect none = nothing-fits (refusal 11) room
     by-dialect (some t) = by-rows (into t) (rowsIn table)
 
-pub writer-leaves : (n : ℕ) (table : Table) (room : List ℕ) → Leaves (writer n table (length room) .report) (length (writer n table (length room) .text)) room (writerLeaves n table room)
+pub writer-leaves :
+    (n : ℕ) (table : Table) (room : List ℕ) →
+    Leaves (writer n table (length room) .report) (length (writer n table (length room) .text)) room (writerLeaves n table room)
 unfolding writerLeaves
 writer-leaves n table room = leaves-over _ room (writer-fits n table (length room))

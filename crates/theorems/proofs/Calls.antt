@@ -16,7 +16,8 @@ use Rattle.model.specs.rules.Report.{accepted, MAXFILE}
 use Rattle.model.specs.rules.Records.{rows, recordsOf}
 use Rattle.model.specs.rules.Api.{Written, converter}
 use Rattle.model.specs.laws.Laws.{All, all-none, all-cons}
-use Rattle.model.specs.rules.Ledger.{Call, piece, finish, Entry, roomOf, isFileFault, faultIn, endedIn, writtenIn, tooSmall, answerNow, checked, historyFrom, history, ledger, callLeaves}
+use Rattle.model.specs.rules.Ledger.{Call, piece, finish, Entry, roomOf, isFileFault, faultIn, endedIn, writtenIn, tooSmall, answerNow, checked}
+use Rattle.model.specs.rules.Ledger.{historyFrom, history, ledger, callLeaves}
 use Rattle.model.specs.laws.Demands.{seenIn}
 use Rattle.model.proofs.cell_laws.CellRuns.{all-snoc}
 use Rattle.model.proofs.piece_laws.CallsMade.{after, history-snoc}
@@ -48,7 +49,9 @@ data EachAnswered : List MadeCall → List Entry → Type 0 where
   no-call : EachAnswered [] []
   one-call : {x : MadeCall} {y : Entry} {xs : List MadeCall} {ys : List Entry} → Answered x (y .answer) → EachAnswered xs ys → EachAnswered (x ∷ xs) (y ∷ ys)
 
-each-snoc : {x : MadeCall} (y : Entry) {xs : List MadeCall} {ys : List Entry} → EachAnswered xs ys → Answered x (y .answer) → EachAnswered (xs ++ (x ∷ [])) (ys ++ (y ∷ []))
+each-snoc :
+    {x : MadeCall} (y : Entry) {xs : List MadeCall} {ys : List Entry} → EachAnswered xs ys → Answered x (y .answer) →
+    EachAnswered (xs ++ (x ∷ [])) (ys ++ (y ∷ []))
 each-snoc y no-call a = one-call a no-call
 each-snoc y (one-call b each) a = one-call b (each-snoc y each a)
 
@@ -59,7 +62,9 @@ each-found : {xs : List MadeCall} {ys : List Entry} → EachAnswered xs ys → m
 each-found no-call = refl
 each-found (one-call a each) = ap₂ (λ (u : TextAnswer) (us : List TextAnswer). u ∷ us) (a .told) (each-found each)
 
-each-left : {xs : List MadeCall} {ys : List Entry} → EachAnswered xs ys → map (λ (x : MadeCall). x .after) xs ≡ zipWith callLeaves (answers ys) (map (λ (x : MadeCall). x .before) xs)
+each-left :
+    {xs : List MadeCall} {ys : List Entry} → EachAnswered xs ys →
+    map (λ (x : MadeCall). x .after) xs ≡ zipWith callLeaves (answers ys) (map (λ (x : MadeCall). x .before) xs)
 unfolding zipWith
 each-left no-call = refl
 each-left (one-call a each) = ap₂ (λ (u : List ℕ) (us : List (List ℕ)). u ∷ us) (a .left) (each-left each)
@@ -83,10 +88,14 @@ record Lies (m n : ℕ) (made : List MadeCall) (s : Converter) : Type 0 where
 
 -- the entries with one call more
 entries-snoc : (m n : ℕ) (made : List MadeCall) (x : MadeCall) → entriesOf m n (made ++ (x ∷ [])) ≡ after m n (entriesOf m n made) (x .call)
-entries-snoc m n made x = ap (λ (cs : List Call). history m n cs) (map-append (λ (y : MadeCall). y .call) made (x ∷ [])) ∙ history-snoc m n [] (callsOf made) (x .call)
+entries-snoc m n made x =
+    ap (λ (cs : List Call). history m n cs) (map-append (λ (y : MadeCall). y .call) made (x ∷ []))
+    ∙ history-snoc m n [] (callsOf made) (x .call)
 
 -- the ledger answers it, by its contract
-answered : (m n : ℕ) (past : List Entry) {s next : Converter} (x : MadeCall) → Represents m n past s → CallContract s (x .call) (x .before) (x .told) next (x .after) → Answered x (answerNow m n past (x .call))
+answered :
+    (m n : ℕ) (past : List Entry) {s next : Converter} (x : MadeCall) → Represents m n past s →
+    CallContract s (x .call) (x .before) (x .told) next (x .after) → Answered x (answerNow m n past (x .call))
 answered m n past x k c = record { told = c .answer m n past k; left = c .leaves m n past k }
 
 -- a new converter has answered no call
@@ -99,7 +108,8 @@ module _ (new-carries : (m n : ℕ) → Represents m n [] (newConverter m n)) wh
       let past : List Entry = entriesOf m n made in
       let e : entriesOf m n (made ++ (x ∷ [])) ≡ after m n past (x .call) = entries-snoc m n made x in
       let k : Represents m n (after m n past (x .call)) next = c .carries m n past (b .carries) in
-      let a : EachAnswered (made ++ (x ∷ [])) (after m n past (x .call)) = each-snoc (record { call = x .call; answer = answerNow m n past (x .call) }) (b .each) (answered m n past x (b .carries) c) in
+      let a : EachAnswered (made ++ (x ∷ [])) (after m n past (x .call))
+      = each-snoc (record { call = x .call; answer = answerNow m n past (x .call) }) (b .each) (answered m n past x (b .carries) c) in
       record { carries = rw e k; each = rw e a }
 
   module _ (m n : ℕ) where
@@ -123,20 +133,30 @@ module _ (new-carries : (m n : ℕ) → Represents m n [] (newConverter m n)) wh
     outputs made s led = each-wrote (stands led .each)
 
     -- what holds of a call by the ledger's answer to it, whatever came before, holds of each
-    all-made : (P : MadeCall → Type 0) → ((cs : List Call) (x : MadeCall) → roomOf (x .call) ≡ length (x .before) → Answered x (answerNow m n (history m n cs) (x .call)) → P x) → {made : List MadeCall} {s : Converter} → LedTo m n made s → All P made
+    all-made :
+        (P : MadeCall → Type 0) →
+        ((cs : List Call) (x : MadeCall) → roomOf (x .call) ≡ length (x .before) →
+        Answered x (answerNow m n (history m n cs) (x .call)) → P x) → {made : List MadeCall} {s : Converter} → LedTo m n made s →
+        All P made
     all-made P each fresh = all-none
     all-made P each (one-more {made} {s} {next} {x} led room c) =
         all-snoc (all-made P each led) (each (callsOf made) x room (answered m n (entriesOf m n made) x (stands led .carries) c))
 
-    pub room : (made : List MadeCall) (s : Converter) → LedTo m n made s → All (λ (x : MadeCall). (x .told .length ≤ length (x .before)) × (length (x .after) ≡ length (x .before))) made
+    pub room :
+        (made : List MadeCall) (s : Converter) → LedTo m n made s →
+        All (λ (x : MadeCall). (x .told .length ≤ length (x .before)) × (length (x .after) ≡ length (x .before))) made
     room made s led = all-made (λ (x : MadeCall). (x .told .length ≤ length (x .before)) × (length (x .after) ≡ length (x .before))) one led
       where
-        one : (cs : List Call) (x : MadeCall) → roomOf (x .call) ≡ length (x .before) → Answered x (answerNow m n (history m n cs) (x .call)) → (x .told .length ≤ length (x .before)) × (length (x .after) ≡ length (x .before))
+        one :
+            (cs : List Call) (x : MadeCall) → roomOf (x .call) ≡ length (x .before) →
+            Answered x (answerNow m n (history m n cs) (x .call)) →
+            (x .told .length ≤ length (x .before)) × (length (x .after) ≡ length (x .before))
         one cs x e a =
             let text : Bytes = answerNow m n (history m n cs) (x .call) .text in
             let fits : length text ≤ roomOf (x .call) = answer-fits m n cs (x .call) in
             let told : x .told .length ≡ length text = ap (λ (u : TextAnswer). u .length) (a .told) in
-            let sum : length (x .after) ≡ length text + length (drop (length text) (x .before)) = ap length (a .left) ∙ length-append text (drop (length text) (x .before)) in
+            let sum : length (x .after) ≡ length text + length (drop (length text) (x .before))
+            = ap length (a .left) ∙ length-append text (drop (length text) (x .before)) in
             let rest : length (drop (length text) (x .before)) ≡ length (x .before) - length text = length-drop (length text) (x .before) in
             (omega arith, omega arith)
 
@@ -163,13 +183,20 @@ module _ (new-carries : (m n : ℕ) → Represents m n [] (newConverter m n)) wh
         ap (λ (u : TextAnswer). u .report) (x .answer m n (entriesOf m n made) (stands led .carries)) ∙ end-is-whole m n (callsOf made) (length out) h
 
     -- the file fault that any of them reports is the one found first
-    first-fault : {made : List MadeCall} {s : Converter} → LedTo m n made s → All (λ (x : MadeCall). isFileFault (x .told .report) ≡ true → faultIn (entriesOf m n made) ≡ some (x .told .report)) made
+    first-fault :
+        {made : List MadeCall} {s : Converter} → LedTo m n made s →
+        All (λ (x : MadeCall). isFileFault (x .told .report) ≡ true → faultIn (entriesOf m n made) ≡ some (x .told .report)) made
     first-fault fresh = all-none
     first-fault (one-more {made} {s} {next} {x} led room c) =
         let past : List Entry = entriesOf m n made in
         let e : entriesOf m n (made ++ (x ∷ [])) ≡ after m n past (x .call) = entries-snoc m n made x in
-        let told : x .told .report ≡ answerNow m n past (x .call) .report = ap (λ (u : TextAnswer). u .report) (answered m n past x (stands led .carries) c .told) in
-        all-snoc (all-map (λ y k h. rw e (fault-some (record { call = x .call; answer = answerNow m n past (x .call) } ∷ []) (y .told .report) past (k h))) (first-fault led))
+        let told : x .told .report ≡ answerNow m n past (x .call) .report
+        = ap (λ (u : TextAnswer). u .report) (answered m n past x (stands led .carries) c .told) in
+        all-snoc
+        (all-map
+        (λ y k h.
+        rw e (fault-some (record { call = x .call; answer = answerNow m n past (x .call) } ∷ []) (y .told .report) past (k h)))
+        (first-fault led))
         (λ h. rw (e, told) (reports-first m n past (x .call) (rw told at h)))
 
     pub fault-is-whole :
@@ -182,10 +209,13 @@ module _ (new-carries : (m n : ℕ) → Represents m n [] (newConverter m n)) wh
         dialectOf n ≡ some t → LedTo m n made s → faultIn (entriesOf m n made) ≡ none → CallContract s (piece bs (length out)) out told next out′ →
         isFileFault (told .report) ≡ true → OfEveryFile m n d (into t) (consumedBy m n made ++ bs) (told .report)
     fault-of-every-file d t made s next bs out out′ told p q led k x h =
-        let e : told .report ≡ answerNow m n (entriesOf m n made) (piece bs (length out)) .report = ap (λ (u : TextAnswer). u .report) (x .answer m n (entriesOf m n made) (stands led .carries)) in
+        let e : told .report ≡ answerNow m n (entriesOf m n made) (piece bs (length out)) .report
+        = ap (λ (u : TextAnswer). u .report) (x .answer m n (entriesOf m n made) (stands led .carries)) in
         rw e (piece-fault m n d t p q (entriesOf m n made) bs (length out) k (rw e at h))
 
-    pub shown : (d t : Dialect) (made : List MadeCall) (s : Converter) → dialectOf m ≡ some d → dialectOf n ≡ some t → LedTo m n made s → StateShows d t (consumedBy m n made) s
+    pub shown :
+        (d t : Dialect) (made : List MadeCall) (s : Converter) → dialectOf m ≡ some d → dialectOf n ≡ some t → LedTo m n made s →
+        StateShows d t (consumedBy m n made) s
     shown d t made s p q led = shown-after (stands led .carries) d t p q
 
     pub counted : (made : List MadeCall) (s : Converter) → LedTo m n made s → faultIn (entriesOf m n made) ≡ none → s .offset ≡ length (consumedBy m n made)

@@ -15,13 +15,15 @@ use Rattle.model.specs.declared.Report.{Report}
 use Rattle.model.specs.declared.Dialect.{Dialect}
 use Rattle.model.specs.declared.Kind.the-variants.{Text}
 use Rattle.model.specs.declared.Fault.{Fault}
-use Rattle.model.specs.declared.Fault.the-variants.{RepeatedName, HeaderKind, TooManyColumns, NoCells, LacksKind, LoneSurrogate, Clash, TextTooLong, OutputTooLong}
+use Rattle.model.specs.declared.Fault.the-variants.{RepeatedName, HeaderKind, TooManyColumns, NoCells, LacksKind, LoneSurrogate, Clash, TextTooLong}
+use Rattle.model.specs.declared.Fault.the-variants.{OutputTooLong}
 use Rattle.model.specs.declared.CheckResult.the-variants.{Sound}
 use Rattle.model.specs.rules.Base.{Bytes, isEmpty, concat, if_then_else_}
 use Rattle.model.specs.rules.Dialect.{dialectOf, into, isCsvj}
 use Rattle.model.specs.rules.Text.{Value, isText, recordText, dataText, tableText, ending}
 use Rattle.model.specs.rules.Report.{accepted, MAXFILE, MAXRECORD, MAXCOLUMNS}
-use Rattle.model.specs.rules.Records.{nameKey, among, repeatFrom, repeatFault, headerKindFrom, headerFault, _orElse_, when, hasKind, losesSurrogate, uncarriedFrom, clashFault, targetFault, targetNext}
+use Rattle.model.specs.rules.Records.{nameKey, among, repeatFrom, repeatFault, headerKindFrom, headerFault, _orElse_, when, hasKind, losesSurrogate}
+use Rattle.model.specs.rules.Records.{uncarriedFrom, clashFault, targetFault, targetNext}
 use Rattle.model.specs.rules.Api.{Written, reader, Table, rowsIn, rowFault, rowsFrom, rowsFault, writer}
 use Rattle.model.specs.laws.Laws.{All, all-none, all-cons}
 use Rattle.model.specs.laws.RoundTrips.{Writable, writable, ReadsBack}
@@ -290,7 +292,8 @@ written-exactly n t table room e = (only, enough)
 
     only : writer n table room .report ≡ accepted → WritesOut t table room
     only r =
-        let wrote : writer n table room ≡ accepts (writer n table room .text) = ap (λ (x : Report). record { report = x; text = writer n table room .text }) r in
+        let wrote : writer n table room ≡ accepts (writer n table room .text)
+        = ap (λ (x : Report). record { report = x; text = writer n table room .text }) r in
         let w : Wrote n table room (writer n table room .text) = writer-wrote n table room (writer n table room .text) wrote in
         by-rows (w .dialect) (w .cells) (writer n table room .text) (w .known) (w .table-rows) (w .can-write) (w .spelt .same) (w .spelt .fits)
 

@@ -57,14 +57,19 @@ module _ (t : Target) where
   not-both (passes-more p ps) (refuses-here q s) = let z : _≡_ {A = ℕ} 0 1 = cc in absurd (omega arith)
   not-both (passes-more p ps) (refuses-later q r) = not-both ps r
 
-  accepts-from : {needs : List Rec → ℕ} {room : ℕ} (p : Progress) (x : Report) → ReportsFile needs room p x → x ≡ accepted → (r : Read) × (p ≡ going r) × (needs (r .done) ≤ room)
+  accepts-from :
+      {needs : List Rec → ℕ} {room : ℕ} (p : Progress) (x : Report) → ReportsFile needs room p x → x ≡ accepted →
+      (r : Read) × (p ≡ going r) × (needs (r .done) ≤ room)
   accepts-from p x (told.fault {e} {r}) q = fault-number e (ap (λ (y : Report). y .number) q)
   accepts-from p x (told.no-room {r} h) q = let z : _≡_ {A = ℕ} 10 0 = ap (λ (y : Report). y .number) q in absurd (omega arith)
   accepts-from p x (told.accepts {r} h) q = (r, refl, h)
 
-  accepts-to : {needs : List Rec → ℕ} {room : ℕ} (p : Progress) (x : Report) (r : Read) → ReportsFile needs room p x → p ≡ going r → needs (r .done) ≤ room → x ≡ accepted
+  accepts-to :
+      {needs : List Rec → ℕ} {room : ℕ} (p : Progress) (x : Report) (r : Read) → ReportsFile needs room p x → p ≡ going r →
+      needs (r .done) ≤ room → x ≡ accepted
   accepts-to p x r (told.fault) q h = let z : _≡_ {A = ℕ} 0 1 = cc in absurd (omega arith)
-  accepts-to {needs} p x r (told.no-room {r = s} k) q h = let z : s ≡ r = cc in let w : needs (s .done) ≡ needs (r .done) = ap (λ (y : Read). needs (y .done)) z in absurd (omega arith)
+  accepts-to {needs} p x r (told.no-room {r = s} k) q h =
+      let z : s ≡ r = cc in let w : needs (s .done) ≡ needs (r .done) = ap (λ (y : Read). needs (y .done)) z in absurd (omega arith)
   accepts-to p x r (told.accepts k) q h = refl
 
   -- with a target and without one
@@ -95,7 +100,9 @@ converts-exactly m n d t file room e k = (only, enough)
         (x .0, y .0, y .1, x .2)
 
     enough : Converts d (into t) file room → converter m n file room .report ≡ accepted
-    enough (r, x, ps, h) = accepts-to (into t) (readFile d (some (into t)) file) (converter m n file room .report) r tells (passes-to (into t) r (target-file d (into t) file) x ps) h
+    enough (r, x, ps, h) =
+        accepts-to (into t) (readFile d (some (into t)) file) (converter m n file room .report) r tells
+        (passes-to (into t) r (target-file d (into t) file) x ps) h
 
 -- ---- the target's checks, and the writer's
 

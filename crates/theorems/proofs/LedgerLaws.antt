@@ -19,7 +19,8 @@ use Rattle.model.specs.rules.Text.{tableText}
 use Rattle.model.specs.rules.Report.{accepted, refusal, numberOf, MAXFILE}
 use Rattle.model.specs.rules.Records.{rows, Read, Progress, going, stopped, readBytes, readFile, recordsOf, reportOf, faultReport}
 use Rattle.model.specs.rules.Api.{Written, unwritten, convertedAs, converter}
-use Rattle.model.specs.rules.Ledger.{Call, piece, Entry, bytesOf, isFinish, isAccepted, isFileFault, faultIn, endedIn, consumedIn, closedIn, writtenIn, tooSmall, taken, seenBy, answerNow, checked, historyFrom, history}
+use Rattle.model.specs.rules.Ledger.{Call, piece, Entry, bytesOf, isFinish, isAccepted, isFileFault, faultIn, endedIn, consumedIn, closedIn}
+use Rattle.model.specs.rules.Ledger.{writtenIn, tooSmall, taken, seenBy, answerNow, checked, historyFrom, history}
 use Rattle.model.specs.laws.Demands.{seenIn}
 use Rattle.model.specs.laws.Machine.{ConverterStage, taking, faulted, ended, LiesAt, stood-taking, stood-faulted, stood-ended}
 use Rattle.model.proofs.Tests.{split-on, impossible, within-true}
@@ -109,7 +110,9 @@ module _ (m n : ℕ) where
         go (by-eleven a) = let z : _≡_ {A = ℕ} 11 10 = number-of (unwritten (refusal 11)) a in absurd (omega arith)
         go (by-fault e k a) = no-fault (e .number) (number-of (unwritten e) a) (met-fault e past k)
         go (by-sizes s a) = s
-        go (by-reading d t p q k z free a) = by-progress (seenBy d (into t) c (consumedIn past ++ bytesOf c)) (number-of (taken (into t) (writtenIn past) (seenBy d (into t) c (consumedIn past ++ bytesOf c))) a)
+        go (by-reading d t p q k z free a) =
+            by-progress (seenBy d (into t) c (consumedIn past ++ bytesOf c))
+            (number-of (taken (into t) (writtenIn past) (seenBy d (into t) c (consumedIn past ++ bytesOf c))) a)
 
     -- a file fault that any call reports is the one found first
     pub reports-first : isFileFault (now .report) ≡ true → faultIn (after m n past c) ≡ some (now .report)
@@ -133,7 +136,8 @@ module _ (m n : ℕ) where
 module _ (m n : ℕ) where
   -- with a number that is no dialect no fault is found and no end accepted
   idle :
-      ((past : List Entry) (c : Call) → answerNow m n past c ≡ unwritten (refusal 11)) → (past : List Entry) (cs : List Call) → faultIn past ≡ none → endedIn past ≡ false →
+      ((past : List Entry) (c : Call) → answerNow m n past c ≡ unwritten (refusal 11)) → (past : List Entry) (cs : List Call) →
+      faultIn past ≡ none → endedIn past ≡ false →
       (faultIn (historyFrom m n past cs) ≡ none) × (endedIn (historyFrom m n past cs) ≡ false)
   unfolding historyFrom faultIn endedIn if_then_else_
   idle a past [] k z = (k, z)
@@ -181,7 +185,9 @@ module _ (m n : ℕ) where
   never-both past (c ∷ cs) h = never-both (after m n past c) cs (not-both past c h)
 
   -- once an end call was accepted, all that was written is the whole converter's text
-  pub ended-whole : (cs : List Call) → endedIn (history m n cs) ≡ true → converter m n (consumedIn (history m n cs)) MAXFILE ≡ record { report = accepted; text = writtenIn (history m n cs) }
+  pub ended-whole :
+      (cs : List Call) → endedIn (history m n cs) ≡ true →
+      converter m n (consumedIn (history m n cs)) MAXFILE ≡ record { report = accepted; text = writtenIn (history m n cs) }
   unfolding faultIn endedIn if_then_else_
   ended-whole cs h = go (dialectOf m) (dialectOf n) refl refl
     where
@@ -191,7 +197,9 @@ module _ (m n : ℕ) where
       written : Bytes → Written
       written bs = record { report = accepted; text = bs }
 
-      at-stage : (d t : Dialect) (w : ConverterStage) → dialectOf m ≡ some d → dialectOf n ≡ some t → LiesAt d (into t) past w → converter m n (consumedIn past) MAXFILE ≡ record { report = accepted; text = writtenIn past }
+      at-stage :
+          (d t : Dialect) (w : ConverterStage) → dialectOf m ≡ some d → dialectOf n ≡ some t → LiesAt d (into t) past w →
+          converter m n (consumedIn past) MAXFILE ≡ record { report = accepted; text = writtenIn past }
       at-stage d t (taking r) p q (stood-taking k e b w) = impossible (sym e ∙ h)
       at-stage d t (faulted x) p q (stood-faulted f r z k s w) = go-fault (never-both [] cs (no-end refl))
         where
@@ -199,13 +207,16 @@ module _ (m n : ℕ) where
           go-fault (no-fault e) = none-some (sym e ∙ k)
           go-fault (no-end e) = impossible (sym e ∙ h)
       at-stage d t ended p q (stood-ended r k e b w) =
-          let l : length (tableText (into t) (rows (recordsOf (readFile d (some (into t)) (consumedIn past))))) ≤ MAXFILE = file-output d (into t) (consumedIn past) in
+          let l : length (tableText (into t) (rows (recordsOf (readFile d (some (into t)) (consumedIn past))))) ≤ MAXFILE
+          = file-output d (into t) (consumedIn past) in
           let l′ : length (tableText (into t) (rows (r .done))) ≤ MAXFILE = rw b at l in
           converter-known m n d t (consumedIn past) MAXFILE p q
           ∙ ap (convertedAs (into t) MAXFILE) b
           ∙ rw (le-ltb MAXFILE (length (tableText (into t) (rows (r .done)))) l′) (ap (λ (bs : Bytes). written bs) (sym w))
 
-      go : (x y : Option Dialect) → dialectOf m ≡ x → dialectOf n ≡ y → converter m n (consumedIn past) MAXFILE ≡ record { report = accepted; text = writtenIn past }
+      go :
+          (x y : Option Dialect) → dialectOf m ≡ x → dialectOf n ≡ y →
+          converter m n (consumedIn past) MAXFILE ≡ record { report = accepted; text = writtenIn past }
       go none y p q = impossible (sym (idle (λ l c. answer-source m n l c p) [] cs refl refl .1) ∙ h)
       go (some d) none p q = impossible (sym (idle (λ l c. answer-target m n d l c p q) [] cs refl refl .1) ∙ h)
       go (some d) (some t) p q = let s = history-stood m n d t p q cs in at-stage d t (s .0) p q (s .1)
@@ -224,11 +235,14 @@ module _ (m n : ℕ) where
           let unended : readBytes d (some t) (consumedIn past) ≡ stopped f r = rw z at s in
           rw append-nil at (fault-stays-file d (some t) f r (consumedIn past) [] unended)
 
-      at-stage : (d t : Dialect) (w : ConverterStage) → dialectOf m ≡ some d → dialectOf n ≡ some t → LiesAt d (into t) past w → e ≡ converter m n (consumedIn past) MAXFILE .report
+      at-stage :
+          (d t : Dialect) (w : ConverterStage) → dialectOf m ≡ some d → dialectOf n ≡ some t → LiesAt d (into t) past w →
+          e ≡ converter m n (consumedIn past) MAXFILE .report
       at-stage d t (taking r) p q (stood-taking k z b w) = none-some (sym k ∙ h)
       at-stage d t ended p q (stood-ended r k z b w) = none-some (sym k ∙ h)
       at-stage d t (faulted x) p q (stood-faulted f r z k s w) =
-          let conv : converter m n (consumedIn past) MAXFILE ≡ unwritten (faultReport f r) = converter-known m n d t (consumedIn past) MAXFILE p q ∙ ap (convertedAs (into t) MAXFILE) (shown d (into t) f r s) in
+          let conv : converter m n (consumedIn past) MAXFILE ≡ unwritten (faultReport f r)
+          = converter-known m n d t (consumedIn past) MAXFILE p q ∙ ap (convertedAs (into t) MAXFILE) (shown d (into t) f r s) in
           some-same (sym h ∙ k) ∙ z ∙ ap (λ (u : Written). u .report) (sym conv)
 
       go : (x y : Option Dialect) → dialectOf m ≡ x → dialectOf n ≡ y → e ≡ converter m n (consumedIn past) MAXFILE .report
@@ -242,9 +256,12 @@ OfEveryFile m n d t bs told =
     (e : Fault) × (r : Read) × (told ≡ faultReport e r)
     × ((rest : Bytes) → (readFile d (some t) (bs ++ rest) ≡ stopped e r) × (converter m n (bs ++ rest) MAXFILE .report ≡ told))
 
-module _ (m n : ℕ) (d t : Dialect) (p : dialectOf m ≡ some d) (q : dialectOf n ≡ some t) (past : List Entry) (bs : Bytes) (room : ℕ) (k : faultIn past ≡ none) where
+module _ (m n : ℕ) (d t : Dialect) (p : dialectOf m ≡ some d) (q : dialectOf n ≡ some t) (past : List Entry) (bs : Bytes) (room : ℕ)
+    (k : faultIn past ≡ none) where
   -- a piece call that reports a fault where none was found before
-  pub piece-fault : isFileFault (answerNow m n past (piece bs room) .report) ≡ true → OfEveryFile m n d (into t) (consumedIn past ++ bs) (answerNow m n past (piece bs room) .report)
+  pub piece-fault :
+      isFileFault (answerNow m n past (piece bs room) .report) ≡ true →
+      OfEveryFile m n d (into t) (consumedIn past ++ bs) (answerNow m n past (piece bs room) .report)
   piece-fault h = go (answered-by m n past (piece bs room))
     where
       told : Report
@@ -264,7 +281,8 @@ module _ (m n : ℕ) (d t : Dialect) (p : dialectOf m ≡ some d) (q : dialectOf
         a,
         λ rest.
             let stays : readFile d (some (into t)) (all ++ rest) ≡ stopped e r = fault-stays-file d (some (into t)) e r all rest b in
-            let conv : converter m n (all ++ rest) MAXFILE ≡ unwritten (faultReport e r) = converter-known m n d t (all ++ rest) MAXFILE p q ∙ ap (convertedAs (into t) MAXFILE) stays in
+            let conv : converter m n (all ++ rest) MAXFILE ≡ unwritten (faultReport e r)
+            = converter-known m n d t (all ++ rest) MAXFILE p q ∙ ap (convertedAs (into t) MAXFILE) stays in
             (stays, ap (λ (u : Written). u .report) conv ∙ sym a),
       )
 

@@ -14,7 +14,8 @@ use Rattle.model.specs.declared.Dialect.{Dialect}
 use Rattle.model.specs.declared.Target.{Target}
 use Rattle.model.specs.declared.ByteFault.the-variants.{Encoding, Syntax}
 use Rattle.model.specs.declared.Fault.{Fault}
-use Rattle.model.specs.declared.Fault.the-variants.{NoRecord, Byte, CutShort, CellCount, RepeatedName, HeaderKind, FileTooLong, RecordTooLong, TooManyColumns, NoCells, LacksKind, LoneSurrogate, Clash, TextTooLong, OutputTooLong}
+use Rattle.model.specs.declared.Fault.the-variants.{NoRecord, Byte, CutShort, CellCount, RepeatedName, HeaderKind, FileTooLong, RecordTooLong}
+use Rattle.model.specs.declared.Fault.the-variants.{TooManyColumns, NoCells, LacksKind, LoneSurrogate, Clash, TextTooLong, OutputTooLong}
 use Rattle.model.specs.declared.CheckResult.the-variants.{Sound}
 use Rattle.model.specs.rules.Base.{Bytes, isEmpty}
 use Rattle.model.specs.rules.Dialect.{dialectOf, into}
@@ -66,7 +67,10 @@ converted-limit m n file room = by-source (dialectOf m)
     by-end t (going r) h = fitted-limit room (tableText t (rows (r .done))) h
 
     by-target : (d : Dialect) (o : Option Dialect) →
-        length ((elim o as (λ _. Written) [ none ↦ record { report = refusal 11; text = [] } | some t ↦ convertedAs (into t) room (readFile d (some (into t)) file) ]) .text) ≤ MAXFILE
+        length ((elim o as (λ _. Written) [
+          | none ↦ record { report = refusal 11; text = [] }
+          | some t ↦ convertedAs (into t) room (readFile d (some (into t)) file)
+        ]) .text) ≤ MAXFILE
     by-target d none = omega arith
     by-target d (some t) = by-end (into t) (readFile d (some (into t)) file) (file-output d (into t) file)
 
@@ -74,7 +78,8 @@ converted-limit m n file room = by-source (dialectOf m)
         length
         ((elim o as (λ _. Written) [
           | none ↦ record { report = refusal 11; text = [] }
-          | some d ↦ elim (dialectOf n) as (λ _. Written) [ none ↦ record { report = refusal 11; text = [] } | some t ↦ convertedAs (into t) room (readFile d (some (into t)) file) ]
+          | some d ↦ elim (dialectOf n) as (λ _. Written)
+              [ none ↦ record { report = refusal 11; text = [] } | some t ↦ convertedAs (into t) room (readFile d (some (into t)) file) ]
         ])
         .text)
         ≤ MAXFILE
@@ -96,7 +101,8 @@ converted-room m n file room h = by-source (dialectOf m)
     by-end t (going r) k = by-text (tableText t (rows (r .done))) k
 
     by-target : (d : Dialect) (o : Option Dialect) →
-        (elim o as (λ _. Written) [ none ↦ record { report = refusal 11; text = [] } | some t ↦ convertedAs (into t) room (readFile d (some (into t)) file) ]) .report
+        (elim o as (λ _. Written)
+        [ none ↦ record { report = refusal 11; text = [] } | some t ↦ convertedAs (into t) room (readFile d (some (into t)) file) ]) .report
         ≢ refusal 10
     by-target d none = λ e. eleven-ten (ap (λ (x : Report). x .number) e)
     by-target d (some t) = by-end (into t) (readFile d (some (into t)) file) (let k = file-room d (into t) file in omega (arith, k, h))
@@ -104,7 +110,8 @@ converted-room m n file room h = by-source (dialectOf m)
     by-source : (o : Option Dialect) →
         (elim o as (λ _. Written) [
           | none ↦ record { report = refusal 11; text = [] }
-          | some d ↦ elim (dialectOf n) as (λ _. Written) [ none ↦ record { report = refusal 11; text = [] } | some t ↦ convertedAs (into t) room (readFile d (some (into t)) file) ]
+          | some d ↦ elim (dialectOf n) as (λ _. Written)
+              [ none ↦ record { report = refusal 11; text = [] } | some t ↦ convertedAs (into t) room (readFile d (some (into t)) file) ]
         ])
         .report
         ≢ refusal 10
@@ -117,14 +124,18 @@ row-target : (t : Target) (done : List (List Value)) (r : List Value) → rowFau
 row-target t [] r e = else-sound (headerFault (t .dialect) r) (targetNext t [] r) e .1
 row-target t (h ∷ rs) r e = e
 
-rows-limit : (t : Target) (done rs : List (List Value)) → rowsFrom t done rs ≡ none → length (tableText t done) ≤ MAXFILE → length (tableText t (done ++ rs)) ≤ MAXFILE
+rows-limit :
+    (t : Target) (done rs : List (List Value)) → rowsFrom t done rs ≡ none → length (tableText t done) ≤ MAXFILE →
+    length (tableText t (done ++ rs)) ≤ MAXFILE
 unfolding rowsFrom
 rows-limit t done [] e h = rw (append-nil done) h
 rows-limit t done (r ∷ rs) e h =
     let x = next-none (suc (length done)) (rowFault t done r) (rowsFrom t (done ++ (r ∷ [])) rs) e in
     let fits : length (tableText t done) + length (recordText t (isEmpty done) r ++ ending (t .dialect)) ≤ MAXFILE =
     target-sound t (isEmpty done) (length (tableText t done)) r (row-target t done r (x .0)) .fits in
-    let more : length (tableText t (done ++ (r ∷ []))) ≡ length (tableText t done) + length (recordText t (isEmpty done) r ++ ending (t .dialect)) = row-length t done r in
+    let more : length (tableText t (done ++ (r ∷ [])))
+    ≡ length (tableText t done) + length (recordText t (isEmpty done) r ++ ending (t .dialect))
+    = row-length t done r in
     rw (sym (append-assoc done (r ∷ []) rs)) (rows-limit t (done ++ (r ∷ [])) rs (x .1) (omega arith))
 
 pub written-limit : (n : ℕ) (table : Table) (room : ℕ) → length (writer n table room .text) ≤ MAXFILE
@@ -136,7 +147,9 @@ written-limit n table room = by-dialect (dialectOf n)
     by-fault t rs none q = fitted-limit room (tableText t rs) (rows-limit t [] rs q (omega arith))
 
     by-rows : (t : Target) (o : Option (List (List Value))) →
-        length ((elim o as (λ _. Written) [ none ↦ record { report = refusal 12; text = [] } | some rs ↦ writtenRows t room rs (rowsFault t rs) ]) .text) ≤ MAXFILE
+        length
+        ((elim o as (λ _. Written)
+        [ none ↦ record { report = refusal 12; text = [] } | some rs ↦ writtenRows t room rs (rowsFault t rs) ]) .text) ≤ MAXFILE
     by-rows t none = omega arith
     by-rows t (some rs) = by-fault t rs (rowsFault t rs) refl
 
@@ -144,7 +157,8 @@ written-limit n table room = by-dialect (dialectOf n)
         length
         ((elim o as (λ _. Written) [
           | none ↦ record { report = refusal 11; text = [] }
-          | some t ↦ elim (rowsIn table) as (λ _. Written) [ none ↦ record { report = refusal 12; text = [] } | some rs ↦ writtenRows (into t) room rs (rowsFault (into t) rs) ]
+          | some t ↦ elim (rowsIn table) as (λ _. Written)
+              [ none ↦ record { report = refusal 12; text = [] } | some rs ↦ writtenRows (into t) room rs (rowsFault (into t) rs) ]
         ])
         .text)
         ≤ MAXFILE

@@ -19,7 +19,8 @@ use Rattle.model.specs.rules.Decode.{contentOf, validateCell}
 use Rattle.model.specs.rules.Text.{Value, tableText}
 use Rattle.model.specs.rules.Report.{refusal}
 use Rattle.model.specs.rules.Records.{Rec, rows, Read, Progress, going, stopped, readFile}
-use Rattle.model.specs.rules.Api.{Answer, answered, readAnswer, reader, Decoded, decodedAs, decoder, Written, fitted, convertedAs, converter, Table, rowsIn, rowsFault, writtenRows, writer}
+use Rattle.model.specs.rules.Api.{Answer, answered, readAnswer, reader, Decoded, decodedAs, decoder, Written, fitted, convertedAs, converter, Table}
+use Rattle.model.specs.rules.Api.{rowsIn, rowsFault, writtenRows, writer}
 use Rattle.model.proofs.Tests.{split}
 use Rattle.model.proofs.round_trip.RoundTrip.{reader-known}
 use Rattle.model.proofs.round_trip.ConvertBack.{converter-known}
@@ -36,14 +37,17 @@ pub decoder-unknown : (n : ℕ) → dialectOf n ≡ none → (raw : Bytes) (room
 unfolding decoder
 decoder-unknown n e raw room = rw (e, decoder) refl
 
-pub converter-unknown : (n : ℕ) → dialectOf n ≡ none → (m : ℕ) (file : Bytes) (room : ℕ) → (converter n m file room .report ≡ refusal 11) × (converter m n file room .report ≡ refusal 11)
+pub converter-unknown :
+    (n : ℕ) → dialectOf n ≡ none → (m : ℕ) (file : Bytes) (room : ℕ) →
+    (converter n m file room .report ≡ refusal 11) × (converter m n file room .report ≡ refusal 11)
 unfolding converter
 converter-unknown n e m file room = (rw (e, converter) refl, by-source (dialectOf m))
   where
     by-source : (o : Option Dialect) →
         (elim o as (λ _. Written) [
           | none ↦ record { report = refusal 11; text = [] }
-          | some d ↦ elim (dialectOf n) as (λ _. Written) [ none ↦ record { report = refusal 11; text = [] } | some t ↦ convertedAs (into t) room (readFile d (some (into t)) file) ]
+          | some d ↦ elim (dialectOf n) as (λ _. Written)
+              [ none ↦ record { report = refusal 11; text = [] } | some t ↦ convertedAs (into t) room (readFile d (some (into t)) file) ]
         ]) .report
         ≡ refusal 11
     by-source none = refl
@@ -65,14 +69,18 @@ read-reports room r (h ∷ rs) q =
     split (λ (a : Answer). ReportsFile cellsOf room (going r) (a .report)) (ltb room (cellsOf (h ∷ rs)))
     (λ x. told.no-room {r = r} (rw q (ltb-true room (cellsOf (h ∷ rs)) x))) λ x. told.accepts {r = r} (rw q (ltb-false room (cellsOf (h ∷ rs)) x))
 
-pub reader-tells : (n : ℕ) (d : Dialect) (file : Bytes) (room : ℕ) → dialectOf n ≡ some d → ReportsFile (λ (rs : List Rec). length (concat (rows rs))) room (readFile d none file) (reader n file room .report)
+pub reader-tells :
+    (n : ℕ) (d : Dialect) (file : Bytes) (room : ℕ) → dialectOf n ≡ some d →
+    ReportsFile (λ (rs : List Rec). length (concat (rows rs))) room (readFile d none file) (reader n file room .report)
 reader-tells n d file room e = rw (reader-known n d file room e) (by-end (readFile d none file))
   where
     by-end : (p : Progress) → ReportsFile cellsOf room p (readAnswer p room .report)
     by-end (stopped x r) = told.fault
     by-end (going r) = read-reports room r (r .done) refl
 
-pub decoder-tells : (n : ℕ) (d : Dialect) (raw : Bytes) (room : ℕ) → dialectOf n ≡ some d → ReportsCell (length (contentOf d raw)) room (validateCell d raw) (decoder n raw room .report)
+pub decoder-tells :
+    (n : ℕ) (d : Dialect) (raw : Bytes) (room : ℕ) → dialectOf n ≡ some d →
+    ReportsCell (length (contentOf d raw)) room (validateCell d raw) (decoder n raw room .report)
 unfolding decoder
 decoder-tells n d raw room e = rw (e, decoder) (by-check (validateCell d raw))
   where
@@ -82,7 +90,10 @@ decoder-tells n d raw room e = rw (e, decoder) (by-check (validateCell d raw))
         split (λ (a : Decoded). ReportsCell (length (contentOf d raw)) room WholeCell (a .report)) (ltb room (length (contentOf d raw)))
         (λ x. told.no-room (ltb-true room (length (contentOf d raw)) x)) λ x. told.accepts (ltb-false room (length (contentOf d raw)) x)
 
-pub converter-tells : (m n : ℕ) (d t : Dialect) (file : Bytes) (room : ℕ) → dialectOf m ≡ some d → dialectOf n ≡ some t → ReportsFile (λ (rs : List Rec). length (tableText (into t) (rows rs))) room (readFile d (some (into t)) file) (converter m n file room .report)
+pub converter-tells :
+    (m n : ℕ) (d t : Dialect) (file : Bytes) (room : ℕ) → dialectOf m ≡ some d → dialectOf n ≡ some t →
+    ReportsFile (λ (rs : List Rec). length (tableText (into t) (rows rs))) room (readFile d (some (into t)) file)
+    (converter m n file room .report)
 converter-tells m n d t file room e k = rw (converter-known m n d t file room e k) (by-end (readFile d (some (into t)) file))
   where
     needs : List Rec → ℕ
@@ -94,11 +105,15 @@ converter-tells m n d t file room e k = rw (converter-known m n d t file room e 
         split (λ (w : Written). ReportsFile needs room (going r) (w .report)) (ltb room (needs (r .done)))
         (λ x. told.no-room (ltb-true room (needs (r .done)) x)) λ x. told.accepts (ltb-false room (needs (r .done)) x)
 
-pub writer-tells : (n : ℕ) (t : Dialect) (table : Table) (room : ℕ) → dialectOf n ≡ some t → ReportsTable (into t) room (rowsIn table) (writer n table room .report)
+pub writer-tells :
+    (n : ℕ) (t : Dialect) (table : Table) (room : ℕ) → dialectOf n ≡ some t →
+    ReportsTable (into t) room (rowsIn table) (writer n table room .report)
 unfolding writer
 writer-tells n t table room e = rw (e, writer) (by-rows (rowsIn table))
   where
-    by-fault : (rs : List (List Value)) (o : Option Report) → rowsFault (into t) rs ≡ o → ReportsTable (into t) room (some rs) (writtenRows (into t) room rs o .report)
+    by-fault :
+        (rs : List (List Value)) (o : Option Report) → rowsFault (into t) rs ≡ o →
+        ReportsTable (into t) room (some rs) (writtenRows (into t) room rs o .report)
     by-fault rs (some x) q = told.fault q
     by-fault rs none q =
         split (λ (w : Written). ReportsTable (into t) room (some rs) (w .report)) (ltb room (length (tableText (into t) rs)))
@@ -106,6 +121,7 @@ writer-tells n t table room e = rw (e, writer) (by-rows (rowsIn table))
 
     by-rows : (o : Option (List (List Value))) →
         ReportsTable (into t) room o
-        ((elim o as (λ _. Written) [ none ↦ record { report = refusal 12; text = [] } | some rs ↦ writtenRows (into t) room rs (rowsFault (into t) rs) ]) .report)
+        ((elim o as (λ _. Written)
+        [ none ↦ record { report = refusal 12; text = [] } | some rs ↦ writtenRows (into t) room rs (rowsFault (into t) rs) ]) .report)
     by-rows none = told.no-table
     by-rows (some rs) = by-fault rs (rowsFault (into t) rs) refl

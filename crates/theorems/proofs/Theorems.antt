@@ -6,7 +6,8 @@ use Rattle.grammar.proofs.Theorems.{reader-places, next-byte}
 use Rattle.piece_converter.proofs.Representation.{new-carries}
 use Rattle.theorems.specs.Demands.{Demand1, Demand2, Demand3, Demands}
 use Rattle.theorems.proofs.BuffersAfter.{reader-leaves, decoder-leaves, converter-leaves, writer-leaves}
-use Rattle.theorems.proofs.Reports.{reader-unknown, decoder-unknown, converter-unknown, writer-unknown, reader-tells, decoder-tells, converter-tells, writer-tells}
+use Rattle.theorems.proofs.Reports.{reader-unknown, decoder-unknown, converter-unknown, writer-unknown, reader-tells, decoder-tells}
+use Rattle.theorems.proofs.Reports.{converter-tells, writer-tells}
 use Rattle.theorems.proofs.ConverterAcceptance.{converted-exactly, converted-text}
 use Rattle.theorems.proofs.CarriedTables.{written-exactly, carried-comes-back}
 use Rattle.theorems.proofs.Layouts.{every-table, rows-come-back}

@@ -20,10 +20,13 @@ use Rattle.model.specs.rules.Dialect.{dialectOf, into}
 use Rattle.model.specs.rules.Decode.{kindNumber, contentOf, validateCell}
 use Rattle.model.specs.rules.Text.{Value, recordText, tableText}
 use Rattle.model.specs.rules.Report.{report, accepted, refusal, numberOf, columnOf, MAXFILE, MAXRECORD, MAXCOLUMNS}
-use Rattle.model.specs.rules.Records.{nameKey, hasKind, losesSurrogate, Rec, rows, Read, Progress, going, stopped, fileFull, recordFull, readBytes, readFile, recordsOf, placeOf, faultReport}
-use Rattle.model.specs.rules.Api.{Answer, ReadCall, reader, readCall, decoder, decoderLeaves, converter, converterLeaves, Table, isValue, slice, rowsIn, rowsFault, writer, writerLeaves}
+use Rattle.model.specs.rules.Records.{nameKey, hasKind, losesSurrogate, Rec, rows, Read, Progress, going, stopped, fileFull, recordFull, readBytes}
+use Rattle.model.specs.rules.Records.{readFile, recordsOf, placeOf, faultReport}
+use Rattle.model.specs.rules.Api.{Answer, ReadCall, reader, readCall, decoder, decoderLeaves, converter, converterLeaves, Table, isValue, slice}
+use Rattle.model.specs.rules.Api.{rowsIn, rowsFault, writer, writerLeaves}
 use Rattle.model.specs.laws.Laws.{All}
-use Rattle.model.specs.rules.Ledger.{Call, piece, finish, Entry, roomOf, isFileFault, faultIn, endedIn, consumedIn, tooSmall, checked, history, ledger, callLeaves}
+use Rattle.model.specs.rules.Ledger.{Call, piece, finish, Entry, roomOf, isFileFault, faultIn, endedIn, consumedIn, tooSmall, checked, history}
+use Rattle.model.specs.rules.Ledger.{ledger, callLeaves}
 use Rattle.model.specs.laws.Demands.{seenIn}
 use Rattle.model.specs.laws.RoundTrips.{meaning, SameRows, hasCells, Decodes, ReadsBack, RoundTrip, SameText, ConvertedBack, ConvertedOnce, ReaderDecodes}
 use Rattle.codes.specs.Named.{textAnswer}

@@ -10,7 +10,8 @@ use mathlib.Core.List.{List, [], _∷_, _++_, append-assoc}
 use lib.Dec.{leb}
 use borrow.Author.Tests.{eqb-false, leb-true, leb-false}
 use Rattle.grammar.specs.rfc.Types.{Dialect, EeToEf, Second, Last, Inner, Char, Whole, Within, Advance, On, Broken, Cell, Fresh, Plain}
-use Rattle.grammar.specs.rfc.Types.{FileState, Top, Begin, Ended, Bom1, Bom2, PlainBom1, PlainBom2, Comment, Blanks, ExpectCell, Inside, After, Cr, Outside, Passed, OfCell, Between, Ends, Step, To, Clean}
+use Rattle.grammar.specs.rfc.Types.{FileState, Top, Begin, Ended, Bom1, Bom2, PlainBom1, PlainBom2, Comment, Blanks, ExpectCell, Inside, After}
+use Rattle.grammar.specs.rfc.Types.{Cr, Outside, Passed, OfCell, Between, Ends, Step, To, Clean}
 use Rattle.model.specs.rules.Base.{Bytes, _is_}
 use Rattle.model.specs.rules.Utf8.{charStep}
 use Rattle.model.specs.rules.File.{isBlank, afterCell, inCell, beginRecord, beginFile, commented, fileStep, lastCell, fileEnd}
@@ -20,7 +21,8 @@ use Rattle.grammar.specs.rfc.Rfc5234.{LF, CR}
 use Rattle.grammar.specs.rfc.Derived.{Line, line}
 use Rattle.grammar.specs.dialects.FormReads.{Reads}
 use Rattle.grammar.specs.dialects.Csvj.{Ws, no-ws, space, tab}
-use Rattle.grammar.specs.dialects.Tdif.{Remark, no-remark, commentdata, Commentdata, below-lf, below-cr, above-cr, comment-beyond, Linebreak, cr, lf, crlf}
+use Rattle.grammar.specs.dialects.Tdif.{Remark, no-remark, commentdata, Commentdata, below-lf, below-cr, above-cr, comment-beyond, Linebreak}
+use Rattle.grammar.specs.dialects.Tdif.{cr, lf, crlf}
 use Rattle.grammar.proofs.rfc.Ranges.{range}
 use Rattle.grammar.proofs.rfc.Chars.{Finishes, finished, finishing, long, long-data, whole-ascii}
 use Rattle.grammar.proofs.dialects.Steps.{Takes, rejected, by-bytes, cut-off}
@@ -124,12 +126,16 @@ ascii-commentdata b h n m =
     let j : 0x0C < b = leb-false b 0x0C q in above-cr (range (omega arith) h)
 
 module _ {Lines : Outcome} where
-  more-remark : (c : Char) (b : ℕ) {xs : Bytes} {ls : List (Line Bytes)} → b ≢ LF → b ≢ CR → charStep Whole b ≡ On c → InComment Lines c xs ls → InComment Lines Whole (b ∷ xs) ls
+  more-remark :
+      (c : Char) (b : ℕ) {xs : Bytes} {ls : List (Line Bytes)} → b ≢ LF → b ≢ CR → charStep Whole b ≡ On c → InComment Lines c xs ls →
+      InComment Lines Whole (b ∷ xs) ls
   more-remark Whole b n m e (in-comment finished k t) = in-comment finished (commentdata (ascii-commentdata b (whole-ascii b e) n m) k) t
   more-remark (Within i) b n m e (in-comment {cs} {bs} {ys} f k t) =
       rw (← (append-assoc cs bs ys)) (in-comment finished (commentdata (comment-beyond (long-data (long e f))) k) t)
 
-  inner-remark : {i : Inner} {c : Char} {b : ℕ} {xs : Bytes} {ls : List (Line Bytes)} → charStep (Within i) b ≡ On c → InComment Lines c xs ls → InComment Lines (Within i) (b ∷ xs) ls
+  inner-remark :
+      {i : Inner} {c : Char} {b : ℕ} {xs : Bytes} {ls : List (Line Bytes)} → charStep (Within i) b ≡ On c → InComment Lines c xs ls →
+      InComment Lines (Within i) (b ∷ xs) ls
   inner-remark e (in-comment f k t) = in-comment (finishing e f) k t
 
 pub blank-ws : (b : ℕ) {ws : Bytes} → isBlank b ≡ true → Ws ws → Ws (b ∷ ws)
@@ -146,7 +152,9 @@ module _ (d : Dialect) (g : Grammar) where
   abbrev pub AfterFact : Type 0
   AfterFact = (bs : Bytes) (k : Bool) (b : ℕ) (ls : List (Line Bytes)) → Takes (Then bs) b (afterCell d k b) ls → AfterByte (g .Further) (b ∷ bs) k ls
 
-  pub cell-byte : AfterFact → (bs : Bytes) (c : Cell) (b : ℕ) (ls : List (Line Bytes)) → Takes (Then bs) b (inCell d c b) ls → CellThen d (g .Further) c (b ∷ bs) ls
+  pub cell-byte :
+      AfterFact → (bs : Bytes) (c : Cell) (b : ℕ) (ls : List (Line Bytes)) → Takes (Then bs) b (inCell d c b) ls →
+      CellThen d (g .Further) c (b ∷ bs) ls
   cell-byte after bs c b ls t = in-cell-byte (Then bs) c b bs ls (λ e ls k. k) (after bs true b) t
 
   pub record Facts : Type 0 where
@@ -184,7 +192,8 @@ module _ (d : Dialect) (g : Grammar) where
       plain-rest : (b : ℕ) (ls : List (Line Bytes)) → Takes (Then bs) b (fileStep d PlainBom1 b) ls → ToResult d g PlainBom1 (b ∷ bs) ls
       unfolding fileStep
       plain-rest b ls =
-          split (λ s. Takes (Then bs) b s ls → ToResult d g PlainBom1 (b ∷ bs) ls) (b is 0xBB) (λ p t. let q = is→eq b 0xBB p in rw q (plain-taken (rw q at t))) λ p t.
+          split (λ s. Takes (Then bs) b s ls → ToResult d g PlainBom1 (b ∷ bs) ls) (b is 0xBB)
+          (λ p t. let q = is→eq b 0xBB p in rw q (plain-taken (rw q at t))) λ p t.
           (λ m. eqb-false b 0xBB p (completes-bom m .0), in-cell afterEf b ls t)
 
       plain-last : (b : ℕ) (ls : List (Line Bytes)) → Takes (Then bs) b (fileStep d PlainBom2 b) ls → ToResult d g PlainBom2 (b ∷ bs) ls
@@ -219,16 +228,22 @@ module _ (d : Dialect) (g : Grammar) where
           go Broken e t = rejected t
           go (On c) e t = inner-remark e (char-taken t)
 
-      blank-wants : (b : ℕ) {ls : List (Line Bytes)} → isBlank b ≡ true → Takes (Then bs) b (To ExpectCell (Between false)) ls → WantedThen d (g .Further) (b ∷ bs) ls
+      blank-wants :
+          (b : ℕ) {ls : List (Line Bytes)} → isBlank b ≡ true → Takes (Then bs) b (To ExpectCell (Between false)) ls →
+          WantedThen d (g .Further) (b ∷ bs) ls
       blank-wants b p (steps.between m) = go m
         where
-          go : {xs text : Bytes} {cells : List Bytes} {ls : List (Line Bytes)} → WantedThen d (g .Further) xs (line text cells ∷ ls) → WantedThen d (g .Further) (b ∷ xs) (line (b ∷ text) cells ∷ ls)
+          go :
+              {xs text : Bytes} {cells : List Bytes} {ls : List (Line Bytes)} → WantedThen d (g .Further) xs (line text cells ∷ ls) →
+              WantedThen d (g .Further) (b ∷ xs) (line (b ∷ text) cells ∷ ls)
           go (wanted-then w k) = wanted-then (blank-ws b p w) k
 
       cell-wanted : {xs : Bytes} {ls : List (Line Bytes)} → CellThen d (g .Further) Fresh xs ls → WantedThen d (g .Further) xs ls
       cell-wanted k = go k k
         where
-          go : {xs : Bytes} {ls : List (Line Bytes)} → CellThen d (g .Further) Fresh xs ls → CellThen d (g .Further) Fresh xs ls → WantedThen d (g .Further) xs ls
+          go :
+              {xs : Bytes} {ls : List (Line Bytes)} → CellThen d (g .Further) Fresh xs ls → CellThen d (g .Further) Fresh xs ls →
+              WantedThen d (g .Further) xs ls
           go (cell-then m a) k = wanted-then no-ws k
 
       lf-after-cr : {b : ℕ} {ls : List (Line Bytes)} → Takes (Then bs) b (To Begin (Ends false)) ls → AfterCr (g .Lines) (LF ∷ bs) ls
@@ -239,7 +254,8 @@ module _ (d : Dialect) (g : Grammar) where
       step-byte Top b ls t = facts .top-byte bs b ls t
       step-byte Begin b ls t = line-byte b ls t
       step-byte Ended b ls t =
-          split (λ s. Takes (Then bs) b s ls → AfterBreak (g .Lines) (b ∷ bs) ls) (b is LF) (λ p t. rw (is→eq b LF p) (skip-taken t)) (λ _ t. stays (line-byte b ls t)) t
+          split (λ s. Takes (Then bs) b s ls → AfterBreak (g .Lines) (b ∷ bs) ls) (b is LF) (λ p t. rw (is→eq b LF p) (skip-taken t))
+          (λ _ t. stays (line-byte b ls t)) t
       step-byte Bom1 b ls t =
           split (λ s. Takes (Then bs) b s ls → MarkRest (g .Lines) (b ∷ bs) ls) (b is 0xBB) (λ p t. rw (is→eq b 0xBB p) (bb-taken t)) (λ _ t. rejected t) t
       step-byte Bom2 b ls t =
@@ -249,7 +265,8 @@ module _ (d : Dialect) (g : Grammar) where
       step-byte (Comment c) b ls t = comment-byte c b ls t
       step-byte Blanks b ls t = facts .first-byte bs b ls t
       step-byte ExpectCell b ls t =
-          split (λ s. Takes (Then bs) b s ls → WantedThen d (g .Further) (b ∷ bs) ls) (isBlank b) (λ p t. blank-wants b p t) (λ _ t. cell-wanted (in-cell Fresh b ls t)) t
+          split (λ s. Takes (Then bs) b s ls → WantedThen d (g .Further) (b ∷ bs) ls) (isBlank b) (λ p t. blank-wants b p t)
+          (λ _ t. cell-wanted (in-cell Fresh b ls t)) t
       step-byte (Inside c) b ls t = in-cell c b ls t
       step-byte After b ls t = facts .after-byte bs false b ls t
       step-byte Cr b ls t =

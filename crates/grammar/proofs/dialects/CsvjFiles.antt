@@ -14,16 +14,21 @@ use Rattle.grammar.specs.rfc.Rfc5234.{LF, CR}
 use Rattle.grammar.specs.rfc.Derived.{Derived, rawOf, Line, line, spelling}
 use Rattle.grammar.specs.dialects.FormReads.{Reads, decoded, decodedLine}
 use Rattle.grammar.specs.dialects.Spans.{Span, past, csvjValues, csvjText, csvjLine, csvjLines, csvjTable, csvjFile}
-use Rattle.grammar.specs.dialects.Csvj.{File, unmarked, marked, Csvj-file, csvj-file, Data-lines, no-line, a-line, header-line, data-line, ended, Line-text, empty, filled, Values, value, values, Comma, comma, Line-terminator, lf, crlf, Ws, no-ws, space, tab}
+use Rattle.grammar.specs.dialects.Csvj.{File, unmarked, marked, Csvj-file, csvj-file, Data-lines, no-line, a-line, header-line, data-line}
+use Rattle.grammar.specs.dialects.Csvj.{ended, Line-text, empty, filled, Values, value, values, Comma, comma, Line-terminator, lf, crlf, Ws}
+use Rattle.grammar.specs.dialects.Csvj.{no-ws, space, tab}
 use Rattle.grammar.specs.dialects.Csvj as csvj
 use Rattle.grammar.proofs.rfc.Spelling.{Spells}
 use Rattle.grammar.proofs.dialects.CellGrammar.{derived-spells, spells-derived}
 use Rattle.grammar.proofs.dialects.Separators.{Separates, by-delimiter, by-cr, by-lf, by-space, by-tab}
 use Rattle.grammar.proofs.dialects.Steps.{Takes, rejected, cut-off}
 use Rattle.grammar.proofs.dialects.Steps as steps
-use Rattle.grammar.proofs.dialects.PlacedReads.{Runs, ends-clean, outside, passed, between, between-closing, tail, tail-closing, ends, ends-closing, from-state, past-append}
-use Rattle.grammar.proofs.dialects.CellReads.{Follows, cell-reads, after-whole, FirstOfCell, first-of-cell, spells-first, other-byte, CellThen, cell-then, AfterByte, ended-before, ends-now}
-use Rattle.grammar.proofs.dialects.Continuations.{Grammar, MarkRest, mark-bb, AfterCr, then-lf, WantedThen, wanted-then, blank-ws, Then, cell-byte, Facts, reads-coming}
+use Rattle.grammar.proofs.dialects.PlacedReads.{Runs, ends-clean, outside, passed, between, between-closing, tail, tail-closing, ends}
+use Rattle.grammar.proofs.dialects.PlacedReads.{ends-closing, from-state, past-append}
+use Rattle.grammar.proofs.dialects.CellReads.{Follows, cell-reads, after-whole, FirstOfCell, first-of-cell, spells-first, other-byte, CellThen}
+use Rattle.grammar.proofs.dialects.CellReads.{cell-then, AfterByte, ended-before, ends-now}
+use Rattle.grammar.proofs.dialects.Continuations.{Grammar, MarkRest, mark-bb, AfterCr, then-lf, WantedThen, wanted-then, blank-ws, Then}
+use Rattle.grammar.proofs.dialects.Continuations.{cell-byte, Facts, reads-coming}
 
 -- ---- a derived file is read
 
@@ -47,14 +52,16 @@ blank-continues b x q k =
     }
 
 ws-continues :
-    {o : ℕ} {ws ys text : Bytes} {cells : List Bytes} {ls : List (Line Bytes)} {ps : List Span} {ss : List (List Span)} → Ws ws → Continues (past ws o) ys text cells ls ps ss →
+    {o : ℕ} {ws ys text : Bytes} {cells : List Bytes} {ls : List (Line Bytes)} {ps : List Span} {ss : List (List Span)} → Ws ws →
+    Continues (past ws o) ys text cells ls ps ss →
     Continues o (ws ++ ys) (ws ++ text) cells ls ps ss
 ws-continues no-ws k = k
 ws-continues (space w) k = blank-continues 0x20 by-space refl (ws-continues w k)
 ws-continues (tab w) k = blank-continues 0x09 by-tab refl (ws-continues w k)
 
 comma-continues :
-    {o : ℕ} {ys text : Bytes} {cells : List Bytes} {ls : List (Line Bytes)} {ps : List Span} {ss : List (List Span)} → Runs Csvj ExpectCell (suc o) (suc o) ys (line text cells ∷ ls) (ps ∷ ss) →
+    {o : ℕ} {ys text : Bytes} {cells : List Bytes} {ls : List (Line Bytes)} {ps : List Span} {ss : List (List Span)} →
+    Runs Csvj ExpectCell (suc o) (suc o) ys (line text cells ∷ ls) (ps ∷ ss) →
     Continues o (0x2C ∷ ys) (0x2C ∷ text) cells ls ps ss
 unfolding fileStep afterCell if_then_else_
 comma-continues k =
@@ -89,7 +96,14 @@ FromLine o xs ls ss = (f : FileState) → Opening f → Runs Csvj f o o xs ls ss
 
 open-value : {f : FileState} (b : ℕ) (e : Cell) → Opening f → cellStep Csvj Fresh b ≡ More e → fileStep Csvj f b ≡ fileStep Csvj (Inside Fresh) b
 unfolding fileStep beginFile beginRecord cellStep firstByte if_then_else_
-open-value b e at-top s = rw (other-byte Csvj b 0xEF e s refl, other-byte Csvj b 0x20 e s refl, other-byte Csvj b 0x09 e s refl, other-byte Csvj b LF e s refl, other-byte Csvj b CR e s refl)
+open-value b e at-top s =
+    rw (
+      other-byte Csvj b 0xEF e s refl,
+      other-byte Csvj b 0x20 e s refl,
+      other-byte Csvj b 0x09 e s refl,
+      other-byte Csvj b LF e s refl,
+      other-byte Csvj b CR e s refl,
+    )
 open-value b e at-begin s = rw (other-byte Csvj b 0x20 e s refl, other-byte Csvj b 0x09 e s refl, other-byte Csvj b LF e s refl, other-byte Csvj b CR e s refl)
 open-value b e at-blanks s = rw (other-byte Csvj b 0x20 e s refl, other-byte Csvj b 0x09 e s refl, other-byte Csvj b LF e s refl, other-byte Csvj b CR e s refl)
 
@@ -97,11 +111,14 @@ wanted-value : (b : ℕ) (e : Cell) → cellStep Csvj Fresh b ≡ More e → fil
 unfolding fileStep cellStep firstByte if_then_else_
 wanted-value b e s = rw (other-byte Csvj b 0x20 e s refl, other-byte Csvj b 0x09 e s refl)
 
-from-first : {o : ℕ} {xs : Bytes} {ls : List (Line Bytes)} {ss : List (List Span)} → FirstOfCell Csvj xs → Runs Csvj (Inside Fresh) o o xs ls ss → FromLine o xs ls ss
+from-first :
+    {o : ℕ} {xs : Bytes} {ls : List (Line Bytes)} {ss : List (List Span)} → FirstOfCell Csvj xs → Runs Csvj (Inside Fresh) o o xs ls ss →
+    FromLine o xs ls ss
 from-first (first-of-cell {b} {e} s) r f o = from-state (open-value b e o s) r
 
 from-wanted :
-    {o : ℕ} {xs : Bytes} {ls : List (Line Bytes)} {ss : List (List Span)} → FirstOfCell Csvj xs → Runs Csvj (Inside Fresh) o o xs ls ss → Runs Csvj ExpectCell o o xs ls ss
+    {o : ℕ} {xs : Bytes} {ls : List (Line Bytes)} {ss : List (List Span)} → FirstOfCell Csvj xs →
+    Runs Csvj (Inside Fresh) o o xs ls ss → Runs Csvj ExpectCell o o xs ls ss
 from-wanted (first-of-cell {b} {e} s) r = from-state (wanted-value b e s) r
 
 ws-wanted :
@@ -125,7 +142,8 @@ tab-step at-begin = refl
 tab-step at-blanks = refl
 
 ws-opening :
-    {o : ℕ} {ws ys text : Bytes} {cells : List Bytes} {ls : List (Line Bytes)} {ss : List (List Span)} → Ws ws → FromLine (past ws o) ys (line text cells ∷ ls) ss →
+    {o : ℕ} {ws ys text : Bytes} {cells : List Bytes} {ls : List (Line Bytes)} {ss : List (List Span)} → Ws ws →
+    FromLine (past ws o) ys (line text cells ∷ ls) ss →
     FromLine o (ws ++ ys) (line (ws ++ text) cells ∷ ls) ss
 ws-opening no-ws k f o = k f o
 ws-opening (space w) k f o = between (space-step o) (ws-opening w k Blanks at-blanks)
@@ -163,29 +181,40 @@ comma-follows {o} {ys} {text} (comma {ws} {vs} a b) k =
     (ws-continues a (comma-continues (ws-wanted b (rw (past-append ws (0x2C ∷ vs) o) at k))))
 
 values-read :
-    (o : ℕ) {text ys rest : Bytes} {cells : List Derived} {ls : List (Line Bytes)} {ss : List (List Span)} (m : Values text cells) → Continues (past text o) ys rest [] ls [] ss →
+    (o : ℕ) {text ys rest : Bytes} {cells : List Derived} {ls : List (Line Bytes)} {ss : List (List Span)} (m : Values text cells) →
+    Continues (past text o) ys rest [] ls [] ss →
     Runs Csvj (Inside Fresh) o o (text ++ ys) (line (text ++ rest) (map rawOf cells) ∷ ls) (csvjValues o m ∷ ss)
 values-read o (value v) k = cell-reads (derived-spells Csvj _ v) tt (k .after-value)
 values-read o {ys} {rest} (values {raw} {cs} {text} v c m) k =
     rw (append-assoc raw (cs ++ text) ys, append-assoc raw (cs ++ text) rest, append-assoc cs text ys, append-assoc cs text rest)
     (cell-reads (derived-spells Csvj _ v) tt
-    (comma-follows c (from-wanted (values-first ys m) (values-read (past cs (past raw o)) m (rw (past-append raw (cs ++ text) o, past-append cs text (past raw o)) at k))) .after-value))
+    (comma-follows c
+    (from-wanted (values-first ys m)
+    (values-read (past cs (past raw o)) m (rw (past-append raw (cs ++ text) o, past-append cs text (past raw o)) at k))) .after-value))
 
 text-reads :
     (o : ℕ) {text es zs : Bytes} {cells : List Derived} {ls : List (Line Bytes)} {ss : List (List Span)} (t : Line-text text cells) → Line-terminator es →
-    Runs Csvj Begin (past es (past text o)) (past es (past text o)) zs ls ss → FromLine o (text ++ (es ++ zs)) (line text (map rawOf cells) ∷ ls) (csvjText o t ∷ ss)
+    Runs Csvj Begin (past es (past text o)) (past es (past text o)) zs ls ss →
+    FromLine o (text ++ (es ++ zs)) (line text (map rawOf cells) ∷ ls) (csvjText o t ∷ ss)
 text-reads o {es} {zs} {ls} {ss} (empty {ws} {vs} a b) e k =
-    let r : FromLine o (ws ++ (vs ++ (es ++ zs))) (line (ws ++ (vs ++ [])) [] ∷ ls) ([] ∷ ss) = ws-opening a (ws-opening b (terminator-opening e (rw (past-append ws vs o) at k))) in
+    let r : FromLine o (ws ++ (vs ++ (es ++ zs))) (line (ws ++ (vs ++ [])) [] ∷ ls) ([] ∷ ss)
+    = ws-opening a (ws-opening b (terminator-opening e (rw (past-append ws vs o) at k))) in
     rw (append-assoc ws vs (es ++ zs)) (rw (append-nil vs) at r)
 text-reads o {es} {zs} {ls} {ss} (filled {ws} {vs} {text} {cells} a m b) e k =
     let i : ℕ = past ws o in
-    let n : Runs Csvj Begin (past es (past vs (past text i))) (past es (past vs (past text i))) zs ls ss = rw (past-append ws (text ++ vs) o, past-append text vs (past ws o)) at k in
-    let r : Runs Csvj (Inside Fresh) i i (text ++ (vs ++ (es ++ zs))) (line (text ++ (vs ++ [])) (map rawOf cells) ∷ ls) (csvjValues i m ∷ ss) = values-read i m (ws-continues b (terminator-continues e n)) in
-    let q : FromLine o (ws ++ (text ++ (vs ++ (es ++ zs)))) (line (ws ++ (text ++ (vs ++ []))) (map rawOf cells) ∷ ls) (csvjValues i m ∷ ss) = ws-opening a (from-first (values-first (vs ++ (es ++ zs)) m) r) in
+    let n : Runs Csvj Begin (past es (past vs (past text i))) (past es (past vs (past text i))) zs ls ss
+    = rw (past-append ws (text ++ vs) o, past-append text vs (past ws o)) at k in
+    let r : Runs Csvj (Inside Fresh) i i (text ++ (vs ++ (es ++ zs))) (line (text ++ (vs ++ [])) (map rawOf cells) ∷ ls)
+    (csvjValues i m ∷ ss)
+    = values-read i m (ws-continues b (terminator-continues e n)) in
+    let q : FromLine o (ws ++ (text ++ (vs ++ (es ++ zs)))) (line (ws ++ (text ++ (vs ++ []))) (map rawOf cells) ∷ ls)
+    (csvjValues i m ∷ ss)
+    = ws-opening a (from-first (values-first (vs ++ (es ++ zs)) m) r) in
     rw (append-assoc ws (text ++ vs) (es ++ zs), append-assoc text vs (es ++ zs)) (rw (append-nil vs) at q)
 
 line-reads :
-    (o : ℕ) {bs xs : Bytes} {l : Line Derived} {ls : List (Line Bytes)} {ss : List (List Span)} (k : csvj.Line bs l) → Runs Csvj Begin (past bs o) (past bs o) xs ls ss →
+    (o : ℕ) {bs xs : Bytes} {l : Line Derived} {ls : List (Line Bytes)} {ss : List (List Span)} (k : csvj.Line bs l) →
+    Runs Csvj Begin (past bs o) (past bs o) xs ls ss →
     FromLine o (bs ++ xs) (spelling l ∷ ls) (csvjLine o k ∷ ss)
 unfolding spelling
 line-reads o {xs} (ended {text} {es} t e) k = rw (append-assoc text es xs) (text-reads o t e (rw (past-append text es o) at k))
@@ -226,10 +255,14 @@ data AfterText : Bytes → List Bytes → Type 0 where
 
 -- the rest of a record after one of its values
 data AfterThen : Bytes → Bytes → List Bytes → List (Line Bytes) → Type 0 where
-  after-then : {text ys : Bytes} {cells : List Bytes} {ls : List (Line Bytes)} → AfterText text cells → TerminatorThen ys ls → AfterThen (text ++ ys) text cells ls
+  after-then :
+      {text ys : Bytes} {cells : List Bytes} {ls : List (Line Bytes)} → AfterText text cells → TerminatorThen ys ls →
+      AfterThen (text ++ ys) text cells ls
 
 data LineThen : Bytes → List (Line Bytes) → Type 0 where
-  line-then : {text ys : Bytes} {cells : List Bytes} {ls : List (Line Bytes)} → Line-text text (map (decoded Csvj) cells) → TerminatorThen ys ls → LineThen (text ++ ys) (line text cells ∷ ls)
+  line-then :
+      {text ys : Bytes} {cells : List Bytes} {ls : List (Line Bytes)} → Line-text text (map (decoded Csvj) cells) → TerminatorThen ys ls →
+      LineThen (text ++ ys) (line text cells ∷ ls)
 
 data TopLines : Bytes → List (Line Bytes) → Type 0 where
   no-mark : {xs : Bytes} {ls : List (Line Bytes)} → DerivedLines xs ls → TopLines xs ls
@@ -245,7 +278,9 @@ value-text {raw} m (after-comma {ws} a (wanted-text {ws = w₂} b (values-text {
 
 -- a value and the rest of its record
 data ValuesThen : Bytes → List (Line Bytes) → Type 0 where
-  values-then : {text ys : Bytes} {cells : List Bytes} {ls : List (Line Bytes)} → ValuesText text cells → TerminatorThen ys ls → ValuesThen (text ++ ys) (line text cells ∷ ls)
+  values-then :
+      {text ys : Bytes} {cells : List Bytes} {ls : List (Line Bytes)} → ValuesText text cells → TerminatorThen ys ls →
+      ValuesThen (text ++ ys) (line text cells ∷ ls)
 
 value-then : {xs : Bytes} {ls : List (Line Bytes)} → CellThen Csvj AfterThen Fresh xs ls → ValuesThen xs ls
 value-then (cell-then {raw} m (after-then {text} {ys} a t)) = rw (← (append-assoc raw text ys)) (values-then (value-text m a) t)
@@ -270,13 +305,19 @@ line-lines (line-then {text} t (terminator-then {es} {zs} e k)) = rw (← (appen
 crlf-then : {xs text : Bytes} {cells : List Bytes} {ls : List (Line Bytes)} → AfterCr DerivedLines xs (line text cells ∷ ls) → AfterThen (CR ∷ xs) text cells ls
 crlf-then (then-lf k) = after-then (after-last no-ws) (terminator-then crlf k)
 
-blank-more : (b : ℕ) {xs text : Bytes} {cells : List Bytes} {ls : List (Line Bytes)} → isBlank b ≡ true → AfterByte AfterThen xs false (line text cells ∷ ls) → AfterThen (b ∷ xs) (b ∷ text) cells ls
+blank-more :
+    (b : ℕ) {xs text : Bytes} {cells : List Bytes} {ls : List (Line Bytes)} → isBlank b ≡ true →
+    AfterByte AfterThen xs false (line text cells ∷ ls) → AfterThen (b ∷ xs) (b ∷ text) cells ls
 blank-more b p (ended-before (after-then a t)) = after-then (blank-after b p a) t
 
-comma-more : {xs text : Bytes} {cells : List Bytes} {ls : List (Line Bytes)} → WantedThen Csvj AfterThen xs (line text cells ∷ ls) → AfterThen (0x2C ∷ xs) (0x2C ∷ text) cells ls
+comma-more :
+    {xs text : Bytes} {cells : List Bytes} {ls : List (Line Bytes)} → WantedThen Csvj AfterThen xs (line text cells ∷ ls) →
+    AfterThen (0x2C ∷ xs) (0x2C ∷ text) cells ls
 comma-more (wanted-then {ws} w k) = go (value-then k)
   where
-    go : {xs text : Bytes} {cells : List Bytes} {ls : List (Line Bytes)} → ValuesThen xs (line text cells ∷ ls) → AfterThen (0x2C ∷ (ws ++ xs)) (0x2C ∷ (ws ++ text)) cells ls
+    go :
+        {xs text : Bytes} {cells : List Bytes} {ls : List (Line Bytes)} → ValuesThen xs (line text cells ∷ ls) →
+        AfterThen (0x2C ∷ (ws ++ xs)) (0x2C ∷ (ws ++ text)) cells ls
     go (values-then {text} {ys} v t) = rw (← (append-assoc ws text ys)) (after-then (after-comma no-ws (wanted-text w v)) t)
 
 abbrev outcome : Grammar
@@ -324,7 +365,9 @@ module _ (bs : Bytes) where
   cr-opens : {b : ℕ} {ls : List (Line Bytes)} → Takes (K bs) b (To Cr (Tail false)) ls → LineThen (CR ∷ bs) ls
   cr-opens (steps.tail m) = go m
     where
-      go : {xs text : Bytes} {cells : List Bytes} {ls : List (Line Bytes)} → AfterCr DerivedLines xs (line text cells ∷ ls) → LineThen (CR ∷ xs) (line text cells ∷ ls)
+      go :
+          {xs text : Bytes} {cells : List Bytes} {ls : List (Line Bytes)} → AfterCr DerivedLines xs (line text cells ∷ ls) →
+          LineThen (CR ∷ xs) (line text cells ∷ ls)
       go (then-lf k) = line-then (empty no-ws no-ws) (terminator-then crlf k)
 
   line-byte : (b : ℕ) (ls : List (Line Bytes)) → Takes (K bs) b (beginRecord Csvj b) ls → LineThen (b ∷ bs) ls

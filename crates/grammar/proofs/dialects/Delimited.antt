@@ -70,7 +70,9 @@ module _ (d : Dialect) (Tail : Bytes → List (Line Bytes) → Type 0) where
         {ys text : Bytes} {cells : List Bytes} {ls : List (Line Bytes)} → RecordThen ys text cells ls →
         After (delimiterOf d ∷ ys) (delimiterOf d ∷ text) cells ls
 
-  pub record-of : {xs text : Bytes} {cells : List Bytes} {ls : List (Line Bytes)} → CellThen d After Fresh xs (line text cells ∷ ls) → RecordThen xs text cells ls
+  pub record-of :
+      {xs text : Bytes} {cells : List Bytes} {ls : List (Line Bytes)} → CellThen d After Fresh xs (line text cells ∷ ls) →
+      RecordThen xs text cells ls
   record-of (cell-then {raw} m (at-tail t)) = rw (append-nil raw) (record-then (one-cell m) t)
   record-of (cell-then {raw} m (at-delimiter (record-then {text} {ys} n t))) =
       rw (← (append-assoc raw (delimiterOf d ∷ text) ys)) (record-then (more-cells m n) t)

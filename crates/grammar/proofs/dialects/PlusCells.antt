@@ -7,7 +7,8 @@ use mathlib.Core.Bool.{Bool, true, false, _||_}
 use mathlib.Core.List.{[], _∷_, _++_}
 use lib.Dec.{leb}
 use borrow.Author.Tests.{ne-eqb, eqb-false, leb-true, leb-false}
-use Rattle.grammar.specs.rfc.Types.{Text, Delimiter, Comma, Semicolon, Tab, Bar, Quote, Double, Single, Settings, CsvPlus, Char, Whole, Within, On, Cell, Fresh, Quoted, Plain, More}
+use Rattle.grammar.specs.rfc.Types.{Text, Delimiter, Comma, Semicolon, Tab, Bar, Quote, Double, Single, Settings, CsvPlus, Char, Whole, Within}
+use Rattle.grammar.specs.rfc.Types.{On, Cell, Fresh, Quoted, Plain, More}
 use Rattle.model.specs.rules.Base.{Bytes, _is_, if_then_else_}
 use Rattle.model.specs.rules.Dialect.{standard, delimiterByte, quoteByte}
 use Rattle.model.specs.rules.Utf8.{charStep}
@@ -20,14 +21,16 @@ use Rattle.grammar.specs.rfc.Rfc5234.{_from_to_, LF, CR}
 use Rattle.grammar.specs.rfc.Rfc3629.{of-two, of-three, of-four}
 use Rattle.grammar.specs.rfc.Derived.{Derived, cell, rawOf}
 use Rattle.grammar.specs.dialects.FormReads.{decoded}
-use Rattle.grammar.specs.dialects.CsvPlus.{Field, an-escaped, a-non-escaped, escaped, Inner, nothing, inner-textdata, inner-comma, inner-cr, inner-lf, Non-escaped, no-textdata, textdata, comma, dquote, TEXTDATA, ascii, utf8-data}
+use Rattle.grammar.specs.dialects.CsvPlus.{Field, an-escaped, a-non-escaped, escaped, Inner, nothing, inner-textdata, inner-comma, inner-cr}
+use Rattle.grammar.specs.dialects.CsvPlus.{inner-lf, Non-escaped, no-textdata, textdata, comma, dquote, TEXTDATA, ascii, utf8-data}
 use Rattle.grammar.specs.dialects.CsvPlus.{NarrowTEXTDATA, below-quote, below-comma, above-comma}
 use Rattle.grammar.specs.dialects.CsvPlus as plus
 use Rattle.grammar.specs.rfc.Types as types
 use Rattle.grammar.proofs.rfc.Ranges.{range}
 use Rattle.grammar.proofs.rfc.Chars.{Finishes, finished, finishing, Long, long, data-long, long-data, whole-ascii, first-high}
 use Rattle.grammar.proofs.rfc.Spelling.{Spells, whole, byte, DerivedFrom, derived-from, TextState, long-spells}
-use Rattle.grammar.proofs.rfc.Doubled.{Doubled, no-char, ascii-char, long-char, two-quotes, doubled-spells, Closing, closing, spells-doubled, doubled-content}
+use Rattle.grammar.proofs.rfc.Doubled.{Doubled, no-char, ascii-char, long-char, two-quotes, doubled-spells, Closing, closing, spells-doubled}
+use Rattle.grammar.proofs.rfc.Doubled.{doubled-content}
 
 -- the bytes of COMMA and DQUOTE
 abbrev pub COMMA : Settings → ℕ
@@ -125,7 +128,9 @@ module _ (s : Settings) where
       split-on (b is LF) (λ z. impossible (sym q ∙ (rw (x, y, z)))) λ z.
       ascii (range (omega arith) h) (eqb-false b (DQUOTE s) p) (eqb-false b (COMMA s) x) (eqb-false b CR y) (eqb-false b LF z)
 
-  plain-char : (c : Char) (b : ℕ) {bs : Bytes} → (b is DQUOTE s) ≡ false → isSeparator b ≡ false → charStep Whole b ≡ On c → PlainRest c bs → Non-escaped s (b ∷ bs)
+  plain-char :
+      (c : Char) (b : ℕ) {bs : Bytes} → (b is DQUOTE s) ≡ false → isSeparator b ≡ false → charStep Whole b ≡ On c → PlainRest c bs →
+      Non-escaped s (b ∷ bs)
   plain-char Whole b p q e (plain-rest finished m) = textdata (ascii-textdata b (whole-ascii b e) p q) m
   plain-char (Within i) b p q e (plain-rest f m) = textdata (utf8-data (long-data (long e f))) m
 
@@ -136,7 +141,9 @@ module _ (s : Settings) where
   plain-none Whole p w = plain-rest finished no-textdata
   plain-none (Within i) p w = impossible (sym (plain-state .unfinished i) ∙ ap (isWhole (CsvPlus s)) p ∙ w)
 
-  plain-byte : {e e′ : Cell} {b : ℕ} {bs : Bytes} (c : Char) → Plain c ≡ e → cellStep (CsvPlus s) e b ≡ More e′ → ((c′ : Char) → Plain c′ ≡ e′ → PlainRest c′ bs) → PlainRest c (b ∷ bs)
+  plain-byte :
+      {e e′ : Cell} {b : ℕ} {bs : Bytes} (c : Char) → Plain c ≡ e → cellStep (CsvPlus s) e b ≡ More e′ →
+      ((c′ : Char) → Plain c′ ≡ e′ → PlainRest c′ bs) → PlainRest c (b ∷ bs)
   unfolding cellStep plainByte if_then_else_
   plain-byte {e′} {b} {bs} Whole p k ih = go (b is DQUOTE s) (isSeparator b) refl refl (rw (← p) at k)
     where
@@ -187,7 +194,8 @@ module _ (s : Settings) where
   unfolding kindOf
   field-content (an-escaped (escaped {bs} {ts} dquote i dquote)) =
       let raw : Bytes = DQUOTE s ∷ (bs ++ (DQUOTE s ∷ [])) in
-      let e : contentOf (CsvPlus s) raw ≡ ts = quoted-content (bs ++ (DQUOTE s ∷ [])) ∙ doubled-content (DQUOTE s) (quote-ascii (CsvPlus s)) (inner-doubled i) in
+      let e : contentOf (CsvPlus s) raw ≡ ts
+      = quoted-content (bs ++ (DQUOTE s ∷ [])) ∙ doubled-content (DQUOTE s) (quote-ascii (CsvPlus s)) (inner-doubled i) in
       ap (cell raw Text) (sym e)
   field-content (a-non-escaped {bs} m) = ap (cell bs Text) (sym (plain-content m))
 

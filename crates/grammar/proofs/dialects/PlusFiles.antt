@@ -18,7 +18,8 @@ use Rattle.grammar.specs.rfc.Rfc5234.{LF, CR}
 use Rattle.grammar.specs.rfc.Derived.{Derived, rawOf, Line, line, spelling}
 use Rattle.grammar.specs.dialects.FormReads.{Reads, decoded, decodedLine}
 use Rattle.grammar.specs.dialects.Spans.{Span, past, cellAt, plusHeader, plusRecord, plusRecords, plusTable, plusFile}
-use Rattle.grammar.specs.dialects.CsvPlus.{BeginsWithBom, bom, File, file, Table, header-unended, header-alone, header-then, Records, unended, last, next, Header, a-name, names, Record, field, fields, name, comma, CRLF, lf, crlf}
+use Rattle.grammar.specs.dialects.CsvPlus.{BeginsWithBom, bom, File, file, Table, header-unended, header-alone, header-then, Records, unended}
+use Rattle.grammar.specs.dialects.CsvPlus.{last, next, Header, a-name, names, Record, field, fields, name, comma, CRLF, lf, crlf}
 use Rattle.grammar.proofs.dialects.PlusCells.{COMMA}
 use Rattle.grammar.proofs.rfc.Spelling.{whole}
 use Rattle.grammar.proofs.dialects.CellGrammar.{derived-spells, spells-derived}
@@ -27,8 +28,10 @@ use Rattle.grammar.proofs.dialects.Steps.{Takes, rejected, at-end, cut-
 use Rattle.grammar.proofs.dialects.Steps as steps
 use Rattle.grammar.proofs.dialects.PlacedReads.{Runs, ends-clean, ends-final, tail-closing, ends, ends-closing, reads, from-state, with-cell-byte}
 use Rattle.grammar.proofs.dialects.CellReads.{Follows, cell-step, after-whole, CellThen, cell-then, AfterByte, ended-before, ends-now, more-cell}
-use Rattle.grammar.proofs.dialects.Delimited.{Cells, one-cell, more-cells, cellsAt, cells-read, RecordThen, record-then, After, at-tail, record-of, delimiter-taken}
-use Rattle.grammar.proofs.dialects.Continuations.{Grammar, AfterCr, then-lf, CompletesBom, then-bb, EndsBom, then-bf, afterEf, afterBb, Then, cell-byte, Facts, reads-coming}
+use Rattle.grammar.proofs.dialects.Delimited.{Cells, one-cell, more-cells, cellsAt, cells-read, RecordThen, record-then, After, at-tail}
+use Rattle.grammar.proofs.dialects.Delimited.{record-of, delimiter-taken}
+use Rattle.grammar.proofs.dialects.Continuations.{Grammar, AfterCr, then-lf, CompletesBom, then-bb, EndsBom, then-bf, afterEf, afterBb, Then}
+use Rattle.grammar.proofs.dialects.Continuations.{cell-byte, Facts, reads-coming}
 
 data NonEmpty : Bytes → Type 0 where
   some : {b : ℕ} {bs : Bytes} → NonEmpty (b ∷ bs)
@@ -104,7 +107,8 @@ module _ (s : Settings) where
   after-cr = rw (separate s .1)
 
   ending-follows :
-      {o : ℕ} {es zs : Bytes} {ls : List (Line Bytes)} {ss : List (List Span)} → CRLF s es → Runs (CsvPlus s) Begin (past es o) (past es o) zs ls ss → Follows (CsvPlus s) o (es ++ zs) [] [] ls [] ss
+      {o : ℕ} {es zs : Bytes} {ls : List (Line Bytes)} {ss : List (List Span)} → CRLF s es →
+      Runs (CsvPlus s) Begin (past es o) (past es o) zs ls ss → Follows (CsvPlus s) o (es ++ zs) [] [] ls [] ss
   unfolding fileStep if_then_else_
   ending-follows lf k c p r w = ends-closing (after-whole (CsvPlus s) c LF r w by-lf ∙ after-lf) k
   ending-follows crlf k c p r w = tail-closing (after-whole (CsvPlus s) c CR r w by-cr ∙ after-cr) (ends refl k)
@@ -113,7 +117,9 @@ module _ (s : Settings) where
   unfolding fileEnd if_then_else_
   end-follows o c p r w = ends-final {f = Inside c} (rw w)
 
-  begin-reads : {o : ℕ} {xs : Bytes} {ls : List (Line Bytes)} {ss : List (List Span)} → NonEmpty xs → Runs (CsvPlus s) (Inside Fresh) o o xs ls ss → Runs (CsvPlus s) Begin o o xs ls ss
+  begin-reads :
+      {o : ℕ} {xs : Bytes} {ls : List (Line Bytes)} {ss : List (List Span)} → NonEmpty xs → Runs (CsvPlus s) (Inside Fresh) o o xs ls ss →
+      Runs (CsvPlus s) Begin o o xs ls ss
   unfolding fileStep beginRecord
   begin-reads some r = from-state refl r
 
@@ -134,14 +140,16 @@ module _ (s : Settings) where
   none-reads o = ends-clean refl
 
   record-reads :
-      (o : ℕ) {text ys : Bytes} {cells : List Derived} {ls : List (Line Bytes)} {ss : List (List Span)} (r : Record s text cells) → Follows (CsvPlus s) (past text o) ys [] [] ls [] ss →
+      (o : ℕ) {text ys : Bytes} {cells : List Derived} {ls : List (Line Bytes)} {ss : List (List Span)} (r : Record s text cells) →
+      Follows (CsvPlus s) (past text o) ys [] [] ls [] ss →
       Runs (CsvPlus s) (Inside Fresh) o o (text ++ ys) (line text (map rawOf cells) ∷ ls) (plusRecord s o r ∷ ss)
   record-reads o r f = rw (← (record-placed o r)) (cells-read d-plus o (record-cells r) f)
 
   records-read : (o : ℕ) {xs : Bytes} {ls : List (Line Derived)} (k : Records s xs ls) → FromFresh o (map spelling ls) (plusRecords s o k) xs
   unfolding spelling
   records-read o (unended {b} {text} {cells} r) =
-      let k : Runs (CsvPlus s) (Inside Fresh) o o ((b ∷ text) ++ []) (line (b ∷ text) (map rawOf cells) ∷ []) (plusRecord s o r ∷ []) = record-reads o r (end-follows (past (b ∷ text) o)) in
+      let k : Runs (CsvPlus s) (Inside Fresh) o o ((b ∷ text) ++ []) (line (b ∷ text) (map rawOf cells) ∷ []) (plusRecord s o r ∷ [])
+      = record-reads o r (end-follows (past (b ∷ text) o)) in
       from-fresh some (rw (append-nil (b ∷ text)) at k)
   records-read o (last {text} {es} r e) =
       rw (← (append-nil es)) (from-fresh (ending-some text [] e) (record-reads o r (ending-follows e (none-reads (past es (past text o))))))
@@ -152,7 +160,9 @@ module _ (s : Settings) where
   unfolding fileEnd if_then_else_
   unfinished c w r = cut-off (rw w at (at-end r))
 
-  mark-last-reads : {o p : ℕ} (bs : Bytes) {ls : List (Line Bytes)} {ss : List (List Span)} → ¬ EndsBom bs → Runs (CsvPlus s) (Inside afterBb) o p bs ls ss → Runs (CsvPlus s) PlainBom2 o p bs ls ss
+  mark-last-reads :
+      {o p : ℕ} (bs : Bytes) {ls : List (Line Bytes)} {ss : List (List Span)} → ¬ EndsBom bs →
+      Runs (CsvPlus s) (Inside afterBb) o p bs ls ss → Runs (CsvPlus s) PlainBom2 o p bs ls ss
   unfolding fileStep isWhole if_then_else_
   mark-last-reads [] n r = unfinished afterBb refl (reads r)
   mark-last-reads {o} {p} (b ∷ bs) {ls} {ss} n r = go (b is 0xBF) refl
@@ -161,7 +171,9 @@ module _ (s : Settings) where
       go true e = absurd (n (rw (is→eq b 0xBF e) then-bf))
       go false e = from-state (rw e) r
 
-  mark-rest-reads : {o p : ℕ} (bs : Bytes) {ls : List (Line Bytes)} {ss : List (List Span)} → ¬ CompletesBom bs → Runs (CsvPlus s) (Inside afterEf) o p bs ls ss → Runs (CsvPlus s) PlainBom1 o p bs ls ss
+  mark-rest-reads :
+      {o p : ℕ} (bs : Bytes) {ls : List (Line Bytes)} {ss : List (List Span)} → ¬ CompletesBom bs →
+      Runs (CsvPlus s) (Inside afterEf) o p bs ls ss → Runs (CsvPlus s) PlainBom1 o p bs ls ss
   unfolding fileStep isWhole if_then_else_
   mark-rest-reads [] n r = unfinished afterEf refl (reads r)
   mark-rest-reads {o} {p} (b ∷ bs) {ls} {ss} n r = go (b is 0xBB) refl
@@ -179,7 +191,9 @@ module _ (s : Settings) where
           rw q (with-cell-byte (cell-step (CsvPlus s) afterEf afterBb 0xBB (bom-rest (CsvPlus s))) refl (λ ls m. mark-last-reads bs (rest-of (rw q at n)) m) k)
       go false e = from-state (rw e) r
 
-  top-reads : {o : ℕ} {xs : Bytes} {ls : List (Line Bytes)} {ss : List (List Span)} → ¬ BeginsWithBom xs → FromFresh o ls ss xs → Runs (CsvPlus s) Top o o xs ls ss
+  top-reads :
+      {o : ℕ} {xs : Bytes} {ls : List (Line Bytes)} {ss : List (List Span)} → ¬ BeginsWithBom xs → FromFresh o ls ss xs →
+      Runs (CsvPlus s) Top o o xs ls ss
   unfolding fileStep beginFile beginRecord if_then_else_
   top-reads {o} {ls} {ss} n (from-fresh (some {b} {bs}) r) = go (b is 0xEF) refl
     where
@@ -224,7 +238,9 @@ module _ (s : Settings) where
   unfolding decodedLine
   unended-rows some n = rows (unended (cells-record n))
 
-  record-rows : {xs text : Bytes} {cells : List Bytes} {ls : List (Line Bytes)} → NonEmpty xs → RecordThen (CsvPlus s) TailThen xs text cells ls → Rows xs (line text cells ∷ ls)
+  record-rows :
+      {xs text : Bytes} {cells : List Bytes} {ls : List (Line Bytes)} → NonEmpty xs → RecordThen (CsvPlus s) TailThen xs text cells ls →
+      Rows xs (line text cells ∷ ls)
   unfolding decodedLine
   record-rows m (record-then {text} n at-file-end) = rw (append-nil text) (unended-rows (rw (append-nil text) at m) n)
   record-rows m (record-then n (ending-then {es} e no-rows)) = rw (append-nil es) (rows (last (cells-record n) e))
@@ -285,7 +301,9 @@ module _ (s : Settings) where
         last-cell = last-cell;
       }
 
-  pub reads-file : {xs : Bytes} {l : Line Bytes} {ls : List (Line Bytes)} → Reads (CsvPlus s) Top xs (l ∷ ls) → File s xs (map (decodedLine (CsvPlus s)) (l ∷ ls))
+  pub reads-file :
+      {xs : Bytes} {l : Line Bytes} {ls : List (Line Bytes)} → Reads (CsvPlus s) Top xs (l ∷ ls) →
+      File s xs (map (decodedLine (CsvPlus s)) (l ∷ ls))
   reads-file {xs} {l} {ls} r = let k = reads-coming (CsvPlus s) coming facts xs Top (l ∷ ls) r in go (k .0) (k .1)
     where
       go : {xs : Bytes} {l : Line Bytes} {ls : List (Line Bytes)} → ¬ BeginsWithBom xs → Rows xs (l ∷ ls) → File s xs (map (decodedLine (CsvPlus s)) (l ∷ ls))

@@ -3,8 +3,10 @@
 use Prim.Native.Nat.{ℕ}
 use mathlib.Core.Path.{_≡_, refl}
 use mathlib.Core.Bool.{true, false, _||_}
-use Rattle.grammar.specs.rfc.Types.{Delimiter, Comma, Semicolon, Tab, Bar, Quote, Double, Single, Dialect, Csvj, Tdif, CsvPlus, Whole, Within, Advance, On, Broken, HexLeft, Four, Three, Two, One}
-use Rattle.grammar.specs.rfc.Types.{Numeral, Minus, Zero, Integer, Point, Fraction, E, ESign, Exponent, Word, T, Tr, Tru, F, Fa, Fal, Fals, N, Nu, Nul, Backslash}
+use Rattle.grammar.specs.rfc.Types.{Delimiter, Comma, Semicolon, Tab, Bar, Quote, Double, Single, Dialect, Csvj, Tdif, CsvPlus, Whole, Within}
+use Rattle.grammar.specs.rfc.Types.{Advance, On, Broken, HexLeft, Four, Three, Two, One}
+use Rattle.grammar.specs.rfc.Types.{Numeral, Minus, Zero, Integer, Point, Fraction, E, ESign, Exponent, Word, T, Tr, Tru, F, Fa, Fal, Fals, N}
+use Rattle.grammar.specs.rfc.Types.{Nu, Nul, Backslash}
 use Rattle.grammar.specs.rfc.Types.{Cell, Fresh, Quoted, Closed, Escape, Hex, InNumber, InWord, Plain, Complete, CellStep, More, Stop, Refuse, ByteFault}
 use Rattle.model.specs.rules.Base.{CR, LF, _is_, if_then_else_}
 use Rattle.model.specs.rules.Dialect.{quoteOf, delimiterOf, delimiterByte}
@@ -78,7 +80,9 @@ numeral-reaches : (n : Numeral) (b : ℕ) → Reaches (numeralStep n b)
 unfolding numeralStep
 numeral-reaches Minus b = split Reaches _ (λ _. proceeds-on tt) λ _. split Reaches _ (λ _. proceeds-on tt) λ _. refuses
 numeral-reaches Zero b = split Reaches _ (λ _. proceeds-on tt) λ _. split Reaches _ (λ _. proceeds-on tt) λ _. stops-there
-numeral-reaches Integer b = split Reaches _ (λ _. proceeds-on tt) λ _. split Reaches _ (λ _. proceeds-on tt) λ _. split Reaches _ (λ _. proceeds-on tt) λ _. stops-there
+numeral-reaches Integer b =
+    split Reaches _ (λ _. proceeds-on tt) λ _. split Reaches _ (λ _. proceeds-on tt) λ _. split Reaches _ (λ _. proceeds-on tt) λ _.
+    stops-there
 numeral-reaches Point b = split Reaches _ (λ _. proceeds-on tt) λ _. refuses
 numeral-reaches Fraction b = split Reaches _ (λ _. proceeds-on tt) λ _. split Reaches _ (λ _. proceeds-on tt) λ _. stops-there
 numeral-reaches E b = split Reaches _ (λ _. proceeds-on tt) λ _. split Reaches _ (λ _. proceeds-on tt) λ _. refuses

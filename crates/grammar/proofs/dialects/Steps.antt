@@ -3,7 +3,8 @@ use Prim.Native.Nat.{ℕ}
 use mathlib.Core.Path.{_≡_, refl, ap}
 use mathlib.Core.Bool.{true, false}
 use mathlib.Core.List.{List, [], _∷_}
-use Rattle.grammar.specs.rfc.Types.{Dialect, Csvj, Tdif, CsvPlus, Cell, Stop, ByteFault, FileState, Inside, Outside, Passed, OfCell, Between, Tail, Ends, Step, To, Reject, Ending, Clean, Final, Cut}
+use Rattle.grammar.specs.rfc.Types.{Dialect, Csvj, Tdif, CsvPlus, Cell, Stop, ByteFault, FileState, Inside, Outside, Passed, OfCell, Between}
+use Rattle.grammar.specs.rfc.Types.{Tail, Ends, Step, To, Reject, Ending, Clean, Final, Cut}
 use Rattle.model.specs.rules.Base.{Bytes}
 use Rattle.model.specs.rules.Cell.{cellStep, isWhole}
 use Rattle.model.specs.rules.File.{afterCell, inCell, fileStep, fileEnd}

@@ -16,11 +16,13 @@ use Rattle.model.proofs.cell_laws.CellContent.{no-more, same-more, d-tdif}
 use Rattle.grammar.specs.rfc.Rfc5234.{DQUOTE}
 use Rattle.grammar.specs.rfc.Derived.{Derived, cell, rawOf}
 use Rattle.grammar.specs.dialects.FormReads.{decoded}
-use Rattle.grammar.specs.dialects.Tdif.{Textdata, below-quote, above-quote, text-beyond, Inner, nothing, textdata, two-quotes, value, null, Field, a-null, a-value, Value}
+use Rattle.grammar.specs.dialects.Tdif.{Textdata, below-quote, above-quote, text-beyond, Inner, nothing, textdata, two-quotes, value, null}
+use Rattle.grammar.specs.dialects.Tdif.{Field, a-null, a-value, Value}
 use Rattle.grammar.proofs.rfc.Ranges.{range}
 use Rattle.grammar.proofs.rfc.Chars.{data-long, long-data}
 use Rattle.grammar.proofs.rfc.Spelling.{Spells, whole, byte, DerivedFrom, derived-from, last-letter}
-use Rattle.grammar.proofs.rfc.Doubled.{Doubled, no-char, ascii-char, long-char, two-quotes as doubled-quotes, doubled-spells, Closing, closing, spells-doubled, doubled-content}
+use Rattle.grammar.proofs.rfc.Doubled.{Doubled, no-char, ascii-char, long-char, two-quotes as doubled-quotes, doubled-spells, Closing, closing}
+use Rattle.grammar.proofs.rfc.Doubled.{spells-doubled, doubled-content}
 
 -- ---- the bytes between the quotes are doubled text
 

@@ -20,7 +20,9 @@ use Rattle.grammar.specs.rfc.Rfc5234.{LF, CR}
 use Rattle.grammar.specs.rfc.Derived.{Derived, rawOf, Line, line, spelling}
 use Rattle.grammar.specs.dialects.FormReads.{Reads, decoded, decodedLine}
 use Rattle.grammar.specs.dialects.Spans.{Span, past, cellAt, tdifFields, tdifRecord, tdifLines, tdifFile}
-use Rattle.grammar.specs.dialects.Tdif.{comment-first, header-first, no-line, a-comment, a-record, header, ended, Fields, field, fields, comment, Remark, no-remark, commentdata, below-lf, below-cr, above-cr, comment-beyond, comma, hash, Linebreak, cr, lf, crlf}
+use Rattle.grammar.specs.dialects.Tdif.{comment-first, header-first, no-line, a-comment, a-record, header, ended, Fields, field, fields}
+use Rattle.grammar.specs.dialects.Tdif.{comment, Remark, no-remark, commentdata, below-lf, below-cr, above-cr, comment-beyond, comma, hash}
+use Rattle.grammar.specs.dialects.Tdif.{Linebreak, cr, lf, crlf}
 use Rattle.grammar.specs.dialects.Tdif as tdif
 use Rattle.grammar.proofs.rfc.Chars.{Finishes, finished, finishing, Long, long, data-long, first-high}
 use Rattle.grammar.proofs.dialects.CellGrammar.{derived-spells, spells-derived}
@@ -28,8 +30,10 @@ use Rattle.grammar.proofs.dialects.Separators.{by-cr, by-lf}
 use Rattle.grammar.proofs.dialects.Steps.{Takes, rejected, cut-off}
 use Rattle.grammar.proofs.dialects.Steps as steps
 use Rattle.grammar.proofs.dialects.PlacedReads.{Runs, ends-clean, outside, passed, ends-closing, from-state, past-append}
-use Rattle.grammar.proofs.dialects.CellReads.{Follows, after-whole, FirstOfCell, first-of-cell, spells-first, other-byte, CellThen, cell-then, AfterByte, ended-before, ends-now}
-use Rattle.grammar.proofs.dialects.Delimited.{Cells, one-cell, more-cells, cellsAt, cells-read, RecordThen, record-then, After, at-tail, record-of, delimiter-taken}
+use Rattle.grammar.proofs.dialects.CellReads.{Follows, after-whole, FirstOfCell, first-of-cell, spells-first, other-byte, CellThen, cell-then}
+use Rattle.grammar.proofs.dialects.CellReads.{AfterByte, ended-before, ends-now}
+use Rattle.grammar.proofs.dialects.Delimited.{Cells, one-cell, more-cells, cellsAt, cells-read, RecordThen, record-then, After, at-tail}
+use Rattle.grammar.proofs.dialects.Delimited.{record-of, delimiter-taken}
 use Rattle.grammar.proofs.dialects.Continuations.{Grammar, BreakThen, break-then, break-cr, InComment, in-comment, Then, cell-byte, Facts, reads-coming}
 
 -- ---- fields are cells with commas between them
@@ -71,18 +75,24 @@ unfolding isWhole
 cells-first ys (one-cell m) = spells-first refl m ys
 cells-first ys (more-cells {raw} {text} m n) = rw (append-assoc raw (COMMA ∷ text) ys) (spells-first refl m (COMMA ∷ (text ++ ys)))
 
-from-first : {o : ℕ} {xs : Bytes} {ls : List (Line Bytes)} {ss : List (List Span)} → FirstOfCell Tdif xs → Runs Tdif (Inside Fresh) o o xs ls ss → FromLine o xs ls ss
+from-first :
+    {o : ℕ} {xs : Bytes} {ls : List (Line Bytes)} {ss : List (List Span)} → FirstOfCell Tdif xs → Runs Tdif (Inside Fresh) o o xs ls ss →
+    FromLine o xs ls ss
 from-first (first-of-cell {b} {e} s) r f o = from-state (open-field b e o s) r
 
 -- a linebreak after a field
-break-follows : {o : ℕ} {es zs : Bytes} {ls : List (Line Bytes)} {ss : List (List Span)} → Linebreak es → FromLine (past es o) zs ls ss → Follows Tdif o (es ++ zs) [] [] ls [] ss
+break-follows :
+    {o : ℕ} {es zs : Bytes} {ls : List (Line Bytes)} {ss : List (List Span)} → Linebreak es → FromLine (past es o) zs ls ss →
+    Follows Tdif o (es ++ zs) [] [] ls [] ss
 unfolding afterCell fileStep if_then_else_
 break-follows cr k c p r w = ends-closing (after-whole Tdif c CR r w by-cr) (k Ended at-ended)
 break-follows lf k c p r w = ends-closing (after-whole Tdif c LF r w by-lf) (k Begin at-begin)
 break-follows crlf k c p r w = ends-closing (after-whole Tdif c CR r w by-cr) (passed refl (k Begin at-begin))
 
 -- a linebreak after a comment
-break-reads : {o : ℕ} {es zs : Bytes} {ls : List (Line Bytes)} {ss : List (List Span)} → Linebreak es → FromLine (past es o) zs ls ss → Runs Tdif (Comment Whole) o o (es ++ zs) ls ss
+break-reads :
+    {o : ℕ} {es zs : Bytes} {ls : List (Line Bytes)} {ss : List (List Span)} → Linebreak es → FromLine (past es o) zs ls ss →
+    Runs Tdif (Comment Whole) o o (es ++ zs) ls ss
 unfolding fileStep if_then_else_
 break-reads cr k = passed refl (k Ended at-ended)
 break-reads lf k = passed refl (k Begin at-begin)
@@ -93,12 +103,14 @@ unfolding fileStep if_then_else_
 comment-step b n m = rw (ne-eqb b LF n, ne-eqb b CR m)
 
 ascii-reads :
-    (b : ℕ) {o : ℕ} {ys : Bytes} {ls : List (Line Bytes)} {ss : List (List Span)} → b ≤ 0x7F → b ≢ LF → b ≢ CR → Runs Tdif (Comment Whole) (suc o) (suc o) ys ls ss →
+    (b : ℕ) {o : ℕ} {ys : Bytes} {ls : List (Line Bytes)} {ss : List (List Span)} → b ≤ 0x7F → b ≢ LF → b ≢ CR →
+    Runs Tdif (Comment Whole) (suc o) (suc o) ys ls ss →
     Runs Tdif (Comment Whole) o o (b ∷ ys) ls ss
 ascii-reads b h n m k = outside (comment-step b n m ∙ ap commented (ascii-whole b h)) k
 
 finish-reads :
-    {c : Char} {o : ℕ} {cs ys : Bytes} {ls : List (Line Bytes)} {ss : List (List Span)} → Finishes c cs → Runs Tdif (Comment Whole) (past cs o) (past cs o) ys ls ss →
+    {c : Char} {o : ℕ} {cs ys : Bytes} {ls : List (Line Bytes)} {ss : List (List Span)} → Finishes c cs →
+    Runs Tdif (Comment Whole) (past cs o) (past cs o) ys ls ss →
     Runs Tdif (Comment c) o o (cs ++ ys) ls ss
 unfolding fileStep
 finish-reads finished k = k
@@ -115,7 +127,8 @@ remark-reads :
     {o : ℕ} {bs ys : Bytes} {ls : List (Line Bytes)} {ss : List (List Span)} → Remark bs → Runs Tdif (Comment Whole) (past bs o) (past bs o) ys ls ss →
     Runs Tdif (Comment Whole) o o (bs ++ ys) ls ss
 remark-reads no-remark k = k
-remark-reads (commentdata (below-lf {b} r) m) k = let h : b ≤ 0x09 = r .high in ascii-reads b (omega arith) (λ e. omega arith) (λ e. omega arith) (remark-reads m k)
+remark-reads (commentdata (below-lf {b} r) m) k =
+    let h : b ≤ 0x09 = r .high in ascii-reads b (omega arith) (λ e. omega arith) (λ e. omega arith) (remark-reads m k)
 remark-reads (commentdata (below-cr {b} r) m) k =
     let h : 0x0B ≤ b = r .low in let j : b ≤ 0x0C = r .high in ascii-reads b (omega arith) (λ e. omega arith) (λ e. omega arith) (remark-reads m k)
 remark-reads (commentdata (above-cr {b} r) m) k = let h : 0x0E ≤ b = r .low in ascii-reads b (r .high) (λ e. omega arith) (λ e. omega arith) (remark-reads m k)
@@ -128,7 +141,9 @@ hash-step at-top = refl
 hash-step at-begin = refl
 hash-step at-ended = refl
 
-comment-reads : {o : ℕ} {cs xs : Bytes} {ls : List (Line Bytes)} {ss : List (List Span)} → tdif.Comment cs → FromLine (past cs o) xs ls ss → FromLine o (cs ++ xs) ls ss
+comment-reads :
+    {o : ℕ} {cs xs : Bytes} {ls : List (Line Bytes)} {ss : List (List Span)} → tdif.Comment cs → FromLine (past cs o) xs ls ss →
+    FromLine o (cs ++ xs) ls ss
 comment-reads {o} {xs} (comment {bs} {es} hash m b) k f g =
     rw (append-assoc bs es xs) (outside (hash-step g) (remark-reads m (break-reads b (rw (past-append bs es (suc o)) at k))))
 
@@ -138,7 +153,8 @@ record-reads :
 unfolding spelling
 record-reads o {xs} (ended {text} {es} m b) k =
     let n = fields-cells m in
-    rw (append-assoc text es xs, ← (fields-placed o m)) (from-first (cells-first (es ++ xs) n) (cells-read d-tdif o n (break-follows b (rw (past-append text es o) at k))))
+    rw (append-assoc text es xs, ← (fields-placed o m))
+    (from-first (cells-first (es ++ xs) n) (cells-read d-tdif o n (break-follows b (rw (past-append text es o) at k))))
 
 none-reads : (o : ℕ) → FromLine o [] [] []
 unfolding fileEnd
@@ -172,7 +188,9 @@ outcome = record { Lines = DerivedLines; Tops = DerivedLines; First = DerivedLin
 abbrev K : Bytes → FileState → List (Line Bytes) → Type 0
 K = Then Tdif outcome
 
-record-line : {xs text : Bytes} {cells : List Bytes} {ls : List (Line Bytes)} → RecordThen Tdif (BreakThen DerivedLines) xs text cells ls → DerivedLines xs (line text cells ∷ ls)
+record-line :
+    {xs text : Bytes} {cells : List Bytes} {ls : List (Line Bytes)} → RecordThen Tdif (BreakThen DerivedLines) xs text cells ls →
+    DerivedLines xs (line text cells ∷ ls)
 unfolding decodedLine
 record-line (record-then {text} n (break-then {es} {zs} b k)) = rw (← (append-assoc text es zs)) (a-record (ended (cells-fields n) b) k)
 

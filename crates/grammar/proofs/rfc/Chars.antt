@@ -38,12 +38,63 @@ row-first l b r = go l r
     go : (l : Lead) → b from rowOf l .lo to (rowOf l .hi) → charStep Whole b ≡ On (Within (Second l))
     go C2ToDf r = rw (over 0x00 0x7F 0xC2 (r .low) (omega arith), range-within {b = b} {lo = 0xC2} {hi = 0xDF} r)
     go E0 r = rw (over 0x00 0x7F 0xE0 (r .low) (omega arith), over 0xC2 0xDF 0xE0 (r .low) (omega arith), range-within {b = b} {lo = 0xE0} {hi = 0xE0} r)
-    go E1ToEc r = rw (over 0x00 0x7F 0xE1 (r .low) (omega arith), over 0xC2 0xDF 0xE1 (r .low) (omega arith), over 0xE0 0xE0 0xE1 (r .low) (omega arith), range-within {b = b} {lo = 0xE1} {hi = 0xEC} r)
-    go Ed r = rw (over 0x00 0x7F 0xED (r .low) (omega arith), over 0xC2 0xDF 0xED (r .low) (omega arith), over 0xE0 0xE0 0xED (r .low) (omega arith), over 0xE1 0xEC 0xED (r .low) (omega arith), range-within {b = b} {lo = 0xED} {hi = 0xED} r)
-    go EeToEf r = rw (over 0x00 0x7F 0xEE (r .low) (omega arith), over 0xC2 0xDF 0xEE (r .low) (omega arith), over 0xE0 0xE0 0xEE (r .low) (omega arith), over 0xE1 0xEC 0xEE (r .low) (omega arith), over 0xED 0xED 0xEE (r .low) (omega arith), range-within {b = b} {lo = 0xEE} {hi = 0xEF} r)
-    go F0 r = rw (over 0x00 0x7F 0xF0 (r .low) (omega arith), over 0xC2 0xDF 0xF0 (r .low) (omega arith), over 0xE0 0xE0 0xF0 (r .low) (omega arith), over 0xE1 0xEC 0xF0 (r .low) (omega arith), over 0xED 0xED 0xF0 (r .low) (omega arith), over 0xEE 0xEF 0xF0 (r .low) (omega arith), range-within {b = b} {lo = 0xF0} {hi = 0xF0} r)
-    go F1ToF3 r = rw (over 0x00 0x7F 0xF1 (r .low) (omega arith), over 0xC2 0xDF 0xF1 (r .low) (omega arith), over 0xE0 0xE0 0xF1 (r .low) (omega arith), over 0xE1 0xEC 0xF1 (r .low) (omega arith), over 0xED 0xED 0xF1 (r .low) (omega arith), over 0xEE 0xEF 0xF1 (r .low) (omega arith), over 0xF0 0xF0 0xF1 (r .low) (omega arith), range-within {b = b} {lo = 0xF1} {hi = 0xF3} r)
-    go F4 r = rw (over 0x00 0x7F 0xF4 (r .low) (omega arith), over 0xC2 0xDF 0xF4 (r .low) (omega arith), over 0xE0 0xE0 0xF4 (r .low) (omega arith), over 0xE1 0xEC 0xF4 (r .low) (omega arith), over 0xED 0xED 0xF4 (r .low) (omega arith), over 0xEE 0xEF 0xF4 (r .low) (omega arith), over 0xF0 0xF0 0xF4 (r .low) (omega arith), over 0xF1 0xF3 0xF4 (r .low) (omega arith), range-within {b = b} {lo = 0xF4} {hi = 0xF4} r)
+    go E1ToEc r =
+        rw (
+          over 0x00 0x7F 0xE1 (r .low) (omega arith),
+          over 0xC2 0xDF 0xE1 (r .low) (omega arith),
+          over 0xE0 0xE0 0xE1 (r .low) (omega arith),
+          range-within {b = b} {lo = 0xE1} {hi = 0xEC} r,
+        )
+    go Ed r =
+        rw (
+          over 0x00 0x7F 0xED (r .low) (omega arith),
+          over 0xC2 0xDF 0xED (r .low) (omega arith),
+          over 0xE0 0xE0 0xED (r .low) (omega arith),
+          over 0xE1 0xEC 0xED (r .low) (omega arith),
+          range-within {b = b} {lo = 0xED} {hi = 0xED} r,
+        )
+    go EeToEf r =
+        rw (
+          over 0x00 0x7F 0xEE (r .low) (omega arith),
+          over 0xC2 0xDF 0xEE (r .low) (omega arith),
+          over 0xE0 0xE0 0xEE (r .low) (omega arith),
+          over 0xE1 0xEC 0xEE (r .low) (omega arith),
+          over 0xED 0xED 0xEE (r .low) (omega arith),
+          range-within {b = b} {lo = 0xEE} {hi = 0xEF} r,
+        )
+    go F0 r =
+        rw (
+          over 0x00 0x7F 0xF0 (r .low) (omega arith),
+          over 0xC2 0xDF 0xF0 (r .low) (omega arith),
+          over 0xE0 0xE0 0xF0 (r .low) (omega arith),
+          over 0xE1 0xEC 0xF0 (r .low) (omega arith),
+          over 0xED 0xED 0xF0 (r .low) (omega arith),
+          over 0xEE 0xEF 0xF0 (r .low) (omega arith),
+          range-within {b = b} {lo = 0xF0} {hi = 0xF0} r,
+        )
+    go F1ToF3 r =
+        rw (
+          over 0x00 0x7F 0xF1 (r .low) (omega arith),
+          over 0xC2 0xDF 0xF1 (r .low) (omega arith),
+          over 0xE0 0xE0 0xF1 (r .low) (omega arith),
+          over 0xE1 0xEC 0xF1 (r .low) (omega arith),
+          over 0xED 0xED 0xF1 (r .low) (omega arith),
+          over 0xEE 0xEF 0xF1 (r .low) (omega arith),
+          over 0xF0 0xF0 0xF1 (r .low) (omega arith),
+          range-within {b = b} {lo = 0xF1} {hi = 0xF3} r,
+        )
+    go F4 r =
+        rw (
+          over 0x00 0x7F 0xF4 (r .low) (omega arith),
+          over 0xC2 0xDF 0xF4 (r .low) (omega arith),
+          over 0xE0 0xE0 0xF4 (r .low) (omega arith),
+          over 0xE1 0xEC 0xF4 (r .low) (omega arith),
+          over 0xED 0xED 0xF4 (r .low) (omega arith),
+          over 0xEE 0xEF 0xF4 (r .low) (omega arith),
+          over 0xF0 0xF0 0xF4 (r .low) (omega arith),
+          over 0xF1 0xF3 0xF4 (r .low) (omega arith),
+          range-within {b = b} {lo = 0xF4} {hi = 0xF4} r,
+        )
 
 second-of : (l : Lead) (b : ℕ) → b from rowOf l .lo2 to (rowOf l .hi2) → charStep (Within (Second l)) b ≡ On (afterSecond (rowOf l .size))
 unfolding charStep innerStep if_then_else_
@@ -58,7 +109,9 @@ unfolding charStep innerStep if_then_else_
 tail-of-two (tail r) = rw (range-within r)
 
 -- a first byte of the row l, a second byte of that row, and what follows
-row-long : (l : Lead) {a b : ℕ} {bs : Bytes} → a from rowOf l .lo to (rowOf l .hi) → b from rowOf l .lo2 to (rowOf l .hi2) → Finishes (afterSecond (rowOf l .size)) bs → Long (a ∷ b ∷ bs)
+row-long :
+    (l : Lead) {a b : ℕ} {bs : Bytes} → a from rowOf l .lo to (rowOf l .hi) → b from rowOf l .lo2 to (rowOf l .hi2) →
+    Finishes (afterSecond (rowOf l .size)) bs → Long (a ∷ b ∷ bs)
 row-long l {a} {b} r s k = long (row-first l a r) (finishing (second-of l b s) k)
 
 one-more : {b : ℕ} → UTF8-tail b → Finishes (Within Last) (b ∷ [])

@@ -14,7 +14,9 @@ use Rattle.model.specs.rules.Decode.{kindOf, contentOf}
 use Rattle.model.proofs.Tests.{split, split-on, impossible, is→eq}
 use Rattle.model.proofs.cell_laws.CellContent.{no-more, no-stop, same-more}
 use Rattle.grammar.specs.rfc.Rfc5234.{_from_to_, DIGIT, Digits, no-digit, digit, SomeDigits, digits}
-use Rattle.grammar.specs.rfc.Rfc8259.{Number, number, no-minus, a-minus, Optional-frac, no-frac, a-frac, Optional-exp, no-exp, an-exp, decimal-point, digit1-9, E, small-e, large-e, exp, Optional-sign, no-sign, negative, positive, frac, Int, a-zero, nonzero, minus, plus, zero}
+use Rattle.grammar.specs.rfc.Rfc8259.{Number, number, no-minus, a-minus, Optional-frac, no-frac, a-frac, Optional-exp, no-exp, an-exp}
+use Rattle.grammar.specs.rfc.Rfc8259.{decimal-point, digit1-9, E, small-e, large-e, exp, Optional-sign, no-sign, negative, positive, frac, Int}
+use Rattle.grammar.specs.rfc.Rfc8259.{a-zero, nonzero, minus, plus, zero}
 use Rattle.grammar.proofs.rfc.Ranges.{range, within-range, range-within}
 use Rattle.grammar.proofs.rfc.Spelling.{Spells, whole, byte}
 
@@ -258,7 +260,9 @@ module _ {b : ℕ} {bs : Bytes} {e : Cell} (ih : (m : Numeral) → InNumber m �
       go ESign = split (P ESign) (isDigit b) (λ p q. sign-digit (is-digit p) (ih Exponent (same-more q))) λ _ q. no-more q
       go Exponent = split (P Exponent) (isDigit b) (λ p q. exponent-digit (is-digit p) (ih Exponent (same-more q))) λ _ q. no-stop q
 
-number-at : {e : Cell} {b : ℕ} {bs : Bytes} (n : Numeral) {c : Cell} → InNumber n ≡ c → cellStep Csvj c b ≡ More e → ((m : Numeral) → InNumber m ≡ e → NumberRest m bs) → NumberRest n (b ∷ bs)
+number-at :
+    {e : Cell} {b : ℕ} {bs : Bytes} (n : Numeral) {c : Cell} → InNumber n ≡ c → cellStep Csvj c b ≡ More e →
+    ((m : Numeral) → InNumber m ≡ e → NumberRest m bs) → NumberRest n (b ∷ bs)
 unfolding cellStep
 number-at {b} n p s ih = number-byte ih n (ap (λ c. cellStep Csvj c b) p ∙ s)
 

@@ -55,7 +55,9 @@ module _ {d : Dialect} {f : Char → Cell} (t : TextState d f) where
   finish-spells (finishing {i} {b} e m) k = byte (t .inner i b ∙ ap (textByte f) e) (finish-spells m k)
 
   -- a character of more than one byte, read from c as text is
-  pub long-spells : {c : Cell} {cs bs : Bytes} → ((b : ℕ) → 0x80 ≤ b → cellStep d c b ≡ textByte f (charStep Whole b)) → Long cs → Spells d (f Whole) bs → Spells d c (cs ++ bs)
+  pub long-spells :
+      {c : Cell} {cs bs : Bytes} → ((b : ℕ) → 0x80 ≤ b → cellStep d c b ≡ textByte f (charStep Whole b)) → Long cs → Spells d (f Whole) bs →
+      Spells d c (cs ++ bs)
   long-spells h (long {i} {b} e m) k = byte (h b (first-high b i e) ∙ ap (textByte f) e) (finish-spells m k)
 
 -- ---- words
@@ -66,7 +68,9 @@ complete-none (whole w) = refl
 complete-none (byte e k) = no-stop e
 
 -- the next letter, and then what follows it
-pub spelled : {d : Dialect} {xs : Bytes} (w : Word) (ys : Bytes) → Spells d (InWord w) xs → ((zs : Bytes) → Spells d (afterLetter w) zs → zs ≡ ys) → xs ≡ letterOf w ∷ ys
+pub spelled :
+    {d : Dialect} {xs : Bytes} (w : Word) (ys : Bytes) → Spells d (InWord w) xs → ((zs : Bytes) → Spells d (afterLetter w) zs → zs ≡ ys) →
+    xs ≡ letterOf w ∷ ys
 unfolding cellStep isWhole if_then_else_
 spelled w ys (whole e) h = impossible e
 spelled w ys (byte {e} {b} {bs} s k) h = go (b is letterOf w) refl

@@ -18,7 +18,10 @@ use Rattle.model.proofs.Tests.{split, split-on, impossible, and-true}
 use Rattle.model.proofs.cell_laws.Utf8.{inner-high}
 use Rattle.grammar.specs.rfc.Rfc5234.{_from_to_, HEXDIG, decimal, upper, lower}
 use Rattle.grammar.specs.rfc.Rfc3629.{Octets, one-octet, two-octets, three-octets, four-octets}
-use Rattle.grammar.specs.rfc.Rfc8259.{below-quote, below-backslash, above-backslash, above-ascii, Item, octets, unit, unescaped, quotation-mark, reverse-solidus, solidus, backspace, form-feed, line-feed, carriage-return, tab, uXXXX, escape, a-quotation-mark, Chars, no-char, char, Pair, halves, Content, nothing, as-they-lie, paired, single, String, string}
+use Rattle.grammar.specs.rfc.Rfc8259.{below-quote, below-backslash, above-backslash, above-ascii, Item, octets, unit, unescaped, quotation-mark}
+use Rattle.grammar.specs.rfc.Rfc8259.{reverse-solidus, solidus, backspace, form-feed, line-feed, carriage-return, tab, uXXXX, escape}
+use Rattle.grammar.specs.rfc.Rfc8259.{a-quotation-mark, Chars, no-char, char, Pair, halves, Content, nothing, as-they-lie, paired, single}
+use Rattle.grammar.specs.rfc.Rfc8259.{String, string}
 use Rattle.grammar.specs.rfc.Rfc8259 as json
 use Rattle.grammar.proofs.rfc.Ranges.{range, within-range, range-within}
 use Rattle.grammar.proofs.rfc.Chars.{Finishes, finished, finishing, Long, long, data-long, first-high}
@@ -55,7 +58,10 @@ hex-of (decimal {b} r) = rw (le-leb b 0x39 (r .high))
 hex-of (upper {b} r) = let h : 0x41 ≤ b = r .low in rw (lt-leb b 0x39 (omega arith), le-leb b 0x46 (r .high))
 hex-of (lower {b} r) = let h : 0x61 ≤ b = r .low in rw (lt-leb b 0x39 (omega arith), lt-leb b 0x46 (omega arith))
 
-escape-units : (a b c d : ℕ) (xs : Bytes) → units between (BACKSLASH ∷ 0x75 ∷ a ∷ b ∷ c ∷ d ∷ xs) ≡ decode.unit ((((0 * 0x10 + hexOf a) * 0x10 + hexOf b) * 0x10 + hexOf c) * 0x10 + hexOf d) ∷ units between xs
+escape-units :
+    (a b c d : ℕ) (xs : Bytes) →
+    units between (BACKSLASH ∷ 0x75 ∷ a ∷ b ∷ c ∷ d ∷ xs)
+    ≡ decode.unit ((((0 * 0x10 + hexOf a) * 0x10 + hexOf b) * 0x10 + hexOf c) * 0x10 + hexOf d) ∷ units between xs
 unfolding units if_then_else_
 escape-units a b c d xs = refl
 

@@ -8,7 +8,8 @@ use mathlib.Core.Bool.{true}
 use mathlib.Core.List.{List, [], _∷_, _++_, append-assoc}
 use lib.Dec.{leb, ltb}
 use borrow.Author.Tests.{ne-eqb, eqb-false, le-ltb, ltb-false, leb-true, leb-false}
-use Rattle.grammar.specs.rfc.Types.{Csvj, Inner, Char, Whole, Within, On, HexLeft, Four, Three, Two, One, Cell, Quoted, Escape, Hex, Complete, CellStep, More}
+use Rattle.grammar.specs.rfc.Types.{Csvj, Inner, Char, Whole, Within, On, HexLeft, Four, Three, Two, One, Cell, Quoted, Escape, Hex, Complete}
+use Rattle.grammar.specs.rfc.Types.{CellStep, More}
 use Rattle.model.specs.rules.Base.{Bytes, QUOTE, BACKSLASH, _is_, within, if_then_else_}
 use Rattle.model.specs.rules.Utf8.{charStep}
 use Rattle.model.specs.rules.Cell.{textByte, isDigit, isHex, isShort, afterHex, quotedByte, cellStep, isWhole}
@@ -16,7 +17,9 @@ use Rattle.model.proofs.Tests.{split, split-on, impossible, is→eq}
 use Rattle.model.proofs.cell_laws.Utf8.{ascii-whole}
 use Rattle.model.proofs.cell_laws.CellContent.{no-more, no-stop, same-more, char-on}
 use Rattle.grammar.specs.rfc.Rfc5234.{HEXDIG, decimal, upper, lower}
-use Rattle.grammar.specs.rfc.Rfc8259.{Unescaped, below-quote, below-backslash, above-backslash, above-ascii, Item, unescaped, quotation-mark, reverse-solidus, solidus, backspace, form-feed, line-feed, carriage-return, tab, uXXXX, escape, Chars, no-char, char}
+use Rattle.grammar.specs.rfc.Rfc8259.{Unescaped, below-quote, below-backslash, above-backslash, above-ascii, Item, unescaped, quotation-mark}
+use Rattle.grammar.specs.rfc.Rfc8259.{reverse-solidus, solidus, backspace, form-feed, line-feed, carriage-return, tab, uXXXX, escape, Chars}
+use Rattle.grammar.specs.rfc.Rfc8259.{no-char, char}
 use Rattle.grammar.specs.rfc.Rfc8259 as json
 use Rattle.grammar.proofs.rfc.Ranges.{range, within-range, range-within, above-within}
 use Rattle.grammar.proofs.rfc.Chars.{Finishes, finished, finishing, long, data-long, long-data, whole-ascii}
@@ -61,7 +64,8 @@ char-spells (form-feed escape) k = byte refl (byte refl k)
 char-spells (line-feed escape) k = byte refl (byte refl k)
 char-spells (carriage-return escape) k = byte refl (byte refl k)
 char-spells (tab escape) k = byte refl (byte refl k)
-char-spells (uXXXX escape w x y z) k = byte refl (byte refl (byte (hex-step Four w) (byte (hex-step Three x) (byte (hex-step Two y) (byte (hex-step One z) k)))))
+char-spells (uXXXX escape w x y z) k =
+    byte refl (byte refl (byte (hex-step Four w) (byte (hex-step Three x) (byte (hex-step Two y) (byte (hex-step One z) k)))))
 
 pub chars-spell : {bs : Bytes} {us : List Item} → Chars bs us → Spells Csvj (Quoted Whole) (bs ++ (QUOTE ∷ []))
 unfolding cellStep quotedByte isWhole if_then_else_
@@ -111,7 +115,9 @@ ascii-unescaped b h k n m =
     split-on (leb b 0x5B) (λ q. below-backslash (range (omega arith) (leb-true b 0x5B q))) λ q.
     let j : 0x5B < b = leb-false b 0x5B q in above-backslash (range (omega arith) k)
 
-text-char : (c : Char) (b : ℕ) {bs : Bytes} → 0x20 ≤ b → b ≢ QUOTE → b ≢ BACKSLASH → charStep Whole b ≡ On c → StringRest (Quoted c) bs → StringRest (Quoted Whole) (b ∷ bs)
+text-char :
+    (c : Char) (b : ℕ) {bs : Bytes} → 0x20 ≤ b → b ≢ QUOTE → b ≢ BACKSLASH → charStep Whole b ≡ On c → StringRest (Quoted c) bs →
+    StringRest (Quoted Whole) (b ∷ bs)
 text-char Whole b h n m e (in-quoted finished k) = in-quoted finished (more-char (unescaped (ascii-unescaped b h (whole-ascii b e) n m)) k)
 text-char (Within i) b h n m e (in-quoted f k) = in-quoted finished (more-char (unescaped (above-ascii (long-data (long e f)))) k)
 
@@ -178,7 +184,8 @@ module _ {e : Cell} {bs : Bytes} (ih : InString e → StringRest e bs) where
       split P (ltb b 0x20) (λ p q. no-more q) λ l q.
       let x = char-on Quoted Whole b e q in
       text-char (x .char) b (ltb-false b 0x20 l) (eqb-false b QUOTE n) (eqb-false b BACKSLASH m) (x .step) (onward (at-quoted (x .char)) (ap More (x .cell)))
-  string-byte {b} (at-quoted (Within i)) = λ q. let x = char-on Quoted (Within i) b e q in inner-char (x .step) (onward (at-quoted (x .char)) (ap More (x .cell)))
+  string-byte {b} (at-quoted (Within i)) =
+      λ q. let x = char-on Quoted (Within i) b e q in inner-char (x .step) (onward (at-quoted (x .char)) (ap More (x .cell)))
   string-byte at-complete = λ q. no-stop q
   string-byte {b} at-escape =
       let P : CellStep → Type 0 = λ a. a ≡ More e → StringRest Escape (b ∷ bs) in

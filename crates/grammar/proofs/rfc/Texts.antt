@@ -10,7 +10,8 @@ use Rattle.model.specs.rules.Base.{Bytes}
 use Rattle.model.specs.rules.Utf8.{charStep, textFrom}
 use Rattle.model.proofs.Tests.{impossible}
 use Rattle.model.proofs.cell_laws.Utf8.{ascii-whole, TextStep, text-step, text-on, text-more}
-use Rattle.grammar.specs.rfc.Rfc3629.{UTF8-octets, no-octets, octets, UTF8-char, char-1, char-2, char-3, char-4, one, UTF8-data, of-two, of-three, of-four}
+use Rattle.grammar.specs.rfc.Rfc3629.{UTF8-octets, no-octets, octets, UTF8-char, char-1, char-2, char-3, char-4, one, UTF8-data, of-two}
+use Rattle.grammar.specs.rfc.Rfc3629.{of-three, of-four}
 use Rattle.grammar.proofs.rfc.Ranges.{range}
 use Rattle.grammar.proofs.rfc.Chars.{Finishes, finished, finishing, Long, long, data-long, long-data, whole-ascii}
 

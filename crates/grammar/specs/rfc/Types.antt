@@ -37,6 +37,7 @@ pub use Rattle.model.specs.declared.Step.the-variants.{To, Reject}
 pub use Rattle.model.specs.declared.Ending.{Ending}
 pub use Rattle.model.specs.declared.Ending.the-variants.{Clean, Final, Cut}
 pub use Rattle.model.specs.declared.Fault.{Fault}
-pub use Rattle.model.specs.declared.Fault.the-variants.{NoRecord, Byte, CutShort, CellCount, RepeatedName, HeaderKind, FileTooLong, RecordTooLong, TooManyColumns, NoCells, LacksKind, LoneSurrogate, Clash, TextTooLong, OutputTooLong}
+pub use Rattle.model.specs.declared.Fault.the-variants.{NoRecord, Byte, CutShort, CellCount, RepeatedName, HeaderKind, FileTooLong, RecordTooLong}
+pub use Rattle.model.specs.declared.Fault.the-variants.{TooManyColumns, NoCells, LacksKind, LoneSurrogate, Clash, TextTooLong, OutputTooLong}
 pub use Rattle.model.specs.declared.CheckResult.{CheckResult}
 pub use Rattle.model.specs.declared.CheckResult.the-variants.{Sound, Faulty}

@@ -5,7 +5,8 @@ use mathlib.Core.Path.{_≡_, refl, sym, _∙_}
 use mathlib.Core.Bool.{Bool, true, false, _||_}
 use mathlib.Core.List.{[], _∷_}
 use Rattle.model.specs.rules.Types.{Settings, Dialect, Csvj, Tdif, CsvPlus, Inner, Char, Whole, Within, Advance, On, Broken, ByteFault}
-use Rattle.model.specs.rules.Types.{Numeral, Minus, Zero, Integer, Point, Fraction, E, ESign, Exponent, Cell, Fresh, Quoted, Closed, InNumber, Plain, CellStep, More, Stop, Refuse}
+use Rattle.model.specs.rules.Types.{Numeral, Minus, Zero, Integer, Point, Fraction, E, ESign, Exponent, Cell, Fresh, Quoted, Closed, InNumber}
+use Rattle.model.specs.rules.Types.{Plain, CellStep, More, Stop, Refuse}
 use Rattle.model.specs.rules.Base.{Bytes, QUOTE, CR, LF, _is_, if_then_else_}
 use Rattle.model.specs.rules.Dialect.{quoteOf, delimiterOf}
 use Rattle.model.specs.rules.Utf8.{charStep, textFrom}
@@ -62,7 +63,9 @@ module _ (d : Dialect) (k : Doubles d) where
   un-end : {bs : Bytes} → Undoubled Closed bs → textFrom Whole (undouble (quoteOf d) true bs) ≡ true
   un-end (un-closed e) = e
 
-  quoted-whole : (b : ℕ) (c′ : Cell) (bs : Bytes) → cellStep d (Quoted Whole) b ≡ More c′ → Undoubled c′ bs → textFrom Whole (undouble (quoteOf d) false (b ∷ bs)) ≡ true
+  quoted-whole :
+      (b : ℕ) (c′ : Cell) (bs : Bytes) → cellStep d (Quoted Whole) b ≡ More c′ → Undoubled c′ bs →
+      textFrom Whole (undouble (quoteOf d) false (b ∷ bs)) ≡ true
   unfolding undouble if_then_else_
   quoted-whole b c′ bs e u = go (b is quoteOf d) refl
     where
@@ -74,7 +77,9 @@ module _ (d : Dialect) (k : Doubles d) where
           let x = char-on Quoted Whole b c′ (rw p at (sym (quoted-is k b) ∙ e)) in
           rw (p, undouble) (text-more Whole (x .char) b (undouble (quoteOf d) false bs) (x .step) ∙ un-text (rw (← (x .cell)) at u))
 
-  quoted-inner : (i : Inner) (b : ℕ) (c′ : Cell) (bs : Bytes) → cellStep d (Quoted (Within i)) b ≡ More c′ → Undoubled c′ bs → textFrom (Within i) (undouble (quoteOf d) false (b ∷ bs)) ≡ true
+  quoted-inner :
+      (i : Inner) (b : ℕ) (c′ : Cell) (bs : Bytes) → cellStep d (Quoted (Within i)) b ≡ More c′ → Undoubled c′ bs →
+      textFrom (Within i) (undouble (quoteOf d) false (b ∷ bs)) ≡ true
   unfolding undouble cellStep if_then_else_
   quoted-inner i b c′ bs e u =
       let x = char-on Quoted (Within i) b c′ e in
@@ -151,11 +156,15 @@ module _ (s : Settings) where
       let i : InPlain c′ bs = plain-run (rw (← (x .cell)) is-plain) r w in
       in-plain (text-more c (x .char) b bs (x .step) ∙ plain-text (rw (← (x .cell)) at i))
 
-  plus-first : (b : ℕ) (bs : Bytes) (c′ : Cell) {e : Cell} → cellStep (CsvPlus s) Fresh b ≡ More c′ → Runs (CsvPlus s) c′ bs e → isWhole (CsvPlus s) e ≡ true → textFrom Whole (contentOf (CsvPlus s) (b ∷ bs)) ≡ true
+  plus-first :
+      (b : ℕ) (bs : Bytes) (c′ : Cell) {e : Cell} → cellStep (CsvPlus s) Fresh b ≡ More c′ → Runs (CsvPlus s) c′ bs e →
+      isWhole (CsvPlus s) e ≡ true → textFrom Whole (contentOf (CsvPlus s) (b ∷ bs)) ≡ true
   unfolding contentOf cellStep firstByte if_then_else_
   plus-first b bs c′ {e} x r w = go (b is quoteOf (CsvPlus s)) (b is delimiterOf (CsvPlus s) || b is CR || b is LF) refl refl
     where
-      go : (p q : Bool) → (b is quoteOf (CsvPlus s)) ≡ p → (b is delimiterOf (CsvPlus s) || b is CR || b is LF) ≡ q → textFrom Whole (contentOf (CsvPlus s) (b ∷ bs)) ≡ true
+      go :
+          (p q : Bool) → (b is quoteOf (CsvPlus s)) ≡ p → (b is delimiterOf (CsvPlus s) || b is CR || b is LF) ≡ q →
+          textFrom Whole (contentOf (CsvPlus s) (b ∷ bs)) ≡ true
       go true q h k =
           let z : Quoted Whole ≡ c′ = same-more (rw h at x) in
           let r′ : Runs (CsvPlus s) (Quoted Whole) bs e = rw (← z) at r in
@@ -176,7 +185,9 @@ module _ (s : Settings) where
 
 -- ---- TDIF
 
-tdif-first : (b : ℕ) (bs : Bytes) (c′ : Cell) {e : Cell} → cellStep Tdif Fresh b ≡ More c′ → Runs Tdif c′ bs e → isWhole Tdif e ≡ true → textFrom Whole (contentOf Tdif (b ∷ bs)) ≡ true
+tdif-first :
+    (b : ℕ) (bs : Bytes) (c′ : Cell) {e : Cell} → cellStep Tdif Fresh b ≡ More c′ → Runs Tdif c′ bs e → isWhole Tdif e ≡ true →
+    textFrom Whole (contentOf Tdif (b ∷ bs)) ≡ true
 unfolding contentOf cellStep firstByte textFrom if_then_else_
 tdif-first b bs c′ {e} x r w = go (b is QUOTE) refl
   where

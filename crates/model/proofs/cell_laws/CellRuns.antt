@@ -4,7 +4,8 @@ use native.Mathlib.Omega.{arith}
 use mathlib.Core.Path.{_≡_, refl}
 use mathlib.Core.Bool.{Bool, true, false}
 use mathlib.Core.List.{List, [], _∷_, _++_}
-use Rattle.model.specs.rules.Types.{Delimiter, Comma, Semicolon, Tab, Bar, Quote, Double, Single, Settings, Dialect, CsvPlus, EeToEf, Second, Last, Within}
+use Rattle.model.specs.rules.Types.{Delimiter, Comma, Semicolon, Tab, Bar, Quote, Double, Single, Settings, Dialect, CsvPlus, EeToEf, Second}
+use Rattle.model.specs.rules.Types.{Last, Within}
 use Rattle.model.specs.rules.Types.{Cell, Fresh, Plain, CellStep, More, Stop, Refuse}
 use Rattle.model.specs.rules.Types.{Fault, CellCheck, WholeCell, Unsound}
 use Rattle.model.specs.rules.Types as types
@@ -65,7 +66,11 @@ sound-runs d c i [] h = go (isWhole d c) refl h
     go false e k = unsound-sound k
 sound-runs d c i (b ∷ bs) h = go (cellStep d c b) refl h (λ c′. sound-runs d c′ (suc i) bs)
   where
-    go : (a : CellStep) → cellStep d c b ≡ a → (elim a as (λ _. CellCheck) [ More c′ ↦ validateFrom d c′ (suc i) bs | Stop ↦ Unsound (types.Byte types.Syntax) i | Refuse x ↦ Unsound (types.Byte x) i ]) ≡ WholeCell → ((c′ : Cell) → validateFrom d c′ (suc i) bs ≡ WholeCell → WholeRun d c′ bs) → WholeRun d c (b ∷ bs)
+    go :
+        (a : CellStep) → cellStep d c b ≡ a →
+        (elim a as (λ _. CellCheck)
+        [ More c′ ↦ validateFrom d c′ (suc i) bs | Stop ↦ Unsound (types.Byte types.Syntax) i | Refuse x ↦ Unsound (types.Byte x) i ])
+        ≡ WholeCell → ((c′ : Cell) → validateFrom d c′ (suc i) bs ≡ WholeCell → WholeRun d c′ bs) → WholeRun d c (b ∷ bs)
     go (More c′) e k ih = let w = ih c′ k in record { end = w .end; runs = there e (w .runs); whole = w .whole }
     go Stop e k ih = unsound-sound k
     go (Refuse x) e k ih = unsound-sound k

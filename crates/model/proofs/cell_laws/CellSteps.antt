@@ -8,7 +8,8 @@ use mathlib.Core.Bool.{Bool, true, false, _||_}
 use lib.Dec.{ltb}
 use borrow.Author.Tests.{ltb-true}
 use Rattle.model.specs.rules.Types.{Dialect, Csvj, Tdif, CsvPlus, Char, Whole, Within, Advance, On, Broken}
-use Rattle.model.specs.rules.Types.{Numeral, Minus, Zero, Integer, Point, Fraction, E, ESign, Exponent, Cell, Fresh, Quoted, Closed, Escape, Hex, InNumber, InWord, Plain, Complete, CellStep, More, Stop, Refuse, Encoding, Syntax}
+use Rattle.model.specs.rules.Types.{Numeral, Minus, Zero, Integer, Point, Fraction, E, ESign, Exponent, Cell, Fresh, Quoted, Closed, Escape}
+use Rattle.model.specs.rules.Types.{Hex, InNumber, InWord, Plain, Complete, CellStep, More, Stop, Refuse, Encoding, Syntax}
 use Rattle.model.specs.rules.Base.{LF, CR, QUOTE, BACKSLASH, _is_}
 use Rattle.model.specs.rules.Dialect.{quoteOf, delimiterOf}
 use Rattle.model.specs.rules.Utf8.{charStep}
@@ -41,7 +42,9 @@ first-takes Csvj b =
     let P : CellStep → Type 0 = CellTransition Csvj Fresh false in
     split P _ (λ _. takes-more) λ _. split P _ (λ _. takes-more) λ _. split P _ (λ _. takes-more) λ _. split P _ (λ _. takes-more) λ _.
     split P _ (λ _. takes-more) λ _. split P _ (λ _. takes-more) λ _. split P _ (λ _. takes-more) λ _. takes-three
-first-takes Tdif b = split (CellTransition Tdif Fresh false) _ (λ _. takes-more) λ _. split (CellTransition Tdif Fresh false) _ (λ _. takes-more) λ _. takes-three
+first-takes Tdif b =
+    split (CellTransition Tdif Fresh false) _ (λ _. takes-more) λ _. split (CellTransition Tdif Fresh false) _ (λ _. takes-more) λ _.
+    takes-three
 first-takes (CsvPlus s) b =
     let P : CellStep → Type 0 = CellTransition (CsvPlus s) Fresh (isBroken (charStep Whole b)) in
     let d : Dialect = CsvPlus s in
@@ -56,11 +59,13 @@ quoted-takes Csvj b =
     split P (b is BACKSLASH) (λ e. ascii-takes b (is-ascii b BACKSLASH (omega arith) e) takes-more) λ _.
     split P (ltb b 0x20) (λ e. let h : b < 0x20 = ltb-true b 0x20 e in ascii-takes b (omega arith) takes-three) λ _. text-takes Quoted (charStep Whole b)
 quoted-takes Tdif b =
-    split (CellTransition Tdif (Quoted Whole) (isBroken (charStep Whole b))) (b is QUOTE) (λ e. ascii-takes b (is-ascii b QUOTE (omega arith) e) takes-more) λ _.
+    split (CellTransition Tdif (Quoted Whole) (isBroken (charStep Whole b))) (b is QUOTE)
+    (λ e. ascii-takes b (is-ascii b QUOTE (omega arith) e) takes-more) λ _.
     text-takes Quoted (charStep Whole b)
 quoted-takes (CsvPlus s) b =
     let d : Dialect = CsvPlus s in
-    split (CellTransition d (Quoted Whole) (isBroken (charStep Whole b))) (b is quoteOf d) (λ e. ascii-takes b (is-ascii b (quoteOf d) (quote-ascii d) e) takes-more) λ _.
+    split (CellTransition d (Quoted Whole) (isBroken (charStep Whole b))) (b is quoteOf d)
+    (λ e. ascii-takes b (is-ascii b (quoteOf d) (quote-ascii d) e) takes-more) λ _.
     text-takes Quoted (charStep Whole b)
 
 plain-takes : (d : Dialect) (b : ℕ) → CellTransition d (Plain Whole) (isBroken (charStep Whole b)) (plainByte d b)
@@ -75,9 +80,11 @@ unfolding numeralStep isWhole
 numeral-takes d Minus b = let P = CellTransition d (InNumber Minus) false in split P _ (λ _. takes-more) λ _. split P _ (λ _. takes-more) λ _. takes-three
 numeral-takes d Zero b = let P = CellTransition d (InNumber Zero) false in split P _ (λ _. takes-more) λ _. split P _ (λ _. takes-more) λ _. takes-stop refl
 numeral-takes d Integer b =
-    let P = CellTransition d (InNumber Integer) false in split P _ (λ _. takes-more) λ _. split P _ (λ _. takes-more) λ _. split P _ (λ _. takes-more) λ _. takes-stop refl
+    let P = CellTransition d (InNumber Integer) false in
+    split P _ (λ _. takes-more) λ _. split P _ (λ _. takes-more) λ _. split P _ (λ _. takes-more) λ _. takes-stop refl
 numeral-takes d Point b = split (CellTransition d (InNumber Point) false) _ (λ _. takes-more) λ _. takes-three
-numeral-takes d Fraction b = let P = CellTransition d (InNumber Fraction) false in split P _ (λ _. takes-more) λ _. split P _ (λ _. takes-more) λ _. takes-stop refl
+numeral-takes d Fraction b =
+    let P = CellTransition d (InNumber Fraction) false in split P _ (λ _. takes-more) λ _. split P _ (λ _. takes-more) λ _. takes-stop refl
 numeral-takes d E b = let P = CellTransition d (InNumber E) false in split P _ (λ _. takes-more) λ _. split P _ (λ _. takes-more) λ _. takes-three
 numeral-takes d ESign b = split (CellTransition d (InNumber ESign) false) _ (λ _. takes-more) λ _. takes-three
 numeral-takes d Exponent b = split (CellTransition d (InNumber Exponent) false) _ (λ _. takes-more) λ _. takes-stop refl
@@ -88,7 +95,9 @@ cell-transition d Fresh b = first-takes d b
 cell-transition d (Quoted Whole) b = quoted-takes d b
 cell-transition d (Quoted (Within i)) b = text-takes Quoted (charStep (Within i) b)
 cell-transition d Closed b = split (CellTransition d Closed false) _ (λ _. takes-more) λ _. takes-stop refl
-cell-transition d Escape b = split (CellTransition d Escape false) _ (λ _. takes-more) λ _. split (CellTransition d Escape false) _ (λ _. takes-more) λ _. takes-three
+cell-transition d Escape b =
+    split (CellTransition d Escape false) _ (λ _. takes-more) λ _. split (CellTransition d Escape false) _ (λ _. takes-more) λ _.
+    takes-three
 cell-transition d (Hex n) b = split (CellTransition d (Hex n) false) _ (λ _. takes-more) λ _. takes-three
 cell-transition d (InNumber n) b = numeral-takes d n b
 cell-transition d (InWord w) b = split (CellTransition d (InWord w) false) _ (λ _. takes-more) λ _. takes-three

@@ -5,7 +5,8 @@ use mathlib.Core.Path.{_≡_, refl}
 use mathlib.Core.Bool.{Bool, true, false}
 use Rattle.model.specs.rules.Types.{Dialect, Csvj, Tdif, CsvPlus, EeToEf, Second, Last, Within}
 use Rattle.model.specs.rules.Types.{Cell, Fresh, Plain, More, ByteFault}
-use Rattle.model.specs.rules.Types.{FileState, Top, Begin, Ended, Bom1, Bom2, PlainBom1, PlainBom2, Comment, Blanks, ExpectCell, Inside, After, Cr, Outside, Passed, OfCell, Between, Tail, Ends, Step, To, Reject, Ending, Clean, Final, Cut}
+use Rattle.model.specs.rules.Types.{FileState, Top, Begin, Ended, Bom1, Bom2, PlainBom1, PlainBom2, Comment, Blanks, ExpectCell, Inside, After}
+use Rattle.model.specs.rules.Types.{Cr, Outside, Passed, OfCell, Between, Tail, Ends, Step, To, Reject, Ending, Clean, Final, Cut}
 use Rattle.model.specs.rules.Types as types
 use Rattle.model.specs.rules.Cell.{cellStep, isWhole}
 use Rattle.model.specs.rules.File.{fileStep, fileEnd, lastCell}

@@ -13,7 +13,9 @@ use Rattle.model.proofs.cell_laws.CellRuns.{Runs, there, WholeRun, soun
 use Rattle.model.proofs.cell_laws.CellContent.{tdif-content, plus-content, same-more, number-step, number-text, ascii-text, first-number}
 use Rattle.model.proofs.cell_laws.JsonContent.{string-content}
 
-csvj-first : (b : ℕ) (bs : Bytes) (c′ : Cell) {e : Cell} → cellStep Csvj Fresh b ≡ More c′ → Runs Csvj c′ bs e → isWhole Csvj e ≡ true → isContent (contentOf Csvj (b ∷ bs)) ≡ true
+csvj-first :
+    (b : ℕ) (bs : Bytes) (c′ : Cell) {e : Cell} → cellStep Csvj Fresh b ≡ More c′ → Runs Csvj c′ bs e → isWhole Csvj e ≡ true →
+    isContent (contentOf Csvj (b ∷ bs)) ≡ true
 unfolding contentOf isContent wideFrom if_then_else_
 csvj-first b bs c′ {e} x r w = go (b is QUOTE) (b is 0x2D || isDigit b) refl refl
   where

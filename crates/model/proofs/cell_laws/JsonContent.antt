@@ -9,10 +9,12 @@ use mathlib.Core.Option.{some}
 use mathlib.Core.List.{List, [], _∷_, _++_, append-nil}
 use lib.Dec.{leb, ltb}
 use borrow.Author.Tests.{leb-true, leb-false, le-leb, lt-leb, ne-eqb}
-use Rattle.model.specs.rules.Types.{Csvj, Lead, C2ToDf, E0, E1ToEc, Ed, EeToEf, F0, F1ToF3, F4, Inner, Second, LastTwo, Last, Char, Whole, Within, On, HexLeft, Four, Three, Two, One}
+use Rattle.model.specs.rules.Types.{Csvj, Lead, C2ToDf, E0, E1ToEc, Ed, EeToEf, F0, F1ToF3, F4, Inner, Second, LastTwo, Last, Char, Whole}
+use Rattle.model.specs.rules.Types.{Within, On, HexLeft, Four, Three, Two, One}
 use Rattle.model.specs.rules.Types.{Cell, Quoted, Escape, Hex, Complete, More}
 use Rattle.model.specs.rules.Base.{Bytes, QUOTE, BACKSLASH, _is_, if_then_else_}
-use Rattle.model.specs.rules.Utf8.{rowOf, leads, leadByte, innerStep, charStep, Wide, gap, ed, lone, inner, wideStep, wideFrom, isContent, pack, isHigh, isLow, joined}
+use Rattle.model.specs.rules.Utf8.{rowOf, leads, leadByte, innerStep, charStep, Wide, gap, ed, lone, inner, wideStep, wideFrom, isContent, pack}
+use Rattle.model.specs.rules.Utf8.{isHigh, isLow, joined}
 use Rattle.model.specs.rules.Cell.{quotedByte, cellStep, isWhole, isShort, isHex, afterHex}
 use Rattle.model.specs.rules.Decode.{Unit16, byte, unit, between, escape, digits, units, textOf, hexOf}
 use Rattle.model.proofs.Tests.{split, split-on, impossible, is→eq, and-true, within-true}
@@ -56,17 +58,56 @@ module _ (b : ℕ) where
   row-e1 : 0xE1 ≤ b → b ≤ 0xEC → charStep Whole b ≡ On (Within (Second E1ToEc))
   unfolding charStep leadByte leads rowOf if_then_else_
   row-e1 l h =
-      rw (le-leb 0 b (omega arith), lt-leb b 0x7F (omega arith), le-leb 0xC2 b (omega arith), lt-leb b 0xDF (omega arith), le-leb 0xE0 b (omega arith), lt-leb b 0xE0 (omega arith), le-leb 0xE1 b l, le-leb b 0xEC h)
+      rw (
+        le-leb 0 b (omega arith),
+        lt-leb b 0x7F (omega arith),
+        le-leb 0xC2 b (omega arith),
+        lt-leb b 0xDF (omega arith),
+        le-leb 0xE0 b (omega arith),
+        lt-leb b 0xE0 (omega arith),
+        le-leb 0xE1 b l,
+        le-leb b 0xEC h,
+      )
 
   row-ee : 0xEE ≤ b → b ≤ 0xEF → charStep Whole b ≡ On (Within (Second EeToEf))
   unfolding charStep leadByte leads rowOf if_then_else_
   row-ee l h =
-      rw (le-leb 0 b (omega arith), lt-leb b 0x7F (omega arith), le-leb 0xC2 b (omega arith), lt-leb b 0xDF (omega arith), le-leb 0xE0 b (omega arith), lt-leb b 0xE0 (omega arith), le-leb 0xE1 b (omega arith), lt-leb b 0xEC (omega arith), le-leb 0xED b (omega arith), lt-leb b 0xED (omega arith), le-leb 0xEE b l, le-leb b 0xEF h)
+      rw (
+        le-leb 0 b (omega arith),
+        lt-leb b 0x7F (omega arith),
+        le-leb 0xC2 b (omega arith),
+        lt-leb b 0xDF (omega arith),
+        le-leb 0xE0 b (omega arith),
+        lt-leb b 0xE0 (omega arith),
+        le-leb 0xE1 b (omega arith),
+        lt-leb b 0xEC (omega arith),
+        le-leb 0xED b (omega arith),
+        lt-leb b 0xED (omega arith),
+        le-leb 0xEE b l,
+        le-leb b 0xEF h,
+      )
 
   row-f1 : 0xF1 ≤ b → b ≤ 0xF3 → charStep Whole b ≡ On (Within (Second F1ToF3))
   unfolding charStep leadByte leads rowOf if_then_else_
   row-f1 l h =
-      rw (le-leb 0 b (omega arith), lt-leb b 0x7F (omega arith), le-leb 0xC2 b (omega arith), lt-leb b 0xDF (omega arith), le-leb 0xE0 b (omega arith), lt-leb b 0xE0 (omega arith), le-leb 0xE1 b (omega arith), lt-leb b 0xEC (omega arith), le-leb 0xED b (omega arith), lt-leb b 0xED (omega arith), le-leb 0xEE b (omega arith), lt-leb b 0xEF (omega arith), le-leb 0xF0 b (omega arith), lt-leb b 0xF0 (omega arith), le-leb 0xF1 b l, le-leb b 0xF3 h)
+      rw (
+        le-leb 0 b (omega arith),
+        lt-leb b 0x7F (omega arith),
+        le-leb 0xC2 b (omega arith),
+        lt-leb b 0xDF (omega arith),
+        le-leb 0xE0 b (omega arith),
+        lt-leb b 0xE0 (omega arith),
+        le-leb 0xE1 b (omega arith),
+        lt-leb b 0xEC (omega arith),
+        le-leb 0xED b (omega arith),
+        lt-leb b 0xED (omega arith),
+        le-leb 0xEE b (omega arith),
+        lt-leb b 0xEF (omega arith),
+        le-leb 0xF0 b (omega arith),
+        lt-leb b 0xF0 (omega arith),
+        le-leb 0xF1 b l,
+        le-leb b 0xF3 h,
+      )
 
   -- a later byte
   last : 0x80 ≤ b → b ≤ 0xBF → charStep (Within Last) b ≡ On Whole
@@ -111,15 +152,21 @@ module _ (b : ℕ) where
   second-f4 l h = rw (le-leb 0x80 b l, le-leb b 0x8F h)
 
 -- the rows of one first byte
-row-of-one : (charStep Whole 0xE0 ≡ On (Within (Second E0))) × (charStep Whole 0xED ≡ On (Within (Second Ed))) × (charStep Whole 0xF0 ≡ On (Within (Second F0))) × (charStep Whole 0xF4 ≡ On (Within (Second F4)))
+row-of-one :
+    (charStep Whole 0xE0 ≡ On (Within (Second E0))) × (charStep Whole 0xED ≡ On (Within (Second Ed)))
+    × (charStep Whole 0xF0 ≡ On (Within (Second F0))) × (charStep Whole 0xF4 ≡ On (Within (Second F4)))
 unfolding charStep leadByte leads rowOf if_then_else_
 row-of-one = (refl, refl, refl, refl)
 
 -- three bytes and four bytes of a row
-three : (h : Bool) (l : Lead) (a b c : ℕ) → charStep Whole a ≡ On (Within (Second l)) → charStep (Within (Second l)) b ≡ On (Within Last) → 0x80 ≤ c → c ≤ 0xBF → ToGap (gap h) (a ∷ b ∷ c ∷ [])
+three :
+    (h : Bool) (l : Lead) (a b c : ℕ) → charStep Whole a ≡ On (Within (Second l)) → charStep (Within (Second l)) b ≡ On (Within Last) →
+    0x80 ≤ c → c ≤ 0xBF → ToGap (gap h) (a ∷ b ∷ c ∷ [])
 three h l a b c e f p q = char-runs h a (Within (Second l)) (b ∷ c ∷ []) e (c-there f (c-there (last c p q) c-here))
 
-four : (h : Bool) (l : Lead) (a b c d : ℕ) → charStep Whole a ≡ On (Within (Second l)) → charStep (Within (Second l)) b ≡ On (Within LastTwo) → 0x80 ≤ c → c ≤ 0xBF → 0x80 ≤ d → d ≤ 0xBF → ToGap (gap h) (a ∷ b ∷ c ∷ d ∷ [])
+four :
+    (h : Bool) (l : Lead) (a b c d : ℕ) → charStep Whole a ≡ On (Within (Second l)) → charStep (Within (Second l)) b ≡ On (Within LastTwo) →
+    0x80 ≤ c → c ≤ 0xBF → 0x80 ≤ d → d ≤ 0xBF → ToGap (gap h) (a ∷ b ∷ c ∷ d ∷ [])
 four h l a b c d e f p q r s =
     char-runs h a (Within (Second l)) (b ∷ c ∷ d ∷ []) e (c-there f (c-there (last-two c p q) (c-there (last d r s) c-here)))
 
@@ -137,12 +184,21 @@ module _ (h : Bool) (u : ℕ) (l : 0x7FF < u) (m : u ≤ 0xFFFF) where
   below-surrogates : (u < 0xD800) → ToGap (gap h) (B1 ∷ B2 ∷ B3 ∷ [])
   below-surrogates n =
       split-on (leb u 0xFFF)
-      (λ p. let k : u ≤ 0xFFF = leb-true u 0xFFF p in let q : B1 ≡ 0xE0 = omega arith in three h E0 B1 B2 B3 (rw q (row-of-one .0)) (second-e0 B2 (omega arith) (omega arith)) (omega arith) (omega arith))
+      (λ p.
+      let k : u ≤ 0xFFF = leb-true u 0xFFF p in
+      let q : B1 ≡ 0xE0 = omega arith in
+      three h E0 B1 B2 B3 (rw q (row-of-one .0)) (second-e0 B2 (omega arith) (omega arith)) (omega arith) (omega arith))
       (λ p.
       let k : 0xFFF < u = leb-false u 0xFFF p in
       split-on (leb u 0xCFFF)
-      (λ r. let g : u ≤ 0xCFFF = leb-true u 0xCFFF r in three h E1ToEc B1 B2 B3 (row-e1 B1 (omega arith) (omega arith)) (second-e1 B2 (omega arith) (omega arith)) (omega arith) (omega arith))
-      (λ r. let g : 0xCFFF < u = leb-false u 0xCFFF r in let q : B1 ≡ 0xED = omega arith in three h Ed B1 B2 B3 (rw q (row-of-one .1)) (second-ed B2 (omega arith) (omega arith)) (omega arith) (omega arith)))
+      (λ r.
+      let g : u ≤ 0xCFFF = leb-true u 0xCFFF r in
+      three h E1ToEc B1 B2 B3 (row-e1 B1 (omega arith) (omega arith)) (second-e1 B2 (omega arith) (omega arith)) (omega arith)
+      (omega arith))
+      (λ r.
+      let g : 0xCFFF < u = leb-false u 0xCFFF r in
+      let q : B1 ≡ 0xED = omega arith in
+      three h Ed B1 B2 B3 (rw q (row-of-one .1)) (second-ed B2 (omega arith) (omega arith)) (omega arith) (omega arith)))
 
   above-surrogates : (0xDFFF < u) → ToGap (gap h) (B1 ∷ B2 ∷ B3 ∷ [])
   above-surrogates n = three h EeToEf B1 B2 B3 (row-ee B1 (omega arith) (omega arith)) (second-ee B2 (omega arith) (omega arith)) (omega arith) (omega arith)
@@ -162,10 +218,20 @@ high-wide h b p q = rw (le-leb 0x80 b (omega arith), lt-leb b 0x9F (omega arith)
 
 low-wide : (b : ℕ) → 0xB0 ≤ b → b ≤ 0xBF → wideStep (ed false) b ≡ some (lone false)
 unfolding wideStep if_then_else_
-low-wide b p q = rw (le-leb 0x80 b (omega arith), lt-leb b 0x9F (omega arith), le-leb 0xA0 b (omega arith), lt-leb b 0xAF (omega arith), le-leb 0xB0 b p, le-leb b 0xBF q)
+low-wide b p q =
+    rw (
+      le-leb 0x80 b (omega arith),
+      lt-leb b 0x9F (omega arith),
+      le-leb 0xA0 b (omega arith),
+      lt-leb b 0xAF (omega arith),
+      le-leb 0xB0 b p,
+      le-leb b 0xBF q,
+    )
 
 -- three bytes that are a surrogate, given its second byte
-surrogate-run : (h x : Bool) (a b c : ℕ) → a ≡ 0xED → wideStep (ed h) b ≡ some (lone x) → 0x80 ≤ c → c ≤ 0xBF → (xs : Bytes) → wideFrom (gap h) (a ∷ b ∷ c ∷ xs) ≡ wideFrom (gap x) xs
+surrogate-run :
+    (h x : Bool) (a b c : ℕ) → a ≡ 0xED → wideStep (ed h) b ≡ some (lone x) → 0x80 ≤ c → c ≤ 0xBF → (xs : Bytes) →
+    wideFrom (gap h) (a ∷ b ∷ c ∷ xs) ≡ wideFrom (gap x) xs
 surrogate-run h x a b c e f p q xs =
     wide-on (gap h) (ed h) a (b ∷ c ∷ xs) (ed-wide h a e)
     ∙ wide-on (ed h) (lone x) b (c ∷ xs) f
@@ -197,7 +263,9 @@ unit-run h u m f xs =
     split-on (leb u 0x7FF)
     (λ b. let n : u ≤ 0x7FF = leb-true u 0x7FF b in
     rw (pack2 u k n, lt-leb 0xD800 u (omega arith))
-    (char-runs h (0xC0 + u / 0x40) (Within (Second C2ToDf)) ((0x80 + u % 0x40) ∷ []) (row-c2 (0xC0 + u / 0x40) (omega arith) (omega arith)) (c-there (second-c2 (0x80 + u % 0x40) (omega arith) (omega arith)) c-here) .run xs))
+    (char-runs h (0xC0 + u / 0x40) (Within (Second C2ToDf)) ((0x80 + u % 0x40) ∷ [])
+    (row-c2 (0xC0 + u / 0x40) (omega arith) (omega arith))
+    (c-there (second-c2 (0x80 + u % 0x40) (omega arith) (omega arith)) c-here) .run xs))
     (λ b.
     let n : 0x7FF < u = leb-false u 0x7FF b in
     split-on (leb u 0xD7FF)
@@ -207,14 +275,16 @@ unit-run h u m f xs =
     split-on (leb u 0xDBFF)
     (λ d. let p : u ≤ 0xDBFF = leb-true u 0xDBFF d in
     rw (pack3 u n m, le-leb 0xD800 u (omega arith), d)
-    (surrogate-run h true (0xE0 + u / 0x1000) (0x80 + u / 0x40 % 0x40) (0x80 + u % 0x40) (omega arith) (high-wide h (0x80 + u / 0x40 % 0x40) (omega arith) (omega arith)) (omega arith) (omega arith) xs))
+    (surrogate-run h true (0xE0 + u / 0x1000) (0x80 + u / 0x40 % 0x40) (0x80 + u % 0x40) (omega arith)
+    (high-wide h (0x80 + u / 0x40 % 0x40) (omega arith) (omega arith)) (omega arith) (omega arith) xs))
     (λ d.
     let p : 0xDBFF < u = leb-false u 0xDBFF d in
     split-on (leb u 0xDFFF)
     (λ e. let q : u ≤ 0xDFFF = leb-true u 0xDFFF e in
     let z : h ≡ false = f (rw (le-leb 0xDC00 u (omega arith), e)) in
     rw (pack3 u n m, le-leb 0xD800 u (omega arith), d, z)
-    (surrogate-run false false (0xE0 + u / 0x1000) (0x80 + u / 0x40 % 0x40) (0x80 + u % 0x40) (omega arith) (low-wide (0x80 + u / 0x40 % 0x40) (omega arith) (omega arith)) (omega arith) (omega arith) xs))
+    (surrogate-run false false (0xE0 + u / 0x1000) (0x80 + u / 0x40 % 0x40) (0x80 + u % 0x40) (omega arith)
+    (low-wide (0x80 + u / 0x40 % 0x40) (omega arith) (omega arith)) (omega arith) (omega arith) xs))
     (λ e. let q : 0xDFFF < u = leb-false u 0xDFFF e in rw (pack3 u n m, le-leb 0xD800 u (omega arith), d) (above-surrogates h u n m q .run xs))))))
 
 -- a pair of surrogates
@@ -236,12 +306,23 @@ pair-run x h l p q xs =
         let B4 : ℕ = 0x80 + u % 0x40 in
         rw (pack4 u m)
         (split-on (leb u 0x3FFFF)
-        (λ e. let k : u ≤ 0x3FFFF = leb-true u 0x3FFFF e in let z : 0xF0 + u / 0x40000 ≡ 0xF0 = omega arith in four x F0 B1 B2 B3 B4 (rw z (row-of-one .2)) (second-f0 B2 (omega arith) (omega arith)) (omega arith) (omega arith) (omega arith) (omega arith) .run xs)
+        (λ e.
+        let k : u ≤ 0x3FFFF = leb-true u 0x3FFFF e in
+        let z : 0xF0 + u / 0x40000 ≡ 0xF0 = omega arith in
+        four x F0 B1 B2 B3 B4 (rw z (row-of-one .2)) (second-f0 B2 (omega arith) (omega arith)) (omega arith) (omega arith)
+        (omega arith) (omega arith) .run xs)
         (λ e.
         let k : 0x3FFFF < u = leb-false u 0x3FFFF e in
         split-on (leb u 0xFFFFF)
-        (λ g. let o : u ≤ 0xFFFFF = leb-true u 0xFFFFF g in four x F1ToF3 B1 B2 B3 B4 (row-f1 B1 (omega arith) (omega arith)) (second-f1 B2 (omega arith) (omega arith)) (omega arith) (omega arith) (omega arith) (omega arith) .run xs)
-        (λ g. let o : 0xFFFFF < u = leb-false u 0xFFFFF g in let z : 0xF0 + u / 0x40000 ≡ 0xF4 = omega arith in four x F4 B1 B2 B3 B4 (rw z (row-of-one .3)) (second-f4 B2 (omega arith) (omega arith)) (omega arith) (omega arith) (omega arith) (omega arith) .run xs)))
+        (λ g.
+        let o : u ≤ 0xFFFFF = leb-true u 0xFFFFF g in
+        four x F1ToF3 B1 B2 B3 B4 (row-f1 B1 (omega arith) (omega arith)) (second-f1 B2 (omega arith) (omega arith)) (omega arith)
+        (omega arith) (omega arith) (omega arith) .run xs)
+        (λ g.
+        let o : 0xFFFFF < u = leb-false u 0xFFFFF g in
+        let z : 0xF0 + u / 0x40000 ≡ 0xF4 = omega arith in
+        four x F4 B1 B2 B3 B4 (rw z (row-of-one .3)) (second-f4 B2 (omega arith) (omega arith)) (omega arith) (omega arith)
+        (omega arith) (omega arith) .run xs)))
 
 -- ---- lists of code units
 
@@ -277,7 +358,9 @@ abbrev Fine : List Unit16 → Type 0
 Fine us = (h : Bool) → Free (gap h) us → wideFrom (gap h) (textOf us) ≡ true
 
 -- a code unit that is joined to nothing, before the rest
-alone : (h : Bool) (u : ℕ) (us : List Unit16) → u ≤ 0xFFFF → Free (gap h) (unit u ∷ us) → Free (gap (isHigh u)) us → Fine us → wideFrom (gap h) (pack u ++ textOf us) ≡ true
+alone :
+    (h : Bool) (u : ℕ) (us : List Unit16) → u ≤ 0xFFFF → Free (gap h) (unit u ∷ us) → Free (gap (isHigh u)) us → Fine us →
+    wideFrom (gap h) (pack u ++ textOf us) ≡ true
 alone h u us m f g ih = unit-run h u m (free-low h u us f) (textOf us) ∙ ih (isHigh u) g
 
 free-high : (t : Bool) (l : ℕ) (us : List Unit16) → (t && isLow l) ≡ false → Free (gap t) (unit l ∷ us)
@@ -289,7 +372,9 @@ TailFine [] = Unit {0}
 TailFine (byte b ∷ us) = Unit {0}
 TailFine (unit l ∷ us) = Fine us
 
-unit-fine : (h : Bool) (u : ℕ) (us : List Unit16) → u ≤ 0xFFFF → Free (gap h) (unit u ∷ us) → Fine us → TailFine us → wideFrom (gap h) (textOf (unit u ∷ us)) ≡ true
+unit-fine :
+    (h : Bool) (u : ℕ) (us : List Unit16) → u ≤ 0xFFFF → Free (gap h) (unit u ∷ us) → Fine us → TailFine us →
+    wideFrom (gap h) (textOf (unit u ∷ us)) ≡ true
 unfolding textOf
 unit-fine h u [] m f ih t = rw (← append-nil (pack u)) (alone h u [] m f tt ih)
 unit-fine h u (byte b ∷ us) m f ih t = alone h u (byte b ∷ us) m f tt ih
@@ -298,7 +383,9 @@ unit-fine h u (unit l ∷ us) m f ih t =
     (λ e. let b = and-true (isHigh u) (isLow l) e in pair-run h u l (b .0) (b .1) (textOf us) ∙ t false (calm-free (gap false) us tt))
     (λ e. alone h u (unit l ∷ us) m f (free-high (isHigh u) l us e) ih)
 
-byte-fine : {c : Char} {w : Wide} (b : ℕ) (c′ : Char) (us : List Unit16) → Near c w → charStep c b ≡ On c′ → ((w′ : Wide) → Near c′ w′ → Free w′ us → wideFrom w′ (textOf us) ≡ true) → wideFrom w (textOf (byte b ∷ us)) ≡ true
+byte-fine :
+    {c : Char} {w : Wide} (b : ℕ) (c′ : Char) (us : List Unit16) → Near c w → charStep c b ≡ On c′ →
+    ((w′ : Wide) → Near c′ w′ → Free w′ us → wideFrom w′ (textOf us) ≡ true) → wideFrom w (textOf (byte b ∷ us)) ≡ true
 unfolding textOf
 byte-fine {w} b c′ us n e ih =
     let s = near-step b c′ n e in

@@ -7,10 +7,13 @@ use mathlib.Core.Bool.{Bool, true, false, _||_}
 use mathlib.Core.Option.{some}
 use mathlib.Core.List.{[], _∷_}
 use borrow.Author.Tests.{le-leb, ne-eqb}
-use Rattle.model.specs.rules.Types.{Delimiter, Comma, Semicolon, Tab, Bar, Quote, Double, Single, Dialect, Csvj, Tdif, CsvPlus, Lead, C2ToDf, E0, E1ToEc, Ed, EeToEf, F0, F1ToF3, F4, Inner, Second, LastTwo, Last, Char, Whole, Within, Advance, On, Broken}
+use Rattle.model.specs.rules.Types.{Delimiter, Comma, Semicolon, Tab, Bar, Quote, Double, Single, Dialect, Csvj, Tdif, CsvPlus, Lead, C2ToDf}
+use Rattle.model.specs.rules.Types.{E0, E1ToEc, Ed, EeToEf, F0, F1ToF3, F4, Inner, Second, LastTwo, Last, Char, Whole, Within, Advance, On}
+use Rattle.model.specs.rules.Types.{Broken}
 use Rattle.model.specs.rules.Base.{Bytes, CR, LF, _is_, within, if_then_else_}
 use Rattle.model.specs.rules.Dialect.{quoteOf, delimiterOf, delimiterByte, quoteByte}
-use Rattle.model.specs.rules.Utf8.{rowOf, leads, leadByte, innerStep, charStep, textFrom, Wide, gap, ed, lone, inner, settled, wideStep, wideFrom, isContent}
+use Rattle.model.specs.rules.Utf8.{rowOf, leads, leadByte, innerStep, charStep, textFrom, Wide, gap, ed, lone, inner, settled, wideStep}
+use Rattle.model.specs.rules.Utf8.{wideFrom, isContent}
 use Rattle.model.proofs.Tests.{split-on, impossible, is→eq, within-true}
 
 -- ---- ASCII
@@ -68,7 +71,9 @@ pub inner-high : (i : Inner) (b : ℕ) (c : Char) → charStep (Within i) b ≡ 
 unfolding charStep innerStep if_then_else_
 inner-high (Second l) b c e =
     split-on (within (rowOf l .lo2) (rowOf l .hi2) b)
-    (λ p. let w = within-true (rowOf l .lo2) (rowOf l .hi2) b p in let h : rowOf l .lo2 ≤ b = w .0 in let k : 0x80 ≤ rowOf l .lo2 = second-low l in omega arith) λ p.
+    (λ p.
+    let w = within-true (rowOf l .lo2) (rowOf l .hi2) b p in
+    let h : rowOf l .lo2 ≤ b = w .0 in let k : 0x80 ≤ rowOf l .lo2 = second-low l in omega arith) λ p.
     broken-on (rw p at e)
 inner-high LastTwo b c e = split-on (within 0x80 0xBF b) (λ p. within-true 0x80 0xBF b p .0) λ p. broken-on (rw p at e)
 inner-high Last b c e = split-on (within 0x80 0xBF b) (λ p. within-true 0x80 0xBF b p .0) λ p. broken-on (rw p at e)

@@ -9,13 +9,15 @@ use mathlib.Core.List.{List, [], _∷_, _++_}
 use lib.ListN.{length, length-append}
 use Rattle.model.specs.rules.Types.{Kind, Text, Number, True, False, Null, Dialect, Csvj, Tdif, CsvPlus, Target}
 use Rattle.model.specs.rules.Types.{Cell, ByteFault, Fault, CheckResult, Sound, Faulty}
-use Rattle.model.specs.rules.Types.{FileState, Top, Begin, Ended, Bom1, Bom2, PlainBom1, PlainBom2, Comment, Blanks, ExpectCell, Inside, After, Cr, Outside, Passed, OfCell, Between, Tail, Ends, Step, To, Reject, Ending, Clean, Final, Cut}
+use Rattle.model.specs.rules.Types.{FileState, Top, Begin, Ended, Bom1, Bom2, PlainBom1, PlainBom2, Comment, Blanks, ExpectCell, Inside, After}
+use Rattle.model.specs.rules.Types.{Cr, Outside, Passed, OfCell, Between, Tail, Ends, Step, To, Reject, Ending, Clean, Final, Cut}
 use Rattle.model.specs.rules.Base.{Bytes, QUOTE, if_then_else_, isEmpty}
 use Rattle.model.specs.rules.Dialect.{quoteOf}
 use Rattle.model.specs.rules.File.{fileStep, fileEnd, lastCell}
 use Rattle.model.specs.rules.Decode.{kindOf, contentOf}
 use Rattle.model.specs.rules.Text.{Value, jsonBody, jsonCell, quotedText, csvPlusCell, cellText, moreCells, allCells, recordText, ending}
-use Rattle.model.specs.rules.Records.{Rec, Read, Progress, going, stopped, nothingRead, readByte, readFrom, readBytes, readEnd, readFile, recordsOf, recordFault, move, complete, validated, closing, cellNow, endBetween, endAt}
+use Rattle.model.specs.rules.Records.{Rec, Read, Progress, going, stopped, nothingRead, readByte, readFrom, readBytes, readEnd, readFile}
+use Rattle.model.specs.rules.Records.{recordsOf, recordFault, move, complete, validated, closing, cellNow, endBetween, endAt}
 use Rattle.model.specs.laws.Laws.{All, all-none, Bounded, BoundedRecord}
 use Rattle.model.proofs.Tests.{split}
 use Rattle.model.proofs.cell_laws.CellRuns.{all-snoc}
@@ -76,7 +78,8 @@ more-bound t weigh-none = omega arith
 more-bound {d} t (weigh-cell {v} {vs} {n} raw w ws h) =
     let a : length (cellText t false false v) + 2 ≤ 6 * (length raw + 1) = cell-bound d t false false v raw w in
     let b : length (moreCells t vs) ≤ 6 * n = more-bound t ws in
-    let c : length (cellText t false false v ++ moreCells t vs) ≡ length (cellText t false false v) + length (moreCells t vs) = length-append (cellText t false false v) (moreCells t vs) in
+    let c : length (cellText t false false v ++ moreCells t vs) ≡ length (cellText t false false v) + length (moreCells t vs)
+    = length-append (cellText t false false v) (moreCells t vs) in
     omega arith
 
 ending-length : (t : Dialect) → length (ending t) ≤ 2
@@ -84,14 +87,20 @@ ending-length Csvj = omega arith
 ending-length Tdif = omega arith
 ending-length (CsvPlus s) = omega arith
 
-all-bound : {d : Dialect} {vs : List Value} {n : ℕ} → Weighs d vs (suc n) → (t : Dialect) (header : Bool) → length (allCells t header vs ++ ending t) ≤ 6 * (n + 1)
+all-bound :
+    {d : Dialect} {vs : List Value} {n : ℕ} → Weighs d vs (suc n) → (t : Dialect) (header : Bool) →
+    length (allCells t header vs ++ ending t) ≤ 6 * (n + 1)
 unfolding allCells
 all-bound weigh-none t header = let h : length (ending t) ≤ 2 = ending-length t in omega arith
 all-bound {d} (weigh-cell {v} {vs} {n} raw w ws h) t header =
     let a : length (cellText t (isEmpty vs) header v) + 2 ≤ 6 * (length raw + 1) = cell-bound d t (isEmpty vs) header v raw w in
     let b : length (moreCells t vs) ≤ 6 * n = more-bound t ws in
-    let c : length (cellText t (isEmpty vs) header v ++ moreCells t vs) ≡ length (cellText t (isEmpty vs) header v) + length (moreCells t vs) = length-append (cellText t (isEmpty vs) header v) (moreCells t vs) in
-    let e : length ((cellText t (isEmpty vs) header v ++ moreCells t vs) ++ ending t) ≡ length (cellText t (isEmpty vs) header v ++ moreCells t vs) + length (ending t) = length-append (cellText t (isEmpty vs) header v ++ moreCells t vs) (ending t) in
+    let c : length (cellText t (isEmpty vs) header v ++ moreCells t vs)
+    ≡ length (cellText t (isEmpty vs) header v) + length (moreCells t vs)
+    = length-append (cellText t (isEmpty vs) header v) (moreCells t vs) in
+    let e : length ((cellText t (isEmpty vs) header v ++ moreCells t vs) ++ ending t)
+    ≡ length (cellText t (isEmpty vs) header v ++ moreCells t vs) + length (ending t)
+    = length-append (cellText t (isEmpty vs) header v ++ moreCells t vs) (ending t) in
     let k : length (ending t) ≤ 2 = ending-length t in
     omega arith
 

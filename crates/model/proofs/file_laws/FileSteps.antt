@@ -5,8 +5,10 @@ use native.Mathlib.Omega.{arith}
 use mathlib.Core.Path.{_≡_, refl, ap, _∙_}
 use mathlib.Core.Bool.{Bool, true, false}
 use Rattle.model.specs.rules.Types.{Dialect, Csvj, Tdif, CsvPlus, EeToEf, Second, Last, Char, Whole, Within, Advance, On, Broken}
-use Rattle.model.specs.rules.Types.{Cell, Fresh, Quoted, Closed, Escape, Hex, InNumber, InWord, Plain, Complete, CellStep, More, Stop, Refuse, ByteFault, Encoding, Syntax}
-use Rattle.model.specs.rules.Types.{FileState, Top, Begin, Ended, Bom1, Bom2, PlainBom1, PlainBom2, Comment, Blanks, ExpectCell, Inside, After, Cr, ByteRole, Outside, Passed, OfCell, Between, Tail, Ends, Step, To, Reject}
+use Rattle.model.specs.rules.Types.{Cell, Fresh, Quoted, Closed, Escape, Hex, InNumber, InWord, Plain, Complete, CellStep, More, Stop, Refuse}
+use Rattle.model.specs.rules.Types.{ByteFault, Encoding, Syntax}
+use Rattle.model.specs.rules.Types.{FileState, Top, Begin, Ended, Bom1, Bom2, PlainBom1, PlainBom2, Comment, Blanks, ExpectCell, Inside, After}
+use Rattle.model.specs.rules.Types.{Cr, ByteRole, Outside, Passed, OfCell, Between, Tail, Ends, Step, To, Reject}
 use Rattle.model.specs.rules.Base.{if_then_else_, LF, CR, COMMA, _is_}
 use Rattle.model.specs.rules.Dialect.{delimiterOf}
 use Rattle.model.specs.rules.Utf8.{rowOf, leads, leadByte, innerStep, charStep}
@@ -112,7 +114,9 @@ pub data Transition (d : Dialect) (f : FileState) (b : ℕ) : Step → Type 0 wh
   refuses : {e : ByteFault} → Reports (breaks (textAt d f) b) (Reject e) → Transition d f b (Reject e)
   outside : {g : FileState} → Fine d f b → Around d f → Rests g → Transition d f b (To g Outside)
   passes : {g : FileState} → Fine d f b → Rests f → Next g → Transition d f b (To g Passed)
-  adds : {g : FileState} {c c′ : Cell} → Fine d f b → counts f b ≡ true → Holds f c → Grown g → Holds g c′ → cellStep d c b ≡ More c′ → Transition d f b (To g OfCell)
+  adds :
+      {g : FileState} {c c′ : Cell} → Fine d f b → counts f b ≡ true → Holds f c → Grown g → Holds g c′ → cellStep d c b ≡ More c′ →
+      Transition d f b (To g OfCell)
   blanks : Fine d f b → counts f b ≡ true → Starts f → d ≡ Csvj → Transition d f b (To Blanks (Between false))
   parts : {g : FileState} {k : Bool} → Fine d f b → counts f b ≡ true → Leaves d b f k → Opens g → Transition d f b (To g (Between k))
   turns : {k : Bool} → Fine d f b → (b is CR) ≡ true → Leaves d b f k → Transition d f b (To Cr (Tail k))
@@ -254,7 +258,8 @@ module _ {f : FileState} (b : ℕ) where
       let P : Step → Type 0 = Transition Csvj f b in
       let t : Fine Csvj f b = rw (x Csvj) in
       split P (isBlank b) (λ p. blanks t (blank-counted f b p) e refl) λ _.
-      split P (b is LF) (λ p. ends t (lf p) (none (starts-free e)) n-begin) λ _. split P (b is CR) (λ p. turns t p (none (starts-free e))) λ _. in-cell-transition Csvj (starts-holds e)
+      split P (b is LF) (λ p. ends t (lf p) (none (starts-free e)) n-begin) λ _. split P (b is CR)
+      (λ p. turns t p (none (starts-free e))) λ _. in-cell-transition Csvj (starts-holds e)
   record-transition r e x Tdif = split (Transition Tdif f b) (b is 0x23) (λ _. outside (rw (x Tdif)) r comment) λ _. in-cell-transition Tdif (starts-holds e)
   record-transition r e x (CsvPlus s) = in-cell-transition (CsvPlus s) (starts-holds e)
 
@@ -271,7 +276,10 @@ unfolding beginFile
 file-transition Csvj b = split (Transition Csvj Top b) _ (λ _. outside refl (rests top) bom1) λ _. record-transition b (rests top) s-top (λ d. refl) Csvj
 file-transition Tdif b = record-transition b (rests top) s-top (λ d. refl) Tdif
 file-transition (CsvPlus s) b =
-    split (Transition (CsvPlus s) Top b) (b is 0xEF) (λ p. adds (rw (is→eq b 0xEF p) bom-fine) (high-counted Top b 0xEF (omega arith) p) at-top g-plain1 plain1 (rw (is→eq b 0xEF p) (bom-cell s))) λ _.
+    split (Transition (CsvPlus s) Top b) (b is 0xEF)
+    (λ p.
+    adds (rw (is→eq b 0xEF p) bom-fine) (high-counted Top b 0xEF (omega arith) p) at-top g-plain1 plain1
+    (rw (is→eq b 0xEF p) (bom-cell s))) λ _.
     record-transition b (rests top) s-top (λ d. refl) (CsvPlus s)
 
 pub step-transition : (d : Dialect) (f : FileState) (b : ℕ) → Transition d f b (fileStep d f b)
@@ -279,14 +287,19 @@ unfolding fileStep
 step-transition d Top b = file-transition d b
 step-transition d Begin b = record-transition b (rests begin) s-begin (λ d. refl) d
 step-transition d Ended b =
-    split (Transition d Ended b) (b is LF) (λ p. passes (fresh-fine d b (is-ascii b LF (omega arith) p)) ended n-begin) λ _. record-transition b (rests ended) s-ended (λ d. refl) d
+    split (Transition d Ended b) (b is LF) (λ p. passes (fresh-fine d b (is-ascii b LF (omega arith) p)) ended n-begin) λ _.
+    record-transition b (rests ended) s-ended (λ d. refl) d
 step-transition d Bom1 b = split (Transition d Bom1 b) _ (λ _. outside refl (rests bom1) bom2) λ _. refuses {e = Syntax} reports-three
 step-transition d Bom2 b = split (Transition d Bom2 b) _ (λ _. passes refl bom2 n-begin) λ _. refuses {e = Syntax} reports-three
 step-transition d PlainBom1 b =
-    split (Transition d PlainBom1 b) (b is 0xBB) (λ p. adds (rw (is→eq b 0xBB p) bom-one-fine) (high-counted PlainBom1 b 0xBB (omega arith) p) plain1 g-plain2 plain2 (rw (is→eq b 0xBB p) (bom-rest d))) λ _.
+    split (Transition d PlainBom1 b) (b is 0xBB)
+    (λ p.
+    adds (rw (is→eq b 0xBB p) bom-one-fine) (high-counted PlainBom1 b 0xBB (omega arith) p) plain1 g-plain2 plain2
+    (rw (is→eq b 0xBB p) (bom-rest d))) λ _.
     in-cell-transition b d plain1
 step-transition d PlainBom2 b =
-    split (Transition d PlainBom2 b) (b is 0xBF) (λ p. refuses {e = Syntax} (rw (is→eq b 0xBF p, bom-two-fine) reports-three)) λ _. in-cell-transition b d plain2
+    split (Transition d PlainBom2 b) (b is 0xBF) (λ p. refuses {e = Syntax} (rw (is→eq b 0xBF p, bom-two-fine) reports-three)) λ _.
+    in-cell-transition b d plain2
 step-transition d (Comment Whole) b =
     let P : Step → Type 0 = Transition d (Comment Whole) b in
     split P (b is LF) (λ p. passes (broken-not b (is-ascii b LF (omega arith) p)) comment n-begin) λ _.
@@ -294,7 +307,9 @@ step-transition d (Comment Whole) b =
 step-transition d (Comment (Within i)) b = comment-transition b (Within i) (charStep (Within i) b) refl
 step-transition d Blanks b = record-transition b unread s-blanks (λ d. refl) d
 step-transition d ExpectCell b =
-    split (Transition d ExpectCell b) (isBlank b) (λ p. parts (fresh-fine d b (blank-ascii b p)) (blank-counted ExpectCell b p) (none f-wanting) o-wanting) λ _. in-cell-transition b d at-wanting
+    split (Transition d ExpectCell b) (isBlank b)
+    (λ p. parts (fresh-fine d b (blank-ascii b p)) (blank-counted ExpectCell b p) (none f-wanting) o-wanting) λ _. in-cell-transition b
+    d at-wanting
 step-transition d (Inside c) b = in-cell-transition b d inside
 step-transition d After b = after-transition b d false refl (none f-after)
 step-transition d Cr b = split (Transition d Cr b) (b is LF) (λ p. ends-cr refl refl p) λ _. refuses {e = Syntax} reports-three

@@ -4,11 +4,13 @@ use mathlib.Core.Path.{_≡_, refl, sym, ap, _∙_}
 use mathlib.Core.Bool.{true}
 use mathlib.Core.Option.{Option}
 use mathlib.Core.List.{List, [], _∷_, _++_, append-assoc, append-nil}
-use Rattle.model.specs.rules.Types.{Dialect, Target, Fault, FileState, Begin, Outside, Passed, OfCell, Between, Tail, Ends, Step, To, Reject, CheckResult, Sound, Faulty, Ending, Clean, Final, Cut}
+use Rattle.model.specs.rules.Types.{Dialect, Target, Fault, FileState, Begin, Outside, Passed, OfCell, Between, Tail, Ends, Step, To, Reject}
+use Rattle.model.specs.rules.Types.{CheckResult, Sound, Faulty, Ending, Clean, Final, Cut}
 use Rattle.model.specs.rules.Base.{Bytes}
 use Rattle.model.specs.rules.File.{fileStep, fileEnd}
 use Rattle.model.specs.rules.Text.{Value}
-use Rattle.model.specs.rules.Records.{Rec, Read, Progress, going, stopped, nothingRead, readByte, readFrom, readBytes, readEnd, readFile, recordsOf, recordFault, move, complete, validated, closing, endBetween, endAt}
+use Rattle.model.specs.rules.Records.{Rec, Read, Progress, going, stopped, nothingRead, readByte, readFrom, readBytes, readEnd, readFile}
+use Rattle.model.specs.rules.Records.{recordsOf, recordFault, move, complete, validated, closing, endBetween, endAt}
 use Rattle.model.specs.laws.Laws.{Grows}
 use Rattle.model.proofs.Tests.{split}
 

@@ -6,11 +6,13 @@ use mathlib.Core.Bool.{Bool, true, false, not}
 use mathlib.Core.Option.{Option, none, some}
 use mathlib.Core.List.{List, [], _∷_}
 use lib.ListN.{length}
-use Rattle.model.specs.rules.Types.{Dialect, Target, Fault, CellCount, RepeatedName, HeaderKind, TooManyColumns, NoCells, LacksKind, LoneSurrogate, Clash, TextTooLong, OutputTooLong, CheckResult, Sound, Faulty}
+use Rattle.model.specs.rules.Types.{Dialect, Target, Fault, CellCount, RepeatedName, HeaderKind, TooManyColumns, NoCells, LacksKind}
+use Rattle.model.specs.rules.Types.{LoneSurrogate, Clash, TextTooLong, OutputTooLong, CheckResult, Sound, Faulty}
 use Rattle.model.specs.rules.Base.{Bytes}
 use Rattle.model.specs.rules.Text.{Value, isText, carried}
 use Rattle.model.specs.rules.Report.{isAtByte}
-use Rattle.model.specs.rules.Records.{Rec, _orElse_, when, nameKey, repeatFrom, repeatFault, headerKindFrom, headerFault, dataFault, hasKind, losesSurrogate, uncarriedFrom, clashFault, targetFault, converting, recordFault}
+use Rattle.model.specs.rules.Records.{Rec, _orElse_, when, nameKey, repeatFrom, repeatFault, headerKindFrom, headerFault, dataFault, hasKind}
+use Rattle.model.specs.rules.Records.{losesSurrogate, uncarriedFrom, clashFault, targetFault, converting, recordFault}
 use Rattle.model.proofs.Tests.{split}
 
 -- a check result without a fault, or with one whose offset is the record's start
@@ -32,7 +34,9 @@ unfolding _orElse_
 else-record of-sound k = k
 else-record (of-fault h) k = of-fault h
 
-repeat-record : (d : Dialect) (fault : ℕ → Fault) (seen : List Bytes) (n : ℕ) (vs : List Value) → ((c : ℕ) → isAtByte (fault c) ≡ false) → OfRecord (repeatFrom d fault seen n vs)
+repeat-record :
+    (d : Dialect) (fault : ℕ → Fault) (seen : List Bytes) (n : ℕ) (vs : List Value) → ((c : ℕ) → isAtByte (fault c) ≡ false) →
+    OfRecord (repeatFrom d fault seen n vs)
 unfolding repeatFrom
 repeat-record d fault seen n [] h = of-sound
 repeat-record d fault seen n (v ∷ vs) h =

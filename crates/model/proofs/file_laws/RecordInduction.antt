@@ -5,23 +5,28 @@ use mathlib.Core.Path.{_≡_, refl}
 use mathlib.Core.Bool.{true}
 use mathlib.Core.Option.{Option}
 use mathlib.Core.List.{List, [], _∷_, _++_}
-use Rattle.model.specs.rules.Types.{Dialect, Target, FileState, Begin, Outside, Passed, OfCell, Between, Tail, Ends, Step, To, Reject, Ending, Clean, Final, Cut, Fault, CheckResult, Sound, Faulty}
+use Rattle.model.specs.rules.Types.{Dialect, Target, FileState, Begin, Outside, Passed, OfCell, Between, Tail, Ends, Step, To, Reject, Ending}
+use Rattle.model.specs.rules.Types.{Clean, Final, Cut, Fault, CheckResult, Sound, Faulty}
 use Rattle.model.specs.rules.Base.{Bytes}
 use Rattle.model.specs.rules.File.{fileStep, fileEnd}
 use Rattle.model.specs.rules.Text.{Value}
-use Rattle.model.specs.rules.Records.{Rec, Read, Progress, going, stopped, nothingRead, readByte, readFrom, readBytes, readEnd, readFile, recordsOf, recordFault, move, complete, validated, closing, endBetween, endAt}
+use Rattle.model.specs.rules.Records.{Rec, Read, Progress, going, stopped, nothingRead, readByte, readFrom, readBytes, readEnd, readFile}
+use Rattle.model.specs.rules.Records.{recordsOf, recordFault, move, complete, validated, closing, endBetween, endAt}
 use Rattle.model.proofs.Tests.{split}
 
 -- ---- a property that every record preserves
 
-module _ (d : Dialect) (target : Option Target) (B : List Rec → Type 0) (one-more : (ds : List Rec) (x : Rec) → B ds → recordFault d target ds (x .cells) ≡ Sound → B (ds ++ (x ∷ []))) where
+module _ (d : Dialect) (target : Option Target) (B : List Rec → Type 0)
+    (one-more : (ds : List Rec) (x : Rec) → B ds → recordFault d target ds (x .cells) ≡ Sound → B (ds ++ (x ∷ []))) where
   validated-keeps : (r next : Read) (v : CheckResult) → (v ≡ Sound → B (next .done)) → B (r .done) → B (recordsOf (validated r next v))
   validated-keeps r next Sound f k = f refl
   validated-keeps r next (Faulty e) f k = k
 
   complete-keeps : (r : Read) (vs : List Value) (f : FileState) (o : ℕ) → B (r .done) → B (recordsOf (complete d target r vs f o))
   unfolding complete
-  complete-keeps r vs f o k = validated-keeps r _ (recordFault d target (r .done) vs) (λ s. one-more (r .done) (record { start = r .start; size = r .size; cells = vs }) k s) k
+  complete-keeps r vs f o k =
+      validated-keeps r _ (recordFault d target (r .done) vs)
+      (λ s. one-more (r .done) (record { start = r .start; size = r .size; cells = vs }) k s) k
 
   move-keeps : (r : Read) (b : ℕ) (s : Step) → B (r .done) → B (recordsOf (move d target r b s))
   unfolding move
@@ -88,7 +93,9 @@ end-has d T (going r) = at (fileEnd d (r .state))
   where
     at : (x : Ending) → HasRecord (endAt d T r x)
     at Clean = between-has r (r .done) refl
-    at Final = validated-has r _ (recordFault d T (r .done) (closing d true r)) (snoc-record (r .done) (record { start = r .start; size = r .size; cells = closing d true r }) _ refl)
+    at Final =
+        validated-has r _ (recordFault d T (r .done) (closing d true r))
+        (snoc-record (r .done) (record { start = r .start; size = r .size; cells = closing d true r }) _ refl)
     at Cut = has-fault
 
 pub record Header (r : Read) : Type 0 where

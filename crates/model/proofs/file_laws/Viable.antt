@@ -8,9 +8,11 @@ use mathlib.Core.Bool.{Bool, true, false}
 use mathlib.Core.List.{[], _∷_, _++_}
 use Rattle.model.specs.rules.Types.{Delimiter, Comma, Semicolon, Tab, Bar, Quote, Double, Single, Settings, Dialect, Csvj, Tdif, CsvPlus}
 use Rattle.model.specs.rules.Types.{C2ToDf, E0, E1ToEc, Ed, EeToEf, F0, F1ToF3, F4, Inner, Second, LastTwo, Last, Char, Whole, Within, On}
-use Rattle.model.specs.rules.Types.{HexLeft, Four, Three, Two, One, Numeral, Minus, Zero, Integer, Point, Fraction, E, ESign, Exponent, Word, T, Tr, Tru, F, Fa, Fal, Fals, N, Nu, Nul, Backslash}
+use Rattle.model.specs.rules.Types.{HexLeft, Four, Three, Two, One, Numeral, Minus, Zero, Integer, Point, Fraction, E, ESign, Exponent, Word, T}
+use Rattle.model.specs.rules.Types.{Tr, Tru, F, Fa, Fal, Fals, N, Nu, Nul, Backslash}
 use Rattle.model.specs.rules.Types.{Cell, Fresh, Quoted, Closed, Escape, Hex, InNumber, InWord, Plain, Complete, More, Stop, ByteFault}
-use Rattle.model.specs.rules.Types.{FileState, Top, Begin, Ended, Bom1, Bom2, PlainBom1, PlainBom2, Comment, Blanks, ExpectCell, Inside, After, Cr, ByteRole, Outside, Passed, OfCell, Ends, Step, To, Reject}
+use Rattle.model.specs.rules.Types.{FileState, Top, Begin, Ended, Bom1, Bom2, PlainBom1, PlainBom2, Comment, Blanks, ExpectCell, Inside, After}
+use Rattle.model.specs.rules.Types.{Cr, ByteRole, Outside, Passed, OfCell, Ends, Step, To, Reject}
 use Rattle.model.specs.rules.Base.{Bytes, LF, QUOTE, _is_, if_then_else_}
 use Rattle.model.specs.rules.Dialect.{quoteOf, delimiterOf, delimiterByte, quoteByte}
 use Rattle.model.specs.rules.Utf8.{rowOf, innerStep, charStep}

@@ -9,10 +9,12 @@ use mathlib.Core.Bool.{true, false}
 use mathlib.Core.Option.{Option}
 use mathlib.Core.List.{[], _∷_, _++_}
 use lib.ListN.{length, length-append}
-use Rattle.model.specs.rules.Types.{Dialect, Target, ByteFault, Encoding, Syntax, FileState, Top, ByteRole, Outside, Passed, OfCell, Between, Tail, Ends, Step, To, Reject, Fault, Byte, CheckResult, Sound, Faulty}
+use Rattle.model.specs.rules.Types.{Dialect, Target, ByteFault, Encoding, Syntax, FileState, Top, ByteRole, Outside, Passed, OfCell, Between}
+use Rattle.model.specs.rules.Types.{Tail, Ends, Step, To, Reject, Fault, Byte, CheckResult, Sound, Faulty}
 use Rattle.model.specs.rules.Base.{Bytes, if_then_else_}
 use Rattle.model.specs.rules.File.{fileStep}
-use Rattle.model.specs.rules.Records.{Read, Progress, going, stopped, nothingRead, recordFault, fileFull, recordFull, readByte, readFrom, readBytes, move, complete, validated, closing}
+use Rattle.model.specs.rules.Records.{Read, Progress, going, stopped, nothingRead, recordFault, fileFull, recordFull, readByte, readFrom}
+use Rattle.model.specs.rules.Records.{readBytes, move, complete, validated, closing}
 use Rattle.model.specs.laws.Viable.{Completes, completed, onward, CanGoOn, textAt, breaks}
 use Rattle.model.proofs.Tests.{split, impossible}
 use Rattle.model.proofs.file_laws.ReadAppend.{read-append, read-stopped}
@@ -31,7 +33,9 @@ leads-completes : {d : Dialect} {f g : FileState} {xs zs : Bytes} → Leads d f 
 leads-completes leads-here k = k
 leads-completes (leads-on e l) k = onward e (leads-completes l k)
 
-next-completes : (d : Dialect) (f f′ : FileState) (p : ByteRole) (b : ℕ) (bs : Bytes) → fileStep d f b ≡ To f′ p → 0 < length bs → Completes d f (b ∷ bs) → Completes d f′ bs
+next-completes :
+    (d : Dialect) (f f′ : FileState) (p : ByteRole) (b : ℕ) (bs : Bytes) → fileStep d f b ≡ To f′ p → 0 < length bs →
+    Completes d f (b ∷ bs) → Completes d f′ bs
 next-completes d f f′ p b bs e h (completed x) = absurd (omega arith)
 next-completes d f f′ p b bs e h (onward {f′ = g} x k) = let q : g ≡ f′ = cc in rw q at k
 
@@ -82,7 +86,8 @@ module _ (d : Dialect) (target : Option Target) where
   move-refused r b (To f OfCell) e h = no-stop h
   move-refused r b (To f (Between k)) e h = no-stop h
   move-refused r b (To f (Tail k)) e h = no-stop h
-  move-refused r b (To f (Ends k)) e h = validated-form r _ (recordFault d target (r .done) (closing d k r)) e (fault-record d target (r .done) (closing d k r)) h
+  move-refused r b (To f (Ends k)) e h =
+      validated-form r _ (recordFault d target (r .done) (closing d k r)) e (fault-record d target (r .done) (closing d k r)) h
 
   no-going : {A : Type 0} {e : Fault} {at r : Read} → stopped e at ≡ going r → A
   no-going x = let z : _≡_ {A = ℕ} 0 1 = cc in absurd (omega arith)
@@ -92,7 +97,10 @@ module _ (d : Dialect) (target : Option Target) where
   read-leads q [] r e = let h : q ≡ r = cc in rw h leads-here
   read-leads q (x ∷ xs) r e = go (readByte d target q x) (byte-moves q x) e (λ next. read-leads next xs r)
     where
-      go : (p : Progress) → Moves q x p → readFrom d target p xs ≡ going r → ((next : Read) → readFrom d target (going next) xs ≡ going r → Leads d (next .state) xs (r .state)) → Leads d (q .state) (x ∷ xs) (r .state)
+      go :
+          (p : Progress) → Moves q x p → readFrom d target p xs ≡ going r →
+          ((next : Read) → readFrom d target (going next) xs ≡ going r → Leads d (next .state) xs (r .state)) →
+          Leads d (q .state) (x ∷ xs) (r .state)
       go (going next) (moves m) k ih = leads-on m (ih next k)
       go (stopped y at) halts k ih = no-going (sym (read-stopped d target y at xs) ∙ k)
 
@@ -142,6 +150,8 @@ module _ (d : Dialect) (target : Option Target) where
           λ n. go (v .1 (n .0)) (n .1),
         )
       where
-        go : (h : (e : ByteFault) × (readBytes d target (xs ++ (b ∷ [])) ≡ stopped (Byte e) r)) → breaks (textAt d (r .state)) b ≡ false → readBytes d target (xs ++ (b ∷ [])) ≡ stopped (Byte Syntax) r
+        go :
+            (h : (e : ByteFault) × (readBytes d target (xs ++ (b ∷ [])) ≡ stopped (Byte e) r)) → breaks (textAt d (r .state)) b ≡ false →
+            readBytes d target (xs ++ (b ∷ [])) ≡ stopped (Byte Syntax) r
         go (Syntax, h) t = h
         go (Encoding, h) t = impossible (sym t ∙ encoding-iff d (r .state) b .0 (refused Encoding h))

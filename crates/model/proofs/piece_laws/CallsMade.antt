@@ -28,7 +28,9 @@ module _ (m n : ℕ) where
   history-snoc past (x ∷ cs) c = history-snoc (after past x) cs c
 
   -- one call's answer where both numbers are dialects
-  pub answer-known : (d t : Dialect) (past : List Entry) (c : Call) → dialectOf m ≡ some d → dialectOf n ≡ some t → answerNow m n past c ≡ answerTo d (into t) past c
+  pub answer-known :
+      (d t : Dialect) (past : List Entry) (c : Call) → dialectOf m ≡ some d → dialectOf n ≡ some t →
+      answerNow m n past c ≡ answerTo d (into t) past c
   unfolding answerNow
   answer-known d t past c p q = rw (p, answerNow, q)
 
@@ -56,7 +58,8 @@ stands {Carries = Carries} {m = m} {n = n} (call {made} {s} {next} {c} {a} past 
     let x : Entry = record { call = c; answer = a } in
     let e : map callOf (made ++ (x ∷ [])) ≡ map callOf made ++ (c ∷ []) = map-append callOf made (x ∷ []) in
     let sum : history m n (map callOf (made ++ (x ∷ []))) ≡ made ++ (x ∷ []) =
-    ap (λ l. history m n l) e ∙ history-snoc m n [] (map callOf made) c ∙ ap (λ l. after m n l c) (sym (before .made-is)) ∙ ap (λ w. made ++ (record { call = c; answer = w } ∷ [])) (sym (now .0)) in
+    ap (λ l. history m n l) e ∙ history-snoc m n [] (map callOf made) c ∙ ap (λ l. after m n l c) (sym (before .made-is))
+    ∙ ap (λ w. made ++ (record { call = c; answer = w } ∷ [])) (sym (now .0)) in
     record { carries = now .1; made-is = sym sum }
 
 pub preserves-ledger : {S : Type 0} (Carries : ℕ → ℕ → List Entry → S → Type 0) → PreservesLedger Carries

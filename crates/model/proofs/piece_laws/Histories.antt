@@ -5,11 +5,14 @@ use mathlib.Core.Path.{_≡_, refl, sym, ap, _∙_}
 use mathlib.Core.Bool.{Bool, true, false, _&&_, _||_}
 use mathlib.Core.Option.{none, some}
 use mathlib.Core.List.{List, [], _∷_, _++_, append-assoc, append-nil}
-use Rattle.model.specs.rules.Types.{Report, Dialect, Target, Encoding, Syntax, Fault, NoRecord, Byte, CutShort, CellCount, RepeatedName, HeaderKind, FileTooLong, RecordTooLong, TooManyColumns, NoCells, LacksKind, LoneSurrogate, Clash, TextTooLong, OutputTooLong}
+use Rattle.model.specs.rules.Types.{Report, Dialect, Target, Encoding, Syntax, Fault, NoRecord, Byte, CutShort, CellCount, RepeatedName}
+use Rattle.model.specs.rules.Types.{HeaderKind, FileTooLong, RecordTooLong, TooManyColumns, NoCells, LacksKind, LoneSurrogate, Clash}
+use Rattle.model.specs.rules.Types.{TextTooLong, OutputTooLong}
 use Rattle.model.specs.rules.Base.{if_then_else_, within}
 use Rattle.model.specs.rules.Report.{refusal, numberOf}
 use Rattle.model.specs.rules.Api.{unwritten}
-use Rattle.model.specs.rules.Ledger.{Call, Entry, bytesOf, isFinish, isAccepted, isFileFault, faultIn, endedIn, consumedIn, closedIn, writtenIn, tooSmall, taken, seenBy, answerTo}
+use Rattle.model.specs.rules.Ledger.{Call, Entry, bytesOf, isFinish, isAccepted, isFileFault, faultIn, endedIn, consumedIn, closedIn, writtenIn}
+use Rattle.model.specs.rules.Ledger.{tooSmall, taken, seenBy, answerTo}
 use Rattle.model.proofs.Tests.{split-on}
 
 -- ---- numbers of faults
@@ -122,6 +125,8 @@ module _ (d : Dialect) (t : Target) (past : List Entry) (c : Call) where
   unfolding answerTo if_then_else_
   answer-small k h s = rw (k, answerTo, h, s)
 
-  pub answer-taken : faultIn past ≡ none → endedIn past ≡ false → tooSmall c ≡ false → answerTo d t past c ≡ taken t (writtenIn past) (seenBy d t c (consumedIn past ++ bytesOf c))
+  pub answer-taken :
+      faultIn past ≡ none → endedIn past ≡ false → tooSmall c ≡ false →
+      answerTo d t past c ≡ taken t (writtenIn past) (seenBy d t c (consumedIn past ++ bytesOf c))
   unfolding answerTo if_then_else_
   answer-taken k h s = rw (k, answerTo, h, s)

@@ -11,17 +11,23 @@ use Rattle.model.specs.rules.Base.{if_then_else_, within, Bytes, isEmpty
 use Rattle.model.specs.rules.Dialect.{dialectOf, into}
 use Rattle.model.specs.rules.Text.{recordText, tableText, ending}
 use Rattle.model.specs.rules.Report.{refusal, numberOf}
-use Rattle.model.specs.rules.Records.{Rec, rows, Read, Progress, going, stopped, nothingRead, readFrom, readBytes, readEnd, readFile, recordsOf, faultReport}
+use Rattle.model.specs.rules.Records.{Rec, rows, Read, Progress, going, stopped, nothingRead, readFrom, readBytes, readEnd, readFile, recordsOf}
+use Rattle.model.specs.rules.Records.{faultReport}
 use Rattle.model.specs.rules.Api.{Written, unwritten}
-use Rattle.model.specs.rules.Ledger.{Call, piece, finish, Entry, bytesOf, isFinish, faultIn, endedIn, consumedIn, closedIn, writtenIn, tooSmall, taken, seenBy, answerTo, answerNow, checked, historyFrom, history}
+use Rattle.model.specs.rules.Ledger.{Call, piece, finish, Entry, bytesOf, isFinish, faultIn, endedIn, consumedIn, closedIn, writtenIn, tooSmall}
+use Rattle.model.specs.rules.Ledger.{taken, seenBy, answerTo, answerNow, checked, historyFrom, history}
 use Rattle.model.specs.laws.Demands.{seenIn, JoinedOutputs, Answers}
 use Rattle.model.specs.laws.Laws.{Grows}
-use Rattle.model.specs.laws.Machine.{ConverterStage, taking, faulted, ended, seenFrom, answerAt, stageThen, stageAfter, checkedAt, LiesAt, stood-taking, stood-faulted, stood-ended, Machine, UnknownLaws, Unknown, Carries, carries-known, carries-source, carries-target, Steps, StepsAnswer, newText, NewTextLaws}
+use Rattle.model.specs.laws.Machine.{ConverterStage, taking, faulted, ended, seenFrom, answerAt, stageThen, stageAfter, checkedAt, LiesAt}
+use Rattle.model.specs.laws.Machine.{stood-taking, stood-faulted, stood-ended, Machine, UnknownLaws, Unknown, Carries, carries-known}
+use Rattle.model.specs.laws.Machine.{carries-source, carries-target, Steps, StepsAnswer, newText, NewTextLaws}
 use Rattle.model.proofs.Tests.{split-on}
 use Rattle.model.proofs.file_laws.ReadAppend.{read-append, read-grows, end-grows}
 use Rattle.model.proofs.round_trip.TableText.{table-grows, rest-of, table-snoc}
 use Rattle.model.proofs.piece_laws.CallsMade.{answer-known, answer-source, answer-target}
-use Rattle.model.proofs.piece_laws.Histories.{fault-number, fault-none, fault-some, consumed-none, consumed-some, closed-none, closed-some, closed-ended, written-append, ended-append, answer-failed, answer-ended, answer-small, answer-taken}
+use Rattle.model.proofs.piece_laws.Histories.{fault-number, fault-none, fault-some, consumed-none, consumed-some, closed-none, closed-some}
+use Rattle.model.proofs.piece_laws.Histories.{closed-ended, written-append, ended-append, answer-failed, answer-ended, answer-small}
+use Rattle.model.proofs.piece_laws.Histories.{answer-taken}
 
 module _ (d : Dialect) (t : Target) where
   -- the canonical text of the records completed
@@ -42,7 +48,9 @@ module _ (d : Dialect) (t : Target) where
   unfolding answerAt if_then_else_
   machine-answers past (taking r) c (stood-taking k h b w) =
       split-on (tooSmall c) (λ s. rw s (answer-small d t past c k h s)) λ s.
-      rw s (answer-taken d t past c k h s ∙ ap (λ x. taken t x (seenBy d t c (consumedIn past ++ bytesOf c))) w ∙ ap (taken t (tableText t (rows (r .done)))) (seen-from (consumedIn past) r c b))
+      rw s
+      (answer-taken d t past c k h s ∙ ap (λ x. taken t x (seenBy d t c (consumedIn past ++ bytesOf c))) w
+      ∙ ap (taken t (tableText t (rows (r .done)))) (seen-from (consumedIn past) r c b))
   machine-answers past (faulted e) c (stood-faulted f r z k s w) = answer-failed d t past c e k
   machine-answers past ended c (stood-ended r k h b w) = answer-ended d t past c k h
 
@@ -59,7 +67,8 @@ module _ (d : Dialect) (t : Target) where
   silent past c e = written-append (made c (unwritten e)) past ∙ append-nil (writtenIn past)
 
   -- a call that is taken, with what it has read
-  module _ (past : List Entry) (r : Read) (k : faultIn past ≡ none) (h : endedIn past ≡ false) (b : readBytes d (some t) (consumedIn past) ≡ going r) (w : writtenIn past ≡ tableText t (rows (r .done))) where
+  module _ (past : List Entry) (r : Read) (k : faultIn past ≡ none) (h : endedIn past ≡ false)
+      (b : readBytes d (some t) (consumedIn past) ≡ going r) (w : writtenIn past ≡ tableText t (rows (r .done))) where
     -- a call that was too small
     stays-taking : (c : Call) → LiesAt d t (past ++ made c (unwritten (refusal 10))) (taking r)
     unfolding faultIn endedIn consumedIn if_then_else_
@@ -83,7 +92,9 @@ module _ (d : Dialect) (t : Target) where
         ∙ joined (going r) q refl g
 
     -- what the calls have shown once a fault was found
-    meets : (c : Call) (f : Fault) (r′ : Read) → seenBy d t c (consumedIn past ++ bytesOf c) ≡ stopped f r′ → Grows (r .done) (r′ .done) → LiesAt d t (past ++ made c (taken t (tableText t (rows (r .done))) (stopped f r′))) (faulted (faultReport f r′))
+    meets :
+        (c : Call) (f : Fault) (r′ : Read) → seenBy d t c (consumedIn past ++ bytesOf c) ≡ stopped f r′ → Grows (r .done) (r′ .done) →
+        LiesAt d t (past ++ made c (taken t (tableText t (rows (r .done))) (stopped f r′))) (faulted (faultReport f r′))
     unfolding faultIn consumedIn closedIn if_then_else_
     meets c f r′ e g =
         let x : List Entry = made c (taken t (tableText t (rows (r .done))) (stopped f r′)) in
@@ -96,11 +107,15 @@ module _ (d : Dialect) (t : Target) where
         let seen : seenIn d t (past ++ x) ≡ stopped f r′ = seen-now c (past ++ x) shut all ∙ e in
         stood-faulted f r′ refl (fault-none x past k ∙ met) seen (written c (stopped f r′) g)
       where
-        seen-now : (c : Call) (xs : List Entry) → closedIn xs ≡ isFinish c → consumedIn xs ≡ consumedIn past ++ bytesOf c → seenIn d t xs ≡ seenBy d t c (consumedIn past ++ bytesOf c)
+        seen-now :
+            (c : Call) (xs : List Entry) → closedIn xs ≡ isFinish c → consumedIn xs ≡ consumedIn past ++ bytesOf c →
+            seenIn d t xs ≡ seenBy d t c (consumedIn past ++ bytesOf c)
         seen-now (piece bs room) xs e f = rw (e, f)
         seen-now (finish room) xs e f = rw (e, f)
 
-    takes : (c : Call) (q : Progress) → seenFrom d t r c ≡ q → Grows (r .done) (recordsOf q) → LiesAt d t (past ++ made c (taken t (tableText t (rows (r .done))) q)) (stageThen (isFinish c) q)
+    takes :
+        (c : Call) (q : Progress) → seenFrom d t r c ≡ q → Grows (r .done) (recordsOf q) →
+        LiesAt d t (past ++ made c (taken t (tableText t (rows (r .done))) q)) (stageThen (isFinish c) q)
     unfolding faultIn endedIn consumedIn if_then_else_
     takes (piece bs room) (going r′) e g =
         let x : List Entry = made (piece bs room) (taken t (tableText t (rows (r .done))) (going r′)) in
@@ -150,7 +165,9 @@ module _ (d : Dialect) (t : Target) where
   machine-leaves (faulted e) c s = refl
   machine-leaves ended c s = refl
 
-  machine-checks : (m n : ℕ) (u : Dialect) → dialectOf m ≡ some d → dialectOf n ≡ some u → (past : List Entry) (w : ConverterStage) (c : Call) → LiesAt d t past w → checked m n past c ≡ checkedAt w c
+  machine-checks :
+      (m n : ℕ) (u : Dialect) → dialectOf m ≡ some d → dialectOf n ≡ some u → (past : List Entry) (w : ConverterStage) (c : Call) →
+      LiesAt d t past w → checked m n past c ≡ checkedAt w c
   unfolding checked
   machine-checks m n u p q past (taking r) c (stood-taking k h b w) = rw (p, checked, q, k, h)
   machine-checks m n u p q past (faulted e) c (stood-faulted f r z k s w) = rw (p, checked, q, k)
@@ -170,7 +187,9 @@ machine m n d t p q =
 
 module _ (m n : ℕ) (d t : Dialect) (p : dialectOf m ≡ some d) (q : dialectOf n ≡ some t) where
   -- the stage after a list of calls
-  stood-from : (past : List Entry) (cs : List Call) (w : ConverterStage) → LiesAt d (into t) past w → (w′ : ConverterStage) × LiesAt d (into t) (historyFrom m n past cs) w′
+  stood-from :
+      (past : List Entry) (cs : List Call) (w : ConverterStage) → LiesAt d (into t) past w →
+      (w′ : ConverterStage) × LiesAt d (into t) (historyFrom m n past cs) w′
   unfolding historyFrom
   stood-from past [] w s = (w, s)
   stood-from past (c ∷ cs) w s =
@@ -181,7 +200,9 @@ module _ (m n : ℕ) (d t : Dialect) (p : dialectOf m ≡ some d) (q : dialectOf
   pub history-stood : (cs : List Call) → (w : ConverterStage) × LiesAt d (into t) (history m n cs) w
   history-stood cs = stood-from [] cs (taking nothingRead) (machine-new d (into t))
 
-pub joined-stood : (d : Dialect) (t : Target) (past : List Entry) (w : ConverterStage) → LiesAt d t past w → writtenIn past ≡ tableText t (rows (recordsOf (seenIn d t past)))
+pub joined-stood :
+    (d : Dialect) (t : Target) (past : List Entry) (w : ConverterStage) → LiesAt d t past w →
+    writtenIn past ≡ tableText t (rows (recordsOf (seenIn d t past)))
 unfolding if_then_else_
 joined-stood d t past (taking r) (stood-taking k h b w) = rw (closed-ended past k, h, b) w
 joined-stood d t past (faulted e) (stood-faulted f r z k s w) = rw s w
@@ -209,7 +230,8 @@ unknown =
 module _ {S : Type 0} (Models : ℕ → ℕ → ConverterStage → S → Type 0) where
   -- a call by a number that is no dialect
   idle :
-      (m n : ℕ) (past : List Entry) (s next : S) (c : Call) (a : Written) → UnknownLaws m n → Carries Models m n (past ++ (record { call = c; answer = a } ∷ [])) s →
+      (m n : ℕ) (past : List Entry) (s next : S) (c : Call) (a : Written) → UnknownLaws m n →
+      Carries Models m n (past ++ (record { call = c; answer = a } ∷ [])) s →
       a ≡ unwritten (refusal 11) → next ≡ s →
       (a ≡ answerNow m n past c) × Carries Models m n (past ++ (record { call = c; answer = a } ∷ [])) next × (checked m n past c ≡ true → next ≡ s)
   idle m n past s next c a u k e z = (e ∙ sym (u .answers past c), rw z k, λ _. z)
@@ -218,7 +240,8 @@ module _ {S : Type 0} (Models : ℕ → ℕ → ConverterStage → S → Type 0)
   steps s c a next g m n past (carries-known d t w p q stood model) =
       let l = machine m n d t p q in
       let x = g .known m n d t w p q model in
-      let moved : LiesAt d (into t) (past ++ (record { call = c; answer = answerAt d (into t) w c } ∷ [])) (stageAfter d (into t) w c) = l .moves past w c stood in
+      let moved : LiesAt d (into t) (past ++ (record { call = c; answer = answerAt d (into t) w c } ∷ [])) (stageAfter d (into t) w c)
+      = l .moves past w c stood in
       let here : LiesAt d (into t) (past ++ (record { call = c; answer = a } ∷ [])) (stageAfter d (into t) w c) = rw (x .0) moved in
       (x .0 ∙ sym (l .answers past w c stood), carries-known d t (stageAfter d (into t) w c) p q here (x .1), λ k. x .2 (sym (l .checks past w c stood) ∙ k))
   steps s c a next g m n past (carries-source p model) =
@@ -239,7 +262,11 @@ new-text t =
       one-more = λ done added x. more done added x (table-grows t (record { added = added; sum = refl }));
     }
   where
-    more : (done added : List Rec) (x : Rec) → Grows (tableText t (rows done)) (tableText t (rows (done ++ added))) → drop (length (tableText t (rows done))) (tableText t (rows (done ++ added ++ (x ∷ [])))) ≡ drop (length (tableText t (rows done))) (tableText t (rows (done ++ added))) ++ (recordText t (isEmpty (done ++ added)) (x .cells) ++ ending (t .dialect))
+    more :
+        (done added : List Rec) (x : Rec) → Grows (tableText t (rows done)) (tableText t (rows (done ++ added))) →
+        drop (length (tableText t (rows done))) (tableText t (rows (done ++ added ++ (x ∷ []))))
+        ≡ drop (length (tableText t (rows done))) (tableText t (rows (done ++ added))) ++
+        (recordText t (isEmpty (done ++ added)) (x .cells) ++ ending (t .dialect))
     more done added x g =
         let a : Bytes = tableText t (rows done) in
         let new : Bytes = recordText t (isEmpty (done ++ added)) (x .cells) ++ ending (t .dialect) in

@@ -14,9 +14,11 @@ use Rattle.model.specs.rules.Base.{if_then_else_, within, Bytes, concat}
 use Rattle.model.specs.rules.Dialect.{dialectOf, into}
 use Rattle.model.specs.rules.Text.{tableText}
 use Rattle.model.specs.rules.Report.{accepted, refusal, numberOf, MAXFILE}
-use Rattle.model.specs.rules.Records.{rows, Read, Progress, going, stopped, nothingRead, readFrom, readBytes, readEnd, readFile, recordsOf, reportOf, faultReport}
+use Rattle.model.specs.rules.Records.{rows, Read, Progress, going, stopped, nothingRead, readFrom, readBytes, readEnd, readFile, recordsOf}
+use Rattle.model.specs.rules.Records.{reportOf, faultReport}
 use Rattle.model.specs.rules.Api.{Written, unwritten, convertedAs, converter}
-use Rattle.model.specs.rules.Ledger.{Call, piece, finish, Entry, bytesOf, roomOf, isFileFault, faultIn, endedIn, consumedIn, closedIn, writtenIn, tooSmall, taken, seenBy, answerTo, answerNow, checked, historyFrom, history}
+use Rattle.model.specs.rules.Ledger.{Call, piece, finish, Entry, bytesOf, roomOf, isFileFault, faultIn, endedIn, consumedIn, closedIn}
+use Rattle.model.specs.rules.Ledger.{writtenIn, tooSmall, taken, seenBy, answerTo, answerNow, checked, historyFrom, history}
 use Rattle.model.specs.laws.Laws.{All, all-none, all-cons, Grows}
 use Rattle.model.specs.laws.Demands.{EndIsWhole, OutputFits, pieces, atEnd, SameAsWhole, WholeAndPieces, FaultOfEveryFile}
 use Rattle.model.specs.laws.Machine.{ConverterStage, taking, faulted, ended, LiesAt, stood-taking, stood-faulted, stood-ended}
@@ -25,7 +27,8 @@ use Rattle.model.proofs.file_laws.ReadAppend.{fault-stays, fault-stays-
 use Rattle.model.proofs.cell_laws.CellRuns.{all-snoc}
 use Rattle.model.proofs.round_trip.TableText.{table-grows, rest-of}
 use Rattle.model.proofs.piece_laws.CallsMade.{after, history-snoc, answer-known, answer-source, answer-target}
-use Rattle.model.proofs.piece_laws.Histories.{fault-number, fault-none, fault-some, consumed-none, written-append, ended-append, closed-none, answer-failed, answer-ended, answer-small, answer-taken}
+use Rattle.model.proofs.piece_laws.Histories.{fault-number, fault-none, fault-some, consumed-none, written-append, ended-append, closed-none}
+use Rattle.model.proofs.piece_laws.Histories.{answer-failed, answer-ended, answer-small, answer-taken}
 use Rattle.model.proofs.piece_laws.MachineLaws.{textOf, history-stood}
 use Rattle.model.proofs.piece_laws.Room.{piece-writes, end-writes, file-output}
 
@@ -80,7 +83,9 @@ module _ (m n : ℕ) where
           let s = history-stood m n d t p q cs in
           rw (answer-known m n d t (history m n cs) c p q) (call-fits d (into t) (history m n cs) (s .0) c (s .1))
 
-  fits-from : (cs : List Call) (ds : List Call) → All (λ (x : Entry). length (x .answer .text) ≤ roomOf (x .call)) (history m n cs) → All (λ (x : Entry). length (x .answer .text) ≤ roomOf (x .call)) (historyFrom m n (history m n cs) ds)
+  fits-from :
+      (cs : List Call) (ds : List Call) → All (λ (x : Entry). length (x .answer .text) ≤ roomOf (x .call)) (history m n cs) →
+      All (λ (x : Entry). length (x .answer .text) ≤ roomOf (x .call)) (historyFrom m n (history m n cs) ds)
   unfolding historyFrom
   fits-from cs [] all = all
   fits-from cs (c ∷ ds) all =
@@ -105,18 +110,22 @@ module _ (m n : ℕ) (d t : Dialect) (p : dialectOf m ≡ some d) (q : dialectOf
   converter-known bs room = rw (p, converter, q)
 
   -- a piece after these calls finds a fault only where they have shown no end of the file
-  still-open : (past : List Entry) (w : ConverterStage) (bs : Bytes) (room : ℕ) (e : Report) → LiesAt d (into t) past w → faultIn past ≡ none → faultIn (after m n past (piece bs room)) ≡ some e → endedIn past ≡ false
+  still-open :
+      (past : List Entry) (w : ConverterStage) (bs : Bytes) (room : ℕ) (e : Report) → LiesAt d (into t) past w → faultIn past ≡ none →
+      faultIn (after m n past (piece bs room)) ≡ some e → endedIn past ≡ false
   unfolding faultIn if_then_else_
   still-open past (taking r) bs room e (stood-taking k h b w) i g = h
   still-open past (faulted x) bs room e (stood-faulted f r z k s w) i g = none-some (sym i ∙ k)
   still-open past ended bs room e (stood-ended r k h b w) i g =
-      let a : answerNow m n past (piece bs room) ≡ unwritten (refusal 11) = answer-known m n d t past (piece bs room) p q ∙ answer-ended d (into t) past (piece bs room) k h in
+      let a : answerNow m n past (piece bs room) ≡ unwritten (refusal 11)
+      = answer-known m n d t past (piece bs room) p q ∙ answer-ended d (into t) past (piece bs room) k h in
       let x : List Entry = record { call = piece bs room; answer = unwritten (refusal 11) } ∷ [] in
       let g′ : faultIn (past ++ x) ≡ some e = rw a at g in
       none-some (sym (fault-none x past i) ∙ g′)
 
   known-fault :
-      (past : List Entry) (w : ConverterStage) (bs rest : Bytes) (room : ℕ) (e : Report) → LiesAt d (into t) (after m n past (piece bs room)) w → faultIn past ≡ none → endedIn past ≡ false →
+      (past : List Entry) (w : ConverterStage) (bs rest : Bytes) (room : ℕ) (e : Report) →
+      LiesAt d (into t) (after m n past (piece bs room)) w → faultIn past ≡ none → endedIn past ≡ false →
       faultIn (after m n past (piece bs room)) ≡ some e → converter m n (consumedIn (after m n past (piece bs room)) ++ rest) MAXFILE .report ≡ e
   unfolding if_then_else_
   known-fault past (taking r) bs rest room e (stood-taking k h b w) i o g = none-some (sym k ∙ g)
@@ -125,7 +134,8 @@ module _ (m n : ℕ) (d t : Dialect) (p : dialectOf m ≡ some d) (q : dialectOf
       let x : List Entry = record { call = piece bs room; answer = answerNow m n past (piece bs room) } ∷ [] in
       let shut : closedIn (past ++ x) ≡ false = closed-none x past i ∙ rw (o, open-piece bs room (answerNow m n past (piece bs room))) in
       let seen : readBytes d (some (into t)) (consumedIn (past ++ x)) ≡ stopped f r = rw shut at s in
-      let all : readFile d (some (into t)) (consumedIn (past ++ x) ++ rest) ≡ stopped f r = fault-stays-file d (some (into t)) f r (consumedIn (past ++ x)) rest seen in
+      let all : readFile d (some (into t)) (consumedIn (past ++ x) ++ rest) ≡ stopped f r
+      = fault-stays-file d (some (into t)) f r (consumedIn (past ++ x)) rest seen in
       let same : e′ ≡ e = some-same (sym k ∙ g) in
       rw (converter-known (consumedIn (past ++ x) ++ rest) MAXFILE, all) (sym z ∙ same)
     where
@@ -148,7 +158,9 @@ fault-of-every-file m n cs bs rest room e h g = go (dialectOf m) (dialectOf n) r
         let g′ : faultIn (past ++ x) ≡ some e = rw a at (rw next at g) in
         none-some (sym (fault-none x past h) ∙ g′)
 
-    go : (x y : Option Dialect) → dialectOf m ≡ x → dialectOf n ≡ y → converter m n (consumedIn (history m n (cs ++ (piece bs room ∷ []))) ++ rest) MAXFILE .report ≡ e
+    go :
+        (x y : Option Dialect) → dialectOf m ≡ x → dialectOf n ≡ y →
+        converter m n (consumedIn (history m n (cs ++ (piece bs room ∷ []))) ++ rest) MAXFILE .report ≡ e
     go none y p q = unknown-fault (answer-source m n past (piece bs room) p)
     go (some d) none p q = unknown-fault (answer-target m n d past (piece bs room) p q)
     go (some d) (some t) p q =
@@ -163,20 +175,26 @@ fault-of-every-file m n cs bs rest room e h g = go (dialectOf m) (dialectOf n) r
 module _ (d : Dialect) (t : Target) where
   -- a history of pieces alone, with these bytes in all
   data Pieced (bs : Bytes) (past : List Entry) : Type 0 where
-    so-far : (r : Read) → faultIn past ≡ none → endedIn past ≡ false → consumedIn past ≡ bs → readBytes d (some t) bs ≡ going r → writtenIn past ≡ textOf d t (going r) → Pieced bs past
+    so-far :
+        (r : Read) → faultIn past ≡ none → endedIn past ≡ false → consumedIn past ≡ bs → readBytes d (some t) bs ≡ going r →
+        writtenIn past ≡ textOf d t (going r) → Pieced bs past
     no-more : (e : Fault) (r : Read) → faultIn past ≡ some (faultReport e r) → readBytes d (some t) bs ≡ stopped e r → Pieced bs past
 
   abbrev given : Bytes → Written → List Entry
   given p a = record { call = piece p 49152; answer = a } ∷ []
 
-  piece-more : (bs p : Bytes) (past : List Entry) (r : Read) (q : Progress) → readBytes d (some t) (bs ++ p) ≡ q → faultIn past ≡ none → endedIn past ≡ false → consumedIn past ≡ bs → readBytes d (some t) bs ≡ going r → writtenIn past ≡ textOf d t (going r) → Pieced (bs ++ p) (past ++ given p (taken t (writtenIn past) q))
+  piece-more :
+      (bs p : Bytes) (past : List Entry) (r : Read) (q : Progress) → readBytes d (some t) (bs ++ p) ≡ q → faultIn past ≡ none →
+      endedIn past ≡ false → consumedIn past ≡ bs → readBytes d (some t) bs ≡ going r → writtenIn past ≡ textOf d t (going r) →
+      Pieced (bs ++ p) (past ++ given p (taken t (writtenIn past) q))
   unfolding faultIn endedIn consumedIn writtenIn if_then_else_
   piece-more bs p past r (going r′) e k h c b w =
       let x : List Entry = given p (taken t (writtenIn past) (going r′)) in
       let g : Grows (recordsOf (readBytes d (some t) bs)) (recordsOf (readBytes d (some t) (bs ++ p))) = records-stay d (some t) bs p in
       let g′ : Grows (r .done) (r′ .done) = rw (b, e) at g in
       let sum : writtenIn past ++ drop (length (writtenIn past)) (textOf d t (going r′)) ≡ textOf d t (going r′) = rw w (rest-of (table-grows t g′)) in
-      so-far r′ (fault-none x past k) (ended-append x past ∙ rw h) (consumed-none x past k ∙ ap (λ l. consumedIn past ++ l) (append-nil p) ∙ ap (λ l. l ++ p) c) e
+      so-far r′ (fault-none x past k) (ended-append x past ∙ rw h)
+      (consumed-none x past k ∙ ap (λ l. consumedIn past ++ l) (append-nil p) ∙ ap (λ l. l ++ p) c) e
       (written-append x past ∙ ap (λ l. writtenIn past ++ l) (append-nil (drop (length (writtenIn past)) (textOf d t (going r′)))) ∙ sum)
   piece-more bs p past r (stopped e′ r′) e k h c b w =
       let x : List Entry = given p (taken t (writtenIn past) (stopped e′ r′)) in
@@ -187,7 +205,8 @@ module _ (d : Dialect) (t : Target) where
   pieced-after : (bs p : Bytes) (past : List Entry) → length p ≤ 4096 → Pieced bs past → Pieced (bs ++ p) (past ++ given p (answerTo d t past (piece p 49152)))
   pieced-after bs p past l (so-far r k h c b w) =
       let s : tooSmall (piece p 49152) ≡ false = rw (le-ltb 4096 (length p) l) in
-      let a : answerTo d t past (piece p 49152) ≡ taken t (writtenIn past) (readBytes d (some t) (consumedIn past ++ p)) = answer-taken d t past (piece p 49152) k h s in
+      let a : answerTo d t past (piece p 49152) ≡ taken t (writtenIn past) (readBytes d (some t) (consumedIn past ++ p))
+      = answer-taken d t past (piece p 49152) k h s in
       rw (a, c) (piece-more bs p past r (readBytes d (some t) (bs ++ p)) refl k h c b w)
   pieced-after bs p past l (no-more e r k b) =
       let x : List Entry = given p (unwritten (faultReport e r)) in
@@ -216,11 +235,14 @@ module _ (d : Dialect) (t : Target) where
   done-grows bs r b = let g : Grows (recordsOf (going r)) (recordsOf (readEnd d (some t) (going r))) = end-grows d (some t) (going r) in rw b g
 
 module _ (m n : ℕ) (d t : Dialect) (p : dialectOf m ≡ some d) (q : dialectOf n ≡ some t) where
-  pieced-from : (bs : Bytes) (past : List Entry) (ps : List Bytes) → All (λ (x : Bytes). length x ≤ 4096) ps → Pieced d (into t) bs past → Pieced d (into t) (bs ++ concat ps) (historyFrom m n past (pieces ps))
+  pieced-from :
+      (bs : Bytes) (past : List Entry) (ps : List Bytes) → All (λ (x : Bytes). length x ≤ 4096) ps → Pieced d (into t) bs past →
+      Pieced d (into t) (bs ++ concat ps) (historyFrom m n past (pieces ps))
   unfolding historyFrom concat
   pieced-from bs past [] all-none s = rw append-nil s
   pieced-from bs past (x ∷ ps) (all-cons l ls) s =
-      let s′ : Pieced d (into t) (bs ++ x) (after m n past (piece x 49152)) = rw (answer-known m n d t past (piece x 49152) p q) (pieced-after d (into t) bs x past l s) in
+      let s′ : Pieced d (into t) (bs ++ x) (after m n past (piece x 49152))
+      = rw (answer-known m n d t past (piece x 49152) p q) (pieced-after d (into t) bs x past l s) in
       rw (append-assoc bs x (concat ps)) at (pieced-from (bs ++ x) (after m n past (piece x 49152)) ps ls s′)
 
   end-same : (ps : List Bytes) (past : List Entry) → Pieced d (into t) (concat ps) past → history m n (pieces ps) ≡ past → SameAsWhole m n ps
@@ -228,8 +250,12 @@ module _ (m n : ℕ) (d t : Dialect) (p : dialectOf m ≡ some d) (q : dialectOf
       let f : Progress = readFile d (some (into t)) (concat ps) in
       let l : length (textOf d (into t) f) ≤ MAXFILE = file-output d (into t) (concat ps) in
       let conv : converter m n (concat ps) MAXFILE ≡ convertedAs (into t) MAXFILE f = converter-known m n d t p q (concat ps) MAXFILE in
-      let a : answerTo d (into t) past (finish 49152) ≡ taken (into t) (writtenIn past) (readFile d (some (into t)) (consumedIn past ++ [])) = answer-taken d (into t) past (finish 49152) k h refl in
-      let e : atEnd m n ps ≡ taken (into t) (writtenIn past) f = ap (λ u. answerNow m n u (finish 49152)) z ∙ answer-known m n d t past (finish 49152) p q ∙ a ∙ ap (λ u. taken (into t) (writtenIn past) (readFile d (some (into t)) u)) (append-nil (consumedIn past) ∙ c) in
+      let a : answerTo d (into t) past (finish 49152)
+      ≡ taken (into t) (writtenIn past) (readFile d (some (into t)) (consumedIn past ++ []))
+      = answer-taken d (into t) past (finish 49152) k h refl in
+      let e : atEnd m n ps ≡ taken (into t) (writtenIn past) f
+      = ap (λ u. answerNow m n u (finish 49152)) z ∙ answer-known m n d t past (finish 49152) p q ∙ a
+      ∙ ap (λ u. taken (into t) (writtenIn past) (readFile d (some (into t)) u)) (append-nil (consumedIn past) ∙ c) in
       let g : Grows (r .done) (recordsOf f) = done-grows d (into t) (concat ps) r b in
       let sum : writtenIn past ++ drop (length (writtenIn past)) (textOf d (into t) f) ≡ textOf d (into t) f = rw w (rest-of (table-grows (into t) g)) in
       record {
@@ -240,8 +266,11 @@ module _ (m n : ℕ) (d t : Dialect) (p : dialectOf m ≡ some d) (q : dialectOf
       }
   end-same ps past (no-more e r k b) z =
       let stop : readFile d (some (into t)) (concat ps) ≡ stopped e r = rw append-nil at (fault-stays-file d (some (into t)) e r (concat ps) [] b) in
-      let conv : converter m n (concat ps) MAXFILE ≡ unwritten (faultReport e r) = converter-known m n d t p q (concat ps) MAXFILE ∙ ap (convertedAs (into t) MAXFILE) stop in
-      let a : atEnd m n ps ≡ unwritten (faultReport e r) = ap (λ u. answerNow m n u (finish 49152)) z ∙ answer-known m n d t past (finish 49152) p q ∙ answer-failed d (into t) past (finish 49152) (faultReport e r) k in
+      let conv : converter m n (concat ps) MAXFILE ≡ unwritten (faultReport e r)
+      = converter-known m n d t p q (concat ps) MAXFILE ∙ ap (convertedAs (into t) MAXFILE) stop in
+      let a : atEnd m n ps ≡ unwritten (faultReport e r)
+      = ap (λ u. answerNow m n u (finish 49152)) z ∙ answer-known m n d t past (finish 49152) p q
+      ∙ answer-failed d (into t) past (finish 49152) (faultReport e r) k in
       record {
         report = ap (λ u. u .report) a ∙ ap (λ u. u .report) (sym conv);
         text = λ acc.
@@ -250,7 +279,9 @@ module _ (m n : ℕ) (d t : Dialect) (p : dialectOf m ≡ some d) (q : dialectOf
             impossible (rw w at v);
       }
 
-unknown-same : (m n : ℕ) (ps : List Bytes) → atEnd m n ps ≡ unwritten (refusal 11) → converter m n (concat ps) MAXFILE ≡ unwritten (refusal 11) → SameAsWhole m n ps
+unknown-same :
+    (m n : ℕ) (ps : List Bytes) → atEnd m n ps ≡ unwritten (refusal 11) → converter m n (concat ps) MAXFILE ≡ unwritten (refusal 11) →
+    SameAsWhole m n ps
 unknown-same m n ps a c =
     record {
       report = ap (λ u. u .report) a ∙ ap (λ u. u .report) (sym c);
@@ -275,14 +306,17 @@ end-is-whole m n cs room h = go (dialectOf m) (dialectOf n) refl refl
     past : List Entry
     past = history m n cs
 
-    by-state : (d t : Dialect) (w : ConverterStage) → dialectOf m ≡ some d → dialectOf n ≡ some t → LiesAt d (into t) past w → answerNow m n past (finish room) .report ≡ converter m n (consumedIn past) MAXFILE .report
+    by-state :
+        (d t : Dialect) (w : ConverterStage) → dialectOf m ≡ some d → dialectOf n ≡ some t → LiesAt d (into t) past w →
+        answerNow m n past (finish room) .report ≡ converter m n (consumedIn past) MAXFILE .report
     by-state d t (faulted e) p q (stood-faulted f r z k s w) = impossible (sym (rw (p, checked, q, k) at h))
     by-state d t ended p q (stood-ended r k e b w) = impossible (sym (rw (p, checked, q, k, e) at h))
     by-state d t (taking r) p q (stood-taking k e b w) =
         let f : Progress = readFile d (some (into t)) (consumedIn past) in
         let l : length (textOf d (into t) f) ≤ MAXFILE = file-output d (into t) (consumedIn past) in
         let small : tooSmall (finish room) ≡ false = rw (p, checked, q, k, e) at h in
-        let a : answerNow m n past (finish room) ≡ taken (into t) (writtenIn past) (readFile d (some (into t)) (consumedIn past ++ [])) = answer-known m n d t past (finish room) p q ∙ answer-taken d (into t) past (finish room) k e small in
+        let a : answerNow m n past (finish room) ≡ taken (into t) (writtenIn past) (readFile d (some (into t)) (consumedIn past ++ []))
+        = answer-known m n d t past (finish room) p q ∙ answer-taken d (into t) past (finish room) k e small in
         ap (λ u. u .report) a
         ∙ ap (λ u. reportOf (readFile d (some (into t)) u)) (append-nil (consumedIn past))
         ∙ sym (whole-report d (into t) f l)

@@ -14,7 +14,8 @@ use Rattle.model.specs.rules.Api.{slice}
 use Rattle.model.specs.laws.Laws.{All, all-none}
 use Rattle.model.specs.laws.Scans.{Scan, ScanResult, closingRaw, scanStep, scan, valueOf}
 use Rattle.model.specs.laws.RoundTrips.{SameCells, no-cells, and-cell}
-use Rattle.model.specs.laws.Places.{SpanIn, ScanIn, ScanResultIn, pends-in, fails-in, completes-in, Spans, valuesIn, bufferedBytes, bufferedStarts, bufferedEnds, BufferedCells}
+use Rattle.model.specs.laws.Places.{SpanIn, ScanIn, ScanResultIn, pends-in, fails-in, completes-in, Spans, valuesIn, bufferedBytes}
+use Rattle.model.specs.laws.Places.{bufferedStarts, bufferedEnds, BufferedCells}
 use Rattle.model.proofs.Spans.{part-is}
 use Rattle.model.proofs.Tests.{split}
 use Rattle.model.proofs.cell_laws.CellRuns.{all-snoc}
@@ -69,7 +70,8 @@ module _ (bytes : Bytes) where
     step-in (To f Passed) = ih _ left (record { raw = part-none (suc (s .offset)); forward = omega arith; within = inside; cells = all-none })
     step-in (To f OfCell) =
         let l : s .opened ≤ s .offset = i .forward in
-        let raw : s .raw ++ (b ∷ []) ≡ slice bytes (s .opened) (suc (s .offset)) = ap (λ r. r ++ (b ∷ [])) (i .raw) ∙ part-more (s .opened) (s .offset) b bs l e in
+        let raw : s .raw ++ (b ∷ []) ≡ slice bytes (s .opened) (suc (s .offset))
+        = ap (λ r. r ++ (b ∷ [])) (i .raw) ∙ part-more (s .opened) (s .offset) b bs l e in
         ih _ left (record { raw = raw; forward = omega arith; within = inside; cells = i .cells })
     step-in (To f (Between k)) = ih _ left (record { raw = part-none (suc (s .offset)); forward = omega arith; within = inside; cells = closing-in k s i })
     step-in (To f (Tail k)) = ih _ left (record { raw = part-none (suc (s .offset)); forward = omega arith; within = inside; cells = closing-in k s i })
@@ -96,8 +98,15 @@ unfolding valuesIn bufferedBytes bufferedStarts bufferedEnds
 buffered-cells d before after [] = no-cells
 buffered-cells d before after (c ∷ cs) =
     let x : Bytes = c .bytes in
-    let first : before ++ ((x ++ bufferedBytes cs) ++ after) ≡ before ++ (x ++ (bufferedBytes cs ++ after)) = ap (λ l. before ++ l) (append-assoc x (bufferedBytes cs) after) in
-    let raw : slice (before ++ ((x ++ bufferedBytes cs) ++ after)) (length before) (length before + length x) ≡ x = ap (λ l. slice l (length before) (length before + length x)) first ∙ part-is before x (bufferedBytes cs ++ after) (length before) (length before + length x) refl refl in
-    let all : before ++ x ++ (bufferedBytes cs ++ after) ≡ before ++ ((x ++ bufferedBytes cs) ++ after) = append-assoc before x (bufferedBytes cs ++ after) ∙ sym first in
-    let ih : SameCells (valuesIn d (before ++ x ++ (bufferedBytes cs ++ after)) (bufferedStarts (length (before ++ x)) cs) (bufferedEnds (length (before ++ x)) cs)) (map (valueOf d) cs) = buffered-cells d (before ++ x) after cs in
+    let first : before ++ ((x ++ bufferedBytes cs) ++ after) ≡ before ++ (x ++ (bufferedBytes cs ++ after))
+    = ap (λ l. before ++ l) (append-assoc x (bufferedBytes cs) after) in
+    let raw : slice (before ++ ((x ++ bufferedBytes cs) ++ after)) (length before) (length before + length x) ≡ x
+    = ap (λ l. slice l (length before) (length before + length x)) first
+    ∙ part-is before x (bufferedBytes cs ++ after) (length before) (length before + length x) refl refl in
+    let all : before ++ x ++ (bufferedBytes cs ++ after) ≡ before ++ ((x ++ bufferedBytes cs) ++ after)
+    = append-assoc before x (bufferedBytes cs ++ after) ∙ sym first in
+    let ih : SameCells
+    (valuesIn d (before ++ x ++ (bufferedBytes cs ++ after)) (bufferedStarts (length (before ++ x)) cs)
+    (bufferedEnds (length (before ++ x)) cs)) (map (valueOf d) cs)
+    = buffered-cells d (before ++ x) after cs in
     and-cell (record { kind = ap (kindOf d) raw; content = ap (contentOf d) raw }) (rw (length-append before x, all) at ih)

@@ -9,12 +9,14 @@ use mathlib.Core.Bool.{true}
 use mathlib.Core.Option.{some}
 use mathlib.Core.List.{List, [], _∷_, _++_}
 use lib.ListN.{length, length-append}
-use Rattle.model.specs.rules.Types.{Dialect, Csvj, Tdif, CsvPlus, Target, CheckResult, Sound, Faulty, FileState, Begin, Outside, Passed, OfCell, Between, Tail, Ends, Step, To, Reject, Ending, Clean, Final, Cut}
+use Rattle.model.specs.rules.Types.{Dialect, Csvj, Tdif, CsvPlus, Target, CheckResult, Sound, Faulty, FileState, Begin, Outside, Passed, OfCell}
+use Rattle.model.specs.rules.Types.{Between, Tail, Ends, Step, To, Reject, Ending, Clean, Final, Cut}
 use Rattle.model.specs.rules.Base.{Bytes, isEmpty}
 use Rattle.model.specs.rules.File.{fileStep, fileEnd}
 use Rattle.model.specs.rules.Text.{Value, recordText, tableText, ending}
 use Rattle.model.specs.rules.Report.{MAXFILE}
-use Rattle.model.specs.rules.Records.{Rec, rows, Read, Progress, going, stopped, between-records, nothingRead, readByte, readFrom, readBytes, readEnd, readFile, recordsOf, recordFault, move, complete, validated, closing, endBetween, endAt}
+use Rattle.model.specs.rules.Records.{Rec, rows, Read, Progress, going, stopped, between-records, nothingRead, readByte, readFrom, readBytes}
+use Rattle.model.specs.rules.Records.{readEnd, readFile, recordsOf, recordFault, move, complete, validated, closing, endBetween, endAt}
 use Rattle.model.specs.laws.Laws.{All, all-none, all-cons, BoundedRecord}
 use Rattle.model.proofs.Tests.{split}
 use Rattle.model.proofs.file_laws.ReadAppend.{read-append, read-grows}
@@ -41,7 +43,9 @@ module _ (d : Dialect) (t : Target) where
   abbrev pub writtenFor : List Rec → ℕ
   writtenFor done = length (tableText t (rows done))
 
-  writes : (done : List Rec) (x : Rec) → writtenFor (done ++ (x ∷ [])) ≡ writtenFor done + length (recordText t (isEmpty done) (x .cells) ++ ending (t .dialect))
+  writes :
+      (done : List Rec) (x : Rec) →
+      writtenFor (done ++ (x ∷ [])) ≡ writtenFor done + length (recordText t (isEmpty done) (x .cells) ++ ending (t .dialect))
   writes done x = ap length (table-snoc t done x) ∙ length-append (tableText t (rows done)) (recordText t (isEmpty done) (x .cells) ++ ending (t .dialect))
 
   -- ---- the cost
@@ -54,21 +58,30 @@ module _ (d : Dialect) (t : Target) where
   written-cost (going r) = omega arith
   written-cost (stopped e r) = omega arith
 
-  complete-cost : (r : Read) (vs : List Value) (f : FileState) (o : ℕ) → All BoundedRecord (recordsOf (complete d (some t) r vs f o)) → cost (complete d (some t) r vs f o) ≤ cost (going r) + 6
+  complete-cost :
+      (r : Read) (vs : List Value) (f : FileState) (o : ℕ) → All BoundedRecord (recordsOf (complete d (some t) r vs f o)) →
+      cost (complete d (some t) r vs f o) ≤ cost (going r) + 6
   unfolding complete
   complete-cost r vs f o = go (recordFault d (some t) (r .done) vs) refl
     where
       x : Rec
       x = record { start = r .start; size = r .size; cells = vs }
 
-      go : (v : CheckResult) → recordFault d (some t) (r .done) vs ≡ v → All BoundedRecord (recordsOf (validated r (between-records (r .done ++ (x ∷ [])) f o) v)) → cost (validated r (between-records (r .done ++ (x ∷ [])) f o) v) ≤ cost (going r) + 6
+      go :
+          (v : CheckResult) → recordFault d (some t) (r .done) vs ≡ v →
+          All BoundedRecord (recordsOf (validated r (between-records (r .done ++ (x ∷ [])) f o) v)) →
+          cost (validated r (between-records (r .done ++ (x ∷ [])) f o) v) ≤ cost (going r) + 6
       go Sound e all =
           let c = record-carried d t (r .done) vs e in
           let text : length (recordText t (isEmpty (r .done)) vs) ≤ 4096 = c .short in
-          let len : length (recordText t (isEmpty (r .done)) vs ++ ending (t .dialect)) ≡ length (recordText t (isEmpty (r .done)) vs) + length (ending (t .dialect)) = length-append (recordText t (isEmpty (r .done)) vs) (ending (t .dialect)) in
+          let len : length (recordText t (isEmpty (r .done)) vs ++ ending (t .dialect))
+          ≡ length (recordText t (isEmpty (r .done)) vs) + length (ending (t .dialect))
+          = length-append (recordText t (isEmpty (r .done)) vs) (ending (t .dialect)) in
           let two : length (ending (t .dialect)) ≤ 2 = ending-length (t .dialect) in
           let six : length (recordText t (isEmpty (r .done)) vs ++ ending (t .dialect)) ≤ 6 * (r .size + 1) = all-last (r .done) x all t (isEmpty (r .done)) in
-          let sum : writtenFor (r .done ++ (x ∷ [])) ≡ writtenFor (r .done) + length (recordText t (isEmpty (r .done)) vs ++ ending (t .dialect)) = writes (r .done) x in
+          let sum : writtenFor (r .done ++ (x ∷ []))
+          ≡ writtenFor (r .done) + length (recordText t (isEmpty (r .done)) vs ++ ending (t .dialect))
+          = writes (r .done) x in
           omega arith
       go (Faulty e) k all = omega arith
 
@@ -110,7 +123,9 @@ module _ (d : Dialect) (t : Target) where
   at-end-cost r Cut all = omega arith
 
   -- after a piece
-  pub piece-writes : (xs bs : Bytes) (r : Read) → readBytes d (some t) xs ≡ going r → length bs ≤ 4096 → writtenFor (recordsOf (readBytes d (some t) (xs ++ bs))) ≤ writtenFor (r .done) + 49152
+  pub piece-writes :
+      (xs bs : Bytes) (r : Read) → readBytes d (some t) xs ≡ going r → length bs ≤ 4096 →
+      writtenFor (recordsOf (readBytes d (some t) (xs ++ bs))) ≤ writtenFor (r .done) + 49152
   unfolding readBytes
   piece-writes xs bs r e h =
       let q : Progress = readFrom d (some t) (going r) bs in
@@ -148,9 +163,13 @@ module _ (d : Dialect) (t : Target) where
   -- six bytes for each byte of a file, and six more, are room enough for what it is converted to
   pub file-room : (xs : Bytes) → writtenFor (recordsOf (readFile d (some t) xs)) ≤ 6 * (length xs + 1)
   unfolding readFile readBytes readEnd nothingRead tableText rows
-  file-room xs = by-end (readFrom d (some t) (going nothingRead) xs) (records-bounded-file d (some t) xs) (read-cost (going nothingRead) xs (records-bounded d (some t) xs))
+  file-room xs =
+      by-end (readFrom d (some t) (going nothingRead) xs) (records-bounded-file d (some t) xs)
+      (read-cost (going nothingRead) xs (records-bounded d (some t) xs))
     where
-      by-end : (q : Progress) → All BoundedRecord (recordsOf (readEnd d (some t) q)) → cost q ≤ cost (going nothingRead) + 6 * length xs → writtenFor (recordsOf (readEnd d (some t) q)) ≤ 6 * (length xs + 1)
+      by-end :
+          (q : Progress) → All BoundedRecord (recordsOf (readEnd d (some t) q)) → cost q ≤ cost (going nothingRead) + 6 * length xs →
+          writtenFor (recordsOf (readEnd d (some t) q)) ≤ 6 * (length xs + 1)
       by-end (stopped e r) all h = omega arith
       by-end (going r) all h =
           let q : Progress = endAt d (some t) r (fileEnd d (r .state)) in

@@ -14,7 +14,8 @@ use Rattle.model.specs.rules.Records.{Read, going, move}
 use Rattle.model.specs.laws.Laws.{all-none, Bounded}
 use Rattle.model.specs.laws.Scans.{RawCell, Scan, ScanResult, pends, fails, completes, scan-between, scanStep, scan, valueOf, readOf, ScanBound}
 use Rattle.model.proofs.Tests.{split}
-use Rattle.model.proofs.file_laws.Bound.{weigh-none, slack, Steady, y-ends, y-over, step-steady, Counted, CountedTo, c-going, closed-bound, over-bound, move-counted}
+use Rattle.model.proofs.file_laws.Bound.{weigh-none, slack, Steady, y-ends, y-over, step-steady, Counted, CountedTo, c-going, closed-bound}
+use Rattle.model.proofs.file_laws.Bound.{over-bound, move-counted}
 use Rattle.model.proofs.piece_laws.ScanLaws.{values-closing}
 
 module _ (d : Dialect) (limit : ℕ) where
@@ -33,7 +34,8 @@ module _ (d : Dialect) (limit : ℕ) where
   Fits bs = (s : Scan) (room : ℕ) → Counted d none (readOf d [] s) → s .size + length bs ≤ room → Fitting room (scan d limit s bs)
 
   step-fits :
-      (s : Scan) (b : ℕ) (bs : Bytes) (room : ℕ) → Fits bs → Counted d none (readOf d [] s) → s .size + suc (length bs) ≤ room → (x : Step) → Steady (s .state) x →
+      (s : Scan) (b : ℕ) (bs : Bytes) (room : ℕ) → Fits bs → Counted d none (readOf d [] s) → s .size + suc (length bs) ≤ room →
+      (x : Step) → Steady (s .state) x →
       Fitting room (scanStep s b bs (λ s′. scan d limit s′ bs) x)
   unfolding scanStep move
   step-fits s b bs room ih i l (Reject e) y = fit-fails
@@ -57,11 +59,15 @@ module _ (d : Dialect) (limit : ℕ) where
       let P : ScanResult → Type 0 = Fitting room in
       split P _ (λ _. fit-fails) λ _. split P _ (λ _. fit-fails) λ _. step-fits s b bs room (fits bs) i l (fileStep d (s .state) b) (step-steady d (s .state) b)
 
-  fitting : {room : ℕ} {s : Scan} {cs : List RawCell} {f : FileState} {next : ℕ} {left : Bytes} → Fitting room (completes s cs f next left) → Bounded (s .size) (map (valueOf d) cs) × (suc (s .size) + length left ≤ room)
+  fitting :
+      {room : ℕ} {s : Scan} {cs : List RawCell} {f : FileState} {next : ℕ} {left : Bytes} → Fitting room (completes s cs f next left) →
+      Bounded (s .size) (map (valueOf d) cs) × (suc (s .size) + length left ≤ room)
   fitting (fit-completes b l) = (b, l)
 
 pub scan-bound : ScanBound
 scan-bound d limit f o bs s cs g next left e =
     let z : 0 + 0 ≤ 0 + slack f = omega arith in
-    let all : Fitting d limit (length bs) (scan d limit (scan-between f o) bs) = fits d limit bs (scan-between f o) (length bs) (record { sum = 0; cells = weigh-none; fits = z; done = all-none }) (omega arith) in
+    let all : Fitting d limit (length bs) (scan d limit (scan-between f o) bs)
+    = fits d limit bs (scan-between f o) (length bs) (record { sum = 0; cells = weigh-none; fits = z; done = all-none })
+    (omega arith) in
     fitting d limit (rw e at all)

@@ -12,7 +12,8 @@ use Rattle.model.specs.rules.Base.{if_then_else_, Bytes}
 use Rattle.model.specs.rules.File.{fileStep, counts}
 use Rattle.model.specs.rules.Report.{MAXFILE, MAXRECORD}
 use Rattle.model.specs.rules.Records.{Rec, going, stopped, closing, complete, move, fileFull, recordFull, readByte, readFrom}
-use Rattle.model.specs.laws.Scans.{Scan, fails, closingRaw, scanStep, scan, valueOf, readOf, resume, ScanReads, movedCell, moved, movedTo, Shift, PartMoved, CompleteReads}
+use Rattle.model.specs.laws.Scans.{Scan, fails, closingRaw, scanStep, scan, valueOf, readOf, resume, ScanReads, movedCell, moved, movedTo}
+use Rattle.model.specs.laws.Scans.{Shift, PartMoved, CompleteReads}
 use Rattle.model.proofs.Tests.{split-on}
 use Rattle.model.proofs.file_laws.ReadAppend.{read-stopped}
 
@@ -26,7 +27,9 @@ module _ (d : Dialect) (target : Option Target) (done : List Rec) where
   abbrev Comes : Bytes → Type 0
   Comes bs = (s : Scan) → readFrom d target (going (readOf d done s)) bs ≡ resume d target done (scan d MAXFILE s bs)
 
-  step-reads : (s : Scan) (b : ℕ) (bs : Bytes) → Comes bs → (x : Step) → readFrom d target (move d target (readOf d done s) b x) bs ≡ resume d target done (scanStep s b bs (λ s′. scan d MAXFILE s′ bs) x)
+  step-reads :
+      (s : Scan) (b : ℕ) (bs : Bytes) → Comes bs → (x : Step) →
+      readFrom d target (move d target (readOf d done s) b x) bs ≡ resume d target done (scanStep s b bs (λ s′. scan d MAXFILE s′ bs) x)
   unfolding move scanStep
   step-reads s b bs ih (Reject e) = read-stopped d target _ _ bs
   step-reads s b bs ih (To f Outside) = ih _
@@ -36,7 +39,13 @@ module _ (d : Dialect) (target : Option Target) (done : List Rec) where
   step-reads s b bs ih (To f (Tail k)) = rw (values-closing k s) (ih _)
   step-reads s b bs ih (To f (Ends k)) = rw (values-closing k s)
 
-  choose-reads : (s : Scan) (b : ℕ) (bs : Bytes) → Comes bs → (u v : Bool) (x : Step) → readFrom d target (if u then stopped FileTooLong (readOf d done s) else if v then stopped RecordTooLong (readOf d done s) else move d target (readOf d done s) b x) bs ≡ resume d target done (if u then fails FileTooLong s else if v then fails RecordTooLong s else scanStep s b bs (λ s′. scan d MAXFILE s′ bs) x)
+  choose-reads :
+      (s : Scan) (b : ℕ) (bs : Bytes) → Comes bs → (u v : Bool) (x : Step) →
+      readFrom d target
+      (if u then stopped FileTooLong (readOf d done s)
+      else if v then stopped RecordTooLong (readOf d done s) else move d target (readOf d done s) b x) bs
+      ≡ resume d target done
+      (if u then fails FileTooLong s else if v then fails RecordTooLong s else scanStep s b bs (λ s′. scan d MAXFILE s′ bs) x)
   unfolding if_then_else_
   choose-reads s b bs ih true v x = read-stopped d target FileTooLong (readOf d done s) bs
   choose-reads s b bs ih false true x = read-stopped d target RecordTooLong (readOf d done s) bs
@@ -68,7 +77,9 @@ module _ (d : Dialect) (n limit : ℕ) where
   abbrev Shifts : Bytes → Type 0
   Shifts bs = (s : Scan) → scan d (n + limit) (moved n s) bs ≡ movedTo n (scan d limit s bs)
 
-  step-moved : (s : Scan) (b : ℕ) (bs : Bytes) → Shifts bs → (x : Step) → scanStep (moved n s) b bs (λ s′. scan d (n + limit) s′ bs) x ≡ movedTo n (scanStep s b bs (λ s′. scan d limit s′ bs) x)
+  step-moved :
+      (s : Scan) (b : ℕ) (bs : Bytes) → Shifts bs → (x : Step) →
+      scanStep (moved n s) b bs (λ s′. scan d (n + limit) s′ bs) x ≡ movedTo n (scanStep s b bs (λ s′. scan d limit s′ bs) x)
   unfolding scanStep
   step-moved s b bs ih (Reject e) = refl
   step-moved s b bs ih (To f Outside) = rw (next-moved n (s .offset)) (ih _)
@@ -78,7 +89,11 @@ module _ (d : Dialect) (n limit : ℕ) where
   step-moved s b bs ih (To f (Tail k)) = rw (next-moved n (s .offset), closing-moved k s) (ih _)
   step-moved s b bs ih (To f (Ends k)) = rw (next-moved n (s .offset), closing-moved k s)
 
-  choose-moved : (s : Scan) (b : ℕ) (bs : Bytes) → Shifts bs → (u v : Bool) (x : Step) → (if u then fails FileTooLong (moved n s) else if v then fails RecordTooLong (moved n s) else scanStep (moved n s) b bs (λ s′. scan d (n + limit) s′ bs) x) ≡ movedTo n (if u then fails FileTooLong s else if v then fails RecordTooLong s else scanStep s b bs (λ s′. scan d limit s′ bs) x)
+  choose-moved :
+      (s : Scan) (b : ℕ) (bs : Bytes) → Shifts bs → (u v : Bool) (x : Step) →
+      (if u then fails FileTooLong (moved n s)
+      else if v then fails RecordTooLong (moved n s) else scanStep (moved n s) b bs (λ s′. scan d (n + limit) s′ bs) x)
+      ≡ movedTo n (if u then fails FileTooLong s else if v then fails RecordTooLong s else scanStep s b bs (λ s′. scan d limit s′ bs) x)
   unfolding if_then_else_
   choose-moved s b bs ih true v x = refl
   choose-moved s b bs ih false true x = refl
@@ -87,7 +102,9 @@ module _ (d : Dialect) (n limit : ℕ) where
   shifts : (bs : Bytes) → Shifts bs
   unfolding scan
   shifts [] s = refl
-  shifts (b ∷ bs) s = rw (leb-moved n limit (s .offset)) (choose-moved s b bs (shifts bs) (leb limit (s .offset)) (leb MAXRECORD (s .size) && counts (s .state) b) (fileStep d (s .state) b))
+  shifts (b ∷ bs) s =
+      rw (leb-moved n limit (s .offset))
+      (choose-moved s b bs (shifts bs) (leb limit (s .offset)) (leb MAXRECORD (s .size) && counts (s .state) b) (fileStep d (s .state) b))
 
 pub shift : Shift
 shift d n limit s bs = shifts d n limit bs s

@@ -12,7 +12,8 @@ use Rattle.model.specs.rules.Types.{Dialect, Outside, Passed, OfCell, Be
 use Rattle.model.specs.rules.Base.{Bytes}
 use Rattle.model.specs.rules.File.{fileStep, counts}
 use Rattle.model.specs.rules.Report.{MAXRECORD}
-use Rattle.model.specs.laws.Scans.{RawCell, Scan, closingRaw, scanStep, scan, bytesIn, Sized, SizedTo, sized-pends, sized-fails, sized-completes, ScanSize}
+use Rattle.model.specs.laws.Scans.{RawCell, Scan, closingRaw, scanStep, scan, bytesIn, Sized, SizedTo, sized-pends, sized-fails}
+use Rattle.model.specs.laws.Scans.{sized-completes, ScanSize}
 use Rattle.model.proofs.Tests.{split}
 use Rattle.model.proofs.file_laws.FileSteps.{Transition, cell-counts, between-counts, step-transition}
 
@@ -25,7 +26,8 @@ bytes-snoc (x ∷ cs) c = let e : bytesIn (cs ++ (c ∷ [])) ≡ bytesIn cs + le
 
 closing-size : (k : Bool) (s : Scan) → Sized s → bytesIn (closingRaw k s) ≤ s .size
 closing-size true s z =
-    let e : bytesIn (closingRaw true s) ≡ bytesIn (s .cells) + length (s .raw) = bytes-snoc (s .cells) (record { from = s .opened; upto = s .offset; bytes = s .raw }) in
+    let e : bytesIn (closingRaw true s) ≡ bytesIn (s .cells) + length (s .raw)
+    = bytes-snoc (s .cells) (record { from = s .opened; upto = s .offset; bytes = s .raw }) in
     let h : bytesIn (s .cells) + length (s .raw) ≤ s .size = z .held in
     omega arith
 closing-size false s z = let h : bytesIn (s .cells) + length (s .raw) ≤ s .size = z .held in omega arith
@@ -42,7 +44,9 @@ module _ (d : Dialect) (limit : ℕ) where
   abbrev Fits : Bytes → Type 0
   Fits bs = (s : Scan) → Sized s → SizedTo (scan d limit s bs)
 
-  step-sized : (s : Scan) (b : ℕ) (bs : Bytes) → Fits bs → Sized s → (leb MAXRECORD (s .size) && counts (s .state) b) ≡ false → (x : Step) → Transition d (s .state) b x → SizedTo (scanStep s b bs (λ s′. scan d limit s′ bs) x)
+  step-sized :
+      (s : Scan) (b : ℕ) (bs : Bytes) → Fits bs → Sized s → (leb MAXRECORD (s .size) && counts (s .state) b) ≡ false → (x : Step) →
+      Transition d (s .state) b x → SizedTo (scanStep s b bs (λ s′. scan d limit s′ bs) x)
   unfolding scanStep bytesIn
   step-sized s b bs ih z h (Reject e) y = sized-fails z
   step-sized s b bs ih z h (To f Outside) y = ih _ (record { held = omega arith; limit = omega arith })

@@ -8,13 +8,17 @@ use mathlib.Core.Bool.{Bool, true, false, _&&_}
 use mathlib.Core.List.{[], _∷_, _++_, map, map-append, append-assoc, append-nil}
 use lib.Dec.{leb}
 use borrow.Author.Tests.{ne-eqb}
-use Rattle.model.specs.rules.Types.{Dialect, Csvj, Tdif, CsvPlus, EeToEf, Second, Last, Within, ByteFault, Cell, Fresh, Plain, CellStep, More, Stop, Refuse}
-use Rattle.model.specs.rules.Types.{FileState, Top, Begin, Ended, Bom1, Bom2, PlainBom1, PlainBom2, Comment, Blanks, ExpectCell, Inside, After, Cr, Outside, Passed, OfCell, Between, Tail, Ends, Step, To, Reject, FileTooLong, RecordTooLong}
+use Rattle.model.specs.rules.Types.{Dialect, Csvj, Tdif, CsvPlus, EeToEf, Second, Last, Within, ByteFault, Cell, Fresh, Plain, CellStep, More}
+use Rattle.model.specs.rules.Types.{Stop, Refuse}
+use Rattle.model.specs.rules.Types.{FileState, Top, Begin, Ended, Bom1, Bom2, PlainBom1, PlainBom2, Comment, Blanks, ExpectCell, Inside, After}
+use Rattle.model.specs.rules.Types.{Cr, Outside, Passed, OfCell, Between, Tail, Ends, Step, To, Reject, FileTooLong, RecordTooLong}
 use Rattle.model.specs.rules.Base.{if_then_else_, _is_, Bytes}
 use Rattle.model.specs.rules.Cell.{cellStep}
 use Rattle.model.specs.rules.File.{afterCell, grow, inCell, fileStep, counts}
 use Rattle.model.specs.rules.Report.{MAXFILE, MAXRECORD}
-use Rattle.model.specs.laws.Scans.{RawCell, Scan, fails, closingRaw, scan-between, scanStep, scan, resume, moved, inRecord, Buffered, joinedCell, joinedRaw, joinedPlace, joinedCells, joined, joinedTo, Holds, current, nothing-current, View, fresh, standing, PartReads}
+use Rattle.model.specs.laws.Scans.{RawCell, Scan, fails, closingRaw, scan-between, scanStep, scan, resume, moved, inRecord, Buffered}
+use Rattle.model.specs.laws.Scans.{joinedCell, joinedRaw, joinedPlace, joinedCells, joined, joinedTo, Holds, current, nothing-current, View}
+use Rattle.model.specs.laws.Scans.{fresh, standing, PartReads}
 use Rattle.model.proofs.Tests.{split, split-on, impossible, same-byte}
 use Rattle.model.proofs.piece_laws.ScanLaws.{scan-reads, shift}
 
@@ -84,7 +88,10 @@ module _ (d : Dialect) (limit : ℕ) (k : Buffered) (began : ℕ) where
   unfolding joinedRaw if_then_else_
   raw-more o b raw = split-on (o is began) (λ h. rw h (append-assoc (k .raw) raw (b ∷ []))) λ h. rw h
 
-  cell-joined : (s : Scan) → record { from = joinedPlace (k .opened) began (s .opened); upto = s .offset; bytes = joinedRaw k began (s .opened) (s .raw) } ≡ joinedCell k began (record { from = s .opened; upto = s .offset; bytes = s .raw })
+  cell-joined :
+      (s : Scan) →
+      record { from = joinedPlace (k .opened) began (s .opened); upto = s .offset; bytes = joinedRaw k began (s .opened) (s .raw) }
+      ≡ joinedCell k began (record { from = s .opened; upto = s .offset; bytes = s .raw })
   unfolding joinedCell joinedRaw joinedPlace if_then_else_
   cell-joined s = split-on (s .opened is began) (λ h. rw h) λ h. rw h
 
@@ -105,18 +112,45 @@ module _ (d : Dialect) (limit : ℕ) (k : Buffered) (began : ℕ) where
 
     cell-seen : (f : FileState) → Holds f k → Seen (To f OfCell)
     unfolding scanStep
-    cell-seen f h = rw (raw-more (s .opened) b (s .raw)) (ih (record { state = f; offset = suc (s .offset); start = s .start; size = suc (s .size); opened = s .opened; raw = s .raw ++ (b ∷ []); cells = s .cells }) h (omega arith))
+    cell-seen f h =
+        rw (raw-more (s .opened) b (s .raw)) (ih (record {
+          state = f;
+          offset = suc (s .offset);
+          start = s .start;
+          size = suc (s .size);
+          opened = s .opened;
+          raw = s .raw ++ (b ∷ []);
+          cells = s .cells;
+        }) h (omega arith))
 
     between-seen : (f : FileState) (c : Bool) → Holds f k → Seen (To f (Between c))
     unfolding scanStep
     between-seen f c h =
-        let next : Scan = record { state = f; offset = suc (s .offset); start = s .start; size = suc (s .size); opened = suc (s .offset); raw = []; cells = closingRaw c s } in
+        let next : Scan
+        = record {
+          state = f;
+          offset = suc (s .offset);
+          start = s .start;
+          size = suc (s .size);
+          opened = suc (s .offset);
+          raw = [];
+          cells = closingRaw c s;
+        } in
         rw (closing-joined c s) (rw (place-behind (k .opened) (s .offset) l, raw-behind (s .offset) l) at (ih next h (omega arith)))
 
     tail-seen : (f : FileState) (c : Bool) → Holds f k → Seen (To f (Tail c))
     unfolding scanStep
     tail-seen f c h =
-        let next : Scan = record { state = f; offset = suc (s .offset); start = s .start; size = s .size; opened = suc (s .offset); raw = []; cells = closingRaw c s } in
+        let next : Scan
+        = record {
+          state = f;
+          offset = suc (s .offset);
+          start = s .start;
+          size = s .size;
+          opened = suc (s .offset);
+          raw = [];
+          cells = closingRaw c s;
+        } in
         rw (closing-joined c s) (rw (place-behind (k .opened) (s .offset) l, raw-behind (s .offset) l) at (ih next h (omega arith)))
 
     ends-seen : (f : FileState) (c : Bool) → Seen (To f (Ends c))
@@ -142,7 +176,8 @@ module _ (d : Dialect) (limit : ℕ) (k : Buffered) (began : ℕ) where
         let next : Scan = record { state = f; offset = suc (s .offset); start = s .start; size = 0; opened = suc (s .offset); raw = []; cells = [] } in
         rw (place-behind (k .opened) (s .offset) l, raw-behind (s .offset) l, none-kept q) at (ih next (nothing-current p q) (omega arith))
     none-seen p q (To f Passed) =
-        rw (place-behind (k .start) (s .offset) l, place-behind (k .opened) (s .offset) l, raw-behind (s .offset) l, none-kept q) at (ih (scan-between f (suc (s .offset))) (nothing-current p q) (omega arith))
+        rw (place-behind (k .start) (s .offset) l, place-behind (k .opened) (s .offset) l, raw-behind (s .offset) l, none-kept q) at
+        (ih (scan-between f (suc (s .offset))) (nothing-current p q) (omega arith))
     none-seen p q (To f OfCell) = cell-seen f (nothing-current p q)
     none-seen p q (To f (Between c)) = between-seen f c (nothing-current p q)
     none-seen p q (To f (Tail c)) = tail-seen f c (nothing-current p q)
@@ -152,7 +187,12 @@ module _ (d : Dialect) (limit : ℕ) (k : Buffered) (began : ℕ) where
     step-seen (current h) = stays-seen (fileStep d (s .state) b) (step-stays d (s .state) b h)
     step-seen (nothing-current p q) = none-seen p q (fileStep d (s .state) b)
 
-    choose-seen : (u v : Bool) (x : Step) → Seen x → (if u then fails FileTooLong (joined k began s) else if v then fails RecordTooLong (joined k began s) else scanStep (joined k began s) b bs (λ s′. scan d limit s′ bs) x) ≡ joinedTo k began (if u then fails FileTooLong s else if v then fails RecordTooLong s else scanStep s b bs (λ s′. scan d limit s′ bs) x)
+    choose-seen :
+        (u v : Bool) (x : Step) → Seen x →
+        (if u then fails FileTooLong (joined k began s)
+        else if v then fails RecordTooLong (joined k began s) else scanStep (joined k began s) b bs (λ s′. scan d limit s′ bs) x)
+        ≡ joinedTo k began
+        (if u then fails FileTooLong s else if v then fails RecordTooLong s else scanStep s b bs (λ s′. scan d limit s′ bs) x)
     unfolding if_then_else_
     choose-seen true v x e = refl
     choose-seen false true x e = refl
@@ -162,7 +202,8 @@ module _ (d : Dialect) (limit : ℕ) (k : Buffered) (began : ℕ) where
   unfolding scan
   views [] s h l = refl
   views (b ∷ bs) s h l =
-      choose-seen s b bs (views bs) l (leb limit (s .offset)) (leb MAXRECORD (s .size) && counts (s .state) b) (fileStep d (s .state) b) (step-seen s b bs (views bs) l h)
+      choose-seen s b bs (views bs) l (leb limit (s .offset)) (leb MAXRECORD (s .size) && counts (s .state) b) (fileStep d (s .state) b)
+      (step-seen s b bs (views bs) l h)
 
 pub view : View
 view d limit k began s bs h l = views d limit k began bs s h l
@@ -178,7 +219,8 @@ unfolding joinedRaw if_then_else_
 raw-buffered k began = rw (same-byte began) (append-nil (k .raw))
 
 position-joined : (n : ℕ) (k : Buffered) (f : FileState) (size began : ℕ) → joined k (n + began) (moved n (fresh f size began)) ≡ standing n k f size began
-position-joined n k f size began = rw (place-buffered (k .start) (n + began), place-buffered (k .opened) (n + began), raw-buffered k (n + began), append-nil (k .cells))
+position-joined n k f size began =
+    rw (place-buffered (k .start) (n + began), place-buffered (k .opened) (n + began), raw-buffered k (n + began), append-nil (k .cells))
 
 pub part-reads : PartReads
 part-reads d target done n k f size began bs l h =

@@ -30,10 +30,14 @@ same-some e = cc
 first-row : {columns : ℕ} {h : List Value} {rs : List (List Value)} → All (λ (r : List Value). length r ≡ columns) (h ∷ rs) → length h ≡ columns
 first-row (all-cons l ls) = l
 
-rows-back : (n : ℕ) (table : Table) (d : Dialect) (rs : List (List Value)) (places : ℕ) (text : Bytes) → dialectOf n ≡ some d → Writable d rs → Even (table .columns) (table .records) rs → tableText (into d) rs ≡ text → length (concat rs) ≤ places → ReadsBack n table rs text (reader n text places)
+rows-back :
+    (n : ℕ) (table : Table) (d : Dialect) (rs : List (List Value)) (places : ℕ) (text : Bytes) → dialectOf n ≡ some d → Writable d rs →
+    Even (table .columns) (table .records) rs → tableText (into d) rs ≡ text → length (concat rs) ≤ places →
+    ReadsBack n table rs text (reader n text places)
 rows-back n table d [] places text k w e s l = absurd (elim w [ ])
 rows-back n table d (h ∷ rs) places text k w e s l =
-    let r : Read-as d none text (h ∷ rs) = subst (λ (x : Bytes). Read-as d none x (h ∷ rs)) s (table-read d none (h ∷ rs) own-none (writer-back d (h ∷ rs) w)) in
+    let r : Read-as d none text (h ∷ rs)
+    = subst (λ (x : Bytes). Read-as d none x (h ∷ rs)) s (table-read d none (h ∷ rs) own-none (writer-back d (h ∷ rs) w)) in
     let a : Answers (h ∷ rs) (length h) (reader n text places) = reader-answers n d h rs places text k r l in
     record {
       report = a .report;
@@ -47,7 +51,8 @@ round-trip : RoundTrip
 round-trip n table rs room places text e w l =
     let x : Wrote n table room text = writer-wrote n table room text w in
     let q : x .cells ≡ rs = same-some (sym (x .table-rows) ∙ e) in
-    rows-back n table (x .dialect) rs places text (x .known) (rw q at (x .can-write)) (rows-even table rs e .0) (ap (tableText (into (x .dialect))) (sym q) ∙ x .spelt .same) l
+    rows-back n table (x .dialect) rs places text (x .known) (rw q at (x .can-write)) (rows-even table rs e .0)
+    (ap (tableText (into (x .dialect))) (sym q) ∙ x .spelt .same) l
 
 pub trips : Trips
 trips =

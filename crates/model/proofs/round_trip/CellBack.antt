@@ -4,7 +4,8 @@ use Prim.Native.Nat.{ℕ}
 use mathlib.Core.Path.{_≡_, refl, sym, _∙_}
 use mathlib.Core.Bool.{Bool, true, false, _&&_, _||_}
 use mathlib.Core.List.{[], _∷_}
-use Rattle.model.specs.rules.Types.{Kind, Text, Number, True, False, Null, Settings, Dialect, Csvj, Tdif, CsvPlus, Cell, Fresh, CellStep, More, CellCheck, WholeCell, Unsound}
+use Rattle.model.specs.rules.Types.{Kind, Text, Number, True, False, Null, Settings, Dialect, Csvj, Tdif, CsvPlus, Cell, Fresh, CellStep, More}
+use Rattle.model.specs.rules.Types.{CellCheck, WholeCell, Unsound}
 use Rattle.model.specs.rules.Base.{Bytes, QUOTE, _is_, holds, if_then_else_, isEmpty}
 use Rattle.model.specs.rules.Dialect.{quoteOf}
 use Rattle.model.specs.rules.Utf8.{holdsLone, isContent}
@@ -110,10 +111,14 @@ json-cell only first f u v-true = record { sound = refl; kind = refl; content = 
 json-cell only first f u v-false = record { sound = refl; kind = refl; content = refl }
 json-cell only first f u v-null = record { sound = refl; kind = refl; content = refl }
 
-quoted-back : {d : Dialect} (f u : ℕ) (bs : Bytes) → Doubles d → isContent bs ≡ true → holdsLone bs ≡ false → Back d (quotedText (quoteOf d) bs) (cellValue f u Text bs)
+quoted-back :
+    {d : Dialect} (f u : ℕ) (bs : Bytes) → Doubles d → isContent bs ≡ true → holdsLone bs ≡ false →
+    Back d (quotedText (quoteOf d) bs) (cellValue f u Text bs)
 quoted-back {d} f u bs k e n = record { sound = quoted-sound d k bs (content-text bs e n); kind = quoted-kind bs k; content = quoted-content bs k }
 
-tdif-cell : (only first : Bool) (f u : ℕ) {k : Kind} {bs : Bytes} → Valid k bs → hasKind Tdif k ≡ true → losesSurrogate Tdif (cellValue f u k bs) ≡ false → Back Tdif (cellText Tdif only first (cellValue f u k bs)) (cellValue f u k bs)
+tdif-cell :
+    (only first : Bool) (f u : ℕ) {k : Kind} {bs : Bytes} → Valid k bs → hasKind Tdif k ≡ true →
+    losesSurrogate Tdif (cellValue f u k bs) ≡ false → Back Tdif (cellText Tdif only first (cellValue f u k bs)) (cellValue f u k bs)
 unfolding cellText kindOf contentOf validateCell validateFrom cellStep firstByte isWhole if_then_else_
 tdif-cell only first f u (v-text {bs} e) c n = quoted-back f u bs d-tdif e n
 tdif-cell only first f u (v-number e j) c n = impossible c
@@ -121,14 +126,21 @@ tdif-cell only first f u v-true c n = impossible c
 tdif-cell only first f u v-false c n = impossible c
 tdif-cell only first f u v-null c n = record { sound = refl; kind = refl; content = refl }
 
-plus-text : (s : Settings) (only first : Bool) (f u : ℕ) (bs : Bytes) → isContent bs ≡ true → holdsLone bs ≡ false → Back (CsvPlus s) (csvPlusCell s only first bs) (cellValue f u Text bs)
+plus-text :
+    (s : Settings) (only first : Bool) (f u : ℕ) (bs : Bytes) → isContent bs ≡ true → holdsLone bs ≡ false →
+    Back (CsvPlus s) (csvPlusCell s only first bs) (cellValue f u Text bs)
 unfolding csvPlusCell kindOf
 plus-text s only first f u bs e n =
     split (λ t. Back (CsvPlus s) t (cellValue f u Text bs)) _ (λ _. quoted-back f u bs d-plus e n) λ q.
-    let h : holds (special s) bs ≡ false = or-false (holds (special s) bs) (only && isEmpty bs) (or-false (holds (special s) bs || only && isEmpty bs) (first && beginsBom bs) q .0) .0 in
+    let h : holds (special s) bs ≡ false
+    = or-false (holds (special s) bs) (only && isEmpty bs)
+    (or-false (holds (special s) bs || only && isEmpty bs) (first && beginsBom bs) q .0) .0 in
     record { sound = plain-sound s bs (content-text bs e n) h; kind = refl; content = plain-content s bs h }
 
-plus-cell : (s : Settings) (only first : Bool) (f u : ℕ) {k : Kind} {bs : Bytes} → Valid k bs → hasKind (CsvPlus s) k ≡ true → losesSurrogate (CsvPlus s) (cellValue f u k bs) ≡ false → Back (CsvPlus s) (cellText (CsvPlus s) only first (cellValue f u k bs)) (cellValue f u k bs)
+plus-cell :
+    (s : Settings) (only first : Bool) (f u : ℕ) {k : Kind} {bs : Bytes} → Valid k bs → hasKind (CsvPlus s) k ≡ true →
+    losesSurrogate (CsvPlus s) (cellValue f u k bs) ≡ false →
+    Back (CsvPlus s) (cellText (CsvPlus s) only first (cellValue f u k bs)) (cellValue f u k bs)
 unfolding cellText
 plus-cell s only first f u (v-text {bs} e) c n = plus-text s only first f u bs e n
 plus-cell s only first f u (v-number e j) c n = impossible c

@@ -9,8 +9,10 @@ use mathlib.Core.Option.{Option}
 use mathlib.Core.List.{List, [], _∷_, _++_, append-assoc, append-nil}
 use lib.ListN.{length}
 use borrow.Author.Tests.{lt-leb}
-use Rattle.model.specs.rules.Types.{Settings, Dialect, Csvj, Tdif, CsvPlus, Target, EeToEf, Second, Last, Within, Cell, Fresh, Plain, CellStep, More, Refuse, Syntax}
-use Rattle.model.specs.rules.Types.{FileState, Top, Begin, Ended, Bom1, Bom2, PlainBom1, PlainBom2, Comment, Blanks, ExpectCell, Inside, After, Cr, OfCell, To}
+use Rattle.model.specs.rules.Types.{Settings, Dialect, Csvj, Tdif, CsvPlus, Target, EeToEf, Second, Last, Within, Cell, Fresh, Plain, CellStep}
+use Rattle.model.specs.rules.Types.{More, Refuse, Syntax}
+use Rattle.model.specs.rules.Types.{FileState, Top, Begin, Ended, Bom1, Bom2, PlainBom1, PlainBom2, Comment, Blanks, ExpectCell, Inside, After}
+use Rattle.model.specs.rules.Types.{Cr, OfCell, To}
 use Rattle.model.specs.rules.Base.{Bytes, LF, CR, _is_, if_then_else_}
 use Rattle.model.specs.rules.Cell.{firstByte, cellStep}
 use Rattle.model.specs.rules.File.{inCell, beginRecord, beginFile, fileStep}
@@ -120,14 +122,30 @@ module _ (s : Settings) (b : ℕ) (bs : Bytes) (c : Cell) where
   unfolding fileStep if_then_else_
   mark2-plus e n = record { state = Inside c; step = rw n (grows (CsvPlus s) (Plain (Within Last)) b c e); like = like-in; clear = tt }
 
-like-step : {d : Dialect} {f : FileState} {c : Cell} (b : ℕ) (c′ : Cell) (bs : Bytes) → Like d f c → cellStep d c b ≡ More c′ → NoBom f (b ∷ bs) → Next d f b c′ bs
+like-step :
+    {d : Dialect} {f : FileState} {c : Cell} (b : ℕ) (c′ : Cell) (bs : Bytes) → Like d f c → cellStep d c b ≡ More c′ → NoBom f (b ∷ bs) →
+    Next d f b c′ bs
 unfolding fileStep beginFile if_then_else_
 like-step {d} b c′ bs (like-in {c}) e n = record { state = Inside c′; step = grows d c b c′ e; like = like-in; clear = tt }
 like-step {d} b c′ bs like-begin e n = record { state = Inside c′; step = begins d b c′ e; like = like-in; clear = tt }
-like-step b c′ bs (like-top {d = Csvj}) e n = record { state = Inside c′; step = rw (not-this Csvj 0xEF b (unfold cellStep firstByte in refl) e) (begins Csvj b c′ e); like = like-in; clear = tt }
+like-step b c′ bs (like-top {d = Csvj}) e n =
+    record {
+      state = Inside c′;
+      step = rw (not-this Csvj 0xEF b (unfold cellStep firstByte in refl) e) (begins Csvj b c′ e);
+      like = like-in;
+      clear = tt;
+    }
 like-step b c′ bs (like-top {d = Tdif}) e n = record { state = Inside c′; step = begins Tdif b c′ e; like = like-in; clear = tt }
 like-step b c′ bs (like-top {d = CsvPlus s}) e n = top-plus s b bs c′ e n
-like-step b c′ bs like-wanting e n = record { state = Inside c′; step = rw (not-this Csvj 0x20 b (unfold cellStep firstByte in refl) e, not-this Csvj 0x09 b (unfold cellStep firstByte in refl) e) (grows Csvj Fresh b c′ e); like = like-in; clear = tt }
+like-step b c′ bs like-wanting e n =
+    record {
+      state = Inside c′;
+      step =
+          rw (not-this Csvj 0x20 b (unfold cellStep firstByte in refl) e, not-this Csvj 0x09 b (unfold cellStep firstByte in refl) e)
+          (grows Csvj Fresh b c′ e);
+      like = like-in;
+      clear = tt;
+    }
 like-step b c′ bs (like-bom1 {s}) e n = mark1-plus s b bs c′ e n
 like-step b c′ bs (like-bom2 {s}) e n = mark2-plus s b bs c′ e n
 
@@ -145,7 +163,9 @@ unfolding recordFull
 record-free r b k = rw (lt-leb MAXRECORD (r .size) k)
 
 module _ (d : Dialect) (T : Option Target) (ds : List Rec) (s p : ℕ) (vs : List Value) where
-  byte-read : (f f′ : FileState) (b o z : ℕ) (raw : Bytes) → fileStep d f b ≡ To f′ OfCell → o < MAXFILE → z < MAXRECORD → readByte d T (reading ds f o s z p raw vs) b ≡ going (reading ds f′ (suc o) s (suc z) p (raw ++ (b ∷ [])) vs)
+  byte-read :
+      (f f′ : FileState) (b o z : ℕ) (raw : Bytes) → fileStep d f b ≡ To f′ OfCell → o < MAXFILE → z < MAXRECORD →
+      readByte d T (reading ds f o s z p raw vs) b ≡ going (reading ds f′ (suc o) s (suc z) p (raw ++ (b ∷ [])) vs)
   unfolding readByte move if_then_else_
   byte-read f f′ b o z raw e h k = rw (file-free (reading ds f o s z p raw vs) h, record-free (reading ds f o s z p raw vs) b k, e)
 
@@ -153,18 +173,28 @@ module _ (d : Dialect) (T : Option Target) (ds : List Rec) (s p : ℕ) (vs : Lis
   pub record Ran (f : FileState) (c : Cell) (o z : ℕ) (raw bs : Bytes) : Type 0 where
     pub state : FileState
     pub like : Like d state c
-    pub run : (xs : Bytes) → readFrom d T (going (reading ds f o s z p raw vs)) (bs ++ xs) ≡ readFrom d T (going (reading ds state (o + length bs) s (z + length bs) p (raw ++ bs) vs)) xs
+    pub run :
+        (xs : Bytes) →
+        readFrom d T (going (reading ds f o s z p raw vs)) (bs ++ xs)
+        ≡ readFrom d T (going (reading ds state (o + length bs) s (z + length bs) p (raw ++ bs) vs)) xs
 
-  none-read : (f : FileState) (o z : ℕ) (raw xs : Bytes) → readFrom d T (going (reading ds f o s z p raw vs)) xs ≡ readFrom d T (going (reading ds f (o + 0) s (z + 0) p (raw ++ []) vs)) xs
+  none-read :
+      (f : FileState) (o z : ℕ) (raw xs : Bytes) →
+      readFrom d T (going (reading ds f o s z p raw vs)) xs ≡ readFrom d T (going (reading ds f (o + 0) s (z + 0) p (raw ++ []) vs)) xs
   none-read f o z raw xs = rw (add-zero o, add-zero z, append-nil raw)
 
-  one-more : (f : FileState) (b o z : ℕ) (raw bs xs : Bytes) → readFrom d T (going (reading ds f (suc o + length bs) s (suc z + length bs) p ((raw ++ (b ∷ [])) ++ bs) vs)) xs ≡ readFrom d T (going (reading ds f (o + suc (length bs)) s (z + suc (length bs)) p (raw ++ (b ∷ bs)) vs)) xs
+  one-more :
+      (f : FileState) (b o z : ℕ) (raw bs xs : Bytes) →
+      readFrom d T (going (reading ds f (suc o + length bs) s (suc z + length bs) p ((raw ++ (b ∷ [])) ++ bs) vs)) xs
+      ≡ readFrom d T (going (reading ds f (o + suc (length bs)) s (z + suc (length bs)) p (raw ++ (b ∷ bs)) vs)) xs
   one-more f b o z raw bs xs =
       let h : suc o + length bs ≡ o + suc (length bs) = omega arith in
       let k : suc z + length bs ≡ z + suc (length bs) = omega arith in
       rw (h, k, append-assoc raw (b ∷ []) bs)
 
-  pub run-cell : {f : FileState} {c c′ : Cell} {bs : Bytes} → Like d f c → Runs d c bs c′ → NoBom f bs → (o z : ℕ) (raw : Bytes) → o + length bs ≤ MAXFILE → z + length bs ≤ MAXRECORD → Ran f c′ o z raw bs
+  pub run-cell :
+      {f : FileState} {c c′ : Cell} {bs : Bytes} → Like d f c → Runs d c bs c′ → NoBom f bs → (o z : ℕ) (raw : Bytes) →
+      o + length bs ≤ MAXFILE → z + length bs ≤ MAXRECORD → Ran f c′ o z raw bs
   unfolding readFrom
   run-cell {f} l here n o z raw h k = record { state = f; like = l; run = none-read f o z raw }
   run-cell {f} l (there {c′} {b} {bs} e r) n o z raw h k =
@@ -173,5 +203,8 @@ module _ (d : Dialect) (T : Option Target) (ds : List Rec) (s p : ℕ) (vs : Lis
       record {
         state = y .state;
         like = y .like;
-        run = λ xs. ap (λ (q : Progress). readFrom d T q (bs ++ xs)) (byte-read f (x .state) b o z raw (x .step) (omega arith) (omega arith)) ∙ y .run xs ∙ one-more (y .state) b o z raw bs xs;
+        run =
+            λ xs.
+            ap (λ (q : Progress). readFrom d T q (bs ++ xs)) (byte-read f (x .state) b o z raw (x .step) (omega arith) (omega arith))
+            ∙ y .run xs ∙ one-more (y .state) b o z raw bs xs;
       }

@@ -14,7 +14,8 @@ use Rattle.model.specs.rules.Base.{Bytes, concat, if_then_else_}
 use Rattle.model.specs.rules.Dialect.{dialectOf, into}
 use Rattle.model.specs.rules.Text.{Value, recordText, dataText, tableText, ending}
 use Rattle.model.specs.rules.Report.{refusal, MAXCOLUMNS}
-use Rattle.model.specs.rules.Records.{Rec, Read, rows, _orElse_, when, among, nameKey, repeatFrom, repeatFault, headerKindFrom, headerFault, dataFault, targetFault, recordFault, Progress, going, stopped, readFile, recordsOf}
+use Rattle.model.specs.rules.Records.{Rec, Read, rows, _orElse_, when, among, nameKey, repeatFrom, repeatFault, headerKindFrom, headerFault}
+use Rattle.model.specs.rules.Records.{dataFault, targetFault, recordFault, Progress, going, stopped, readFile, recordsOf}
 use Rattle.model.specs.rules.Api.{answered, readAnswer, reader, Written, unwritten, fitted, convertedAs, converter}
 use Rattle.model.specs.laws.Laws.{All, all-none, all-cons, SoundRecord}
 use Rattle.model.specs.laws.RoundTrips.{hasCells, SameAnswer, SameRows, and-row, ConvertedBack, ConvertedOnce, SameText}
@@ -35,12 +36,17 @@ use Rattle.model.proofs.round_trip.RoundTrip.{accepts, no-refusal, faul
 -- ---- a record that the target can represent
 
 -- the same names repeat, whatever the fault is called
-repeat-alike : (t : Dialect) (f g : ℕ → Fault) (seen : List Bytes) (n : ℕ) (vs : List Value) → repeatFrom t f seen n vs ≡ Sound → repeatFrom t g seen n vs ≡ Sound
+repeat-alike :
+    (t : Dialect) (f g : ℕ → Fault) (seen : List Bytes) (n : ℕ) (vs : List Value) → repeatFrom t f seen n vs ≡ Sound →
+    repeatFrom t g seen n vs ≡ Sound
 unfolding repeatFrom if_then_else_
 repeat-alike t f g seen n [] e = refl
 repeat-alike t f g seen n (v ∷ vs) e = go (among (nameKey t (v .content)) seen) refl (repeat-alike t f g (nameKey t (v .content) ∷ seen) (suc n) vs)
   where
-    go : (b : Bool) → among (nameKey t (v .content)) seen ≡ b → (repeatFrom t f (nameKey t (v .content) ∷ seen) (suc n) vs ≡ Sound → repeatFrom t g (nameKey t (v .content) ∷ seen) (suc n) vs ≡ Sound) → repeatFrom t g seen n (v ∷ vs) ≡ Sound
+    go :
+        (b : Bool) → among (nameKey t (v .content)) seen ≡ b →
+        (repeatFrom t f (nameKey t (v .content) ∷ seen) (suc n) vs ≡ Sound →
+        repeatFrom t g (nameKey t (v .content) ∷ seen) (suc n) vs ≡ Sound) → repeatFrom t g seen n (v ∷ vs) ≡ Sound
     go true p ih = let z : Faulty (f n) ≡ Sound = rw p at e in (let y : _≡_ {A = ℕ} 0 1 = cc in absurd (omega arith))
     go false p ih = rw p (ih (rw p at e))
 
@@ -56,9 +62,11 @@ unfolding tableText dataText
 header-backed d t vs v e =
     let x = else-sound (headerFault d vs) (targetFault (into t) true 0 vs) e in
     let g = target-sound (into t) true 0 vs (x .1) in
-    let len : length ((recordText (into t) true vs ++ ending t) ++ []) ≡ length (recordText (into t) true vs ++ ending t) + 0 = length-append (recordText (into t) true vs ++ ending t) [] in
+    let len : length ((recordText (into t) true vs ++ ending t) ++ []) ≡ length (recordText (into t) true vs ++ ending t) + 0
+    = length-append (recordText (into t) true vs ++ ending t) [] in
     let len′ : length (tableText (into t) (vs ∷ [])) ≡ length ((recordText (into t) true vs ++ ending t) ++ []) = refl in
-    table-back (header-back t d vs (has-cells t vs (g .filled)) (carried-all t 1 v (g .carries)) (x .0)) (header-target d t vs (x .0) (g .clash)) (x .1) (g .short) all-none (let h = g .fits in omega arith)
+    table-back (header-back t d vs (has-cells t vs (g .filled)) (carried-all t 1 v (g .carries)) (x .0))
+    (header-target d t vs (x .0) (g .clash)) (x .1) (g .short) all-none (let h = g .fits in omega arith)
 
 header-cells : {t : Dialect} {h : List Value} → RowBack t Top true h → hasCells t h ≡ true
 header-cells (row-empty e k) = refl
@@ -70,13 +78,24 @@ even-length n vs e =
     let a = else-sound (when (ltb MAXCOLUMNS (length vs)) TooManyColumns) _ e in
     eqb-true (length vs) n (not-false (eqb (length vs) n) (when-sound (not (eqb (length vs) n)) CellCount (a .1)))
 
-data-backed : (t : Dialect) (h : List Value) (rs : List (List Value)) (vs : List Value) → TableBack t (h ∷ rs) → All ValueCell vs → (dataFault (length h) vs orElse targetFault (into t) false (length (tableText (into t) (h ∷ rs))) vs) ≡ Sound → TableBack t (h ∷ (rs ++ (vs ∷ [])))
+data-backed :
+    (t : Dialect) (h : List Value) (rs : List (List Value)) (vs : List Value) → TableBack t (h ∷ rs) → All ValueCell vs →
+    (dataFault (length h) vs orElse targetFault (into t) false (length (tableText (into t) (h ∷ rs))) vs) ≡ Sound →
+    TableBack t (h ∷ (rs ++ (vs ∷ [])))
 data-backed t h rs vs (table-back b f g k bs m) v e =
     let x = else-sound (dataFault (length h) vs) (targetFault (into t) false (length (tableText (into t) (h ∷ rs))) vs) e in
     let z = target-sound (into t) false (length (tableText (into t) (h ∷ rs))) vs (x .1) in
     let n : length vs ≡ length h = even-length (length h) vs (x .0) in
-    let row : DataBack t (length h) vs = record { back = data-row t vs (has-even t h vs n (header-cells b)) (carried-all t 1 v (z .carries)); even = n; short = z .short; carried = z .carries } in
-    let s : length (tableText (into t) (h ∷ (rs ++ (vs ∷ [])))) ≡ length (tableText (into t) (h ∷ rs)) + length (recordText (into t) false vs ++ ending t) = row-length (into t) (h ∷ rs) vs in
+    let row : DataBack t (length h) vs
+    = record {
+      back = data-row t vs (has-even t h vs n (header-cells b)) (carried-all t 1 v (z .carries));
+      even = n;
+      short = z .short;
+      carried = z .carries;
+    } in
+    let s : length (tableText (into t) (h ∷ (rs ++ (vs ∷ []))))
+    ≡ length (tableText (into t) (h ∷ rs)) + length (recordText (into t) false vs ++ ending t)
+    = row-length (into t) (h ∷ rs) vs in
     table-back b f g k (all-snoc bs row) (let h = z .fits in omega arith)
 
 -- ---- all the records that were read for the target
@@ -91,7 +110,9 @@ all-split [] x (all-cons p ps) = (all-none, p)
 all-split (y ∷ ds) x (all-cons p ps) = let i = all-split ds x ps in (all-cons p (i .0), i .1)
 
 module _ (d t : Dialect) where
-  one-more : (ds : List Rec) (x : Rec) → All ValueCell (x .cells) → recordFault d (some (into t)) ds (x .cells) ≡ Sound → Backed t ds → Backed t (ds ++ (x ∷ []))
+  one-more :
+      (ds : List Rec) (x : Rec) → All ValueCell (x .cells) → recordFault d (some (into t)) ds (x .cells) ≡ Sound → Backed t ds →
+      Backed t (ds ++ (x ∷ []))
   unfolding recordFault rows tableText
   one-more [] x v e b = backed (header-backed d t (x .cells) v e)
   one-more (h ∷ ds) x v e (backed b) =
@@ -134,24 +155,49 @@ pub converter-converts : (m n : ℕ) (file : Bytes) (room : ℕ) (text : Bytes) 
 unfolding converter
 converter-converts m n file room text e = by-source (dialectOf m) refl e
   where
-    by-end : (d t : Dialect) → dialectOf m ≡ some d → dialectOf n ≡ some t → (p : Progress) → readFile d (some (into t)) file ≡ p → convertedAs (into t) room p ≡ accepts text → Converts m n file room text
+    by-end :
+        (d t : Dialect) → dialectOf m ≡ some d → dialectOf n ≡ some t → (p : Progress) → readFile d (some (into t)) file ≡ p →
+        convertedAs (into t) room p ≡ accepts text → Converts m n file room text
     by-end d t p q (stopped w r) k h = no-refusal h (λ z. fault-number w z)
-    by-end d t p q (going r) k h = record { source = d; target = t; known = p; known-target = q; end = r; run = k; spelt = fitted-accepts room (tableText (into t) (rows (r .done))) text h }
+    by-end d t p q (going r) k h =
+        record {
+          source = d;
+          target = t;
+          known = p;
+          known-target = q;
+          end = r;
+          run = k;
+          spelt = fitted-accepts room (tableText (into t) (rows (r .done))) text h;
+        }
 
-    by-target : (d : Dialect) → dialectOf m ≡ some d → (o : Option Dialect) → dialectOf n ≡ o → (elim o as (λ _. Written) [ none ↦ unwritten (refusal 11) | some t ↦ convertedAs (into t) room (readFile d (some (into t)) file) ]) ≡ accepts text → Converts m n file room text
+    by-target :
+        (d : Dialect) → dialectOf m ≡ some d → (o : Option Dialect) → dialectOf n ≡ o →
+        (elim o as (λ _. Written)
+        [ none ↦ unwritten (refusal 11) | some t ↦ convertedAs (into t) room (readFile d (some (into t)) file) ]) ≡ accepts text →
+        Converts m n file room text
     by-target d p none q k = no-refusal k (λ h. absurd (omega arith))
     by-target d p (some t) q k = by-end d t p q (readFile d (some (into t)) file) refl k
 
-    by-source : (o : Option Dialect) → dialectOf m ≡ o → (elim o as (λ _. Written) [ none ↦ unwritten (refusal 11) | some d ↦ elim (dialectOf n) as (λ _. Written) [ none ↦ unwritten (refusal 11) | some t ↦ convertedAs (into t) room (readFile d (some (into t)) file) ] ]) ≡ accepts text → Converts m n file room text
+    by-source :
+        (o : Option Dialect) → dialectOf m ≡ o → (elim o as (λ _. Written) [
+          | none ↦ unwritten (refusal 11)
+          | some d ↦
+              elim (dialectOf n) as (λ _. Written)
+              [ none ↦ unwritten (refusal 11) | some t ↦ convertedAs (into t) room (readFile d (some (into t)) file) ]
+        ]) ≡ accepts text → Converts m n file room text
     by-source none p k = no-refusal k (λ h. absurd (omega arith))
     by-source (some d) p k = by-target d p (dialectOf n) refl k
 
-pub converter-known : (m n : ℕ) (d t : Dialect) (file : Bytes) (room : ℕ) → dialectOf m ≡ some d → dialectOf n ≡ some t → converter m n file room ≡ convertedAs (into t) room (readFile d (some (into t)) file)
+pub converter-known :
+    (m n : ℕ) (d t : Dialect) (file : Bytes) (room : ℕ) → dialectOf m ≡ some d → dialectOf n ≡ some t →
+    converter m n file room ≡ convertedAs (into t) room (readFile d (some (into t)) file)
 unfolding converter
 converter-known m n d t file room e k = rw (e, converter) (rw k)
 
 -- canonical text, converted to its own dialect
-own-text : (n : ℕ) (d : Dialect) (rs : List (List Value)) (room : ℕ) (text : Bytes) → dialectOf n ≡ some d → TableBack d rs → Fitted room (tableText (into d) rs) text → converter n n text room ≡ accepts text
+own-text :
+    (n : ℕ) (d : Dialect) (rs : List (List Value)) (room : ℕ) (text : Bytes) → dialectOf n ≡ some d → TableBack d rs →
+    Fitted room (tableText (into d) rs) text → converter n n text room ≡ accepts text
 own-text n d rs room text e b f =
     let r : Read-as d (some (into d)) (tableText (into d) rs) rs = table-read d (some (into d)) rs own-some b in
     let run : readFile d (some (into d)) text ≡ going (r .end) = ap (readFile d (some (into d))) (sym (f .same)) ∙ r .run in
@@ -159,7 +205,9 @@ own-text n d rs room text e b f =
     converter-known n n d d text room e e ∙ ap (convertedAs (into d) room) run ∙ ap (fitted room) same ∙ fitted-fits room (tableText (into d) rs) text f
 
 pub same-text : SameText
-same-text n table room text e = let w = writer-wrote n table room text e in own-text n (w .dialect) (w .cells) room text (w .known) (writer-back (w .dialect) (w .cells) (w .can-write)) (w .spelt)
+same-text n table room text e =
+    let w = writer-wrote n table room text e in
+    own-text n (w .dialect) (w .cells) room text (w .known) (writer-back (w .dialect) (w .cells) (w .can-write)) (w .spelt)
 
 pub converted-once : ConvertedOnce
 converted-once m n file text room e =
@@ -173,7 +221,9 @@ unfolding rows
 rows-count [] [] s = refl
 rows-count (x ∷ ds) (y ∷ es) (and-row c s) = ap suc (rows-count ds es s)
 
-answered-alike : (ds es : List Rec) (room : ℕ) → SameRows (rows ds) (rows es) → SameAnswer (answered ds (concat (rows ds)) room) (answered es (concat (rows es)) room)
+answered-alike :
+    (ds es : List Rec) (room : ℕ) → SameRows (rows ds) (rows es) →
+    SameAnswer (answered ds (concat (rows ds)) room) (answered es (concat (rows es)) room)
 unfolding rows if_then_else_
 answered-alike [] [] room s = record { report = refl; columns = refl; records = refl; cells = refl }
 answered-alike (x ∷ ds) (y ∷ es) room (and-row c s) =
@@ -183,12 +233,17 @@ answered-alike (x ∷ ds) (y ∷ es) room (and-row c s) =
     (λ p. rw (k, p) (record { report = refl; columns = refl; records = refl; cells = refl })) λ p.
     rw (k, p) (record { report = refl; columns = same-length c; records = rows-count ds es s; cells = cells-meaning (concat-same all) })
 
-reads-alike : (m n : ℕ) (d t : Dialect) (file text : Bytes) (end : Read) (places : ℕ) → dialectOf m ≡ some d → dialectOf n ≡ some t → readFile d (some (into t)) file ≡ going end → tableText (into t) (rows (end .done)) ≡ text → SameAnswer (reader n text places) (reader m file places)
+reads-alike :
+    (m n : ℕ) (d t : Dialect) (file text : Bytes) (end : Read) (places : ℕ) → dialectOf m ≡ some d → dialectOf n ≡ some t →
+    readFile d (some (into t)) file ≡ going end → tableText (into t) (rows (end .done)) ≡ text →
+    SameAnswer (reader n text places) (reader m file places)
 reads-alike m n d t file text end places k l e f =
-    let r : Read-as t none (tableText (into t) (rows (end .done))) (rows (end .done)) = table-read t none (rows (end .done)) own-none (file-back d t file end e) in
+    let r : Read-as t none (tableText (into t) (rows (end .done))) (rows (end .done))
+    = table-read t none (rows (end .done)) own-none (file-back d t file end e) in
     let run : readFile t none text ≡ going (r .end) = ap (readFile t none) (sym f) ∙ r .run in
     let here : reader n text places ≡ readAnswer (going (r .end)) places = reader-known n t text places l ∙ ap (λ (p : Progress). readAnswer p places) run in
-    let there : reader m file places ≡ readAnswer (going end) places = reader-known m d file places k ∙ ap (λ (p : Progress). readAnswer p places) (file-alone d (into t) file end e) in
+    let there : reader m file places ≡ readAnswer (going end) places
+    = reader-known m d file places k ∙ ap (λ (p : Progress). readAnswer p places) (file-alone d (into t) file end e) in
     rw (here, there) (answered-alike (r .end .done) (end .done) places (r .same))
 
 pub converted-back : ConvertedBack

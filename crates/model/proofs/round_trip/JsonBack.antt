@@ -38,7 +38,10 @@ hex-back n h = go (leb n 9) refl
     go false e = let k : 9 < n = leb-false n 9 e in rw (e, lt-leb (0x57 + n) 0x39 (omega arith), lt-leb (0x57 + n) 0x46 (omega arith)) (omega arith)
 
 -- \u00 and two digits
-coded : (a : ℕ) (rest : Bytes) → a < 0x20 → textOf (units between (0x5C ∷ 0x75 ∷ 0x30 ∷ 0x30 ∷ hexDigit (a / 0x10) ∷ hexDigit (a % 0x10) ∷ rest)) ≡ a ∷ textOf (units between rest)
+coded :
+    (a : ℕ) (rest : Bytes) → a < 0x20 →
+    textOf (units between (0x5C ∷ 0x75 ∷ 0x30 ∷ 0x30 ∷ hexDigit (a / 0x10) ∷ hexDigit (a % 0x10) ∷ rest))
+    ≡ a ∷ textOf (units between rest)
 unfolding units if_then_else_
 coded a rest h =
     rw (hex-back (a / 0x10) (omega arith), hex-back (a % 0x10) (omega arith))
@@ -80,7 +83,11 @@ module _ (b c : ℕ) (hb : 0xA0 ≤ b) (hb′ : b ≤ 0xBF) (hc : 0x80 ≤ c) (h
   digits-surrogate : (rest : Bytes) → units between (surrogate b c ++ rest) ≡ unit (unitOf b c) ∷ units between rest
   unfolding units if_then_else_
   digits-surrogate rest =
-      rw (hex-back ((b - 0x80) % 0x40 / 4) (omega arith), hex-back ((b - 0x80) % 0x40 % 4 * 4 + (c - 0x80) / 0x10) (omega arith), hex-back (c % 0x10) (omega arith))
+      rw (
+        hex-back ((b - 0x80) % 0x40 / 4) (omega arith),
+        hex-back ((b - 0x80) % 0x40 % 4 * 4 + (c - 0x80) / 0x10) (omega arith),
+        hex-back (c % 0x10) (omega arith),
+      )
       (ap (λ (u : ℕ). unit u ∷ units between rest) (omega arith))
 
 -- ---- a content
@@ -197,7 +204,9 @@ abbrev close : Bytes
 close = QUOTE ∷ []
 
 -- ED b c, as the two tests found it in a content
-pub found : (w : Wide) (a b c : ℕ) (bs : Bytes) → isSurrogate a b ≡ true → wideFrom w (a ∷ b ∷ c ∷ bs) ≡ true → (a ≡ 0xED) × ((h : Bool) × (w ≡ gap h) × Lone h b c bs)
+pub found :
+    (w : Wide) (a b c : ℕ) (bs : Bytes) → isSurrogate a b ≡ true → wideFrom w (a ∷ b ∷ c ∷ bs) ≡ true →
+    (a ≡ 0xED) × ((h : Bool) × (w ≡ gap h) × Lone h b c bs)
 found w a b c bs t e =
     let r = and-true (a is 0xED) (leb 0xA0 b) t in
     let p : a ≡ 0xED = is→eq a 0xED (r .0) in
@@ -239,13 +248,31 @@ json-back w (a ∷ b ∷ []) e =
 json-back w (a ∷ b ∷ c ∷ bs) e =
     split (λ l. textOf (units between (l ++ close)) ≡ a ∷ b ∷ c ∷ bs) (isSurrogate a b)
     (λ t. let r = found w a b c bs t e in rw (r .0) (first (r .1 .0) (r .1 .2) (λ v k. json-back v bs k)))
-    (λ t. rw append-assoc (escape-back a (jsonBody (b ∷ c ∷ bs) ++ close) ∙ ap (λ (l : Bytes). a ∷ l) (next (wideStep w a) (step-on w a (b ∷ c ∷ bs) e) (λ v k. json-back v (b ∷ c ∷ bs) k))))
+    (λ t.
+    rw append-assoc
+    (escape-back a (jsonBody (b ∷ c ∷ bs) ++ close)
+    ∙ ap (λ (l : Bytes). a ∷ l) (next (wideStep w a) (step-on w a (b ∷ c ∷ bs) e) (λ v k. json-back v (b ∷ c ∷ bs) k))))
   where
-    next : (o : Option Wide) → Onward (b ∷ c ∷ bs) o → ((v : Wide) → wideFrom v (b ∷ c ∷ bs) ≡ true → textOf (units between (jsonBody (b ∷ c ∷ bs) ++ close)) ≡ b ∷ c ∷ bs) → textOf (units between (jsonBody (b ∷ c ∷ bs) ++ close)) ≡ b ∷ c ∷ bs
+    next :
+        (o : Option Wide) → Onward (b ∷ c ∷ bs) o →
+        ((v : Wide) → wideFrom v (b ∷ c ∷ bs) ≡ true → textOf (units between (jsonBody (b ∷ c ∷ bs) ++ close)) ≡ b ∷ c ∷ bs) →
+        textOf (units between (jsonBody (b ∷ c ∷ bs) ++ close)) ≡ b ∷ c ∷ bs
     next (some v) (onward k) ih = ih v k
 
-    first : (h : Bool) → Lone h b c bs → ((v : Wide) → wideFrom v bs ≡ true → textOf (units between (jsonBody bs ++ close)) ≡ bs) → textOf (units between ((surrogate b c ++ jsonBody bs) ++ close)) ≡ 0xED ∷ b ∷ c ∷ bs
+    first :
+        (h : Bool) → Lone h b c bs → ((v : Wide) → wideFrom v bs ≡ true → textOf (units between (jsonBody bs ++ close)) ≡ bs) →
+        textOf (units between ((surrogate b c ++ jsonBody bs) ++ close)) ≡ 0xED ∷ b ∷ c ∷ bs
     first h (high x y z v k) ih =
-        rw append-assoc (rw (digits-surrogate b c x (omega arith) z v (jsonBody bs ++ close), high-alone (unitOf b c) (units between (jsonBody bs ++ close)) (body-not-low bs k), pack-surrogate b c x (omega arith) z v, ih (gap true) k))
+        rw append-assoc (rw (
+          digits-surrogate b c x (omega arith) z v (jsonBody bs ++ close),
+          high-alone (unitOf b c) (units between (jsonBody bs ++ close)) (body-not-low bs k),
+          pack-surrogate b c x (omega arith) z v,
+          ih (gap true) k,
+        ))
     first h (low f x y z v k) ih =
-        rw append-assoc (rw (digits-surrogate b c (omega arith) y z v (jsonBody bs ++ close), unit-alone (unitOf b c) (units between (jsonBody bs ++ close)) (low-not-high b c x), pack-surrogate b c (omega arith) y z v, ih (gap false) k))
+        rw append-assoc (rw (
+          digits-surrogate b c (omega arith) y z v (jsonBody bs ++ close),
+          unit-alone (unitOf b c) (units between (jsonBody bs ++ close)) (low-not-high b c x),
+          pack-surrogate b c (omega arith) y z v,
+          ih (gap false) k,
+        ))

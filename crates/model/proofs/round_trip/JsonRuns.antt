@@ -8,7 +8,8 @@ use mathlib.Core.Option.{Option, none, some}
 use mathlib.Core.List.{[], _∷_, _++_, append-assoc}
 use lib.Dec.{leb}
 use borrow.Author.Tests.{leb-true, leb-false, le-leb, lt-leb, ne-eqb, le-ltb}
-use Rattle.model.specs.rules.Types.{Csvj, Dialect, Inner, Char, Whole, Within, Advance, On, HexLeft, Four, Three, Two, One, Text, Cell, Fresh, Quoted, Escape, Hex, Complete, More, WholeCell}
+use Rattle.model.specs.rules.Types.{Csvj, Dialect, Inner, Char, Whole, Within, Advance, On, HexLeft, Four, Three, Two, One, Text, Cell, Fresh}
+use Rattle.model.specs.rules.Types.{Quoted, Escape, Hex, Complete, More, WholeCell}
 use Rattle.model.specs.rules.Base.{Bytes, QUOTE, _is_, if_then_else_}
 use Rattle.model.specs.rules.Utf8.{charStep, isSurrogate, Wide, gap, ed, lone, inner, wideStep, wideFrom, isContent}
 use Rattle.model.specs.rules.Cell.{firstByte, quotedByte, cellStep, isWhole}
@@ -33,13 +34,29 @@ hex-step m n h = go (leb n 9) refl
   where
     go : (t : Bool) → leb n 9 ≡ t → cellStep Csvj (Hex m) (hexDigit n) ≡ cellStep Csvj (Hex m) 0x30
     go true e = let k : n ≤ 9 = leb-true n 9 e in rw (e, le-leb 0x30 (0x30 + n) (omega arith), le-leb (0x30 + n) 0x39 (omega arith))
-    go false e = let k : 9 < n = leb-false n 9 e in rw (e, lt-leb (0x57 + n) 0x39 (omega arith), lt-leb (0x57 + n) 0x46 (omega arith), le-leb 0x61 (0x57 + n) (omega arith), le-leb (0x57 + n) 0x66 (omega arith), le-leb 0x30 (0x57 + n) (omega arith), le-leb 0x41 (0x57 + n) (omega arith))
+    go false e =
+        let k : 9 < n = leb-false n 9 e in
+        rw (
+          e,
+          lt-leb (0x57 + n) 0x39 (omega arith),
+          lt-leb (0x57 + n) 0x46 (omega arith),
+          le-leb 0x61 (0x57 + n) (omega arith),
+          le-leb (0x57 + n) 0x66 (omega arith),
+          le-leb 0x30 (0x57 + n) (omega arith),
+          le-leb 0x41 (0x57 + n) (omega arith),
+        )
 
 -- \u and four digits
-coded : (a b c d : ℕ) → a < 16 → b < 16 → c < 16 → d < 16 → Runs Csvj (Quoted Whole) (0x5C ∷ 0x75 ∷ hexDigit a ∷ hexDigit b ∷ hexDigit c ∷ hexDigit d ∷ []) (Quoted Whole)
+coded :
+    (a b c d : ℕ) → a < 16 → b < 16 → c < 16 → d < 16 →
+    Runs Csvj (Quoted Whole) (0x5C ∷ 0x75 ∷ hexDigit a ∷ hexDigit b ∷ hexDigit c ∷ hexDigit d ∷ []) (Quoted Whole)
 unfolding cellStep quotedByte if_then_else_
 coded a b c d i j k l =
-    there {c′ = Escape} refl (there {c′ = Hex Four} refl (there {c′ = Hex Three} (hex-step Four a i) (there {c′ = Hex Two} (hex-step Three b j) (there {c′ = Hex One} (hex-step Two c k) (there {c′ = Quoted Whole} (hex-step One d l) here)))))
+    there {c′ = Escape} refl
+    (there {c′ = Hex Four} refl
+    (there {c′ = Hex Three} (hex-step Four a i)
+    (there {c′ = Hex Two} (hex-step Three b j)
+    (there {c′ = Hex One} (hex-step Two c k) (there {c′ = Quoted Whole} (hex-step One d l) here)))))
 
 -- a backslash and a letter
 short : (b : ℕ) → cellStep Csvj Escape b ≡ More (Quoted Whole) → Runs Csvj (Quoted Whole) (0x5C ∷ b ∷ []) (Quoted Whole)
@@ -47,9 +64,13 @@ unfolding cellStep quotedByte if_then_else_
 short b e = there {c′ = Escape} refl (there {c′ = Quoted Whole} e here)
 
 -- a byte written as it is
-raw-byte : (a : ℕ) (c : Char) → (a is QUOTE) ≡ false → (a is 0x5C) ≡ false → leb 0x20 a ≡ true → charStep Whole a ≡ On c → Runs Csvj (Quoted Whole) (a ∷ []) (Quoted c)
+raw-byte :
+    (a : ℕ) (c : Char) → (a is QUOTE) ≡ false → (a is 0x5C) ≡ false → leb 0x20 a ≡ true → charStep Whole a ≡ On c →
+    Runs Csvj (Quoted Whole) (a ∷ []) (Quoted c)
 unfolding cellStep quotedByte if_then_else_
-raw-byte a c q s l e = let k : 0x20 ≤ a = leb-true 0x20 a l in let x : cellStep Csvj (Quoted Whole) a ≡ More (Quoted c) = rw (q, s, le-ltb a 0x20 k, e) in there x here
+raw-byte a c q s l e =
+    let k : 0x20 ≤ a = leb-true 0x20 a l in
+    let x : cellStep Csvj (Quoted Whole) a ≡ More (Quoted c) = rw (q, s, le-ltb a 0x20 k, e) in there x here
 
 same-char : {x y : Char} {o : Advance} → o ≡ On x → o ≡ On y → x ≡ y
 same-char p q = cc
@@ -120,7 +141,9 @@ unfolding jsonBody
 nil-writes w e a = rw (end-whole w e) close-runs
 
 -- one byte that begins no surrogate
-byte-writes : (w : Wide) (a : ℕ) (bs : Bytes) → Steps w a bs → pair a bs ≡ false → Writes bs → Runs Csvj (Quoted (charOf w)) (escaped a ++ (jsonBody bs ++ close)) Complete
+byte-writes :
+    (w : Wide) (a : ℕ) (bs : Bytes) → Steps w a bs → pair a bs ≡ false → Writes bs →
+    Runs Csvj (Quoted (charOf w)) (escaped a ++ (jsonBody bs ++ close)) Complete
 byte-writes w a bs (steps w′ e h k) n ih = runs-append (byte-runs (charOf w) a (charOf w′) e) (ih w′ h (k n))
 
 ed-end : {A : Type 0} (h : Bool) (y : ℕ) → 0xA0 ≤ y → wideFrom (ed h) (y ∷ []) ≡ true → A
@@ -130,7 +153,9 @@ ed-end h y k e = go (leb y 0xAF) (leb y 0xBF) h refl refl (rw (le-leb 0x80 y (om
     B : Bool → Bool → Bool → Option Wide
     B s t h = if s then some (lone true) else (if (leb 0xB0 y && t) then (if h then none else some (lone false)) else none)
 
-    go : {A : Type 0} (s t h : Bool) → leb y 0xAF ≡ s → leb y 0xBF ≡ t → (elim (B (leb y 0xAF) (leb y 0xBF) h) as (λ _. Bool) [ none ↦ false | some w′ ↦ wideFrom w′ [] ]) ≡ true → A
+    go :
+        {A : Type 0} (s t h : Bool) → leb y 0xAF ≡ s → leb y 0xBF ≡ t →
+        (elim (B (leb y 0xAF) (leb y 0xBF) h) as (λ _. Bool) [ none ↦ false | some w′ ↦ wideFrom w′ [] ]) ≡ true → A
     go true t h p q x = impossible (rw p at x)
     go false true true p q x = let m : 0xAF < y = leb-false y 0xAF p in impossible (rw (p, le-leb 0xB0 y (omega arith), q) at x)
     go false true false p q x = let m : 0xAF < y = leb-false y 0xAF p in impossible (rw (p, le-leb 0xB0 y (omega arith), q) at x)

@@ -8,7 +8,8 @@ use lib.ListN.{length}
 use Rattle.model.specs.rules.Types.{Dialect, Csvj, Tdif, CsvPlus, Target, Fault}
 use Rattle.model.specs.rules.Base.{Bytes, isEmpty, concat}
 use Rattle.model.specs.rules.Text.{Value, cellText, moreCells, allCells, recordText, dataText, tableText}
-use Rattle.model.specs.rules.Records.{Rec, rows, nameKey, repeatFrom, repeatFault, headerKindFrom, headerFault, dataFault, uncarriedFrom, clashFault, targetFault, recordFault}
+use Rattle.model.specs.rules.Records.{Rec, rows, nameKey, repeatFrom, repeatFault, headerKindFrom, headerFault, dataFault, uncarriedFrom}
+use Rattle.model.specs.rules.Records.{clashFault, targetFault, recordFault}
 use Rattle.model.specs.laws.RoundTrips.{meaning, Same, SameCells, no-cells, and-cell, SameRows, no-rows, and-row}
 use Rattle.model.specs.laws.Places.{PlaceFree}
 
@@ -91,7 +92,9 @@ unfolding headerKindFrom
 text-same n no-cells = refl
 text-same n (and-cell x xs) = rw (x .kind, text-same (suc n) xs)
 
-repeat-same : (d : Dialect) (fault : ℕ → Fault) (seen : List Bytes) (n : ℕ) {vs ws : List Value} → SameCells vs ws → repeatFrom d fault seen n vs ≡ repeatFrom d fault seen n ws
+repeat-same :
+    (d : Dialect) (fault : ℕ → Fault) (seen : List Bytes) (n : ℕ) {vs ws : List Value} → SameCells vs ws →
+    repeatFrom d fault seen n vs ≡ repeatFrom d fault seen n ws
 unfolding repeatFrom
 repeat-same d fault seen n no-cells = refl
 repeat-same d fault seen n (and-cell {w} x xs) = rw (x .content, repeat-same d fault (nameKey d (w .content) ∷ seen) (suc n) xs)
@@ -114,11 +117,15 @@ unfolding repeatFault
 clash-same t true e = repeat-same t _ [] 1 e
 clash-same t false e = refl
 
-pub target-same : (t : Target) (header : Bool) (written : ℕ) {vs ws : List Value} → SameCells vs ws → targetFault t header written vs ≡ targetFault t header written ws
+pub target-same :
+    (t : Target) (header : Bool) (written : ℕ) {vs ws : List Value} → SameCells vs ws →
+    targetFault t header written vs ≡ targetFault t header written ws
 unfolding targetFault
 target-same t header written e = rw (same-empty e, carried-same (t .dialect) 1 e, clash-same (t .dialect) header e, record-same t header e)
 
-pub fault-same : (d : Dialect) (target : Option Target) (done : List Rec) {vs ws : List Value} → SameCells vs ws → recordFault d target done vs ≡ recordFault d target done ws
+pub fault-same :
+    (d : Dialect) (target : Option Target) (done : List Rec) {vs ws : List Value} → SameCells vs ws →
+    recordFault d target done vs ≡ recordFault d target done ws
 unfolding recordFault
 fault-same d none [] e = rw (header-same d e)
 fault-same d (some t) [] e = rw (header-same d e, target-same t true (length (tableText t [])) e)

@@ -10,8 +10,10 @@ use mathlib.Core.Option.{Option}
 use mathlib.Core.List.{List, [], _∷_, _++_, append-assoc}
 use lib.Dec.{leb}
 use lib.ListN.{length, length-append}
-use Rattle.model.specs.rules.Types.{Delimiter, Comma, Semicolon, Tab, Bar, Quote, Double, Single, Settings, Dialect, Csvj, Tdif, CsvPlus, Target, Whole, Within}
-use Rattle.model.specs.rules.Types.{Numeral, Minus, Zero, Integer, Point, Fraction, E, ESign, Exponent, Cell, Fresh, Quoted, Closed, Escape, Hex, InNumber, InWord, Plain, Complete, Stop}
+use Rattle.model.specs.rules.Types.{Delimiter, Comma, Semicolon, Tab, Bar, Quote, Double, Single, Settings, Dialect, Csvj, Tdif, CsvPlus}
+use Rattle.model.specs.rules.Types.{Target, Whole, Within}
+use Rattle.model.specs.rules.Types.{Numeral, Minus, Zero, Integer, Point, Fraction, E, ESign, Exponent, Cell, Fresh, Quoted, Closed, Escape}
+use Rattle.model.specs.rules.Types.{Hex, InNumber, InWord, Plain, Complete, Stop}
 use Rattle.model.specs.rules.Types.{FileState, Begin, ExpectCell, Inside, Cr, Between, Tail, Ends, To, Sound}
 use Rattle.model.specs.rules.Base.{Bytes, LF, CR, _is_, if_then_else_, isEmpty}
 use Rattle.model.specs.rules.Dialect.{into, quoteOf, delimiterOf, delimiterByte, quoteByte}
@@ -28,7 +30,8 @@ use Rattle.model.proofs.round_trip.Meanings.{same-snoc}
 use Rattle.model.proofs.Tests.{impossible, same-byte}
 use Rattle.model.proofs.cell_laws.CellRuns.{WholeRun, sound-runs}
 use Rattle.model.proofs.file_laws.Counted.{break-quote, cr-separates, lf-separates}
-use Rattle.model.proofs.round_trip.CellRead.{Like, like-in, like-begin, like-top, like-wanting, like-bom1, like-bom2, NoBom, reading, file-free, record-free, Ran, run-cell}
+use Rattle.model.proofs.round_trip.CellRead.{Like, like-in, like-begin, like-top, like-wanting, like-bom1, like-bom2, NoBom, reading}
+use Rattle.model.proofs.round_trip.CellRead.{file-free, record-free, Ran, run-cell}
 
 -- ---- a whole cell ends before a delimiter or an ending
 
@@ -75,10 +78,20 @@ separator : (d : Dialect) → Closer d (delimiterOf d)
 separator d = record { breaks = delimiter-breaks d; no-quote = delimiter-no-quote d; closes = rw (same-byte (delimiterOf d)) }
 
 by-lf : (d : Dialect) → Closer d LF
-by-lf d = record { breaks = record { no-digit = refl; no-point = refl; no-e = refl; no-mark = refl }; no-quote = break-quote d LF refl refl; closes = lf-separates d }
+by-lf d =
+    record {
+      breaks = record { no-digit = refl; no-point = refl; no-e = refl; no-mark = refl };
+      no-quote = break-quote d LF refl refl;
+      closes = lf-separates d;
+    }
 
 by-cr : (d : Dialect) → Closer d CR
-by-cr d = record { breaks = record { no-digit = refl; no-point = refl; no-e = refl; no-mark = refl }; no-quote = break-quote d CR refl refl; closes = cr-separates d }
+by-cr d =
+    record {
+      breaks = record { no-digit = refl; no-point = refl; no-e = refl; no-mark = refl };
+      no-quote = break-quote d CR refl refl;
+      closes = cr-separates d;
+    }
 
 fresh-stops : (d : Dialect) (b : ℕ) → Closer d b → isWhole d Fresh ≡ true → cellStep d Fresh b ≡ Stop
 unfolding cellStep firstByte isWhole if_then_else_
@@ -172,34 +185,56 @@ abbrev valueOf : Dialect → (from upto : ℕ) → Bytes → Value
 valueOf d p o raw = record { from = p; upto = o; kind = kindOf d raw; content = contentOf d raw }
 
 module _ (d : Dialect) (T : Option Target) (ds : List Rec) (s : ℕ) where
-  sep-read : {f : FileState} {c : Cell} → Like d f c → isWhole d c ≡ true → (o z p : ℕ) (raw : Bytes) (vs : List Value) → o < MAXFILE → z < MAXRECORD → readByte d T (reading ds f o s z p raw vs) (delimiterOf d) ≡ going (reading ds (nextState d) (suc o) s (suc z) (suc o) [] (vs ++ (valueOf d p o raw ∷ [])))
+  sep-read :
+      {f : FileState} {c : Cell} → Like d f c → isWhole d c ≡ true → (o z p : ℕ) (raw : Bytes) (vs : List Value) → o < MAXFILE →
+      z < MAXRECORD →
+      readByte d T (reading ds f o s z p raw vs) (delimiterOf d)
+      ≡ going (reading ds (nextState d) (suc o) s (suc z) (suc o) [] (vs ++ (valueOf d p o raw ∷ [])))
   unfolding readByte move if_then_else_
-  sep-read {f} l w o z p raw vs h k = rw (file-free (reading ds f o s z p raw vs) h, record-free (reading ds f o s z p raw vs) (delimiterOf d) k, close-step (delimiterOf d) (separator d) l w, sep-after d)
+  sep-read {f} l w o z p raw vs h k =
+      rw (
+        file-free (reading ds f o s z p raw vs) h,
+        record-free (reading ds f o s z p raw vs) (delimiterOf d) k,
+        close-step (delimiterOf d) (separator d) l w,
+        sep-after d,
+      )
 
   -- the record that this cell ends
   abbrev pub recorded : (size : ℕ) → List Value → Rec
   recorded z vs = record { start = s; size = z; cells = vs }
 
   -- the record is complete, and nothing is wrong with it
-  completed : (r : Read) (vs : List Value) (o z : ℕ) → r .done ≡ ds → r .start ≡ s → r .size ≡ z → recordFault d T ds vs ≡ Sound → complete d T r vs Begin o ≡ going (between-records (ds ++ (recorded z vs ∷ [])) Begin o)
+  completed :
+      (r : Read) (vs : List Value) (o z : ℕ) → r .done ≡ ds → r .start ≡ s → r .size ≡ z → recordFault d T ds vs ≡ Sound →
+      complete d T r vs Begin o ≡ going (between-records (ds ++ (recorded z vs ∷ [])) Begin o)
   unfolding complete
   completed r vs o z e k m n = rw (e, k, m, n)
 
-  lf-read : {f : FileState} {c : Cell} → afterCell d true LF ≡ To Begin (Ends true) → Like d f c → isWhole d c ≡ true → (o z p : ℕ) (raw : Bytes) (vs : List Value) → o < MAXFILE → recordFault d T ds (vs ++ (valueOf d p o raw ∷ [])) ≡ Sound → readByte d T (reading ds f o s z p raw vs) LF ≡ going (between-records (ds ++ (recorded z (vs ++ (valueOf d p o raw ∷ [])) ∷ [])) Begin (suc o))
+  lf-read :
+      {f : FileState} {c : Cell} → afterCell d true LF ≡ To Begin (Ends true) → Like d f c → isWhole d c ≡ true →
+      (o z p : ℕ) (raw : Bytes) (vs : List Value) → o < MAXFILE → recordFault d T ds (vs ++ (valueOf d p o raw ∷ [])) ≡ Sound →
+      readByte d T (reading ds f o s z p raw vs) LF
+      ≡ going (between-records (ds ++ (recorded z (vs ++ (valueOf d p o raw ∷ [])) ∷ [])) Begin (suc o))
   unfolding readByte move if_then_else_
   lf-read {f} a l w o z p raw vs h n =
       rw (file-free (reading ds f o s z p raw vs) h, end-free (reading ds f o s z p raw vs) LF (like-open LF l w refl), close-step LF (by-lf d) l w, a)
       (completed (reading ds f o s z p raw vs) (vs ++ (valueOf d p o raw ∷ [])) (suc o) z refl refl refl n)
 
-  cr-read : {f : FileState} {c : Cell} → afterCell d true CR ≡ To Cr (Tail true) → Like d f c → isWhole d c ≡ true → (o z p : ℕ) (raw : Bytes) (vs : List Value) → o < MAXFILE → readByte d T (reading ds f o s z p raw vs) CR ≡ going (reading ds Cr (suc o) s z (suc o) [] (vs ++ (valueOf d p o raw ∷ [])))
+  cr-read :
+      {f : FileState} {c : Cell} → afterCell d true CR ≡ To Cr (Tail true) → Like d f c → isWhole d c ≡ true →
+      (o z p : ℕ) (raw : Bytes) (vs : List Value) → o < MAXFILE →
+      readByte d T (reading ds f o s z p raw vs) CR ≡ going (reading ds Cr (suc o) s z (suc o) [] (vs ++ (valueOf d p o raw ∷ [])))
   unfolding readByte move if_then_else_
   cr-read {f} a l w o z p raw vs h =
       rw (file-free (reading ds f o s z p raw vs) h, end-free (reading ds f o s z p raw vs) CR (like-open CR l w refl), close-step CR (by-cr d) l w, a)
 
-  crlf-read : fileStep d Cr LF ≡ To Begin (Ends false) → (o z p : ℕ) (raw : Bytes) (vs : List Value) → o < MAXFILE → recordFault d T ds vs ≡ Sound → readByte d T (reading ds Cr o s z p raw vs) LF ≡ going (between-records (ds ++ (recorded z vs ∷ [])) Begin (suc o))
+  crlf-read :
+      fileStep d Cr LF ≡ To Begin (Ends false) → (o z p : ℕ) (raw : Bytes) (vs : List Value) → o < MAXFILE → recordFault d T ds vs ≡ Sound →
+      readByte d T (reading ds Cr o s z p raw vs) LF ≡ going (between-records (ds ++ (recorded z vs ∷ [])) Begin (suc o))
   unfolding readByte move if_then_else_
   crlf-read a o z p raw vs h n =
-      rw (file-free (reading ds Cr o s z p raw vs) h, end-free (reading ds Cr o s z p raw vs) LF (unfold counts in refl), a) (completed (reading ds Cr o s z p raw vs) vs (suc o) z refl refl refl n)
+      rw (file-free (reading ds Cr o s z p raw vs) h, end-free (reading ds Cr o s z p raw vs) LF (unfold counts in refl), a)
+      (completed (reading ds Cr o s z p raw vs) vs (suc o) z refl refl refl n)
 
 cr-no-delimiter : (s : Settings) → (CR is delimiterOf (CsvPlus s)) ≡ false
 cr-no-delimiter s = go (s .delimiter)
@@ -214,12 +249,20 @@ cr-after : (s : Settings) → afterCell (CsvPlus s) true CR ≡ To Cr (Tail true
 unfolding afterCell if_then_else_
 cr-after s = rw (cr-no-delimiter s)
 
-byte-by : (d : Dialect) (T : Option Target) (r : Read) (b : ℕ) (q : Progress) (xs : Bytes) → readByte d T r b ≡ q → readFrom d T (going r) (b ∷ xs) ≡ readFrom d T q xs
+byte-by :
+    (d : Dialect) (T : Option Target) (r : Read) (b : ℕ) (q : Progress) (xs : Bytes) → readByte d T r b ≡ q →
+    readFrom d T (going r) (b ∷ xs) ≡ readFrom d T q xs
 unfolding readFrom
 byte-by d T r b q xs e = ap (λ (x : Progress). readFrom d T x xs) e
 
 -- the ending after the last cell
-end-read : (d : Dialect) (T : Option Target) (ds : List Rec) (s : ℕ) {f : FileState} {c : Cell} → Like d f c → isWhole d c ≡ true → (o z p : ℕ) (raw : Bytes) (vs : List Value) (xs : Bytes) → o + length (ending d) ≤ MAXFILE → recordFault d T ds (vs ++ (valueOf d p o raw ∷ [])) ≡ Sound → readFrom d T (going (reading ds f o s z p raw vs)) (ending d ++ xs) ≡ readFrom d T (going (between-records (ds ++ (recorded d T ds s z (vs ++ (valueOf d p o raw ∷ [])) ∷ [])) Begin (o + length (ending d)))) xs
+end-read :
+    (d : Dialect) (T : Option Target) (ds : List Rec) (s : ℕ) {f : FileState} {c : Cell} → Like d f c → isWhole d c ≡ true →
+    (o z p : ℕ) (raw : Bytes) (vs : List Value) (xs : Bytes) → o + length (ending d) ≤ MAXFILE →
+    recordFault d T ds (vs ++ (valueOf d p o raw ∷ [])) ≡ Sound →
+    readFrom d T (going (reading ds f o s z p raw vs)) (ending d ++ xs)
+    ≡ readFrom d T
+    (going (between-records (ds ++ (recorded d T ds s z (vs ++ (valueOf d p o raw ∷ [])) ∷ [])) Begin (o + length (ending d)))) xs
 unfolding readFrom
 end-read Csvj T ds s l w o z p raw vs xs h n =
     rw (lf-read Csvj T ds s (unfold afterCell if_then_else_ in refl) l w o z p raw vs (omega arith) n, add-one o)
@@ -228,7 +271,9 @@ end-read Tdif T ds s l w o z p raw vs xs h n =
 end-read (CsvPlus k) T ds s l w o z p raw vs xs h n =
     rw (add-two o)
     (byte-by (CsvPlus k) T _ CR _ (LF ∷ xs) (cr-read (CsvPlus k) T ds s (cr-after k) l w o z p raw vs (omega arith))
-    ∙ byte-by (CsvPlus k) T _ LF _ xs (crlf-read (CsvPlus k) T ds s (unfold fileStep if_then_else_ in refl) (suc o) z (suc o) [] (vs ++ (valueOf (CsvPlus k) p o raw ∷ [])) (omega arith) n))
+    ∙ byte-by (CsvPlus k) T _ LF _ xs
+    (crlf-read (CsvPlus k) T ds s (unfold fileStep if_then_else_ in refl) (suc o) z (suc o) []
+    (vs ++ (valueOf (CsvPlus k) p o raw ∷ [])) (omega arith) n))
 
 -- ---- the cells of a record
 
@@ -244,16 +289,27 @@ module _ (d : Dialect) (T : Option Target) (ds : List Rec) (s : ℕ) where
   pub record Finishes (r : Read) (upto size : ℕ) (text : Bytes) (all : List Value) : Type 0 where
     pub cells : List Value
     pub same : SameCells cells all
-    pub run : (xs : Bytes) → readFrom d T (going r) (text ++ xs) ≡ readFrom d T (going (between-records (ds ++ (recorded d T ds s size cells ∷ [])) Begin upto)) xs
+    pub run :
+        (xs : Bytes) →
+        readFrom d T (going r) (text ++ xs)
+        ≡ readFrom d T (going (between-records (ds ++ (recorded d T ds s size cells ∷ [])) Begin upto)) xs
 
-  at-size : (cells : List Value) (xs : Bytes) (u u′ z z′ : ℕ) → u ≡ u′ → z ≡ z′ → readFrom d T (going (between-records (ds ++ (recorded d T ds s z cells ∷ [])) Begin u)) xs ≡ readFrom d T (going (between-records (ds ++ (recorded d T ds s z′ cells ∷ [])) Begin u′)) xs
+  at-size :
+      (cells : List Value) (xs : Bytes) (u u′ z z′ : ℕ) → u ≡ u′ → z ≡ z′ →
+      readFrom d T (going (between-records (ds ++ (recorded d T ds s z cells ∷ [])) Begin u)) xs
+      ≡ readFrom d T (going (between-records (ds ++ (recorded d T ds s z′ cells ∷ [])) Begin u′)) xs
   at-size cells xs u u′ z z′ e k = rw (e, k)
 
   abbrev pub Fine : List Value → Type 0
   Fine all = (vs : List Value) → SameCells vs all → recordFault d T ds vs ≡ Sound
 
   -- the current cell is whole, and these come after it
-  rest-read : (ws : List Value) {f : FileState} {c : Cell} → Like d f c → isWhole d c ≡ true → (o z p : ℕ) (raw : Bytes) (vs olds : List Value) (w : Value) → SameCells vs olds → Same (valueOf d p o raw) w → All (MoreBack d) ws → o + length (moreCells d ws) + length (ending d) ≤ MAXFILE → z + length (moreCells d ws) ≤ MAXRECORD → Fine (olds ++ (w ∷ ws)) → Finishes (reading ds f o s z p raw vs) (o + length (moreCells d ws) + length (ending d)) (z + length (moreCells d ws)) (moreCells d ws ++ ending d) (olds ++ (w ∷ ws))
+  rest-read :
+      (ws : List Value) {f : FileState} {c : Cell} → Like d f c → isWhole d c ≡ true →
+      (o z p : ℕ) (raw : Bytes) (vs olds : List Value) (w : Value) → SameCells vs olds → Same (valueOf d p o raw) w → All (MoreBack d) ws →
+      o + length (moreCells d ws) + length (ending d) ≤ MAXFILE → z + length (moreCells d ws) ≤ MAXRECORD → Fine (olds ++ (w ∷ ws)) →
+      Finishes (reading ds f o s z p raw vs) (o + length (moreCells d ws) + length (ending d)) (z + length (moreCells d ws))
+      (moreCells d ws ++ ending d) (olds ++ (w ∷ ws))
   unfolding MoreBack moreCells
   rest-read [] {f} l h o z p raw vs olds w e k all-none m n ok =
       let cs : SameCells (vs ++ (valueOf d p o raw ∷ [])) (olds ++ (w ∷ [])) = same-snoc e k in
@@ -267,20 +323,28 @@ module _ (d : Dialect) (T : Option Target) (ds : List Rec) (s : ℕ) where
       let len : length (t ++ moreCells d vs′) ≡ length t + length (moreCells d vs′) = length-append t (moreCells d vs′) in
       let W : WholeRun d Fresh t = back-runs b in
       let vs₁ : List Value = vs ++ (valueOf d p o raw ∷ []) in
-      let R : Ran d T ds s (suc o) vs₁ (nextState d) (W .end) (suc o) (suc z) [] t = run-cell d T ds s (suc o) vs₁ (next-like d) (W .runs) (next-clear d t) (suc o) (suc z) [] (omega arith) (omega arith) in
-      let I : Finishes (reading ds (R .state) (suc o + length t) s (suc z + length t) (suc o) t vs₁) (suc o + length t + length (moreCells d vs′) + length (ending d)) (suc z + length t + length (moreCells d vs′)) (moreCells d vs′ ++ ending d) ((olds ++ (w ∷ [])) ++ (v ∷ vs′))
-      = rest-read vs′ (R .like) (W .whole) (suc o + length t) (suc z + length t) (suc o) t vs₁ (olds ++ (w ∷ [])) v (same-snoc e k) (record { kind = b .kind; content = b .content }) bs (omega arith) (omega arith) (λ ws x. ok ws (rw append-assoc at x)) in
+      let R : Ran d T ds s (suc o) vs₁ (nextState d) (W .end) (suc o) (suc z) [] t
+      = run-cell d T ds s (suc o) vs₁ (next-like d) (W .runs) (next-clear d t) (suc o) (suc z) [] (omega arith) (omega arith) in
+      let I : Finishes (reading ds (R .state) (suc o + length t) s (suc z + length t) (suc o) t vs₁)
+      (suc o + length t + length (moreCells d vs′) + length (ending d)) (suc z + length t + length (moreCells d vs′))
+      (moreCells d vs′ ++ ending d) ((olds ++ (w ∷ [])) ++ (v ∷ vs′))
+      = rest-read vs′ (R .like) (W .whole) (suc o + length t) (suc z + length t) (suc o) t vs₁ (olds ++ (w ∷ [])) v (same-snoc e k)
+      (record { kind = b .kind; content = b .content }) bs (omega arith) (omega arith) (λ ws x. ok ws (rw append-assoc at x)) in
       let upto : suc o + length t + length (moreCells d vs′) + length (ending d) ≡ o + suc (length (t ++ moreCells d vs′)) + length (ending d) = omega arith in
       let size : suc z + length t + length (moreCells d vs′) ≡ z + suc (length (t ++ moreCells d vs′)) = omega arith in
       record {
         cells = I .cells;
         same = rw append-assoc at (I .same);
         run = λ xs.
-            ap (λ (x : Bytes). readFrom d T (going (reading ds f o s z p raw vs)) (delimiterOf d ∷ x)) (ap (λ (x : Bytes). x ++ xs) (append-assoc t (moreCells d vs′) (ending d)) ∙ append-assoc t (moreCells d vs′ ++ ending d) xs)
+            ap (λ (x : Bytes). readFrom d T (going (reading ds f o s z p raw vs)) (delimiterOf d ∷ x))
+            (ap (λ (x : Bytes). x ++ xs) (append-assoc t (moreCells d vs′) (ending d))
+            ∙ append-assoc t (moreCells d vs′ ++ ending d) xs)
             ∙ byte-by d T _ (delimiterOf d) _ (t ++ ((moreCells d vs′ ++ ending d) ++ xs)) (sep-read d T ds s l h o z p raw vs (omega arith) (omega arith))
             ∙ R .run ((moreCells d vs′ ++ ending d) ++ xs)
             ∙ I .run xs
-            ∙ at-size (I .cells) xs (suc o + length t + length (moreCells d vs′) + length (ending d)) (o + suc (length (t ++ moreCells d vs′)) + length (ending d)) (suc z + length t + length (moreCells d vs′)) (z + suc (length (t ++ moreCells d vs′))) upto size;
+            ∙ at-size (I .cells) xs (suc o + length t + length (moreCells d vs′) + length (ending d))
+            (o + suc (length (t ++ moreCells d vs′)) + length (ending d)) (suc z + length t + length (moreCells d vs′))
+            (z + suc (length (t ++ moreCells d vs′))) upto size;
       }
 
 -- ---- a record
@@ -288,38 +352,61 @@ module _ (d : Dialect) (T : Option Target) (ds : List Rec) (s : ℕ) where
 -- what a row needs to be read back from f
 pub data RowBack : Dialect → FileState → Bool → List Value → Type 0 where
   row-empty : {f : FileState} {header : Bool} → fileStep Csvj f LF ≡ To Begin (Ends false) → counts f LF ≡ false → RowBack Csvj f header []
-  row-cells : {d : Dialect} {f : FileState} {header : Bool} {v : Value} {vs : List Value} → Like d f Fresh → NoBom f (cellText d (isEmpty vs) header v) → Back d (cellText d (isEmpty vs) header v) v → All (MoreBack d) vs → RowBack d f header (v ∷ vs)
+  row-cells :
+      {d : Dialect} {f : FileState} {header : Bool} {v : Value} {vs : List Value} → Like d f Fresh →
+      NoBom f (cellText d (isEmpty vs) header v) → Back d (cellText d (isEmpty vs) header v) v → All (MoreBack d) vs →
+      RowBack d f header (v ∷ vs)
 
-empty-read : (T : Option Target) (ds : List Rec) (f : FileState) (o : ℕ) (xs : Bytes) → fileStep Csvj f LF ≡ To Begin (Ends false) → counts f LF ≡ false → o < MAXFILE → recordFault Csvj T ds [] ≡ Sound → readFrom Csvj T (going (between-records ds f o)) (LF ∷ xs) ≡ readFrom Csvj T (going (between-records (ds ++ (recorded Csvj T ds o 0 [] ∷ [])) Begin (suc o))) xs
+empty-read :
+    (T : Option Target) (ds : List Rec) (f : FileState) (o : ℕ) (xs : Bytes) → fileStep Csvj f LF ≡ To Begin (Ends false) →
+    counts f LF ≡ false → o < MAXFILE → recordFault Csvj T ds [] ≡ Sound →
+    readFrom Csvj T (going (between-records ds f o)) (LF ∷ xs)
+    ≡ readFrom Csvj T (going (between-records (ds ++ (recorded Csvj T ds o 0 [] ∷ [])) Begin (suc o))) xs
 unfolding readByte move if_then_else_
 empty-read T ds f o xs e k h n =
-    byte-by Csvj T (between-records ds f o) LF _ xs (rw (file-free (between-records ds f o) h, end-free (between-records ds f o) LF k, e) (completed Csvj T ds o (between-records ds f o) [] (suc o) 0 refl refl refl n))
+    byte-by Csvj T (between-records ds f o) LF _ xs
+    (rw (file-free (between-records ds f o) h, end-free (between-records ds f o) LF k, e)
+    (completed Csvj T ds o (between-records ds f o) [] (suc o) 0 refl refl refl n))
 
 -- reading a record's text and its ending gives its cells
-pub record-read : (d : Dialect) (T : Option Target) (ds : List Rec) (f : FileState) (header : Bool) (row : List Value) (o : ℕ) → RowBack d f header row → o + length (recordText (into d) header row) + length (ending d) ≤ MAXFILE → length (recordText (into d) header row) ≤ MAXRECORD → Fine d T ds o row → Finishes d T ds o (between-records ds f o) (o + length (recordText (into d) header row) + length (ending d)) (length (recordText (into d) header row)) (recordText (into d) header row ++ ending d) row
+pub record-read :
+    (d : Dialect) (T : Option Target) (ds : List Rec) (f : FileState) (header : Bool) (row : List Value) (o : ℕ) → RowBack d f header row →
+    o + length (recordText (into d) header row) + length (ending d) ≤ MAXFILE → length (recordText (into d) header row) ≤ MAXRECORD →
+    Fine d T ds o row →
+    Finishes d T ds o (between-records ds f o) (o + length (recordText (into d) header row) + length (ending d))
+    (length (recordText (into d) header row)) (recordText (into d) header row ++ ending d) row
 unfolding allCells recordText
 record-read d T ds f header row o (row-empty e k) m n ok =
     let u : suc o ≡ o + 0 + 1 = omega arith in
     record {
       cells = [];
       same = no-cells;
-      run = λ xs. empty-read T ds f o xs e k (omega arith) (ok [] no-cells) ∙ ap (λ (u : ℕ). readFrom Csvj T (going (between-records (ds ++ (recorded Csvj T ds o 0 [] ∷ [])) Begin u)) xs) u;
+      run =
+          λ xs.
+          empty-read T ds f o xs e k (omega arith) (ok [] no-cells)
+          ∙ ap (λ (u : ℕ). readFrom Csvj T (going (between-records (ds ++ (recorded Csvj T ds o 0 [] ∷ [])) Begin u)) xs) u;
     }
 record-read d T ds f header row o (row-cells {v} {vs} l c b bs) m n ok =
     let t : Bytes = cellText d (isEmpty vs) header v in
     let len : length (t ++ moreCells d vs) ≡ length t + length (moreCells d vs) = length-append t (moreCells d vs) in
     let W : WholeRun d Fresh t = back-runs b in
     let R : Ran d T ds o o [] f (W .end) o 0 [] t = run-cell d T ds o o [] l (W .runs) c o 0 [] (omega arith) (omega arith) in
-    let I : Finishes d T ds o (reading ds (R .state) (o + length t) o (0 + length t) o t []) (o + length t + length (moreCells d vs) + length (ending d)) (0 + length t + length (moreCells d vs)) (moreCells d vs ++ ending d) (v ∷ vs)
-    = rest-read d T ds o vs (R .like) (W .whole) (o + length t) (0 + length t) o t [] [] v no-cells (record { kind = b .kind; content = b .content }) bs (omega arith) (omega arith) ok in
+    let I : Finishes d T ds o (reading ds (R .state) (o + length t) o (0 + length t) o t [])
+    (o + length t + length (moreCells d vs) + length (ending d)) (0 + length t + length (moreCells d vs)) (moreCells d vs ++ ending d)
+    (v ∷ vs)
+    = rest-read d T ds o vs (R .like) (W .whole) (o + length t) (0 + length t) o t [] [] v no-cells
+    (record { kind = b .kind; content = b .content }) bs (omega arith) (omega arith) ok in
     let upto : o + length t + length (moreCells d vs) + length (ending d) ≡ o + length (t ++ moreCells d vs) + length (ending d) = omega arith in
     let size : 0 + length t + length (moreCells d vs) ≡ length (t ++ moreCells d vs) = omega arith in
     record {
       cells = I .cells;
       same = I .same;
       run = λ xs.
-          ap (λ (x : Bytes). readFrom d T (going (between-records ds f o)) x) (ap (λ (x : Bytes). x ++ xs) (append-assoc t (moreCells d vs) (ending d)) ∙ append-assoc t (moreCells d vs ++ ending d) xs)
+          ap (λ (x : Bytes). readFrom d T (going (between-records ds f o)) x)
+          (ap (λ (x : Bytes). x ++ xs) (append-assoc t (moreCells d vs) (ending d)) ∙ append-assoc t (moreCells d vs ++ ending d) xs)
           ∙ R .run ((moreCells d vs ++ ending d) ++ xs)
           ∙ I .run xs
-          ∙ at-size d T ds o (I .cells) xs (o + length t + length (moreCells d vs) + length (ending d)) (o + length (t ++ moreCells d vs) + length (ending d)) (0 + length t + length (moreCells d vs)) (length (t ++ moreCells d vs)) upto size;
+          ∙ at-size d T ds o (I .cells) xs (o + length t + length (moreCells d vs) + length (ending d))
+          (o + length (t ++ moreCells d vs) + length (ending d)) (0 + length t + length (moreCells d vs)) (length (t ++ moreCells d vs))
+          upto size;
     }

@@ -8,13 +8,16 @@ use mathlib.Core.List.{List, [], _∷_, _++_, map}
 use lib.Dec.{ltb}
 use lib.ListN.{length}
 use borrow.Author.Tests.{le-ltb, ltb-false}
-use Rattle.model.specs.rules.Types.{Report, Dialect, Target, Encoding, Syntax, Fault, NoRecord, Byte, CutShort, CellCount, RepeatedName, HeaderKind, FileTooLong, RecordTooLong, TooManyColumns, NoCells, LacksKind, LoneSurrogate, Clash, TextTooLong, OutputTooLong, CheckResult, Sound, Faulty}
+use Rattle.model.specs.rules.Types.{Report, Dialect, Target, Encoding, Syntax, Fault, NoRecord, Byte, CutShort, CellCount, RepeatedName}
+use Rattle.model.specs.rules.Types.{HeaderKind, FileTooLong, RecordTooLong, TooManyColumns, NoCells, LacksKind, LoneSurrogate, Clash}
+use Rattle.model.specs.rules.Types.{TextTooLong, OutputTooLong, CheckResult, Sound, Faulty}
 use Rattle.model.specs.rules.Base.{Bytes, concat, if_then_else_}
 use Rattle.model.specs.rules.Dialect.{dialectOf, into}
 use Rattle.model.specs.rules.Text.{Value, tableText}
 use Rattle.model.specs.rules.Report.{report, accepted, refusal, numberOf, columnOf}
 use Rattle.model.specs.rules.Records.{Rec, rows, readFile}
-use Rattle.model.specs.rules.Api.{Answer, answered, readAnswer, reader, Table, rowsIn, orNext, rowFault, rowsFrom, rowsFault, Written, unwritten, fitted, writtenRows, writer}
+use Rattle.model.specs.rules.Api.{Answer, answered, readAnswer, reader, Table, rowsIn, orNext, rowFault, rowsFrom, rowsFault, Written}
+use Rattle.model.specs.rules.Api.{unwritten, fitted, writtenRows, writer}
 use Rattle.model.specs.laws.RoundTrips.{meaning, Writable, SameRows, and-row}
 use Rattle.model.proofs.round_trip.Meanings.{same-length, rows-length, cells-meaning, concat-same}
 use Rattle.model.proofs.round_trip.TableRead.{Read-as}
@@ -96,17 +99,35 @@ pub writer-wrote : (n : ℕ) (table : Table) (room : ℕ) (text : Bytes) → wri
 unfolding writer
 writer-wrote n table room text e = by-dialect (dialectOf n) refl e
   where
-    by-fault : (t : Dialect) (rs : List (List Value)) → dialectOf n ≡ some t → rowsIn table ≡ some rs → (o : Option Report) → rowsFault (into t) rs ≡ o → Refuses o → writtenRows (into t) room rs o ≡ accepts text → Wrote n table room text
+    by-fault :
+        (t : Dialect) (rs : List (List Value)) → dialectOf n ≡ some t → rowsIn table ≡ some rs → (o : Option Report) →
+        rowsFault (into t) rs ≡ o → Refuses o → writtenRows (into t) room rs o ≡ accepts text → Wrote n table room text
     by-fault t rs p q none f no-report k =
         let x = rows-even table rs q in
-        record { dialect = t; known = p; cells = rs; table-rows = q; can-write = even-writable t (table .columns) (table .records) rs (x .0) (x .1) f; spelt = fitted-accepts room (tableText (into t) rs) text k }
+        record {
+          dialect = t;
+          known = p;
+          cells = rs;
+          table-rows = q;
+          can-write = even-writable t (table .columns) (table .records) rs (x .0) (x .1) f;
+          spelt = fitted-accepts room (tableText (into t) rs) text k;
+        }
     by-fault t rs p q (some y) f (of-fault w) k = no-refusal k (λ h. fault-number w h)
 
-    by-rows : (t : Dialect) → dialectOf n ≡ some t → (o : Option (List (List Value))) → rowsIn table ≡ o → (elim o as (λ _. Written) [ none ↦ unwritten (refusal 12) | some rs ↦ writtenRows (into t) room rs (rowsFault (into t) rs) ]) ≡ accepts text → Wrote n table room text
+    by-rows :
+        (t : Dialect) → dialectOf n ≡ some t → (o : Option (List (List Value))) → rowsIn table ≡ o →
+        (elim o as (λ _. Written) [ none ↦ unwritten (refusal 12) | some rs ↦ writtenRows (into t) room rs (rowsFault (into t) rs) ])
+        ≡ accepts text → Wrote n table room text
     by-rows t p none q k = no-refusal k (λ h. absurd (omega arith))
     by-rows t p (some rs) q k = by-fault t rs p q (rowsFault (into t) rs) refl (rows-refuse (into t) rs) k
 
-    by-dialect : (o : Option Dialect) → dialectOf n ≡ o → (elim o as (λ _. Written) [ none ↦ unwritten (refusal 11) | some t ↦ elim (rowsIn table) as (λ _. Written) [ none ↦ unwritten (refusal 12) | some rs ↦ writtenRows (into t) room rs (rowsFault (into t) rs) ] ]) ≡ accepts text → Wrote n table room text
+    by-dialect :
+        (o : Option Dialect) → dialectOf n ≡ o → (elim o as (λ _. Written) [
+          | none ↦ unwritten (refusal 11)
+          | some t ↦
+              elim (rowsIn table) as (λ _. Written)
+              [ none ↦ unwritten (refusal 12) | some rs ↦ writtenRows (into t) room rs (rowsFault (into t) rs) ]
+        ]) ≡ accepts text → Wrote n table room text
     by-dialect none p k = no-refusal k (λ h. absurd (omega arith))
     by-dialect (some t) p k = by-rows t p (rowsIn table) refl k
 
@@ -128,7 +149,9 @@ unfolding rows
 rows-count [] = refl
 rows-count (y ∷ ys) = ap suc (rows-count ys)
 
-rows-answer : (ds : List Rec) (h : List Value) (rs : List (List Value)) (room : ℕ) → SameRows (rows ds) (h ∷ rs) → length (concat (h ∷ rs)) ≤ room → Answers (h ∷ rs) (length h) (answered ds (concat (rows ds)) room)
+rows-answer :
+    (ds : List Rec) (h : List Value) (rs : List (List Value)) (room : ℕ) → SameRows (rows ds) (h ∷ rs) → length (concat (h ∷ rs)) ≤ room →
+    Answers (h ∷ rs) (length h) (answered ds (concat (rows ds)) room)
 unfolding rows if_then_else_
 rows-answer (x ∷ ds) h rs room (and-row c s) l =
     let all : SameRows (x .cells ∷ rows ds) (h ∷ rs) = and-row c s in
@@ -136,5 +159,7 @@ rows-answer (x ∷ ds) h rs room (and-row c s) l =
     let fit : ltb room (length (concat (x .cells ∷ rows ds))) ≡ false = le-ltb room (length (concat (x .cells ∷ rows ds))) (omega arith) in
     rw fit (record { report = refl; columns = same-length c; records = ap suc (rows-count ds ∙ rows-length s); cells = cells-meaning (concat-same all) })
 
-pub reader-answers : (n : ℕ) (d : Dialect) (h : List Value) (rs : List (List Value)) (room : ℕ) (text : Bytes) → dialectOf n ≡ some d → Read-as d none text (h ∷ rs) → length (concat (h ∷ rs)) ≤ room → Answers (h ∷ rs) (length h) (reader n text room)
+pub reader-answers :
+    (n : ℕ) (d : Dialect) (h : List Value) (rs : List (List Value)) (room : ℕ) (text : Bytes) → dialectOf n ≡ some d →
+    Read-as d none text (h ∷ rs) → length (concat (h ∷ rs)) ≤ room → Answers (h ∷ rs) (length h) (reader n text room)
 reader-answers n d h rs room text e r l = rw (reader-known n d text room e, r .run) (rows-answer (r .end .done) h rs room (r .same) l)

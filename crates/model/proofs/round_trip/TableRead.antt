@@ -16,7 +16,8 @@ use Rattle.model.specs.rules.Dialect.{into}
 use Rattle.model.specs.rules.File.{fileEnd}
 use Rattle.model.specs.rules.Text.{Value, recordText, dataText, tableText, ending}
 use Rattle.model.specs.rules.Report.{MAXFILE, MAXRECORD, MAXCOLUMNS}
-use Rattle.model.specs.rules.Records.{Rec, Read, rows, _orElse_, when, Progress, going, readFrom, readBytes, readFile, readEnd, nothingRead, recordFault, headerFault, dataFault, uncarriedFrom, targetFault, between-records}
+use Rattle.model.specs.rules.Records.{Rec, Read, rows, _orElse_, when, Progress, going, readFrom, readBytes, readFile, readEnd, nothingRead}
+use Rattle.model.specs.rules.Records.{recordFault, headerFault, dataFault, uncarriedFrom, targetFault, between-records}
 use Rattle.model.specs.laws.Laws.{All, all-none, all-cons}
 use Rattle.model.specs.laws.RoundTrips.{ReadAs, SameCells, SameRows, no-rows, and-row}
 use Rattle.model.proofs.round_trip.Meanings.{same-length, record-same, fault-same, rows-meaning}
@@ -42,13 +43,23 @@ even-fine : (n : ℕ) (vs : List Value) → length vs ≡ n → ltb MAXCOLUMNS n
 unfolding dataFault when _orElse_
 even-fine n vs e c = rw (e, c, eq-eqb n n refl)
 
-target-fine : (d : Dialect) (written : ℕ) (vs : List Value) → uncarriedFrom d 1 vs ≡ Sound → length (recordText (into d) false vs) ≤ MAXRECORD → written + length (recordText (into d) false vs ++ ending d) ≤ MAXFILE → targetFault (into d) false written vs ≡ Sound
+target-fine :
+    (d : Dialect) (written : ℕ) (vs : List Value) → uncarriedFrom d 1 vs ≡ Sound → length (recordText (into d) false vs) ≤ MAXRECORD →
+    written + length (recordText (into d) false vs ++ ending d) ≤ MAXFILE → targetFault (into d) false written vs ≡ Sound
 unfolding targetFault
 target-fine d written vs c k m =
-    both-sound (not-when _ refl) (both-sound c (both-sound refl (both-sound (not-when _ (le-ltb MAXRECORD (length (recordText (into d) false vs)) k)) (not-when _ (le-ltb MAXFILE (written + length (recordText (into d) false vs ++ ending d)) m)))))
+    both-sound (not-when _ refl)
+    (both-sound c
+    (both-sound refl
+    (both-sound (not-when _ (le-ltb MAXRECORD (length (recordText (into d) false vs)) k))
+    (not-when _ (le-ltb MAXFILE (written + length (recordText (into d) false vs ++ ending d)) m)))))
 
 module _ (d : Dialect) (T : Option Target) (own : Own d T) (h : Rec) where
-  row-fine : {T : Option Target} → Own d T → (ds : List Rec) (vs : List Value) → length vs ≡ length (h .cells) → ltb MAXCOLUMNS (length (h .cells)) ≡ false → uncarriedFrom d 1 vs ≡ Sound → length (recordText (into d) false vs) ≤ MAXRECORD → length (tableText (into d) (rows (h ∷ ds))) + length (recordText (into d) false vs ++ ending d) ≤ MAXFILE → recordFault d T (h ∷ ds) vs ≡ Sound
+  row-fine :
+      {T : Option Target} → Own d T → (ds : List Rec) (vs : List Value) → length vs ≡ length (h .cells) →
+      ltb MAXCOLUMNS (length (h .cells)) ≡ false → uncarriedFrom d 1 vs ≡ Sound → length (recordText (into d) false vs) ≤ MAXRECORD →
+      length (tableText (into d) (rows (h ∷ ds))) + length (recordText (into d) false vs ++ ending d) ≤ MAXFILE →
+      recordFault d T (h ∷ ds) vs ≡ Sound
   unfolding recordFault rows
   row-fine own-none ds vs e c u k m = both-sound (even-fine (length (h .cells)) vs e c) refl
   row-fine own-some ds vs e c u k m = both-sound (even-fine (length (h .cells)) vs e c) (target-fine d (length (tableText (into d) (rows (h ∷ ds)))) vs u k m)
@@ -56,16 +67,22 @@ module _ (d : Dialect) (T : Option Target) (own : Own d T) (h : Rec) where
   pub record Rest (ds : List Rec) (o : ℕ) (rs : List (List Value)) : Type 0 where
     pub recs : List Rec
     pub same : SameRows (rows recs) rs
-    pub run : readFrom d T (going (between-records (h ∷ ds) Begin o)) (dataText (into d) rs) ≡ going (between-records ((h ∷ ds) ++ recs) Begin (o + length (dataText (into d) rs)))
+    pub run :
+        readFrom d T (going (between-records (h ∷ ds) Begin o)) (dataText (into d) rs)
+        ≡ going (between-records ((h ∷ ds) ++ recs) Begin (o + length (dataText (into d) rs)))
 
   no-more : (ds : List Rec) (o : ℕ) → going (between-records (h ∷ ds) Begin o) ≡ going (between-records ((h ∷ ds) ++ []) Begin (o + 0))
   no-more ds o = rw (append-nil ds, add-zero o)
 
-  one-more : (ds recs : List Rec) (x : Rec) (p q : ℕ) → p ≡ q → going (between-records ((h ∷ (ds ++ (x ∷ []))) ++ recs) Begin p) ≡ going (between-records ((h ∷ ds) ++ (x ∷ recs)) Begin q)
+  one-more :
+      (ds recs : List Rec) (x : Rec) (p q : ℕ) → p ≡ q →
+      going (between-records ((h ∷ (ds ++ (x ∷ []))) ++ recs) Begin p) ≡ going (between-records ((h ∷ ds) ++ (x ∷ recs)) Begin q)
   one-more ds recs x p q e = rw (append-assoc ds (x ∷ []) recs, e)
 
   -- how many bytes the records before have
-  text-snoc : (ds : List Rec) (x : Rec) (r : List Value) (o : ℕ) → SameCells (x .cells) r → length (tableText (into d) (rows (h ∷ ds))) ≡ o → length (tableText (into d) (rows (h ∷ (ds ++ (x ∷ []))))) ≡ o + length (recordText (into d) false r ++ ending d)
+  text-snoc :
+      (ds : List Rec) (x : Rec) (r : List Value) (o : ℕ) → SameCells (x .cells) r → length (tableText (into d) (rows (h ∷ ds))) ≡ o →
+      length (tableText (into d) (rows (h ∷ (ds ++ (x ∷ []))))) ≡ o + length (recordText (into d) false r ++ ending d)
   unfolding rows
   text-snoc ds x r o e k =
       ap (λ (l : List (List Value)). length (tableText (into d) (h .cells ∷ l))) (rows-append ds (x ∷ [])) ∙ row-length (into d) (h .cells ∷ rows ds) (x .cells)
@@ -73,7 +90,14 @@ module _ (d : Dialect) (T : Option Target) (own : Own d T) (h : Rec) where
       ∙ ap (λ (l : Bytes). o + length (l ++ ending d)) (record-same (into d) false e)
 
   -- one row read, and those after it
-  and-rest : (rs : List (List Value)) (ds : List Rec) (o : ℕ) (r : List Value) (E : Finishes d T (h ∷ ds) o (between-records (h ∷ ds) Begin o) (o + length (recordText (into d) false r) + length (ending d)) (length (recordText (into d) false r)) (recordText (into d) false r ++ ending d) r) → Rest (ds ++ (record { start = o; size = length (recordText (into d) false r); cells = E .cells } ∷ [])) (o + length (recordText (into d) false r) + length (ending d)) rs → o + length (recordText (into d) false r) + length (ending d) + length (dataText (into d) rs) ≡ o + length (dataText (into d) (r ∷ rs)) → Rest ds o (r ∷ rs)
+  and-rest :
+      (rs : List (List Value)) (ds : List Rec) (o : ℕ) (r : List Value)
+      (E : Finishes d T (h ∷ ds) o (between-records (h ∷ ds) Begin o) (o + length (recordText (into d) false r) + length (ending d))
+      (length (recordText (into d) false r)) (recordText (into d) false r ++ ending d) r) →
+      Rest (ds ++ (record { start = o; size = length (recordText (into d) false r); cells = E .cells } ∷ []))
+      (o + length (recordText (into d) false r) + length (ending d)) rs →
+      o + length (recordText (into d) false r) + length (ending d) + length (dataText (into d) rs)
+      ≡ o + length (dataText (into d) (r ∷ rs)) → Rest ds o (r ∷ rs)
   unfolding dataText rows
   and-rest rs ds o r E I u =
       record {
@@ -82,15 +106,21 @@ module _ (d : Dialect) (T : Option Target) (own : Own d T) (h : Rec) where
         run =
             E .run (dataText (into d) rs)
             ∙ I .run
-            ∙ one-more ds (I .recs) (record { start = o; size = length (recordText (into d) false r); cells = E .cells }) (o + length (recordText (into d) false r) + length (ending d) + length (dataText (into d) rs)) (o + length (dataText (into d) (r ∷ rs))) u;
+            ∙ one-more ds (I .recs) (record { start = o; size = length (recordText (into d) false r); cells = E .cells })
+            (o + length (recordText (into d) false r) + length (ending d) + length (dataText (into d) rs))
+            (o + length (dataText (into d) (r ∷ rs))) u;
       }
 
-  pub data-read : (rs : List (List Value)) (ds : List Rec) (o : ℕ) → All (DataBack d (length (h .cells))) rs → ltb MAXCOLUMNS (length (h .cells)) ≡ false → length (tableText (into d) (rows (h ∷ ds))) ≡ o → o + length (dataText (into d) rs) ≤ MAXFILE → Rest ds o rs
+  pub data-read :
+      (rs : List (List Value)) (ds : List Rec) (o : ℕ) → All (DataBack d (length (h .cells))) rs →
+      ltb MAXCOLUMNS (length (h .cells)) ≡ false → length (tableText (into d) (rows (h ∷ ds))) ≡ o →
+      o + length (dataText (into d) rs) ≤ MAXFILE → Rest ds o rs
   unfolding dataText readFrom rows
   data-read [] ds o all-none c w m = record { recs = []; same = no-rows; run = no-more ds o }
   data-read (r ∷ rs) ds o (all-cons b bs) c w m =
       let t : Bytes = recordText (into d) false r in
-      let len : length ((t ++ ending d) ++ dataText (into d) rs) ≡ length (t ++ ending d) + length (dataText (into d) rs) = length-append (t ++ ending d) (dataText (into d) rs) in
+      let len : length ((t ++ ending d) ++ dataText (into d) rs) ≡ length (t ++ ending d) + length (dataText (into d) rs)
+      = length-append (t ++ ending d) (dataText (into d) rs) in
       let len′ : length (t ++ ending d) ≡ length t + length (ending d) = length-append t (ending d) in
       let len″ : length (dataText (into d) (r ∷ rs)) ≡ length ((t ++ ending d) ++ dataText (into d) rs) = refl in
       let fine : recordFault d T (h ∷ ds) r ≡ Sound = row-fine own ds r (b .even) c (b .carried) (b .short) (rw w (omega arith)) in
@@ -99,14 +129,18 @@ module _ (d : Dialect) (T : Option Target) (own : Own d T) (h : Rec) where
       let x : Rec = record { start = o; size = length t; cells = E .cells } in
       let w′ : length (tableText (into d) (rows (h ∷ (ds ++ (x ∷ []))))) ≡ o + length (t ++ ending d) = text-snoc ds x r o (E .same) w in
       let u : o + length (t ++ ending d) ≡ o + length t + length (ending d) = omega arith in
-      let I : Rest (ds ++ (x ∷ [])) (o + length t + length (ending d)) rs = data-read rs (ds ++ (x ∷ [])) (o + length t + length (ending d)) bs c (w′ ∙ u) (omega arith) in
+      let I : Rest (ds ++ (x ∷ [])) (o + length t + length (ending d)) rs
+      = data-read rs (ds ++ (x ∷ [])) (o + length t + length (ending d)) bs c (w′ ∙ u) (omega arith) in
       and-rest rs ds o r E I (omega arith)
 
 -- ---- a table
 
 -- what a table needs to be read back
 pub data TableBack (d : Dialect) : List (List Value) → Type 0 where
-  table-back : {h : List Value} {rs : List (List Value)} → RowBack d Top true h → headerFault d h ≡ Sound → targetFault (into d) true 0 h ≡ Sound → length (recordText (into d) true h) ≤ MAXRECORD → All (DataBack d (length h)) rs → length (tableText (into d) (h ∷ rs)) ≤ MAXFILE → TableBack d (h ∷ rs)
+  table-back :
+      {h : List Value} {rs : List (List Value)} → RowBack d Top true h → headerFault d h ≡ Sound → targetFault (into d) true 0 h ≡ Sound →
+      length (recordText (into d) true h) ≤ MAXRECORD → All (DataBack d (length h)) rs → length (tableText (into d) (h ∷ rs)) ≤ MAXFILE →
+      TableBack d (h ∷ rs)
 
 -- the reader accepts, with these rows
 pub record Read-as (d : Dialect) (T : Option Target) (text : Bytes) (rs : List (List Value)) : Type 0 where
@@ -118,13 +152,20 @@ few-columns : (d : Dialect) (h : List Value) → headerFault d h ≡ Sound → l
 unfolding headerFault
 few-columns d h e = when-sound (ltb MAXCOLUMNS (length h)) TooManyColumns (else-sound (when (ltb MAXCOLUMNS (length h)) TooManyColumns) _ e .0)
 
-header-fine : {d : Dialect} {T : Option Target} (h : List Value) → Own d T → headerFault d h ≡ Sound → targetFault (into d) true 0 h ≡ Sound → recordFault d T [] h ≡ Sound
+header-fine :
+    {d : Dialect} {T : Option Target} (h : List Value) → Own d T → headerFault d h ≡ Sound → targetFault (into d) true 0 h ≡ Sound →
+    recordFault d T [] h ≡ Sound
 unfolding recordFault tableText
 header-fine h own-none e k = both-sound e refl
 header-fine h own-some e k = both-sound e k
 
 -- the header read, and the rows after it
-all-read : (d : Dialect) (T : Option Target) (own : Own d T) (h : List Value) (rs : List (List Value)) (E : Finishes d T [] 0 (between-records [] Top 0) (0 + length (recordText (into d) true h) + length (ending d)) (length (recordText (into d) true h)) (recordText (into d) true h ++ ending d) h) → Rest d T own (record { start = 0; size = length (recordText (into d) true h); cells = E .cells }) [] (0 + length (recordText (into d) true h) + length (ending d)) rs → Read-as d T (tableText (into d) (h ∷ rs)) (h ∷ rs)
+all-read :
+    (d : Dialect) (T : Option Target) (own : Own d T) (h : List Value) (rs : List (List Value))
+    (E : Finishes d T [] 0 (between-records [] Top 0) (0 + length (recordText (into d) true h) + length (ending d))
+    (length (recordText (into d) true h)) (recordText (into d) true h ++ ending d) h) →
+    Rest d T own (record { start = 0; size = length (recordText (into d) true h); cells = E .cells }) []
+    (0 + length (recordText (into d) true h) + length (ending d)) rs → Read-as d T (tableText (into d) (h ∷ rs)) (h ∷ rs)
 unfolding tableText readFile readBytes readEnd nothingRead fileEnd rows
 all-read d T own h rs E I =
     let x : Rec = record { start = 0; size = length (recordText (into d) true h); cells = E .cells } in
@@ -138,7 +179,8 @@ pub table-read : (d : Dialect) (T : Option Target) (rs : List (List Value)) → 
 unfolding tableText dataText rows
 table-read d T rows₀ own (table-back {h} {rs} b f g k bs m) =
     let t : Bytes = recordText (into d) true h in
-    let len : length ((t ++ ending d) ++ dataText (into d) rs) ≡ length (t ++ ending d) + length (dataText (into d) rs) = length-append (t ++ ending d) (dataText (into d) rs) in
+    let len : length ((t ++ ending d) ++ dataText (into d) rs) ≡ length (t ++ ending d) + length (dataText (into d) rs)
+    = length-append (t ++ ending d) (dataText (into d) rs) in
     let len′ : length (t ++ ending d) ≡ length t + length (ending d) = length-append t (ending d) in
     let len″ : length (tableText (into d) (h ∷ rs)) ≡ length ((t ++ ending d) ++ dataText (into d) rs) = refl in
     let E : Finishes d T [] 0 (between-records [] Top 0) (0 + length t + length (ending d)) (length t) (t ++ ending d) h
@@ -148,7 +190,9 @@ table-read d T rows₀ own (table-back {h} {rs} b f g k bs m) =
     let text : tableText (into d) (rows (x ∷ [])) ≡ (t ++ ending d) ++ [] = ap (λ (z : Bytes). (z ++ ending d) ++ []) (record-same (into d) true (E .same)) in
     let nil : length ((t ++ ending d) ++ []) ≡ length (t ++ ending d) = ap length (append-nil (t ++ ending d)) in
     let none-more : length ((t ++ ending d) ++ []) ≡ 0 + length t + length (ending d) = omega arith in
-    let I : Rest d T own x [] (0 + length t + length (ending d)) rs = data-read d T own x rs [] (0 + length t + length (ending d)) (rw l at bs) (rw (← l) (few-columns d h f)) (ap length text ∙ none-more) (omega arith) in
+    let I : Rest d T own x [] (0 + length t + length (ending d)) rs
+    = data-read d T own x rs [] (0 + length t + length (ending d)) (rw l at bs) (rw (← l) (few-columns d h f))
+    (ap length text ∙ none-more) (omega arith) in
     all-read d T own h rs E I
 
 pub read-as : {d : Dialect} {T : Option Target} {text : Bytes} {rs : List (List Value)} → Read-as d T text rs → ReadAs d T text rs

@@ -33,9 +33,18 @@ cell-held : (bs : Bytes) (s e n : ℕ) → HeldCell (tableCell bs s e n)
 unfolding tableCell
 cell-held bs s e n = go (kindNamed n)
   where
-    go : (o : Option Kind) → HeldCell (elim o as (λ _. Option Value) [ none ↦ none | some k ↦ if leb s e && leb e (length bs) && isValue k (slice bs s e) then some (record { from = s; upto = e; kind = k; content = slice bs s e }) else none ])
+    go :
+        (o : Option Kind) → HeldCell (elim o as (λ _. Option Value) [
+          | none ↦ none
+          | some k ↦
+              if leb s e && leb e (length bs) && isValue k (slice bs s e) then some
+              (record { from = s; upto = e; kind = k; content = slice bs s e })
+              else none
+        ])
     go none = no-cell
-    go (some k) = split HeldCell (leb s e && leb e (length bs) && isValue k (slice bs s e)) (λ t. held-cell (and-true (leb s e && leb e (length bs)) (isValue k (slice bs s e)) t .1)) λ _. no-cell
+    go (some k) =
+        split HeldCell (leb s e && leb e (length bs) && isValue k (slice bs s e))
+        (λ t. held-cell (and-true (leb s e && leb e (length bs)) (isValue k (slice bs s e)) t .1)) λ _. no-cell
 
 cons-held : {x : Option Value} {xs : Option (List Value)} → HeldCell x → HeldCells xs → HeldCells (cons x xs)
 cons-held no-cell h = no-list
@@ -92,7 +101,9 @@ rows-held : {o : Option (List Value)} (columns records : ℕ) → HeldCells o �
 rows-held columns records no-list = not-table
 rows-held columns records (held-list {vs} v) =
     split (HeldRows columns records) (eqb (length vs) (columns * records) && ltb 0 records)
-    (λ t. let x = and-true (eqb (length vs) (columns * records)) (ltb 0 records) t in held-rows (even-rows records columns vs v (eqb-true (length vs) (columns * records) (x .0))) (ltb-true 0 records (x .1)))
+    (λ t.
+    let x = and-true (eqb (length vs) (columns * records)) (ltb 0 records) t in
+    held-rows (even-rows records columns vs v (eqb-true (length vs) (columns * records) (x .0))) (ltb-true 0 records (x .1)))
     λ _. not-table
 
 table-held : (t : Table) → HeldRows (t .columns) (t .records) (rowsIn t)
@@ -111,7 +122,9 @@ same-all : {columns n : ℕ} {qs : List (List Value)} → n ≡ columns → All 
 same-all p all-none = all-none
 same-all p (all-cons q qs) = all-cons (q ∙ sym p) (same-all p qs)
 
-pub even-writable : (d : Dialect) (columns records : ℕ) (rs : List (List Value)) → Even columns records rs → 0 < records → rowsFault (into d) rs ≡ none → Writable d rs
+pub even-writable :
+    (d : Dialect) (columns records : ℕ) (rs : List (List Value)) → Even columns records rs → 0 < records → rowsFault (into d) rs ≡ none →
+    Writable d rs
 even-writable d columns records [] e p f = let k : 0 ≡ records = e .count in absurd (omega arith)
 even-writable d columns records (h ∷ rs) e p f = go (e .even)
   where

@@ -34,13 +34,17 @@ text-grows t [] b = record { added = _; sum = refl }
 text-grows t (h ∷ a) b = record { added = dataText t b; sum = rw (data-append t a b) (simp append-assoc) }
 
 -- one row more: its text and its ending, after what is written
-pub row-snoc : (t : Target) (rs : List (List Value)) (vs : List Value) → tableText t (rs ++ (vs ∷ [])) ≡ tableText t rs ++ (recordText t (isEmpty rs) vs ++ ending (t .dialect))
+pub row-snoc :
+    (t : Target) (rs : List (List Value)) (vs : List Value) →
+    tableText t (rs ++ (vs ∷ [])) ≡ tableText t rs ++ (recordText t (isEmpty rs) vs ++ ending (t .dialect))
 unfolding tableText dataText
 row-snoc t [] vs = append-nil (recordText t true vs ++ ending (t .dialect))
 row-snoc t (h ∷ rs) vs = rw (data-append t rs (vs ∷ []), append-nil) (simp append-assoc)
 
 -- and its length, where it is a data row
-pub row-length : (t : Target) (rs : List (List Value)) (vs : List Value) → length (tableText t (rs ++ (vs ∷ []))) ≡ length (tableText t rs) + length (recordText t (isEmpty rs) vs ++ ending (t .dialect))
+pub row-length :
+    (t : Target) (rs : List (List Value)) (vs : List Value) →
+    length (tableText t (rs ++ (vs ∷ []))) ≡ length (tableText t rs) + length (recordText t (isEmpty rs) vs ++ ending (t .dialect))
 row-length t rs vs = ap length (row-snoc t rs vs) ∙ length-append (tableText t rs) (recordText t (isEmpty rs) vs ++ ending (t .dialect))
 
 -- ---- records
@@ -54,7 +58,9 @@ pub rest-of : {a b : Bytes} → Grows a b → a ++ drop (length a) b ≡ b
 rest-of {a} g = rw (g .sum, drop-append-seam)
 
 -- one record more
-pub table-snoc : (t : Target) (done : List Rec) (x : Rec) → tableText t (rows (done ++ (x ∷ []))) ≡ tableText t (rows done) ++ (recordText t (isEmpty done) (x .cells) ++ ending (t .dialect))
+pub table-snoc :
+    (t : Target) (done : List Rec) (x : Rec) →
+    tableText t (rows (done ++ (x ∷ []))) ≡ tableText t (rows done) ++ (recordText t (isEmpty done) (x .cells) ++ ending (t .dialect))
 unfolding rows
 table-snoc t done x =
     ap (tableText t) (rows-append done (x ∷ []))

@@ -12,7 +12,8 @@ use Rattle.model.specs.rules.Types.{Settings, Dialect, CsvPlus, Ed, Inne
 use Rattle.model.specs.rules.Types.{Text, Cell, Fresh, Quoted, Closed, Plain, More, WholeCell}
 use Rattle.model.specs.rules.Base.{Bytes, LF, CR, QUOTE, _is_, holds, if_then_else_}
 use Rattle.model.specs.rules.Dialect.{quoteOf, delimiterOf}
-use Rattle.model.specs.rules.Utf8.{rowOf, leads, leadByte, innerStep, charStep, textFrom, holdsLone, Wide, gap, ed, lone, inner, settled, settle, wideStep, wideFrom, isContent}
+use Rattle.model.specs.rules.Utf8.{rowOf, leads, leadByte, innerStep, charStep, textFrom, holdsLone, Wide, gap, ed, lone, inner, settled}
+use Rattle.model.specs.rules.Utf8.{settle, wideStep, wideFrom, isContent}
 use Rattle.model.specs.rules.Cell.{textByte, firstByte, quotedByte, plainByte, cellStep, isWhole}
 use Rattle.model.specs.rules.Decode.{kindOf, undouble, contentOf, validateFrom, validateCell}
 use Rattle.model.specs.rules.Text.{doubled, quotedText, special}
@@ -89,7 +90,9 @@ lone-tail b (c ∷ bs) k = go ((b is 0xED) && leb 0xA0 c) refl
     go false p = rw p at k
     go true p = impossible (sym (rw p at k))
 
-settled-steps : (w : Wide) (b : ℕ) (bs : Bytes) (o : Advance) → charStep (charOf w) b ≡ o → (elim (settle o) as (λ _. Bool) [ none ↦ false | some w′ ↦ wideFrom w′ bs ]) ≡ true → Steps w b bs
+settled-steps :
+    (w : Wide) (b : ℕ) (bs : Bytes) (o : Advance) → charStep (charOf w) b ≡ o →
+    (elim (settle o) as (λ _. Bool) [ none ↦ false | some w′ ↦ wideFrom w′ bs ]) ≡ true → Steps w b bs
 settled-steps w b bs Broken e h = impossible h
 settled-steps w b bs (On c) e h = steps (settled c) (rw (char-settled c) e) h (λ _. apart-settled c bs)
 
@@ -115,7 +118,10 @@ step-apart (inner i) b bs e a = settled-steps (inner i) b bs (charStep (Within i
 
 -- ---- UTF-8
 
-after-step : (w : Wide) (b : ℕ) (bs : Bytes) → Steps w b bs → holdsLone (b ∷ bs) ≡ false → ((w′ : Wide) → wideFrom w′ bs ≡ true → Apart w′ bs → holdsLone bs ≡ false → textFrom (charOf w′) bs ≡ true) → textFrom (charOf w) (b ∷ bs) ≡ true
+after-step :
+    (w : Wide) (b : ℕ) (bs : Bytes) → Steps w b bs → holdsLone (b ∷ bs) ≡ false →
+    ((w′ : Wide) → wideFrom w′ bs ≡ true → Apart w′ bs → holdsLone bs ≡ false → textFrom (charOf w′) bs ≡ true) →
+    textFrom (charOf w) (b ∷ bs) ≡ true
 unfolding textFrom
 after-step w b bs (steps w′ e h a) k ih = rw (e, textFrom) (ih w′ h (a (pair-apart b bs k)) (lone-tail b bs k))
 
@@ -155,7 +161,9 @@ unfolding cellStep quotedByte if_then_else_
 quoted-char b c d-tdif n e = rw (n, e)
 quoted-char b c d-plus n e = rw (n, e)
 
-later-char : (d : Dialect) (f : Char → Cell) (i : Inner) (b : ℕ) (c : Char) → cellStep d (f (Within i)) b ≡ textByte f (charStep (Within i) b) → charStep (Within i) b ≡ On c → cellStep d (f (Within i)) b ≡ More (f c)
+later-char :
+    (d : Dialect) (f : Char → Cell) (i : Inner) (b : ℕ) (c : Char) → cellStep d (f (Within i)) b ≡ textByte f (charStep (Within i) b) →
+    charStep (Within i) b ≡ On c → cellStep d (f (Within i)) b ≡ More (f c)
 later-char d f i b c k e = rw (k, e)
 
 abbrev bodyOf : Dialect → Bytes → Bytes
@@ -170,7 +178,9 @@ module _ (d : Dialect) (k : Doubles d) where
   unfolding doubled if_then_else_
   doubled-quote b bs e = rw (e, doubled)
 
-  body-step : (b : ℕ) (bs : Bytes) → TextStep Whole b bs → ((c : Char) → textFrom c bs ≡ true → Runs d (Quoted c) (bodyOf d bs) Closed) → Runs d (Quoted Whole) (bodyOf d (b ∷ bs)) Closed
+  body-step :
+      (b : ℕ) (bs : Bytes) → TextStep Whole b bs → ((c : Char) → textFrom c bs ≡ true → Runs d (Quoted c) (bodyOf d bs) Closed) →
+      Runs d (Quoted Whole) (bodyOf d (b ∷ bs)) Closed
   body-step b bs (text-step c p h) ih = go (b is quoteOf d) refl
     where
       go : (t : Bool) → (b is quoteOf d) ≡ t → Runs d (Quoted Whole) (bodyOf d (b ∷ bs)) Closed
@@ -181,7 +191,9 @@ module _ (d : Dialect) (k : Doubles d) where
           let y : c ≡ Whole = cc in
           rw (doubled-quote b bs e) (there (quote-closes k) (there (quote-opens d) (ih Whole (rw y at h))))
 
-  later-step : (i : Inner) (b : ℕ) (bs : Bytes) → TextStep (Within i) b bs → ((c : Char) → textFrom c bs ≡ true → Runs d (Quoted c) (bodyOf d bs) Closed) → Runs d (Quoted (Within i)) (bodyOf d (b ∷ bs)) Closed
+  later-step :
+      (i : Inner) (b : ℕ) (bs : Bytes) → TextStep (Within i) b bs →
+      ((c : Char) → textFrom c bs ≡ true → Runs d (Quoted c) (bodyOf d bs) Closed) → Runs d (Quoted (Within i)) (bodyOf d (b ∷ bs)) Closed
   unfolding cellStep
   later-step i b bs (text-step c p h) ih =
       rw (doubled-other b bs (inner-no-quote d i b c p)) (there (later-char d Quoted i b c refl p) (ih c h))
@@ -237,10 +249,14 @@ module _ (s : Settings) where
   unfolding holds
   unusual b bs e = let x = or-false (special s b) (holds (special s) bs) e in (usual s b (x .0), x .1)
 
-  plain-step : (b : ℕ) (bs : Bytes) → TextStep Whole b bs → holds (special s) (b ∷ bs) ≡ false → Plainly bs → Runs (CsvPlus s) (Plain Whole) (b ∷ bs) (Plain Whole)
+  plain-step :
+      (b : ℕ) (bs : Bytes) → TextStep Whole b bs → holds (special s) (b ∷ bs) ≡ false → Plainly bs →
+      Runs (CsvPlus s) (Plain Whole) (b ∷ bs) (Plain Whole)
   plain-step b bs (text-step c p h) k ih = let x = unusual b bs k in there (plain-char b c (x .0) p) (ih c h (x .1))
 
-  plain-later : (i : Inner) (b : ℕ) (bs : Bytes) → TextStep (Within i) b bs → holds (special s) (b ∷ bs) ≡ false → Plainly bs → Runs (CsvPlus s) (Plain (Within i)) (b ∷ bs) (Plain Whole)
+  plain-later :
+      (i : Inner) (b : ℕ) (bs : Bytes) → TextStep (Within i) b bs → holds (special s) (b ∷ bs) ≡ false → Plainly bs →
+      Runs (CsvPlus s) (Plain (Within i)) (b ∷ bs) (Plain Whole)
   unfolding cellStep
   plain-later i b bs (text-step c p h) k ih = there (later-char (CsvPlus s) Plain i b c refl p) (ih c h (unusual b bs k .1))
 

@@ -14,9 +14,11 @@ use Rattle.model.specs.rules.Types.{TooManyColumns, HeaderKind, LacksKin
 use Rattle.model.specs.rules.Base.{Bytes, QUOTE, _is_, holds, if_then_else_, isEmpty}
 use Rattle.model.specs.rules.Dialect.{into, quoteOf, quoteByte, isCsvj}
 use Rattle.model.specs.rules.File.{beginRecord, beginFile, fileStep, counts}
-use Rattle.model.specs.rules.Text.{Value, isText, beginsBom, special, doubled, quotedText, jsonBody, jsonCell, csvPlusCell, cellText, recordText, dataText, tableText, ending}
+use Rattle.model.specs.rules.Text.{Value, isText, beginsBom, special, doubled, quotedText, jsonBody, jsonCell, csvPlusCell, cellText}
+use Rattle.model.specs.rules.Text.{recordText, dataText, tableText, ending}
 use Rattle.model.specs.rules.Report.{MAXFILE, MAXCOLUMNS}
-use Rattle.model.specs.rules.Records.{_orElse_, when, headerKindFrom, headerFault, hasKind, losesSurrogate, uncarriedFrom, targetFault, targetNext, recordFault}
+use Rattle.model.specs.rules.Records.{_orElse_, when, headerKindFrom, headerFault, hasKind, losesSurrogate, uncarriedFrom, targetFault}
+use Rattle.model.specs.rules.Records.{targetNext, recordFault}
 use Rattle.model.specs.rules.Api.{isValue, orNext, rowsFrom, rowsFault}
 use Rattle.model.specs.laws.Laws.{All, all-none, all-cons}
 use Rattle.model.specs.laws.RoundTrips.{Carried, hasCells, RecordTrip, Writable, writable}
@@ -100,9 +102,14 @@ json-clear Null bs e = impossible e
 first-clear : (d : Dialect) (only : Bool) (v : Value) → isText (v .kind) ≡ true → beginsBom (cellText d only true v) ≡ false
 unfolding cellText csvPlusCell quotedText
 first-clear Csvj only v e = json-clear (v .kind) (v .content) e
-first-clear Tdif only v e = split (λ t. beginsBom t ≡ false) (isText (v .kind)) (λ _. begins-quote QUOTE (doubled QUOTE (v .content) ++ (QUOTE ∷ [])) refl) λ n. impossible (sym n ∙ e)
+first-clear Tdif only v e =
+    split (λ t. beginsBom t ≡ false) (isText (v .kind)) (λ _. begins-quote QUOTE (doubled QUOTE (v .content) ++ (QUOTE ∷ [])) refl) λ n.
+    impossible (sym n ∙ e)
 first-clear (CsvPlus s) only v e =
-    split (λ t. beginsBom t ≡ false) _ (λ _. begins-quote (quoteOf (CsvPlus s)) (doubled (quoteOf (CsvPlus s)) (v .content) ++ (quoteOf (CsvPlus s) ∷ [])) (quote-no-bom (s .quote))) λ q.
+    split (λ t. beginsBom t ≡ false) _
+    (λ _.
+    begins-quote (quoteOf (CsvPlus s)) (doubled (quoteOf (CsvPlus s)) (v .content) ++ (quoteOf (CsvPlus s) ∷ []))
+    (quote-no-bom (s .quote))) λ q.
     or-false (holds (special s) (v .content) || only && isEmpty (v .content)) (true && beginsBom (v .content)) q .1
 
 header-row : (d : Dialect) (vs : List Value) → hasCells d vs ≡ true → All (Carried d) vs → All TextCell vs → RowBack d Top true vs
@@ -110,7 +117,8 @@ unfolding fileStep beginFile beginRecord counts if_then_else_
 header-row Csvj [] f all-none t = row-empty refl refl
 header-row Tdif [] f all-none t = impossible f
 header-row (CsvPlus s) [] f all-none t = impossible f
-header-row d (v ∷ vs) f (all-cons x xs) (all-cons t ts) = row-cells like-top (first-clear d (isEmpty vs) v t) (cell-back d (isEmpty vs) true v x) (more-all d xs)
+header-row d (v ∷ vs) f (all-cons x xs) (all-cons t ts) =
+    row-cells like-top (first-clear d (isEmpty vs) v t) (cell-back d (isEmpty vs) true v x) (more-all d xs)
 
 pub header-back : (d e : Dialect) (vs : List Value) → hasCells d vs ≡ true → All (Carried d) vs → headerFault e vs ≡ Sound → RowBack d Top true vs
 header-back d e vs f c h = header-row d vs f c (header-text e vs h)
@@ -129,7 +137,9 @@ has-even d (v ∷ vs) (w ∷ ws) e f = refl
 -- the checks of the current record find no fault, so that its text, read where a record begins, completes it
 pub record-trip : RecordTrip
 record-trip d target [] o vs c f s k m =
-    let E = record-read d target [] Top true vs o (header-back d d vs f c (unfold recordFault in else-sound (headerFault d vs) _ s .0)) m k (λ ws e. fault-same d target [] e ∙ s) in
+    let E
+    = record-read d target [] Top true vs o (header-back d d vs f c (unfold recordFault in else-sound (headerFault d vs) _ s .0)) m k
+    (λ ws e. fault-same d target [] e ∙ s) in
     record { cells = E .cells; same = cells-meaning (E .same); run = E .run }
 record-trip d target (h ∷ rs) o vs c f s k m =
     let E = record-read d target (h ∷ rs) Begin false vs o (data-row d vs f c) m k (λ ws e. fault-same d target (h ∷ rs) e ∙ s) in
@@ -149,18 +159,30 @@ module _ (d : Dialect) (h : List Value) (filled : hasCells d h ≡ true) where
     backs : All (DataBack d (length h)) rs
     fits : length (tableText (into d) (h ∷ done)) + length (dataText (into d) rs) ≤ MAXFILE
 
-  data-rows : (done rs : List (List Value)) → All (All ValueCell) rs → All (λ (r : List Value). length r ≡ length h) rs → length (tableText (into d) (h ∷ done)) ≤ MAXFILE → rowsFrom (into d) (h ∷ done) rs ≡ none → Rows done rs
+  data-rows :
+      (done rs : List (List Value)) → All (All ValueCell) rs → All (λ (r : List Value). length r ≡ length h) rs →
+      length (tableText (into d) (h ∷ done)) ≤ MAXFILE → rowsFrom (into d) (h ∷ done) rs ≡ none → Rows done rs
   unfolding rowsFrom dataText
   data-rows done [] all-none all-none m e = record { backs = all-none; fits = rw (add-zero (length (tableText (into d) (h ∷ done)))) m }
   data-rows done (r ∷ rs) (all-cons v vs) (all-cons l ls) m e =
       let x = next-none (suc (suc (length done))) (targetNext (into d) (h ∷ done) r) (rowsFrom (into d) ((h ∷ done) ++ (r ∷ [])) rs) e in
       let t = target-sound (into d) false (length (tableText (into d) (h ∷ done))) r (x .0) in
-      let more : length (tableText (into d) (h ∷ (done ++ (r ∷ [])))) ≡ length (tableText (into d) (h ∷ done)) + length (recordText (into d) false r ++ ending d) = row-length (into d) (h ∷ done) r in
+      let more : length (tableText (into d) (h ∷ (done ++ (r ∷ []))))
+      ≡ length (tableText (into d) (h ∷ done)) + length (recordText (into d) false r ++ ending d)
+      = row-length (into d) (h ∷ done) r in
       let i = data-rows (done ++ (r ∷ [])) rs vs ls (let f = t .fits in omega arith) (x .1) in
-      let len : length ((recordText (into d) false r ++ ending d) ++ dataText (into d) rs) ≡ length (recordText (into d) false r ++ ending d) + length (dataText (into d) rs) = length-append (recordText (into d) false r ++ ending d) (dataText (into d) rs) in
+      let len : length ((recordText (into d) false r ++ ending d) ++ dataText (into d) rs)
+      ≡ length (recordText (into d) false r ++ ending d) + length (dataText (into d) rs)
+      = length-append (recordText (into d) false r ++ ending d) (dataText (into d) rs) in
       let len′ : length (dataText (into d) (r ∷ rs)) ≡ length ((recordText (into d) false r ++ ending d) ++ dataText (into d) rs) = refl in
       record {
-        backs = all-cons (record { back = data-row d r (has-even d h r l filled) (carried-all d 1 v (t .carries)); even = l; short = t .short; carried = t .carries }) (i .backs);
+        backs =
+            all-cons (record {
+              back = data-row d r (has-even d h r l filled) (carried-all d 1 v (t .carries));
+              even = l;
+              short = t .short;
+              carried = t .carries;
+            }) (i .backs);
         fits = let f = i .fits in omega arith;
       }
 
@@ -172,8 +194,11 @@ writer-back d all (writable {h} {rs} (all-cons v vs) ls e) =
     let y = else-sound (headerFault d h) (targetFault (into d) true 0 h) (x .0) in
     let t = target-sound (into d) true 0 h (y .1) in
     let f = has-cells d h (t .filled) in
-    let first : length (tableText (into d) (h ∷ [])) ≡ length (recordText (into d) true h ++ ending d) = ap length (append-nil (recordText (into d) true h ++ ending d)) in
+    let first : length (tableText (into d) (h ∷ [])) ≡ length (recordText (into d) true h ++ ending d)
+    = ap length (append-nil (recordText (into d) true h ++ ending d)) in
     let r = data-rows d h f [] rs vs ls (let f = t .fits in omega arith) (x .1) in
-    let len : length ((recordText (into d) true h ++ ending d) ++ dataText (into d) rs) ≡ length (recordText (into d) true h ++ ending d) + length (dataText (into d) rs) = length-append (recordText (into d) true h ++ ending d) (dataText (into d) rs) in
+    let len : length ((recordText (into d) true h ++ ending d) ++ dataText (into d) rs)
+    ≡ length (recordText (into d) true h ++ ending d) + length (dataText (into d) rs)
+    = length-append (recordText (into d) true h ++ ending d) (dataText (into d) rs) in
     let len′ : length (tableText (into d) (h ∷ rs)) ≡ length ((recordText (into d) true h ++ ending d) ++ dataText (into d) rs) = refl in
     table-back (header-back d d h f (carried-all d 1 v (t .carries)) (y .0)) (y .0) (y .1) (t .short) (r .backs) (let f = r .fits in omega arith)

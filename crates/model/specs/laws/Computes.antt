@@ -13,5 +13,6 @@ use Rattle.model.specs.laws.Ascii.{ascii}
 
 -- helper: the openers of all modules, with which the examples are proved by computing
 unfoldable pub computes : Type 0
-unfolding base-computes dialect-computes utf8-computes cell-computes file-computes decode-computes text-computes records-computes api-computes ledger-computes ascii
+unfolding base-computes dialect-computes utf8-computes cell-computes file-computes decode-computes text-computes records-computes
+    api-computes ledger-computes ascii
 computes = Unit {0}

@@ -93,4 +93,6 @@ pub record Mistakes : Type 0 where
   -- a CR at the end of a TDIF piece completes a record at once, and the LF at the start of the next piece is no empty line (§18.1)
   pub lf-after-cut : cutInTwo 2 1 (ascii "\"a\"\r") (ascii "\n\\N\r") ≡ writes (ascii "\"a\"\n") (ascii "null\n") []
   -- two escape halves with a cut between them are one code point (§18.4)
-  pub halves-cut : cutInTwo 1 2 (ascii "\"a\"\n\"\\ud83d") (ascii "\\ude00\"\n") ≡ writes (ascii "\"a\"\n") (0x22 ∷ 0xF0 ∷ 0x9F ∷ 0x98 ∷ 0x80 ∷ 0x22 ∷ 0x0A ∷ []) []
+  pub halves-cut :
+      cutInTwo 1 2 (ascii "\"a\"\n\"\\ud83d") (ascii "\\ude00\"\n")
+      ≡ writes (ascii "\"a\"\n") (0x22 ∷ 0xF0 ∷ 0x9F ∷ 0x98 ∷ 0x80 ∷ 0x22 ∷ 0x0A ∷ []) []

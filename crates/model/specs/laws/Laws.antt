@@ -52,7 +52,9 @@ pub record ReadingLaws (d : Dialect) (target : Option Target) : Type 0 where
   -- reading continues from its state
   pub append : (xs ys : Bytes) → readBytes d target (xs ++ ys) ≡ readFrom d target (readBytes d target xs) ys
   -- a fault, and the records before it, are the same for every file that begins with the bytes read so far
-  pub fault-stays : (e : Fault) (r : Read) (xs ys : Bytes) → readBytes d target xs ≡ stopped e r → (readBytes d target (xs ++ ys) ≡ stopped e r) × (readFile d target (xs ++ ys) ≡ stopped e r)
+  pub fault-stays :
+      (e : Fault) (r : Read) (xs ys : Bytes) → readBytes d target xs ≡ stopped e r →
+      (readBytes d target (xs ++ ys) ≡ stopped e r) × (readFile d target (xs ++ ys) ≡ stopped e r)
   -- a complete record stays, with all before it
   pub records-stay : (xs ys : Bytes) → Grows (recordsOf (readBytes d target xs)) (recordsOf (readBytes d target (xs ++ ys)))
   -- the decoder accepts every cell that was read, with the same kind and content
@@ -75,7 +77,9 @@ pub record Laws : Type 0 where
   pub reading : (d : Dialect) (target : Option Target) → ReadingLaws d target
   -- every state can be completed to a record, by form alone
   pub completion : (d : Dialect) (f : FileState) → (bs : Bytes) × Completes d f bs
-  pub next-byte : (d : Dialect) (target : Option Target) (xs : Bytes) (r : Read) (b : ℕ) → readBytes d target xs ≡ going r → fileFull r ≡ false → recordFull r b ≡ false → NextByteLaws d target xs r b
+  pub next-byte :
+      (d : Dialect) (target : Option Target) (xs : Bytes) (r : Read) (b : ℕ) → readBytes d target xs ≡ going r → fileFull r ≡ false →
+      recordFull r b ≡ false → NextByteLaws d target xs r b
   -- decoded content has its form: UTF-8, lone surrogates, never a high one directly before a low one (§2.6 §2.9)
   pub content-form : (d : Dialect) (raw : Bytes) → validateCell d raw ≡ WholeCell → isContent (contentOf d raw) ≡ true
   -- decoded content is no longer than the raw cell

@@ -65,7 +65,9 @@ pub record Completed (d : Dialect) (target : Option Target) (done : List Rec) (o
       (xs : Bytes) →
       readFrom d target (going (between-records done (startOf done) o)) (recordText (into d) (isEmpty done) vs ++ ending d ++ xs)
       ≡ readFrom d target
-      (going (between-records (done ++ (record { start = o; size = length (recordText (into d) (isEmpty done) vs); cells = cells } ∷ [])) Begin (o + length (recordText (into d) (isEmpty done) vs) + length (ending d))))
+      (going
+      (between-records (done ++ (record { start = o; size = length (recordText (into d) (isEmpty done) vs); cells = cells } ∷ []))
+      Begin (o + length (recordText (into d) (isEmpty done) vs) + length (ending d))))
       xs
 
 -- rows that the writer accepts: at least one, all of one length, of cells that a table may hold, without a fault in the target (§13.2 §13.11)
@@ -118,7 +120,9 @@ RecordTrip =
 
 -- a table's canonical text, read alone and read for conversion into its own dialect (§19.3)
 abbrev pub TableTrip : Type 0
-TableTrip = (d : Dialect) (rs : List (List Value)) → Writable d rs → ReadAs d none (tableText (into d) rs) rs × ReadAs d (some (into d)) (tableText (into d) rs) rs
+TableTrip =
+    (d : Dialect) (rs : List (List Value)) → Writable d rs →
+    ReadAs d none (tableText (into d) rs) rs × ReadAs d (some (into d)) (tableText (into d) rs) rs
 
 -- what the writer accepted is read back by the reader, and each span decodes to the cell that was written (§19.3)
 abbrev pub RoundTrip : Type 0

@@ -9,7 +9,9 @@ use mathlib.Core.Option.{Option}
 use mathlib.Core.List.{List, [], _∷_, _++_, map}
 use lib.ListN.{length}
 use lib.Dec.{leb}
-use Rattle.model.specs.rules.Types.{Dialect, Target, FileState, Top, Begin, Ended, Bom1, Bom2, PlainBom1, PlainBom2, Comment, Blanks, ExpectCell, Inside, After, Cr, Outside, Passed, OfCell, Between, Tail, Ends, Step, To, Reject, Fault, Byte, FileTooLong, RecordTooLong, Sound, Faulty}
+use Rattle.model.specs.rules.Types.{Dialect, Target, FileState, Top, Begin, Ended, Bom1, Bom2, PlainBom1, PlainBom2, Comment, Blanks}
+use Rattle.model.specs.rules.Types.{ExpectCell, Inside, After, Cr, Outside, Passed, OfCell, Between, Tail, Ends, Step, To, Reject, Fault, Byte}
+use Rattle.model.specs.rules.Types.{FileTooLong, RecordTooLong, Sound, Faulty}
 use Rattle.model.specs.rules.Base.{if_then_else_, _is_, Bytes}
 use Rattle.model.specs.rules.File.{fileStep, counts}
 use Rattle.model.specs.rules.Decode.{kindOf, contentOf}
@@ -57,9 +59,25 @@ scanStep s b left more (To f Outside) =
     more (record { state = f; offset = suc (s .offset); start = s .start; size = 0; opened = suc (s .offset); raw = []; cells = [] })
 scanStep s b left more (To f Passed) = more (scan-between f (suc (s .offset)))
 scanStep s b left more (To f OfCell) =
-    more (record { state = f; offset = suc (s .offset); start = s .start; size = suc (s .size); opened = s .opened; raw = s .raw ++ (b ∷ []); cells = s .cells })
+    more (record {
+      state = f;
+      offset = suc (s .offset);
+      start = s .start;
+      size = suc (s .size);
+      opened = s .opened;
+      raw = s .raw ++ (b ∷ []);
+      cells = s .cells;
+    })
 scanStep s b left more (To f (Between closes)) =
-    more (record { state = f; offset = suc (s .offset); start = s .start; size = suc (s .size); opened = suc (s .offset); raw = []; cells = closingRaw closes s })
+    more (record {
+      state = f;
+      offset = suc (s .offset);
+      start = s .start;
+      size = suc (s .size);
+      opened = suc (s .offset);
+      raw = [];
+      cells = closingRaw closes s;
+    })
 scanStep s b left more (To f (Tail closes)) =
     more (record { state = f; offset = suc (s .offset); start = s .start; size = s .size; opened = suc (s .offset); raw = []; cells = closingRaw closes s })
 scanStep s b left more (To f (Ends closes)) = completes s (closingRaw closes s) f (suc (s .offset)) left
@@ -233,7 +251,8 @@ PartMoved =
     readFrom d target (going (readOf d done (moved n s))) bs ≡ resume d target done (movedTo n (scan d (MAXFILE - n) s bs))
 
 -- a complete record without a fault is done, and reading continues after it; one with a fault stops reading (§7.8)
-pub record CompleteLaws (d : Dialect) (target : Option Target) (done : List Rec) (s : Scan) (cs : List RawCell) (f : FileState) (next : ℕ) (left : Bytes) : Type 0 where
+pub record CompleteLaws (d : Dialect) (target : Option Target) (done : List Rec) (s : Scan) (cs : List RawCell) (f : FileState)
+    (next : ℕ) (left : Bytes) : Type 0 where
   pub sound :
       recordFault d target done (map (valueOf d) cs) ≡ Sound →
       resume d target done (completes s cs f next left)
@@ -272,7 +291,9 @@ pub record Sized (s : Scan) : Type 0 where
 pub data SizedTo : ScanResult → Type 0 where
   sized-pends : {s : Scan} → Sized s → SizedTo (pends s)
   sized-fails : {e : Fault} {s : Scan} → Sized s → SizedTo (fails e s)
-  sized-completes : {s : Scan} {cs : List RawCell} {f : FileState} {next : ℕ} {left : Bytes} → Sized s → bytesIn cs ≤ s .size → SizedTo (completes s cs f next left)
+  sized-completes :
+      {s : Scan} {cs : List RawCell} {f : FileState} {next : ℕ} {left : Bytes} → Sized s → bytesIn cs ≤ s .size →
+      SizedTo (completes s cs f next left)
 
 -- scanning leaves the current record within its limit (§15.2)
 abbrev pub ScanSize : Type 0

@@ -9,7 +9,8 @@ use Rattle.model.specs.rules.Types.{Report, Dialect, Target, Fault, Chec
 use Rattle.model.specs.rules.Base.{Bytes}
 use Rattle.model.specs.rules.Text.{Value}
 use Rattle.model.specs.rules.Report.{report, numberOf, columnOf}
-use Rattle.model.specs.rules.Records.{Rec, rows, _orElse_, targetNext, recordFault, Read, Progress, going, stopped, readFrom, readFile, recordsOf, reportOf}
+use Rattle.model.specs.rules.Records.{Rec, rows, _orElse_, targetNext, recordFault, Read, Progress, going, stopped, readFrom, readFile}
+use Rattle.model.specs.rules.Records.{recordsOf, reportOf}
 
 -- ---- one record
 

@@ -4,8 +4,10 @@ use mathlib.Core.Path.{_≡_}
 use mathlib.Core.Bool.{Bool, true, false}
 use mathlib.Core.Option.{Option, none, some}
 use mathlib.Core.List.{[], _∷_, _++_}
-use Rattle.model.specs.rules.Types.{Dialect, Csvj, Tdif, CsvPlus, EeToEf, Second, Last, Char, Whole, Within, Advance, On, Broken, Cell, Fresh, Quoted, Closed, Escape, Hex, InNumber, InWord, Plain, Complete}
-use Rattle.model.specs.rules.Types.{FileState, Top, Begin, Ended, Bom1, Bom2, PlainBom1, PlainBom2, Comment, Blanks, ExpectCell, Inside, After, Cr, ByteRole, Ends, To}
+use Rattle.model.specs.rules.Types.{Dialect, Csvj, Tdif, CsvPlus, EeToEf, Second, Last, Char, Whole, Within, Advance, On, Broken, Cell, Fresh}
+use Rattle.model.specs.rules.Types.{Quoted, Closed, Escape, Hex, InNumber, InWord, Plain, Complete}
+use Rattle.model.specs.rules.Types.{FileState, Top, Begin, Ended, Bom1, Bom2, PlainBom1, PlainBom2, Comment, Blanks, ExpectCell, Inside, After}
+use Rattle.model.specs.rules.Types.{Cr, ByteRole, Ends, To}
 use Rattle.model.specs.rules.Base.{Bytes}
 use Rattle.model.specs.rules.Utf8.{charStep}
 use Rattle.model.specs.rules.File.{fileStep}

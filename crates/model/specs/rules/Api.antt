@@ -6,7 +6,8 @@ use mathlib.Core.Option.{Option, none, some}
 use mathlib.Core.List.{List, [], _∷_, _++_, map}
 use lib.ListN.{length, take, drop}
 use lib.Dec.{leb, ltb, eqb}
-use Rattle.model.specs.rules.Types.{Report, Kind, Text, Number, True, False, Null, Dialect, Csvj, Target, CheckResult, Sound, Faulty, CellCheck, WholeCell, Unsound}
+use Rattle.model.specs.rules.Types.{Report, Kind, Text, Number, True, False, Null, Dialect, Csvj, Target, CheckResult, Sound, Faulty, CellCheck}
+use Rattle.model.specs.rules.Types.{WholeCell, Unsound}
 use Rattle.model.specs.rules.Base.{if_then_else_, _is_, Bytes, isEmpty, concat, over}
 use Rattle.model.specs.rules.Dialect.{dialectOf, into}
 use Rattle.model.specs.rules.Utf8.{isContent}

@@ -8,7 +8,8 @@ use lib.Dec.{ltb}
 use Rattle.model.specs.rules.Types.{Dialect, Csvj, Tdif, CsvPlus, Char, Whole, Within, Advance, On, Broken}
 use Rattle.model.specs.rules.Types.{HexLeft, Four, Three, Two, One, Numeral, Minus, Zero, Integer, Point, Fraction, E, ESign, Exponent}
 use Rattle.model.specs.rules.Types.{Word, T, Tr, Tru, F, Fa, Fal, Fals, N, Nu, Nul, Backslash}
-use Rattle.model.specs.rules.Types.{Cell, Fresh, Quoted, Closed, Escape, Hex, InNumber, InWord, Plain, Complete, CellStep, More, Stop, Refuse, Encoding, Syntax}
+use Rattle.model.specs.rules.Types.{Cell, Fresh, Quoted, Closed, Escape, Hex, InNumber, InWord, Plain, Complete, CellStep, More, Stop, Refuse}
+use Rattle.model.specs.rules.Types.{Encoding, Syntax}
 use Rattle.model.specs.rules.Base.{Bytes, if_then_else_, _is_, within, LF, CR, QUOTE, BACKSLASH}
 use Rattle.model.specs.rules.Dialect.{quoteOf, delimiterOf}
 use Rattle.model.specs.rules.Utf8.{charStep}

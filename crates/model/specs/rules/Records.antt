@@ -7,7 +7,9 @@ use lib.ListN.{length}
 use lib.Dec.{leb, ltb, eqb}
 use Rattle.model.specs.rules.Types.{Report, Kind, Text, Number, True, False, Null, Dialect, Csvj, Tdif, CsvPlus, Target}
 use Rattle.model.specs.rules.Types.{FileState, Top, Begin, Outside, Passed, OfCell, Between, Tail, Ends, Step, To, Reject, Ending, Clean, Final, Cut}
-use Rattle.model.specs.rules.Types.{Fault, NoRecord, Byte, CutShort, CellCount, RepeatedName, HeaderKind, FileTooLong, RecordTooLong, TooManyColumns, NoCells, LacksKind, LoneSurrogate, Clash, TextTooLong, OutputTooLong, CheckResult, Sound, Faulty}
+use Rattle.model.specs.rules.Types.{Fault, NoRecord, Byte, CutShort, CellCount, RepeatedName, HeaderKind, FileTooLong, RecordTooLong}
+use Rattle.model.specs.rules.Types.{TooManyColumns, NoCells, LacksKind, LoneSurrogate, Clash, TextTooLong, OutputTooLong, CheckResult, Sound}
+use Rattle.model.specs.rules.Types.{Faulty}
 use Rattle.model.specs.rules.Base.{if_then_else_, within, Bytes, same, isEmpty}
 use Rattle.model.specs.rules.Dialect.{isCsvj}
 use Rattle.model.specs.rules.Utf8.{holdsLone}
@@ -201,11 +203,38 @@ move d target r b (To f Outside) =
     going (record { done = r .done; state = f; offset = suc (r .offset); start = r .start; size = 0; opened = suc (r .offset); raw = []; cells = [] })
 move d target r b (To f Passed) = going (between-records (r .done) f (suc (r .offset)))
 move d target r b (To f OfCell) =
-    going (record { done = r .done; state = f; offset = suc (r .offset); start = r .start; size = suc (r .size); opened = r .opened; raw = r .raw ++ (b ∷ []); cells = r .cells })
+    going (record {
+      done = r .done;
+      state = f;
+      offset = suc (r .offset);
+      start = r .start;
+      size = suc (r .size);
+      opened = r .opened;
+      raw = r .raw ++ (b ∷ []);
+      cells = r .cells;
+    })
 move d target r b (To f (Between closes)) =
-    going (record { done = r .done; state = f; offset = suc (r .offset); start = r .start; size = suc (r .size); opened = suc (r .offset); raw = []; cells = closing d closes r })
+    going (record {
+      done = r .done;
+      state = f;
+      offset = suc (r .offset);
+      start = r .start;
+      size = suc (r .size);
+      opened = suc (r .offset);
+      raw = [];
+      cells = closing d closes r;
+    })
 move d target r b (To f (Tail closes)) =
-    going (record { done = r .done; state = f; offset = suc (r .offset); start = r .start; size = r .size; opened = suc (r .offset); raw = []; cells = closing d closes r })
+    going (record {
+      done = r .done;
+      state = f;
+      offset = suc (r .offset);
+      start = r .start;
+      size = r .size;
+      opened = suc (r .offset);
+      raw = [];
+      cells = closing d closes r;
+    })
 move d target r b (To f (Ends closes)) = complete d target r (closing d closes r) f (suc (r .offset))
 
 -- the file has all the bytes that it may have, and the next is one too many (§6.8 §7.1 §7.7)
@@ -281,5 +310,6 @@ recordsOf (stopped e r) = r .done
 
 -- helper: `unfolding records-computes` opens every definition of this module
 unfoldable pub records-computes : Type 0
-unfolding rows _orElse_ when nameKey among repeatFrom repeatFault headerKindFrom headerFault dataFault uncarriedFrom targetFault recordFault nothingRead complete move fileFull recordFull readByte readFrom readBytes readEnd readFile
+unfolding rows _orElse_ when nameKey among repeatFrom repeatFault headerKindFrom headerFault dataFault uncarriedFrom targetFault
+    recordFault nothingRead complete move fileFull recordFull readByte readFrom readBytes readEnd readFile
 records-computes = Unit {0}

@@ -31,7 +31,8 @@ pub use Rattle.model.specs.declared.ByteFault.the-variants.{Encoding, Sy
 pub use Rattle.model.specs.declared.CellStep.{CellStep}
 pub use Rattle.model.specs.declared.CellStep.the-variants.{More, Stop, Refuse}
 pub use Rattle.model.specs.declared.FileState.{FileState}
-pub use Rattle.model.specs.declared.FileState.the-variants.{Top, Begin, Ended, Bom1, Bom2, PlainBom1, PlainBom2, Comment, Blanks, ExpectCell, Inside, After, Cr}
+pub use Rattle.model.specs.declared.FileState.the-variants.{Top, Begin, Ended, Bom1, Bom2, PlainBom1, PlainBom2, Comment, Blanks, ExpectCell}
+pub use Rattle.model.specs.declared.FileState.the-variants.{Inside, After, Cr}
 pub use Rattle.model.specs.declared.ByteRole.{ByteRole}
 pub use Rattle.model.specs.declared.ByteRole.the-variants.{Outside, Passed, OfCell, Between, Tail, Ends}
 pub use Rattle.model.specs.declared.Step.{Step}
@@ -39,7 +40,9 @@ pub use Rattle.model.specs.declared.Step.the-variants.{To, Reject}
 pub use Rattle.model.specs.declared.Ending.{Ending}
 pub use Rattle.model.specs.declared.Ending.the-variants.{Clean, Final, Cut}
 pub use Rattle.model.specs.declared.Fault.{Fault}
-pub use Rattle.model.specs.declared.Fault.the-variants.{NoRecord, Byte, CutShort, CellCount, RepeatedName, HeaderKind, FileTooLong, RecordTooLong, TooManyColumns, NoCells, LacksKind, LoneSurrogate, Clash, TextTooLong, OutputTooLong}
+pub use Rattle.model.specs.declared.Fault.the-variants.{NoRecord, Byte, CutShort, CellCount, RepeatedName, HeaderKind, FileTooLong}
+pub use Rattle.model.specs.declared.Fault.the-variants.{RecordTooLong, TooManyColumns, NoCells, LacksKind, LoneSurrogate, Clash, TextTooLong}
+pub use Rattle.model.specs.declared.Fault.the-variants.{OutputTooLong}
 pub use Rattle.model.specs.declared.CheckResult.{CheckResult}
 pub use Rattle.model.specs.declared.CheckResult.the-variants.{Sound, Faulty}
 pub use Rattle.model.specs.declared.CellCheck.{CellCheck}

@@ -5,7 +5,8 @@ use mathlib.Core.Bool.{Bool, true, false, _&&_}
 use mathlib.Core.Option.{Option, none, some}
 use mathlib.Core.List.{List, [], _∷_}
 use lib.Dec.{leb}
-use Rattle.model.specs.rules.Types.{Lead, C2ToDf, E0, E1ToEc, Ed, EeToEf, F0, F1ToF3, F4, Inner, Second, LastTwo, Last, Char, Whole, Within, Advance, On, Broken}
+use Rattle.model.specs.rules.Types.{Lead, C2ToDf, E0, E1ToEc, Ed, EeToEf, F0, F1ToF3, F4, Inner, Second, LastTwo, Last, Char, Whole, Within}
+use Rattle.model.specs.rules.Types.{Advance, On, Broken}
 use Rattle.model.specs.rules.Base.{if_then_else_, _is_, within, Bytes}
 
 -- ---- the table
