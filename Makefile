@@ -54,11 +54,25 @@ $(shared): $(library) include/hemakuliwi.h Makefile
 $(links): $(shared)
 	ln -sf $(shared_name) $@
 
-# The program that converts standard input: `./convert.sh FROM TO`.
+# The program that converts standard input: `target/bin/program FROM TO`.
 program: target/bin/program
 target/bin/program: $(proved_sources)
 	rt check program
 	touch $@
+
+# Speed beside other libraries, and the same only for the jobs that have a threshold: docs/TESTING.md. `make benchmark ARGS='FOLDER ROUNDS'`
+# measures the tables of a folder; ARGS and ROUNDS may be left out.
+.PHONY: benchmark thresholds
+benchmark: all
+	scripts/benchmark.sh $(ARGS)
+
+thresholds: all
+	scripts/benchmark.sh --thresholds $(ROUNDS)
+
+# Comparison with the reference implementation and fuzzing, each for SECONDS: docs/TESTING.md.
+.PHONY: harden
+harden: all
+	scripts/harden.sh $(or $(SECONDS),60) $(SEED)
 
 # In the pkg-config file a folder below the prefix is named from it, so that a tree that was moved needs one other line.
 below_prefix = $(patsubst $(PREFIX)/%,$${prefix}/%,$(1))

@@ -1,18 +1,16 @@
 #!/usr/bin/env bash
-# Measures the proved reader and converters against memcpy, the second program and, where Debian's packages librust-csv-dev and
-# librust-serde-json-dev are installed, csv-core, csv and serde_json. Without a folder it makes its own tables, and says at the end
-# which bars are met; with --bars it measures only what has a bar.
+# Measures the proved reader and converters against memcpy, the reference implementation and, where Debian's packages librust-csv-dev and
+# librust-serde-json-dev are installed, csv-core, csv and serde_json. Without a folder it makes its own tables, and reports at the end
+# which thresholds are met; with --thresholds it measures only what has a threshold. `make` proves and builds the library first:
 #
-#   ./benchmark.sh [FOLDER [ROUNDS]]
-#   ./benchmark.sh --bars [ROUNDS]
+#   make benchmark [ARGS='FOLDER [ROUNDS]']
+#   make thresholds [ROUNDS=N]
 set -euo pipefail
 arguments=("$@")
-if [[ $# -gt 0 && $1 != --bars ]]; then
+if [[ $# -gt 0 && $1 != --thresholds ]]; then
   arguments[0]=$(realpath "$1")
 fi
-cd "$(dirname "$0")"
-
-make >&2
+cd "$(dirname "$0")/.."
 
 registry=/usr/share/cargo/registry
 if compgen -G "$registry/csv-[0-9]*" >/dev/null && compgen -G "$registry/serde_json-*" >/dev/null; then
