@@ -1,7 +1,7 @@
 //! Files converted, as a whole and in pieces.
 
-use crate::bars::{Measured, Scope, Task};
-use crate::measure::{turn_by_turn, Contestant, Speeds};
+use crate::measure::{in_rounds, Contestant, Speeds};
+use crate::thresholds::{Measured, Scope, Task};
 use crate::workload::{name_of, Table};
 use harness::compare::{proved_converter, proved_start};
 use harness::rooms::WholeConverter;
@@ -17,7 +17,7 @@ pub const PIECES_OF_4_096: &str = "in pieces of 4,096";
 /// The same in pieces of 64 bytes.
 pub const PIECES_OF_64: &str = "in pieces of 64";
 
-/// How a file is handed over in pieces.
+/// How a file is cut into pieces.
 struct Pieces {
     name: &'static str,
     size: usize,
@@ -61,7 +61,7 @@ const BY_VALUE: [Pieces; 3] = [
 pub struct ConvertingPeer {
     /// Its name.
     pub name: &'static str,
-    /// The dialect that it reads, CSVJ or CSV+. From TDIF it is measured on the CSV+ spelling of the same table.
+    /// The dialect that it reads, CSVJ or CSV+. From TDIF it is measured on the same table as CSV+.
     pub from: Dialect,
     /// The dialect that it writes.
     pub to: Dialect,
@@ -79,11 +79,11 @@ pub fn print_head() {
     );
     println!(
         "  {:27} {:>9} {:>9}   {:>9} {:>9}   {:>9} {:>9}   {:>9} {:>9}",
-        "", "proved", "median", "second", "median", "peer", "median", "of peer", "median"
+        "", "proved", "median", "reference", "median", "peer", "median", "of peer", "median"
     );
 }
 
-/// Measures on one table what the scope takes, and prints that if it is everything. Nothing, if the table can't be carried.
+/// Measures on one table what the scope takes, and prints that if it is everything. Nothing, if the target can't represent the table.
 pub fn compare(
     table: &Table,
     (to, target): (u32, Dialect),
@@ -98,7 +98,7 @@ pub fn compare(
     let text = match convert_whole(from, to, file) {
         Ok(text) => text,
         Err(report) if report.number == 9 => {
-            println!("  {title:27} can't be carried");
+            println!("  {title:27} can't be represented");
             return Ok(None);
         }
         Err(report) => return Err(format!("{title}: {}", report.sentence())),
@@ -123,7 +123,13 @@ pub fn compare(
     let mut written = Vec::with_capacity(convert_room(file.len()));
     let mut contestants = vec![
         contestant(PROVED, file, proved_converter, (from, to), &mut ours),
-        contestant("second program", file, convert, (from, to), &mut theirs),
+        contestant(
+            "reference implementation",
+            file,
+            convert,
+            (from, to),
+            &mut theirs,
+        ),
     ];
     contestants.retain(|contestant| is_taken(contestant.name()));
     if let Some((peer, input)) = &peer {
@@ -132,7 +138,7 @@ pub fn compare(
             (peer.convert)(input, &mut written);
             black_box(&mut written).len()
         };
-        contestants.push(Contestant::new(peer.name, input, work).told_for(file.len()));
+        contestants.push(Contestant::new(peer.name, input, work).measured_for(file.len()));
     }
     let others = contestants.len();
     for (pieces, out) in pieces.iter().zip(&mut outputs) {
@@ -142,7 +148,7 @@ pub fn compare(
             })
         }));
     }
-    let speeds = turn_by_turn(&mut contestants, rounds, text.len(), "bytes")
+    let speeds = in_rounds(&mut contestants, rounds, text.len(), "bytes")
         .map_err(|error| format!("{title}: {error}"))?;
     if scope == Scope::Everything {
         let (whole, pieces) = speeds.split_at(others);
@@ -158,14 +164,14 @@ pub fn compare(
     }))
 }
 
-/// How a file of this dialect is handed over in pieces, to be converted to that.
+/// How a file of one dialect is cut into pieces, to be converted to another.
 fn pieces_between(source: Dialect, target: Dialect) -> Vec<&'static Pieces> {
     let by_value = (source, target) == (Dialect::CsvPlus, Dialect::Csvj);
     let more = if by_value { &BY_VALUE[..] } else { &[] };
     LENT.iter().chain(more).collect()
 }
 
-/// Converts a file in pieces, each time into the same output, and gives how many bytes were written; none on refusal.
+/// Converts a file in pieces, each time into the same output, and returns how many bytes were written; none on refusal.
 fn in_pieces(
     pieces: &Pieces,
     (from, to): (u32, u32),
@@ -250,10 +256,10 @@ fn peer_of<'a>(
 }
 
 fn print_speeds(title: &str, speeds: &[Speeds]) {
-    let (proved, second) = (&speeds[0], &speeds[1]);
+    let (proved, reference) = (&speeds[0], &speeds[1]);
     print!(
         "  {title:27} {:>9.1} {:>9.1}   {:>9.1} {:>9.1}",
-        proved.best, proved.median, second.best, second.median
+        proved.best, proved.median, reference.best, reference.median
     );
     match speeds.get(2) {
         None => println!("   no peer"),

@@ -1,31 +1,31 @@
-//! Measures the proved reader against memcpy, the reference and other readers, and the proved converters, of whole files and of
-//! files in pieces, against the reference and other libraries, and prints all in one run, at its end how the proved calls stand to
-//! their bars.
+//! Measures the proved reader against memcpy, the reference implementation and other readers, and the proved converters, of whole files
+//! and of files in pieces, against the reference implementation and other libraries, and prints all in one run, at its end which
+//! thresholds the proved calls meet.
 //!
-//! Everything goes over the same tables turn by turn, has to find as many cells as the reference, or to write the same
-//! text, and is told in MB (10^6 bytes) a second: by the best round and by the median one. Others are handed in as peers,
-//! so that this package builds where they are not installed.
+//! All contestants run over the same tables in rounds. Each has to find as many cells as the reference implementation, or to write the
+//! same text. Speeds are in MB (10^6 bytes) a second, by the best round and by the median one. Other libraries are passed in as peers, so
+//! that this package builds where they are not installed.
 
-mod bars;
 mod converting;
 mod measure;
 mod reading;
+mod thresholds;
 mod workload;
 
 pub use converting::ConvertingPeer;
 pub use reading::ReadingPeer;
 
-use bars::{Measured, Scope};
 use harness::DIALECTS;
 use std::env;
 use std::ffi::OsString;
 use std::path::PathBuf;
 use std::process::ExitCode;
+use thresholds::{Measured, Scope};
 
-/// How often each contestant goes over each table, unless the command says otherwise.
+/// How often each contestant runs over each table, unless the command line says otherwise.
 const ROUNDS: usize = 9;
 
-const USAGE: &str = "usage: benchmark [FOLDER [ROUNDS]]\n       benchmark --bars [ROUNDS]";
+const USAGE: &str = "usage: benchmark [FOLDER [ROUNDS]]\n       benchmark --thresholds [ROUNDS]";
 
 /// Other libraries.
 #[derive(Default)]
@@ -44,7 +44,7 @@ impl Peers<'_> {
     }
 }
 
-/// What the command line asks for.
+/// What the command line requires.
 struct Command {
     scope: Scope,
     /// The folder of the tables; without one they are of the benchmark's own making.
@@ -56,7 +56,7 @@ impl Command {
     fn parse(mut arguments: impl Iterator<Item = OsString>) -> Option<Self> {
         let (scope, folder) = match arguments.next() {
             None => (Scope::Everything, None),
-            Some(word) if word == "--bars" => (Scope::Bars, None),
+            Some(word) if word == "--thresholds" => (Scope::Thresholds, None),
             Some(word) => (Scope::Everything, Some(PathBuf::from(word))),
         };
         let rounds = match arguments.next() {
@@ -89,27 +89,26 @@ pub fn main(peers: &Peers) -> ExitCode {
 
 fn run(command: &Command, peers: &Peers) -> Result<(), String> {
     let (scope, rounds) = (command.scope, command.rounds);
-    if scope == Scope::Bars && peers.are_missing() {
+    if scope == Scope::Thresholds && peers.are_missing() {
         return Err(
-            "the bars are about csv, csv-core and serde_json, which are not installed".to_string(),
+            "the thresholds are about csv, csv-core and serde_json, which are not installed"
+                .to_string(),
         );
     }
     match scope {
         Scope::Everything => println!(
             "{rounds} rounds; MB is 10^6 bytes; 'reader' is the proved reader's speed as a part of this one's"
         ),
-        Scope::Bars => println!("{rounds} rounds"),
+        Scope::Thresholds => println!("{rounds} rounds"),
     }
     if let Some(folder) = &command.folder {
         return measure_files(&workload::files(folder)?, rounds, peers);
     }
     let measured = measure_own_tables(scope, rounds, peers)?;
     if peers.are_missing() {
-        println!(
-            "\ncsv, csv-core and serde_json were not measured, so that nothing is said of the bars"
-        );
+        println!("\ncsv, csv-core and serde_json were not measured, so no threshold was checked");
     } else {
-        bars::print(&measured, &peers.versions);
+        thresholds::print(&measured, &peers.versions);
     }
     Ok(())
 }

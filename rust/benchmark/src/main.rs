@@ -1,4 +1,4 @@
-//! The benchmark without other readers and converters: `benchmark [FOLDER [ROUNDS]]`. It has no bars.
+//! The benchmark without other readers and converters: `benchmark [FOLDER [ROUNDS]]`. It checks no thresholds.
 
 use benchmark::Peers;
 use std::process::ExitCode;

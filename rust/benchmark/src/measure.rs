@@ -1,25 +1,25 @@
-//! Measuring turn by turn, so that what else the machine does falls on all alike, and without the time for which others
-//! had the processor.
+//! Measuring in rounds, in each of which every contestant runs once, so that other load of the machine affects all alike, and without
+//! the time for which other threads had the processor.
 
 use std::fs;
 use std::hint::black_box;
 use std::time::{Duration, Instant};
 
-/// Goes over bytes and tells how many cells they have, or how many bytes it wrote.
+/// Runs over bytes and returns how many cells they have, or how many bytes it wrote.
 type Work<'a> = Box<dyn FnMut(&[u8]) -> usize + 'a>;
 
 /// A reader or a converter, or what it is measured by, with what it reads.
 pub struct Contestant<'a> {
     name: &'static str,
     input: &'a [u8],
-    /// The length that its speed is told for.
+    /// The length that its speed is computed for.
     length: usize,
     work: Work<'a>,
     seconds: Vec<f64>,
 }
 
 impl<'a> Contestant<'a> {
-    /// A contestant that has not had a turn. Its speed is told for what it reads.
+    /// A contestant that has not run. Its speed is computed for what it reads.
     pub fn new(name: &'static str, input: &'a [u8], work: impl FnMut(&[u8]) -> usize + 'a) -> Self {
         Self {
             name,
@@ -35,13 +35,13 @@ impl<'a> Contestant<'a> {
         self.name
     }
 
-    /// The same one, whose speed is told for so many bytes.
-    pub fn told_for(self, length: usize) -> Self {
+    /// The same one, whose speed is computed for this many bytes.
+    pub fn measured_for(self, length: usize) -> Self {
         Self { length, ..self }
     }
 
-    /// Has a turn, which is measured. Both looks at the waiting are inside the time that it is taken from.
-    fn turn(&mut self) -> usize {
+    /// One run, which is measured. Both readings of the waiting time are inside the time from which it is subtracted.
+    fn run(&mut self) -> usize {
         let began = Instant::now();
         let waited_before = waited();
         let done = (self.work)(black_box(self.input));
@@ -63,10 +63,10 @@ impl<'a> Contestant<'a> {
     }
 }
 
-/// How long this thread has had to wait for a processor so far; nothing where the system does not tell.
+/// How long this thread has had to wait for a processor so far; nothing where the system does not report it.
 fn waited() -> Duration {
-    let told = fs::read_to_string("/proc/thread-self/schedstat").unwrap_or_default();
-    let waited = told.split_whitespace().nth(1);
+    let statistics = fs::read_to_string("/proc/thread-self/schedstat").unwrap_or_default();
+    let waited = statistics.split_whitespace().nth(1);
     let nanoseconds = waited.and_then(|word| word.parse().ok()).unwrap_or(0);
     Duration::from_nanos(nanoseconds)
 }
@@ -81,8 +81,8 @@ pub struct Speeds {
     pub median: f64,
 }
 
-/// So many rounds of turns, after one that does not count. All have to come to the same number in every turn, which is one of these.
-pub fn turn_by_turn(
+/// As many rounds, after one that does not count. Each run has to return the expected number of `what`.
+pub fn in_rounds(
     contestants: &mut [Contestant],
     rounds: usize,
     expected: usize,
@@ -90,10 +90,10 @@ pub fn turn_by_turn(
 ) -> Result<Vec<Speeds>, String> {
     for round in 0..=rounds {
         for contestant in contestants.iter_mut() {
-            let done = contestant.turn();
+            let done = contestant.run();
             if done != expected {
                 let name = contestant.name;
-                return Err(format!("{name} came to {done} {what} and not {expected}"));
+                return Err(format!("{name} has {done} {what} and not {expected}"));
             }
             if round == 0 {
                 contestant.seconds.clear();

@@ -1,7 +1,7 @@
 //! Files read.
 
-use crate::bars::{Measured, Scope, Task};
-use crate::measure::{turn_by_turn, Contestant, Speeds};
+use crate::measure::{in_rounds, Contestant, Speeds};
+use crate::thresholds::{Measured, Scope, Task};
 use crate::workload::Table;
 use harness::compare::proved_reader;
 use harness::lists::Reader;
@@ -20,7 +20,7 @@ pub struct ReadingPeer {
     pub dialect: Dialect,
     /// The file as this reader takes it. It is not measured, and the reader's speed is that for what it takes.
     pub prepare: fn(&[u8]) -> Vec<u8>,
-    /// Reads a prepared file and tells how many cells it has.
+    /// Reads a prepared file and returns how many cells it has.
     pub read: fn(&[u8]) -> usize,
 }
 
@@ -41,7 +41,7 @@ impl Cells {
         }
     }
 
-    /// Reads a file into the lists and tells how many cells it has; none on refusal.
+    /// Reads a file into the lists and returns how many cells it has; none on refusal.
     fn fill(&mut self, reader: Reader, dialect: u32, file: &[u8]) -> usize {
         let (starts, ends, kinds) = (&mut self.starts, &mut self.ends, &mut self.kinds);
         reader(dialect, file, starts, ends, kinds).cells
@@ -85,7 +85,7 @@ pub fn compare(
             black_box(&mut ours);
             found
         }),
-        Contestant::new("second program", file, |file| {
+        Contestant::new("reference implementation", file, |file| {
             let found = theirs.fill(reference::read, dialect, file);
             black_box(&mut theirs);
             found
@@ -97,7 +97,7 @@ pub fn compare(
             .iter()
             .map(|(peer, prepared)| Contestant::new(peer.name, prepared, peer.read)),
     );
-    let speeds = turn_by_turn(&mut contestants, rounds, cells, "cells")
+    let speeds = in_rounds(&mut contestants, rounds, cells, "cells")
         .map_err(|error| format!("{}: {error}", table.title()))?;
     if scope == Scope::Everything {
         print_speeds(table, cells, &speeds);
@@ -109,7 +109,7 @@ pub fn compare(
     })
 }
 
-/// Of memcpy, the proved reader, the second program and the peers.
+/// Of memcpy, the proved reader, the reference implementation and the peers.
 fn print_speeds(table: &Table, cells: usize, speeds: &[Speeds]) {
     println!(
         "\n{}: {} bytes, {cells} cells",

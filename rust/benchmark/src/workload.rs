@@ -1,11 +1,11 @@
 //! The tables that are read and converted: four of the benchmark's own making in each dialect, or those of a folder.
 //!
-//! *fares* has short plain cells and numbers, *settlements* quoted cells with doubled quotes, line breaks and text beyond
+//! *fares* has short unquoted cells and numbers, *settlements* quoted cells with doubled quotes, line breaks and text beyond
 //! ASCII, *notes* long quoted ASCII text. *scripts* has words in other scripts, with nearly no ASCII inside the cells, of which
 //! every other one is quoted; it is read only. Each is the same at every run. One that is read is as long as a file may be, one
 //! that is converted half as long, so that its text is not longer than that.
 
-use crate::bars::{Scope, Task};
+use crate::thresholds::{Scope, Task};
 use harness::rng::Rng;
 use harness::DIALECTS;
 use reference::limits::FILE_BYTES;
@@ -87,7 +87,7 @@ pub fn load(path: &Path) -> Result<Table, String> {
 const READ: [&Shape; 4] = [&FARES, &SETTLEMENTS, &NOTES, &SCRIPTS];
 const CONVERTED: [&Shape; 3] = [&FARES, &SETTLEMENTS, &NOTES];
 
-/// The tables to be read that the scope has, in the three dialects, each made when it is asked for.
+/// The tables to be read that the scope has, in the three dialects, each made when it is needed.
 pub fn tables(scope: Scope) -> impl Iterator<Item = Table> {
     let tables = READ
         .into_iter()
@@ -98,7 +98,7 @@ pub fn tables(scope: Scope) -> impl Iterator<Item = Table> {
 }
 
 /// The tables to be converted that the scope has, for each pair of dialects, with the target. All cells are texts unless the pair
-/// is CSVJ and CSVJ: what every target can carry, and csv can spell.
+/// is CSVJ and CSVJ: what every target can represent, and csv can write.
 pub fn conversions(scope: Scope) -> impl Iterator<Item = (Table, (u32, Dialect))> {
     let tables = CONVERTED.into_iter().flat_map(|shape| {
         let pairs = DIALECTS.map(|from| DIALECTS.map(|to| (shape, from, to)));
@@ -113,7 +113,7 @@ pub fn conversions(scope: Scope) -> impl Iterator<Item = (Table, (u32, Dialect))
         })
 }
 
-/// A cell before it is spelt.
+/// A cell before it is encoded.
 enum Value {
     Text(String),
     Number(String),
@@ -141,7 +141,7 @@ pub struct Shape {
     ending: &'static str,
 }
 
-/// Short plain cells and numbers.
+/// Short unquoted cells and numbers.
 pub const FARES: Shape = Shape {
     name: "fares",
     columns: &[

@@ -1,7 +1,7 @@
 //! The benchmark with csv-core, which reads CSV+, serde_json, which reads and writes CSVJ, and csv, which reads and writes
-//! CSV+ and writes TDIF: `peers [FOLDER [ROUNDS]]` or `peers --bars [ROUNDS]`.
+//! CSV+ and writes TDIF: `peers [FOLDER [ROUNDS]]` or `peers --thresholds [ROUNDS]`.
 //!
-//! None does all that the proved calls do: csv-core does not look at UTF-8, and no header, kind or limit is judged by any.
+//! None does all that the proved calls do: csv-core does not check UTF-8, and none checks headers, kinds or limits.
 
 use benchmark::{ConvertingPeer, Peers, ReadingPeer};
 use csv::{QuoteStyle, ReaderBuilder, StringRecord, Terminator, Writer, WriterBuilder};
@@ -96,7 +96,7 @@ fn main() -> ExitCode {
 /// The libraries with the versions that cargo locked when it built this program.
 fn versions() -> String {
     let lock = include_str!("../Cargo.lock");
-    let told = ["csv-core", "csv", "serde_json"].map(|name| {
+    let versions = ["csv-core", "csv", "serde_json"].map(|name| {
         let entry = format!("name = \"{name}\"\nversion = \"");
         let version = lock
             .split(&entry)
@@ -104,7 +104,7 @@ fn versions() -> String {
             .and_then(|rest| rest.split('"').next());
         format!("{name} {}", version.unwrap_or("of no known version"))
     });
-    told.join(", ")
+    versions.join(", ")
 }
 
 /// One pass, record by record, into a buffer that each record has for itself.

@@ -1,11 +1,12 @@
-//! The bars: the part of a peer's speed that a proved call is to have at least, job by job, and the table that tells whether it has.
+//! The thresholds: the part of a peer's speed that a proved call is to have at least, job by job, and the table that reports whether it
+//! has.
 
 use crate::measure::Speeds;
 use crate::workload::{FARES, NOTES, SCRIPTS, SETTLEMENTS};
 use crate::{converting, reading};
 use reference::Dialect::{self, CsvPlus, Csvj, Tdif};
 
-/// What a table is put through.
+/// What is done with a table.
 #[derive(Clone, Copy, PartialEq, Eq)]
 pub enum Task {
     /// Reading a file of this dialect.
@@ -14,17 +15,17 @@ pub enum Task {
     Convert(Dialect, Dialect),
 }
 
-/// A proved call beside a peer, on tables that each have a bar.
+/// A proved call beside a peer, on tables that each have a threshold.
 struct Job {
     name: &'static str,
     task: Task,
     /// The contestant that is proved.
     proved: &'static str,
-    /// The contestant that it is held to.
+    /// The contestant that it is compared with.
     peer: &'static str,
     tables: &'static [&'static str],
     /// For each table the part of the peer's speed that is to be reached, by the best round and by the median one.
-    bars: &'static [f64],
+    thresholds: &'static [f64],
 }
 
 const ALL: &[&str] = &[FARES.name, SETTLEMENTS.name, NOTES.name];
@@ -36,7 +37,7 @@ const JOBS: [Job; 8] = [
         proved: reading::PROVED,
         peer: "csv-core",
         tables: ALL,
-        bars: &[0.85, 0.85, 1.2],
+        thresholds: &[0.85, 0.85, 1.2],
     },
     Job {
         name: "read CSVJ, both passes",
@@ -44,7 +45,7 @@ const JOBS: [Job; 8] = [
         proved: reading::PROVED,
         peer: "serde_json, values skipped",
         tables: ALL,
-        bars: &[0.8, 0.8, 1.0],
+        thresholds: &[0.8, 0.8, 1.0],
     },
     Job {
         name: "CSV+ to CSVJ, whole",
@@ -52,7 +53,7 @@ const JOBS: [Job; 8] = [
         proved: converting::PROVED,
         peer: "csv, serde_json",
         tables: ALL,
-        bars: &[1.0, 1.0, 1.5],
+        thresholds: &[1.0, 1.0, 1.5],
     },
     Job {
         name: "CSVJ to CSV+, whole",
@@ -60,7 +61,7 @@ const JOBS: [Job; 8] = [
         proved: converting::PROVED,
         peer: "serde_json, csv",
         tables: ALL,
-        bars: &[1.0, 0.95, 0.95],
+        thresholds: &[1.0, 0.95, 0.95],
     },
     Job {
         name: "TDIF to CSVJ, whole",
@@ -68,7 +69,7 @@ const JOBS: [Job; 8] = [
         proved: converting::PROVED,
         peer: "csv, serde_json",
         tables: ALL,
-        bars: &[1.1, 1.0, 1.5],
+        thresholds: &[1.1, 1.0, 1.5],
     },
     Job {
         name: "pieces of 4,096, lent, CSV+ to CSVJ",
@@ -76,7 +77,7 @@ const JOBS: [Job; 8] = [
         proved: converting::PIECES_OF_4_096,
         peer: "csv, serde_json",
         tables: ALL,
-        bars: &[1.2, 1.3, 1.7],
+        thresholds: &[1.2, 1.3, 1.7],
     },
     Job {
         name: "pieces of 64, lent, CSV+ to CSVJ",
@@ -84,7 +85,7 @@ const JOBS: [Job; 8] = [
         proved: converting::PIECES_OF_64,
         peer: "csv, serde_json",
         tables: ALL,
-        bars: &[0.6, 0.5, 0.7],
+        thresholds: &[0.6, 0.5, 0.7],
     },
     Job {
         name: "nearly all non-ASCII, read CSV+, both passes",
@@ -92,7 +93,7 @@ const JOBS: [Job; 8] = [
         proved: reading::PROVED,
         peer: "csv, StringRecord",
         tables: &[SCRIPTS.name],
-        bars: &[0.85],
+        thresholds: &[0.85],
     },
 ];
 
@@ -104,7 +105,7 @@ impl Job {
     /// The peer, and what it is given where that is not the file.
     fn peer(&self) -> String {
         match self.task {
-            Task::Convert(Tdif, _) => format!("{} on the CSV+ spelling", self.peer),
+            Task::Convert(Tdif, _) => format!("{} on the table as CSV+", self.peer),
             _ => self.peer.to_string(),
         }
     }
@@ -115,8 +116,8 @@ impl Job {
 pub enum Scope {
     /// All contestants on all tables.
     Everything,
-    /// Those that have a bar, and the peers that they are held to.
-    Bars,
+    /// Those that have a threshold, and the peers that they are compared with.
+    Thresholds,
 }
 
 impl Scope {
@@ -132,7 +133,7 @@ impl Scope {
     }
 }
 
-/// What was measured of a task on a table, turn by turn.
+/// What was measured of a task on a table, in rounds.
 pub struct Measured {
     /// The task.
     pub task: Task,
@@ -171,12 +172,12 @@ impl Job {
         self.tables.iter().map(on_table).collect()
     }
 
-    fn verdict(&self, ratios: &[Option<Ratio>]) -> &'static str {
-        let reaches = |(ratio, bar): (&Option<Ratio>, &f64)| {
+    fn outcome(&self, ratios: &[Option<Ratio>]) -> &'static str {
+        let reaches = |(ratio, threshold): (&Option<Ratio>, &f64)| {
             let ratio = ratio.as_ref()?;
-            Some(ratio.best >= *bar && ratio.median >= *bar)
+            Some(ratio.best >= *threshold && ratio.median >= *threshold)
         };
-        let reached: Option<Vec<bool>> = ratios.iter().zip(self.bars).map(reaches).collect();
+        let reached: Option<Vec<bool>> = ratios.iter().zip(self.thresholds).map(reaches).collect();
         match reached {
             None => "not measured",
             Some(reached) if reached.contains(&false) => "not met",
@@ -187,34 +188,35 @@ impl Job {
     fn row(&self, measured: &[Measured]) -> [String; 6] {
         let ratios = self.ratios(measured);
         let by = |round: fn(&Ratio) -> f64| {
-            let told = ratios.iter().map(|ratio| match ratio {
+            let shown = ratios.iter().map(|ratio| match ratio {
                 Some(ratio) => format!("{:.3}", round(ratio)),
                 None => "-".to_string(),
             });
-            told.collect::<Vec<_>>().join(" / ")
+            shown.collect::<Vec<_>>().join(" / ")
         };
-        let bars: Vec<String> = self.bars.iter().map(|bar| format!("{bar:.2}")).collect();
+        let thresholds = self.thresholds.iter();
+        let thresholds: Vec<String> = thresholds.map(|one| format!("{one:.2}")).collect();
         [
             self.name.to_string(),
             self.peer(),
             by(|ratio| ratio.best),
             by(|ratio| ratio.median),
-            bars.join(" / "),
-            self.verdict(&ratios).to_string(),
+            thresholds.join(" / "),
+            self.outcome(&ratios).to_string(),
         ]
     }
 }
 
-/// Prints a row for each job, as `docs/BENCHMARKS.md` has them.
+/// Prints a row for each job, as `docs/TESTING.md` has them.
 pub fn print(measured: &[Measured], versions: &str) {
     println!(
-        "\nthe bars: the proved call's speed as a part of the peer's on {}, in the last row on {}; met where it reaches the bar on \
-         each table, by the best round and by the median one",
+        "\nthe thresholds: the proved call's speed as a part of the peer's on {}, in the last row on {}; met where it reaches the \
+         threshold on each table, by the best round and by the median one",
         ALL.join(" / "),
         SCRIPTS.name
     );
     println!("the peers: {versions}\n");
-    let head = ["job", "peer", "best", "median", "bar", ""].map(str::to_string);
+    let head = ["job", "peer", "best", "median", "threshold", ""].map(str::to_string);
     let mut rows = vec![head];
     rows.extend(JOBS.iter().map(|job| job.row(measured)));
     let widths = [0, 1, 2, 3, 4, 5].map(|column| {
@@ -235,14 +237,17 @@ pub fn print(measured: &[Measured], versions: &str) {
 mod tests {
     use super::*;
 
-    /// The first job on its first table, with the peer at 100 MB a second, and the other tables at twice the bar.
+    /// The first job on its first table, with the peer at 100 MB a second, and the other tables at twice the threshold.
     fn measured(best: f64, median: f64) -> Vec<Measured> {
         let job = &JOBS[0];
         let on_table = |(index, table): (usize, &&str)| {
             let speeds = |name, best, median| Speeds { name, best, median };
             let (best, median) = match index {
                 0 => (best, median),
-                _ => (200.0 * job.bars[index], 200.0 * job.bars[index]),
+                _ => {
+                    let twice = 200.0 * job.thresholds[index];
+                    (twice, twice)
+                }
             };
             Measured {
                 task: job.task,
@@ -256,22 +261,24 @@ mod tests {
         job.tables.iter().enumerate().map(on_table).collect()
     }
 
-    fn verdict(measured: &[Measured]) -> &'static str {
-        JOBS[0].verdict(&JOBS[0].ratios(measured))
+    fn outcome(measured: &[Measured]) -> &'static str {
+        JOBS[0].outcome(&JOBS[0].ratios(measured))
     }
 
     #[test]
-    fn a_bar_is_met_by_both_rounds_on_each_table() {
-        assert_eq!(verdict(&measured(85.0, 85.0)), "met");
-        assert_eq!(verdict(&measured(84.9, 90.0)), "not met");
-        assert_eq!(verdict(&measured(90.0, 84.9)), "not met");
+    fn a_threshold_is_met_by_both_rounds_on_each_table() {
+        assert_eq!(outcome(&measured(85.0, 85.0)), "met");
+        assert_eq!(outcome(&measured(84.9, 90.0)), "not met");
+        assert_eq!(outcome(&measured(90.0, 84.9)), "not met");
         let all = measured(90.0, 90.0);
-        assert_eq!(verdict(&all[1..]), "not measured");
+        assert_eq!(outcome(&all[1..]), "not measured");
         assert_eq!(JOBS[0].row(&all[1..])[2], "- / 1.700 / 2.400");
     }
 
     #[test]
-    fn each_table_of_a_job_has_a_bar() {
-        assert!(JOBS.iter().all(|job| job.tables.len() == job.bars.len()));
+    fn each_table_of_a_job_has_a_threshold() {
+        assert!(JOBS
+            .iter()
+            .all(|job| job.tables.len() == job.thresholds.len()));
     }
 }
