@@ -1,4 +1,4 @@
-//! The proved calls against the reference's, answer by answer and place by place of what was lent.
+//! The proved calls against those of the reference implementation, answer by answer and place by place of what was lent.
 
 mod convert;
 mod decode;
@@ -43,13 +43,13 @@ fn converted(answer: hemakuliwi::raw::TextAnswer) -> Converted {
     }
 }
 
-/// What a comparison found, where it may not differ: a test that panics otherwise tells the difference.
+/// What a comparison found, where it may not differ: a test that panics otherwise reports the difference.
 pub fn agreed<T>(outcome: Result<T, String>) -> T {
     outcome.unwrap_or_else(|difference| panic!("{difference}"))
 }
 
-/// Holds a proved call to its vectors, of which there have to be at least so many. `answer` tells how a case is answered, and nothing of
-/// another call's case. It panics where a case is not answered as it says.
+/// Compares a proved call with its vectors, of which there have to be at least this many. `answer` returns how a case is answered, and
+/// nothing for another call's case. It panics where a case is not answered as it says.
 pub fn vectors_agree(
     call: &str,
     least: usize,
@@ -70,7 +70,7 @@ pub fn vectors_agree(
     assert!(ran >= least);
 }
 
-/// Makes a call and the reference's, each with a room of this length, and compares the answers, the whole rooms, and what stands on
+/// Makes a call and the reference's, each with a room of this length, and compares the answers, the whole rooms, and what lies on
 /// either side of them.
 fn agree<A: PartialEq + Debug>(
     what: impl Fn() -> String,

@@ -1,5 +1,5 @@
-//! Runs the vectors, the CSVJ conformance set and random tests against the reference, holds the proved calls to the reference, states
-//! the vectors for the prover, and reads what refused each must-fail edit.
+//! Runs the vectors, the CSVJ conformance set and random tests against the reference implementation, compares the proved calls with it,
+//! states the vectors for the prover, and reads what refused each must-fail edit.
 
 pub mod antt;
 pub mod calls;

@@ -1,4 +1,4 @@
-//! Runs vector cases against the reference, with all that a case leaves unsaid: which places of
+//! Runs vector cases against the reference implementation, with all that a case leaves unsaid: which places of
 //! a lent buffer stay as they were, which room is just enough, and the piece converter's answers
 //! for each file that a case reads or converts.
 

@@ -1,4 +1,4 @@
-//! Random cases with the reference's answers, so that the prover can compare the definitions with it.
+//! Random cases with the reference implementation's answers, so that the prover can compare the definitions with it.
 
 use crate::generate::{mutate, sample};
 use crate::ledger::{self, Session};

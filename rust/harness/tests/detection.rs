@@ -4,7 +4,7 @@ use harness::{conformance, runner, vectors};
 use std::fs;
 use std::path::{Path, PathBuf};
 
-/// Whether a case with this call and answer agrees with the reference.
+/// Whether a case with this call and answer agrees with the reference implementation.
 fn agrees(call_and_answer: &str) -> bool {
     let text = format!("case only\n{call_and_answer}\n");
     let cases = vectors::parse_file("test", &text).expect("the text is of the format");

@@ -68,7 +68,7 @@ fn check(case: &Case) -> Result<(), String> {
         Call::Decode {
             dialect, raw, room, ..
         } => {
-            // The second program is held to the case, and the proved decoder to the second program.
+            // The reference implementation is compared with the case, and the proved decoder with the reference implementation.
             runner::run(std::slice::from_ref(case))?;
             let raw = raw.to_vec();
             decode_agrees(*dialect, &raw, room.unwrap_or(raw.len())).map(|_| ())

@@ -1,4 +1,4 @@
-//! The proved converter against every vector and against the reference. Wrong converters are tried in `wrong_texts`.
+//! The proved converter against every vector and against the reference implementation. Wrong converters are tried in `wrong_texts`.
 
 use harness::compare::{
     agreed, convert_agrees, convert_in_rooms, convert_random, proved_converter, vectors_agree,

@@ -1,4 +1,4 @@
-//! The proved decoder against every vector and against the reference.
+//! The proved decoder against every vector and against the reference implementation.
 
 use harness::compare::{decode_agrees, decode_random};
 use harness::vectors::{load_folder, Call};

@@ -1,5 +1,5 @@
-//! The proved piece converter, lent and by value, against every vector, the ledger, the reference and the proved whole converter. Wrong
-//! ones are tried in `wrong_pieces`.
+//! The proved piece converter, lent and by value, against every vector, the ledger, the reference implementation and the proved whole
+//! converter. Wrong ones are tried in `wrong_pieces`.
 
 use harness::compare::{
     agreed, made_up_random, output, pieces_random, proved_lent, vectors_agree, PieceComparison,

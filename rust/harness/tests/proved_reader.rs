@@ -1,4 +1,4 @@
-//! The proved reader against every vector and against the reference, and wrong readers against the same comparison.
+//! The proved reader against every vector and against the reference implementation, and wrong readers against the same comparison.
 
 use harness::compare::{
     agreed, proved_reader, read_agrees, read_in_rooms, read_random, vectors_agree,

@@ -1,4 +1,4 @@
-//! The proved writer against every vector and against the reference. Wrong writers are tried in `wrong_texts`.
+//! The proved writer against every vector and against the reference implementation. Wrong writers are tried in `wrong_texts`.
 
 use harness::compare::{
     agreed, proved_writer, vectors_agree, write_agrees, write_in_rooms, write_random,

@@ -4,7 +4,7 @@ use crate::cursor::{Cursor, Region, Stop};
 use crate::dialect::{Dialect, Kind};
 use crate::report::Fault;
 
-/// Passes one cell and tells its kind. What may follow the cell is left to the caller.
+/// Passes one cell and returns its kind. What may follow the cell is left to the caller.
 pub(crate) fn scan(dialect: Dialect, cursor: &mut Cursor) -> Result<Kind, Stop> {
     match dialect {
         Dialect::Csvj => csvj_value(cursor),
@@ -13,7 +13,7 @@ pub(crate) fn scan(dialect: Dialect, cursor: &mut Cursor) -> Result<Kind, Stop> 
     }
 }
 
-/// Whether the bytes are a number as JSON spells it.
+/// Whether the bytes are a number as JSON writes it.
 pub(crate) fn is_number(bytes: &[u8]) -> bool {
     let mut cursor = Cursor::unlimited(bytes);
     number(&mut cursor).is_ok() && cursor.at_end()

@@ -11,7 +11,7 @@ pub(crate) struct Cell {
 }
 
 impl Cell {
-    /// The cell of a raw spelling that was scanned and found to be of this kind.
+    /// The cell of raw bytes that were scanned and found to be of this kind.
     pub(crate) fn from_raw(dialect: Dialect, kind: Kind, raw: &[u8]) -> Self {
         let content = match kind {
             Kind::Text => text(dialect, raw),
@@ -63,7 +63,7 @@ fn unescape(inside: &[u8]) -> Vec<u8> {
     content
 }
 
-/// The code point of the escape that the bytes start with, and the length of its spelling.
+/// The code point of the escape that the bytes start with, and its length.
 fn escaped(bytes: &[u8]) -> (u32, usize) {
     match bytes[1] {
         b'b' => (0x08, 2),

@@ -1,7 +1,7 @@
 //! The whole-file converter.
 
+use crate::checks::{Progress, Rest};
 use crate::dialect::Dialect;
-use crate::judge::{Progress, Rest};
 use crate::records::Records;
 use crate::report::{Fault, Report};
 use crate::text::Output;
@@ -20,7 +20,7 @@ impl Converted {
         Self { report, written: 0 }
     }
 
-    /// The whole text goes into the output, or none of it.
+    /// The whole text is written to the output, or none of it.
     pub(crate) fn deliver(text: Result<Vec<u8>, Report>, out: &mut [u8]) -> Self {
         match text {
             Err(report) => Self::refusal(report),

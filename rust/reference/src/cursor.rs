@@ -20,7 +20,7 @@ pub(crate) enum Region {
     Quoted,
 }
 
-/// A position in `bytes`, whose first byte stands at `base` in the file.
+/// A position in `bytes`, whose first byte is at `base` in the file.
 pub(crate) struct Cursor<'a> {
     bytes: &'a [u8],
     base: usize,
@@ -43,7 +43,7 @@ impl<'a> Cursor<'a> {
         }
     }
 
-    /// For a mark or comment, which has the file limit only.
+    /// For a byte order mark or comment, which has the file limit only.
     pub(crate) fn between_records(bytes: &'a [u8], base: usize, pos: usize) -> Self {
         Self {
             bytes,

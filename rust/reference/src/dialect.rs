@@ -37,7 +37,7 @@ impl Dialect {
         }
     }
 
-    /// Whether a cell of this kind can be spelt in the dialect.
+    /// Whether the dialect can represent a cell of this kind.
     pub(crate) fn has(self, kind: Kind) -> bool {
         match self {
             Self::Csvj => true,

@@ -1,17 +1,17 @@
-//! Reads, writes and converts tables in three dialects: CSVJ (1), TDIF (2) and CSV+ (3).
+//! The reference implementation: reads, writes and converts tables in three dialects, CSVJ (1), TDIF (2) and CSV+ (3). It is written
+//! from the rules (docs/RULES.md) with the standard library only, is not proved, and shares nothing with the proved one.
 //!
-//! It follows the rules (docs/RULES.md). A file is scanned by position, one record at a time (`records`); each
-//! record is judged as a whole when it ends (`judge`) and, if converting, put into the target's
-//! canonical text (`text`). The whole-file calls scan the whole file; the piece converter scans
-//! the bytes of the record in hand followed by the new piece.
+//! A file is scanned by position, one record at a time (`records`); each record is checked as a whole when it ends (`checks`) and, if
+//! converting, written as the target's canonical text (`text`). The whole-file calls scan the whole file; the piece converter scans the
+//! bytes of the current record followed by the new piece.
 
 mod cell;
+mod checks;
 mod content;
 mod convert;
 mod cursor;
 mod decode;
 mod dialect;
-mod judge;
 pub mod limits;
 mod pieces;
 mod read;

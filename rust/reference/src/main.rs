@@ -16,7 +16,7 @@ const FAULT: u8 = 1;
 const WRONG_USAGE: u8 = 2;
 const IO_ERROR: u8 = 3;
 
-/// What kept a conversion from coming to a report.
+/// What prevented a report on a conversion.
 enum IoFailure {
     Reading(io::Error),
     Writing(io::Error),
@@ -58,7 +58,7 @@ fn dialect(argument: &OsString) -> Option<u32> {
     }
 }
 
-/// Goes over the piece converter, so that all records before a fault are written.
+/// Uses the piece converter, so that all records before a fault are written.
 fn convert(
     source: u32,
     target: u32,

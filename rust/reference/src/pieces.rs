@@ -19,14 +19,14 @@ enum State {
     Ended,
 }
 
-/// A conversion that can go on.
+/// A conversion that can continue.
 #[derive(Clone, Debug, PartialEq, Eq)]
 struct Open {
     conversion: Conversion,
-    /// The record in hand: at most 4,096 bytes, and a CR that waits for its LF. Between records
-    /// it is the part read of the mark or of a comment's character.
+    /// The current record: at most 4,096 bytes, and a CR that waits for its LF. Between records
+    /// it is the part read of the byte order mark or of a comment's character.
     in_hand: Vec<u8>,
-    /// The file offset of the first byte in hand.
+    /// The file offset of its first byte.
     base: usize,
     place: Place,
 }
@@ -92,7 +92,7 @@ impl Open {
         (state, Converted { report, written })
     }
 
-    /// Scans the window anew from the record in hand, and keeps what it leaves unfinished.
+    /// Scans the window anew from the current record, and buffers what it leaves unfinished.
     fn advance(&mut self, window: &[u8], last: bool, text: &mut Vec<u8>) -> Result<(), Report> {
         let source = self.conversion.source;
         let mut records = Records::resume(source, window, self.base, self.place, last);

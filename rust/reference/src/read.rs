@@ -1,7 +1,7 @@
 //! The whole-file reader.
 
+use crate::checks::Progress;
 use crate::dialect::Dialect;
-use crate::judge::Progress;
 use crate::records::Records;
 use crate::report::{Fault, Report};
 
@@ -18,8 +18,8 @@ pub struct ReadAnswer {
     pub cells: usize,
 }
 
-/// The stretch and kind of a cell.
-struct Stretch {
+/// The span and kind of a cell.
+struct Span {
     start: usize,
     end: usize,
     kind: u8,
@@ -33,24 +33,24 @@ pub fn read(
     ends: &mut [usize],
     kinds: &mut [u8],
 ) -> ReadAnswer {
-    let (progress, stretches) = match stretches(dialect, file) {
+    let (progress, spans) = match spans(dialect, file) {
         Ok(table) => table,
         Err(report) => return refusal(report),
     };
     let room = starts.len().min(ends.len()).min(kinds.len());
-    if stretches.len() > room {
+    if spans.len() > room {
         return refusal(Report::refusal(Fault::Room));
     }
-    for (index, stretch) in stretches.iter().enumerate() {
-        starts[index] = stretch.start;
-        ends[index] = stretch.end;
-        kinds[index] = stretch.kind;
+    for (index, span) in spans.iter().enumerate() {
+        starts[index] = span.start;
+        ends[index] = span.end;
+        kinds[index] = span.kind;
     }
     ReadAnswer {
         report: Report::ACCEPTED,
         columns: progress.columns,
         records: progress.records - 1,
-        cells: stretches.len(),
+        cells: spans.len(),
     }
 }
 
@@ -63,13 +63,13 @@ fn refusal(report: Report) -> ReadAnswer {
     }
 }
 
-fn stretches(dialect: u32, file: &[u8]) -> Result<(Progress, Vec<Stretch>), Report> {
+fn spans(dialect: u32, file: &[u8]) -> Result<(Progress, Vec<Span>), Report> {
     let dialect = Dialect::from_number(dialect).ok_or(Report::refusal(Fault::Call))?;
     let mut progress = Progress::default();
-    let mut stretches = Vec::new();
+    let mut spans = Vec::new();
     let mut records = Records::of_file(dialect, file);
     let rest = progress.run(dialect, &mut records, |raw, _, _| {
-        stretches.extend(raw.cells.iter().map(|cell| Stretch {
+        spans.extend(raw.cells.iter().map(|cell| Span {
             start: cell.start,
             end: cell.start + cell.raw.len(),
             kind: cell.kind.number(),
@@ -77,5 +77,5 @@ fn stretches(dialect: u32, file: &[u8]) -> Result<(Progress, Vec<Stretch>), Repo
         Ok(())
     })?;
     progress.finish(rest, file.len())?;
-    Ok((progress, stretches))
+    Ok((progress, spans))
 }

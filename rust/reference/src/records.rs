@@ -1,13 +1,13 @@
-//! Records, and what stands between them: the mark, comments, the LF of a TDIF CRLF.
+//! Records, and what lies between them: the byte order mark, comments, the LF of a TDIF CRLF.
 
 use crate::cell;
 use crate::cursor::{Cursor, Region, Stop};
 use crate::dialect::{Dialect, Kind};
 use crate::report::Fault;
 
-const MARK: &[u8] = b"\xEF\xBB\xBF";
+const BYTE_ORDER_MARK: &[u8] = b"\xEF\xBB\xBF";
 
-/// A cell as it stands in the file.
+/// A cell as it lies in the file.
 #[derive(Clone, Copy, Debug)]
 pub(crate) struct RawCell<'a> {
     pub(crate) kind: Kind,
@@ -16,7 +16,7 @@ pub(crate) struct RawCell<'a> {
     pub(crate) raw: &'a [u8],
 }
 
-/// A record as it stands in the file.
+/// A record as it lies in the file.
 #[derive(Clone, Debug)]
 pub(crate) struct RawRecord<'a> {
     /// The file offset of its first byte.
@@ -24,7 +24,7 @@ pub(crate) struct RawRecord<'a> {
     pub(crate) cells: Vec<RawCell<'a>>,
 }
 
-/// Where a scan between records stands.
+/// Where a scan between records is.
 #[derive(Clone, Copy, Debug, PartialEq, Eq)]
 pub(crate) enum Place {
     FileStart,
@@ -42,7 +42,7 @@ pub(crate) struct Records<'a> {
     base: usize,
     /// Whether the file ends where the window does.
     last: bool,
-    /// Up to here all is complete: records, the mark, the characters of a comment.
+    /// Up to here all is complete: records, the byte order mark, the characters of a comment.
     pos: usize,
     place: Place,
 }
@@ -71,7 +71,7 @@ impl<'a> Records<'a> {
         }
     }
 
-    /// The bytes after all that is complete, where they stand in the file, and the place there.
+    /// The bytes after all that is complete, where they are in the file, and the place there.
     pub(crate) fn unfinished(&self) -> (&'a [u8], usize, Place) {
         (&self.window[self.pos..], self.base + self.pos, self.place)
     }
@@ -111,13 +111,13 @@ impl<'a> Records<'a> {
         Cursor::between_records(self.window, self.base, self.pos)
     }
 
-    /// Once EF is read at offset 0, the mark has to go on.
+    /// Once EF is read at offset 0, the byte order mark has to follow.
     fn skip_mark(&mut self) -> Result<(), Stop> {
-        if self.place != Place::FileStart || self.window.first() != Some(&MARK[0]) {
+        if self.place != Place::FileStart || self.window.first() != Some(&BYTE_ORDER_MARK[0]) {
             return Ok(());
         }
         let mut cursor = self.between_records();
-        for &byte in MARK {
+        for &byte in BYTE_ORDER_MARK {
             cursor.pass_only(byte)?;
         }
         self.pos = cursor.pos();
@@ -125,9 +125,9 @@ impl<'a> Records<'a> {
         Ok(())
     }
 
-    /// In CSV+ the third byte of a mark is fault 3.
+    /// In CSV+ the third byte of a byte order mark is fault 3.
     fn refuse_mark(&self) -> Result<(), Stop> {
-        if self.place == Place::FileStart && self.window.starts_with(MARK) {
+        if self.place == Place::FileStart && self.window.starts_with(BYTE_ORDER_MARK) {
             return Err(Stop::Fault(Fault::Form, 2));
         }
         Ok(())
@@ -165,7 +165,7 @@ impl<'a> Records<'a> {
     }
 }
 
-/// Passes one cell and keeps its stretch.
+/// Passes one cell and stores its span.
 fn take_cell<'a>(dialect: Dialect, cursor: &mut Cursor<'a>) -> Result<RawCell<'a>, Stop> {
     let (start, first) = (cursor.offset(), cursor.pos());
     let kind = cell::scan(dialect, cursor)?;
@@ -218,7 +218,7 @@ fn tdif_cells<'a>(cursor: &mut Cursor<'a>) -> Result<Vec<RawCell<'a>>, Stop> {
     }
 }
 
-/// The end of the file may stand for the last ending.
+/// The end of the file may replace the last ending.
 fn csv_plus_cells<'a>(cursor: &mut Cursor<'a>, last: bool) -> Result<Vec<RawCell<'a>>, Stop> {
     let mut cells = Vec::new();
     loop {

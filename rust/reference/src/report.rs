@@ -1,4 +1,4 @@
-//! Reports, and how they are told to a person.
+//! Reports, and their sentences.
 
 /// The faults and refusals; the discriminants are the rules' numbers.
 #[derive(Clone, Copy, Debug, PartialEq, Eq)]
@@ -7,7 +7,7 @@ pub enum Fault {
     NoRecord = 1,
     /// A byte breaks the UTF-8 table.
     Utf8 = 2,
-    /// A byte that cannot stand where it does.
+    /// A byte that is not allowed where it is.
     Form = 3,
     /// The file ends too early.
     Cut = 4,
@@ -19,7 +19,7 @@ pub enum Fault {
     HeaderKind = 7,
     /// A limit is exceeded.
     Limit = 8,
-    /// The target cannot carry the record.
+    /// The target cannot represent the record.
     NotCarried = 9,
     /// A lent buffer is too short, or a piece too long.
     Room = 10,

@@ -1,8 +1,8 @@
-//! Canonical text, and what the target cannot carry.
+//! Canonical text, and what the target cannot represent.
 
+use crate::checks::{repeated_name, Part, Refusal};
 use crate::content::Cell;
 use crate::dialect::{Dialect, Kind};
-use crate::judge::{repeated_name, Part, Refusal};
 use crate::limits::{FILE_BYTES, RECORD_BYTES};
 use crate::report::Fault;
 use crate::utf8;
@@ -26,7 +26,7 @@ impl Output {
         cells: &[Cell],
         text: &mut Vec<u8>,
     ) -> Result<(), Refusal> {
-        self.carried(part, cells)?;
+        self.check(part, cells)?;
         let start = text.len();
         push_record(self.target, part, cells, text);
         let length = text.len() - start;
@@ -41,13 +41,13 @@ impl Output {
     }
 
     /// Fault 9 by cells and names, in the rules' order.
-    fn carried(&self, part: Part, cells: &[Cell]) -> Result<(), Refusal> {
+    fn check(&self, part: Part, cells: &[Cell]) -> Result<(), Refusal> {
         let target = self.target;
         let header = part == Part::Header;
         if header && cells.is_empty() && target != Dialect::Csvj {
             return Err(not_carried(0));
         }
-        if let Some(index) = cells.iter().position(|cell| !carries(target, cell)) {
+        if let Some(index) = cells.iter().position(|cell| !represents(target, cell)) {
             return Err(not_carried(index + 1));
         }
         let clash = header.then(|| repeated_name(target, cells)).flatten();
@@ -62,7 +62,7 @@ fn not_carried(column: usize) -> Refusal {
     }
 }
 
-fn carries(target: Dialect, cell: &Cell) -> bool {
+fn represents(target: Dialect, cell: &Cell) -> bool {
     let surrogate = cell.kind == Kind::Text && utf8::has_surrogate(&cell.content);
     target.has(cell.kind) && (target == Dialect::Csvj || !surrogate)
 }

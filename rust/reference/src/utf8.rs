@@ -84,7 +84,7 @@ pub(crate) fn has_surrogate(content: &[u8]) -> bool {
     (0..content.len()).any(|at| leading_surrogate(&content[at..]).is_some())
 }
 
-/// Whether the bytes are content: UTF-8 widened by lone surrogates, where no high one stands
+/// Whether the bytes are content: UTF-8 widened by lone surrogates, where no high one is
 /// directly before a low one.
 pub(crate) fn is_content(bytes: &[u8]) -> bool {
     let mut rest = bytes;

@@ -1,18 +1,18 @@
 //! The canonical writer.
 
 use crate::cell::is_number;
+use crate::checks::{check, Part};
 use crate::content::Cell;
 use crate::convert::Converted;
 use crate::dialect::{Dialect, Kind};
-use crate::judge::{check, Part};
 use crate::report::{Fault, Report};
 use crate::text::Output;
 use crate::utf8;
 
-/// A table for the writer: its cells record by record, as stretches of the content.
+/// A table for the writer: its cells record by record, as spans of the content.
 #[derive(Clone, Copy, Debug)]
 pub struct Table<'a> {
-    /// The bytes that the stretches name.
+    /// The bytes that the spans refer to.
     pub content: &'a [u8],
     /// Where each cell's content starts.
     pub starts: &'a [usize],
@@ -44,7 +44,7 @@ fn whole_text(target: u32, table: Table) -> Result<Vec<u8>, Report> {
                 columns: table.columns,
             },
         };
-        // Names are compared by the target's rule here, so 6 stands for 9's clash.
+        // Names are compared by the target's rule here, so 6 is reported in place of 9's clash.
         check(target, part, record)
             .and_then(|()| output.append(part, record, &mut text))
             .map_err(|refusal| refusal.at(index + 1, 0))?;

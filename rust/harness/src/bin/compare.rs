@@ -1,4 +1,4 @@
-//! Compares the proved calls with the second program on random inputs: `compare --seed S [--count N] [--seconds T]`.
+//! Compares the proved calls with the reference implementation on random inputs: `compare --seed S [--count N] [--seconds T]`.
 //!
 //! Round k of a run has the seed S + k, so that a seed and a count give the same inputs each time, and a round in which the two differ can
 //! be run alone.
@@ -10,10 +10,10 @@ use std::time::{Duration, Instant};
 const USAGE: &str = "usage: compare --seed S [--count N] [--seconds T]
 compares rounds of random inputs until there are N of them, until T seconds are over, or until there is a difference";
 
-/// How often a long run tells how far it is.
+/// How often a long run reports its progress.
 const PULSE: Duration = Duration::from_secs(60);
 
-/// What the command line asks for.
+/// What the command line requires.
 struct Run {
     seed: u64,
     rounds: usize,
@@ -21,7 +21,7 @@ struct Run {
 }
 
 impl Run {
-    fn asked(mut words: impl Iterator<Item = String>) -> Option<Self> {
+    fn parse(mut words: impl Iterator<Item = String>) -> Option<Self> {
         let (mut seed, mut rounds, mut time) = (None, usize::MAX, Duration::MAX);
         while let Some(word) = words.next() {
             let number: u64 = words.next()?.parse().ok()?;
@@ -38,7 +38,7 @@ impl Run {
 }
 
 fn main() -> ExitCode {
-    let Some(run) = Run::asked(std::env::args().skip(1)) else {
+    let Some(run) = Run::parse(std::env::args().skip(1)) else {
         eprintln!("{USAGE}");
         return ExitCode::from(2);
     };

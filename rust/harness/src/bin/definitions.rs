@@ -1,4 +1,4 @@
-//! Writes the vectors, and random cases with the reference's answers, as a crate of equations about the definitions, to
+//! Writes the vectors, and random cases with the reference implementation's answers, as a crate of equations about the definitions, to
 //! be proved by computation.
 //!
 //! `definitions FOLDER [COUNT [SEED]]` makes FOLDER a repository of two crates: `model`, copied from this one, and

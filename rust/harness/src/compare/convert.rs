@@ -1,4 +1,5 @@
-//! The converter. Each comparison takes the converter that is held to the reference, so that wrong ones can be tried too.
+//! The converter. Each comparison takes the converter that is compared with the reference implementation, so that wrong ones can be tried
+//! too.
 
 use super::{agree, converted, hex, room_lengths};
 use crate::counts::Counts;

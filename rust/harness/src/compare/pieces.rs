@@ -1,5 +1,5 @@
-//! The piece converter, over a state that is lent and by value. Each comparison takes the converters that are held to the reference, so
-//! that wrong ones can be tried too.
+//! The piece converter, over a state that is lent and by value. Each comparison takes the converters that are compared with the
+//! reference implementation, so that wrong ones can be tried too.
 
 use super::{converted, hex};
 use crate::calls::{file_for_calls, header_length, random_calls};
@@ -197,7 +197,7 @@ struct Shown {
 }
 
 impl Shown {
-    /// By the reference: the names from what was consumed, the number of records from what pieces have written.
+    /// By the reference implementation: the names from what was consumed, the number of records from what pieces have written.
     fn of(past: &Past) -> Result<Self, String> {
         let text = &past.text[..past.by_pieces];
         if text.is_empty() {
@@ -240,7 +240,7 @@ impl Shown {
 /// Longer files are not told from the whole converter at each call, which takes long.
 const LEDGER_BYTES: usize = 150;
 
-/// Several piece converters, the reference's and the ledger, held to each other call by call.
+/// Several piece converters, the reference implementation's and the ledger, compared call by call.
 pub struct PieceComparison {
     trials: Vec<Trial>,
     output: Output,
@@ -248,7 +248,7 @@ pub struct PieceComparison {
     room: Vec<u8>,
     ledger: Option<Ledger>,
     past: Past,
-    /// Whether the outcome is held to the proved whole converter.
+    /// Whether the outcome is compared with the proved whole converter.
     with_whole: bool,
 }
 
@@ -279,7 +279,7 @@ impl PieceComparison {
         self.past = Past::new(source, target);
     }
 
-    /// What the reference answers.
+    /// What the reference implementation answers.
     fn expected(&mut self, call: &Call) -> Result<Answer, String> {
         let out = &mut self.room[..room_of(call)];
         let converter = self.reference.take().ok_or("the converter was lost")?;

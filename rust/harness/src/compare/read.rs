@@ -1,4 +1,4 @@
-//! The reader. Each comparison takes the reader that is held to the reference, so that wrong ones can be tried too.
+//! The reader. Each comparison takes the reader that is compared with the reference implementation, so that wrong ones can be tried too.
 
 use super::{hex, report};
 use crate::counts::Counts;

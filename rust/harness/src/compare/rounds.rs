@@ -10,7 +10,7 @@ use crate::rooms::{WholeConverter, Writer};
 use crate::DIALECTS;
 use std::fmt::{Display, Formatter, Result as Printed};
 
-/// The calls that are held to the reference, beside the proved decoder.
+/// The calls that are compared with the reference implementation, beside the proved decoder.
 pub struct Calls {
     /// Reads whole files.
     pub reader: Reader,

@@ -1,4 +1,4 @@
-//! The writer. Each comparison takes the writer that is held to the reference, so that wrong ones can be tried too.
+//! The writer. Each comparison takes the writer that is compared with the reference implementation, so that wrong ones can be tried too.
 
 use super::{agree, converted, hex, room_lengths};
 use crate::counts::Counts;

@@ -245,17 +245,17 @@ const COMPARISONS: [(&str, &str, &str); 14] = [
     ),
     (
         "files that leave the fast path at a given place, each read and converted to three targets, at least",
-        "quick_paths",
+        "fast_paths",
         "const FILES: usize = ",
     ),
     (
         "cuts of such files, at least",
-        "quick_paths",
+        "fast_paths",
         "const CUTS: usize = ",
     ),
     (
         "wrong calls to be noticed on such files",
-        "quick_paths",
+        "fast_paths",
         "(&str, Wrong); ",
     ),
 ];

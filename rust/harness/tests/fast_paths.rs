@@ -1,7 +1,7 @@
-//! Files that leave the quick layer at every place. Before the exact scanner a record is told by whole cells (`crates/record_fast`), and
-//! one whose cells are clean is spelt at once (`crates/record_writer/src/clean.rt`); whatever is odd goes to the exact code from the record's start. So
-//! ordinary records have something odd at each place, and at each distance from a word's end and from a limit, and the proved calls are
-//! held to the reference on them, whole and in pieces. Wrong calls have to be noticed on the same files.
+//! Files that leave the fast path at every place. Before the scanner a record is read by whole cells (`crates/record_fast`), and one whose
+//! cells are clean is written at once (`crates/record_writer/src/clean.rt`); anything else falls back to the slow path from the record's
+//! start. So bytes are injected into ordinary records at each place, and at each distance from a word's end and from a limit, and the
+//! proved calls are compared with the reference implementation on them, whole and in pieces. Wrong calls have to be noticed on the same files.
 
 use harness::compare::{
     agreed, convert_agrees, convert_in_rooms, proved_lent, read_agrees, read_in_rooms, Calls,
@@ -18,10 +18,10 @@ use reference::limits::{COLUMNS, FILE_BYTES, PIECE_BYTES, PIECE_ROOM, RECORD_BYT
 use reference::{convert, read, Converted, ReadAnswer, Report};
 use std::ops::RangeInclusive;
 
-// ---- odd files
+// ---- injected bytes
 
-/// What is put into ordinary records. The first is nothing: a byte is missing there, or the file ends.
-const ODD: [&[u8]; 38] = [
+/// What is injected into ordinary records. The first is nothing: a byte is missing there, or the file ends.
+const INJECTED: [&[u8]; 38] = [
     b"",
     b"\"",
     b"\"\"",
@@ -63,7 +63,7 @@ const ODD: [&[u8]; 38] = [
 ];
 
 /// A few of them, where files are wide.
-const FEW_ODD: [&[u8]; 9] = [
+const FEW_INJECTED: [&[u8]; 9] = [
     b"\"",
     b"\"\"",
     b"\\n",
@@ -75,21 +75,21 @@ const FEW_ODD: [&[u8]; 9] = [
     b"e",
 ];
 
-/// A file with something odd in place of the byte at this place.
-fn replaced(file: &[u8], place: usize, odd: &[u8]) -> Vec<u8> {
+/// A file with injected bytes in place of the byte at this place.
+fn replaced(file: &[u8], place: usize, injected: &[u8]) -> Vec<u8> {
     let (before, after) = file.split_at(place);
-    [before, odd, after.get(1..).unwrap_or(&[])].concat()
+    [before, injected, after.get(1..).unwrap_or(&[])].concat()
 }
 
-/// A file with everything odd at each place: in place of a byte, between two bytes, and as the file's end.
-fn odd_files(file: &[u8]) -> impl Iterator<Item = Vec<u8>> + '_ {
+/// A file with each of the injected bytes at each place: in place of a byte, between two bytes, and as the file's end.
+fn injected_files(file: &[u8]) -> impl Iterator<Item = Vec<u8>> + '_ {
     (0..=file.len()).flat_map(move |place| {
         let (before, after) = file.split_at(place);
-        ODD.iter().flat_map(move |odd| {
+        INJECTED.iter().flat_map(move |injected| {
             [
-                replaced(file, place, odd),
-                [before, odd, after].concat(),
-                [before, odd].concat(),
+                replaced(file, place, injected),
+                [before, injected, after].concat(),
+                [before, injected].concat(),
             ]
         })
     })
@@ -180,7 +180,7 @@ impl Compared {
         Ok(())
     }
 
-    /// The same with lists of so many places, and room for a text that is not much longer than the file.
+    /// The same with lists of this many places, and room for a text that is not much longer than the file.
     fn whole(
         &mut self,
         calls: &Calls,
@@ -199,37 +199,37 @@ impl Compared {
         Ok(())
     }
 
-    /// Tells how much was compared, which has to be at least so much.
-    fn tell(&self, what: &str, least: usize) {
-        eprintln!("quick paths, {what}: {} agree", self.inputs);
+    /// Prints how much was compared, which has to be at least this much.
+    fn report(&self, what: &str, least: usize) {
+        eprintln!("fast paths, {what}: {} agree", self.inputs);
         assert!(self.inputs >= least, "too few {what}");
     }
 
-    /// The same of whole files, in each dialect with so many reports of each of these numbers.
-    fn tell_reports(&self, what: &str, least: usize, numbers: &[usize], reports: usize) {
-        self.tell(what, least);
-        self.reports.print(&format!("quick paths, {what}"));
+    /// The same of whole files, in each dialect with this many reports of each of these numbers.
+    fn report_numbers(&self, what: &str, least: usize, numbers: &[usize], reports: usize) {
+        self.report(what, least);
+        self.reports.print(&format!("fast paths, {what}"));
         agreed(self.reports.require(numbers.iter().copied(), reports));
     }
 }
 
 // ---- each place of a record
 
-fn odd_at_each_place(calls: &Calls) -> Result<Compared, String> {
+fn injected_at_each_place(calls: &Calls) -> Result<Compared, String> {
     let mut compared = Compared::default();
     for (dialect, file) in ORDINARY {
-        for odd in odd_files(file.as_bytes()) {
-            compared.whole_in_rooms(calls, dialect, &odd)?;
+        for injected in injected_files(file.as_bytes()) {
+            compared.whole_in_rooms(calls, dialect, &injected)?;
         }
     }
     Ok(compared)
 }
 
 #[test]
-fn records_may_be_odd_at_each_place() {
+fn records_fall_back_at_each_place() {
     const FILES: usize = 70_000;
-    let compared = agreed(odd_at_each_place(&PROVED));
-    compared.tell_reports("files odd at a place", FILES, &[0, 2, 3, 4, 5], 500);
+    let compared = agreed(injected_at_each_place(&PROVED));
+    compared.report_numbers("files with injected bytes", FILES, &[0, 2, 3, 4, 5], 500);
 }
 
 // ---- words of eight bytes
@@ -237,8 +237,8 @@ fn records_may_be_odd_at_each_place() {
 const LONGEST_CELL: usize = 40;
 const LETTERS: &str = "abcdefghijklmnopqrstuvwxyz ABCDEFGHIJKLMN";
 const DIGITS: &str = "1234567890123456789012345678901234567890";
-/// A cell's dialect, what stands on either side of its text, and what the text is taken from.
-const SPELT: [(u32, &str, &str); 5] = [
+/// A cell's dialect, what is on either side of its text, and what the text is taken from.
+const CELLS_OF: [(u32, &str, &str); 5] = [
     (1, "\"", LETTERS),
     (1, "", DIGITS),
     (2, "\"", LETTERS),
@@ -246,20 +246,20 @@ const SPELT: [(u32, &str, &str); 5] = [
     (3, "\"", LETTERS),
 ];
 
-/// Cells of each length, with something odd in place of each byte, in the last record of a file and in one before it.
-fn odd_in_words(calls: &Calls) -> Result<Compared, String> {
+/// Cells of each length, with injected bytes in place of each byte, in the last record of a file and in one before it.
+fn injected_in_words(calls: &Calls) -> Result<Compared, String> {
     let mut compared = Compared::default();
     let header = "\"a\",\"b\"\n";
-    for (dialect, quote, text) in SPELT {
+    for (dialect, quote, text) in CELLS_OF {
         for length in 0..=LONGEST_CELL {
             for after in ["", "\"y\",\"z\"\n"] {
                 let text = &text[..length];
                 let file = format!("{header}{quote}{text}{quote},\"x\"\n{after}");
                 let start = header.len() + quote.len();
                 for place in start..=start + length {
-                    for odd in ODD {
-                        let odd = replaced(file.as_bytes(), place, odd);
-                        compared.whole(calls, dialect, &odd, 16)?;
+                    for injected in INJECTED {
+                        let injected = replaced(file.as_bytes(), place, injected);
+                        compared.whole(calls, dialect, &injected, 16)?;
                     }
                 }
             }
@@ -269,10 +269,10 @@ fn odd_in_words(calls: &Calls) -> Result<Compared, String> {
 }
 
 #[test]
-fn cells_may_be_odd_at_each_distance_from_a_words_end() {
+fn cells_fall_back_at_each_distance_from_a_words_end() {
     const CELLS: usize = 300_000;
-    let compared = agreed(odd_in_words(&PROVED));
-    compared.tell_reports("cells odd at a place", CELLS, &[0, 2, 3], 5_000);
+    let compared = agreed(injected_in_words(&PROVED));
+    compared.report_numbers("cells with injected bytes", CELLS, &[0, 2, 3], 5_000);
 }
 
 /// About the sizes of a word and of two, and a larger one.
@@ -285,19 +285,19 @@ fn in_pieces(file: &[u8], size: usize) -> Vec<Call<'_>> {
     parts.chain([Call::End(PIECE_ROOM)]).collect()
 }
 
-/// Long cells with something odd in place of each byte, of which some pieces have nothing but text.
-fn odd_in_cells_in_pieces(calls: &Calls) -> Result<Compared, String> {
+/// Long cells with injected bytes in place of each byte, of which some pieces have nothing but text.
+fn injected_in_cells_in_pieces(calls: &Calls) -> Result<Compared, String> {
     let mut pieces = PieceComparison::new(calls.pieces);
     let mut compared = Compared::default();
     let header = "\"a\",\"b\"\n";
-    for (dialect, quote, text) in SPELT {
+    for (dialect, quote, text) in CELLS_OF {
         let file = format!("{header}{quote}{text}{quote},\"x\"\n\"y\",\"z\"\n");
         let start = header.len() + quote.len();
         for place in start..=start + text.len() {
-            for odd in ODD {
-                let odd = replaced(file.as_bytes(), place, odd);
+            for injected in INJECTED {
+                let injected = replaced(file.as_bytes(), place, injected);
                 for size in PIECES {
-                    pieces.calls_agree(dialect, target_of(dialect), &in_pieces(&odd, size))?;
+                    pieces.calls_agree(dialect, target_of(dialect), &in_pieces(&injected, size))?;
                     compared.inputs += 1;
                 }
             }
@@ -307,14 +307,14 @@ fn odd_in_cells_in_pieces(calls: &Calls) -> Result<Compared, String> {
 }
 
 #[test]
-fn cells_may_be_odd_at_each_distance_from_a_pieces_end() {
-    let compared = agreed(odd_in_cells_in_pieces(&PROVED));
-    compared.tell("odd cells in pieces", 60_000);
+fn cells_fall_back_at_each_distance_from_a_pieces_end() {
+    let compared = agreed(injected_in_cells_in_pieces(&PROVED));
+    compared.report("cells with injected bytes, in pieces", 60_000);
 }
 
 // ---- the limits of a record
 
-/// A long record's dialect, what stands before its filler, what is filled in, what stands behind it, and the ending.
+/// A long record's dialect, what is before its filler, what is filled in, what is after it, and the ending.
 const LONG: [(u32, &str, &str, &str, &str); 8] = [
     (1, "\"", "x", "\",\"Harbours\"", "\n"),
     (1, "\"", "\u{e9}", "\",\"x\"", "\r\n"),
@@ -325,14 +325,14 @@ const LONG: [(u32, &str, &str, &str, &str); 8] = [
     (3, "", "\u{6771}", ",x", "\r\n"),
     (3, "\"", "x", "\",\"Harbours\"", "\r\n"),
 ];
-/// A plain record of a few bytes less than the most is too long for a target that quotes its cells.
+/// An unquoted record of a few bytes less than the most is too long for a target that quotes its cells.
 const LENGTHS: RangeInclusive<usize> = RECORD_BYTES - 6..=RECORD_BYTES + 4;
-/// How far from a record's end something odd is put.
+/// How far from a record's end bytes are injected.
 const NEAR: usize = 4;
 
-/// Records of about as many bytes as a record may have, with something odd in place of each byte near their end, and files that end there.
-/// A piece begins with the record, or, with a few of what is odd, each piece has 64 bytes.
-fn odd_long_records(calls: &Calls) -> Result<Compared, String> {
+/// Records of about as many bytes as a record may have, with injected bytes in place of each byte near their end, and files that end there.
+/// A piece begins with the record, or, with a few of the injected bytes, each piece has 64 bytes.
+fn injected_long_records(calls: &Calls) -> Result<Compared, String> {
     let mut compared = Compared::default();
     let mut pieces = PieceComparison::new(calls.pieces);
     let mut agrees = |dialect: u32, file: &[u8], start: usize| {
@@ -350,12 +350,16 @@ fn odd_long_records(calls: &Calls) -> Result<Compared, String> {
             let file = format!("{before}{open}{filler}{close}{ending}\"Harbour\",\"2\"\n");
             let (file, start) = (file.as_bytes(), before.len());
             for place in start + length - NEAR..=start + length {
-                for odd in ODD {
-                    agrees(dialect, &replaced(file, place, odd), start)?;
+                for injected in INJECTED {
+                    agrees(dialect, &replaced(file, place, injected), start)?;
                 }
-                for odd in FEW_ODD {
-                    let odd = replaced(file, place, odd);
-                    small_pieces.calls_agree(dialect, target_of(dialect), &in_pieces(&odd, 64))?;
+                for injected in FEW_INJECTED {
+                    let injected = replaced(file, place, injected);
+                    small_pieces.calls_agree(
+                        dialect,
+                        target_of(dialect),
+                        &in_pieces(&injected, 64),
+                    )?;
                 }
                 agrees(dialect, &file[..place], start)?;
             }
@@ -365,14 +369,14 @@ fn odd_long_records(calls: &Calls) -> Result<Compared, String> {
 }
 
 #[test]
-fn records_may_be_odd_at_each_distance_from_their_limit() {
-    let compared = agreed(odd_long_records(&PROVED));
+fn records_fall_back_at_each_distance_from_their_limit() {
+    let compared = agreed(injected_long_records(&PROVED));
     let numbers = [0, 2, 3, 4, 5, 8, 9];
-    compared.tell_reports("files about a record's limit", 15_000, &numbers, 100);
+    compared.report_numbers("files about a record's limit", 15_000, &numbers, 100);
 }
 
-/// How a cell is spelt in a record of many, given its number.
-type Spelling = fn(usize) -> String;
+/// How a cell is encoded in a record of many, given its number.
+type Encoding = fn(usize) -> String;
 
 fn quoted(number: usize) -> String {
     format!("\"{number}\"")
@@ -382,32 +386,32 @@ fn bare(number: usize) -> String {
     number.to_string()
 }
 
-const WIDE: [(u32, Spelling); 5] = [(1, quoted), (1, bare), (2, quoted), (3, bare), (3, quoted)];
+const WIDE: [(u32, Encoding); 5] = [(1, quoted), (1, bare), (2, quoted), (3, bare), (3, quoted)];
 
-fn wide_record(cells: usize, spelling: Spelling) -> String {
-    let cells: Vec<String> = (1..=cells).map(spelling).collect();
+fn wide_record(cells: usize, encoding: Encoding) -> String {
+    let cells: Vec<String> = (1..=cells).map(encoding).collect();
     cells.join(",") + "\n"
 }
 
-/// Records of about as many cells as a record may have, under a header of about as many, with something odd in place of each byte near
+/// Records of about as many cells as a record may have, under a header of about as many, with injected bytes in place of each byte near
 /// their end. A piece begins with the record.
-fn odd_wide_records(calls: &Calls, odd: &[&[u8]]) -> Result<Compared, String> {
+fn injected_wide_records(calls: &Calls, injected: &[&[u8]]) -> Result<Compared, String> {
     let mut compared = Compared::default();
     let mut pieces = PieceComparison::new(calls.pieces);
-    for (dialect, spelling) in WIDE {
+    for (dialect, encoding) in WIDE {
         for columns in COLUMNS - 1..=COLUMNS + 1 {
             for cells in columns - 1..=columns + 1 {
                 let header = wide_record(columns, quoted);
-                let before = header.clone() + &wide_record(columns, spelling);
-                let record = wide_record(cells, spelling);
+                let before = header.clone() + &wide_record(columns, encoding);
+                let record = wide_record(cells, encoding);
                 let (start, end) = (before.len(), before.len() + record.len());
                 let file = before + &record + &header;
                 for place in end - NEAR..end {
-                    for odd in odd {
-                        let odd = replaced(file.as_bytes(), place, odd);
-                        compared.whole(calls, dialect, &odd, 5 * COLUMNS)?;
+                    for injected in injected {
+                        let injected = replaced(file.as_bytes(), place, injected);
+                        compared.whole(calls, dialect, &injected, 5 * COLUMNS)?;
                         let cuts = [start].into_iter();
-                        pieces.cuts_agree(dialect, target_of(dialect), &odd, cuts)?;
+                        pieces.cuts_agree(dialect, target_of(dialect), &injected, cuts)?;
                     }
                 }
             }
@@ -417,23 +421,28 @@ fn odd_wide_records(calls: &Calls, odd: &[&[u8]]) -> Result<Compared, String> {
 }
 
 #[test]
-fn records_may_be_odd_at_each_distance_from_the_limit_of_columns() {
-    let compared = agreed(odd_wide_records(&PROVED, &FEW_ODD));
+fn records_fall_back_at_each_distance_from_the_limit_of_columns() {
+    let compared = agreed(injected_wide_records(&PROVED, &FEW_INJECTED));
     let numbers = [0, 2, 3, 5, 8];
-    compared.tell_reports("files about the limit of columns", 1_500, &numbers, 20);
+    compared.report_numbers("files about the limit of columns", 1_500, &numbers, 20);
 }
 
 // ---- pieces
 
 /// Files cut in two at each place, each converted to one dialect, or to all.
-fn odd_and_cut(calls: &Calls, files: &[(u32, &str)], to_all: bool) -> Result<Compared, String> {
+fn injected_and_cut(
+    calls: &Calls,
+    files: &[(u32, &str)],
+    to_all: bool,
+) -> Result<Compared, String> {
     let mut pieces = PieceComparison::new(calls.pieces);
     let mut compared = Compared::default();
     for (source, file) in files {
-        for odd in odd_files(file.as_bytes()) {
+        for injected in injected_files(file.as_bytes()) {
             let targets = DIALECTS.map(|(target, _)| target).into_iter();
             for target in targets.filter(|target| to_all || *target == target_of(*source)) {
-                compared.inputs += pieces.cuts_agree(*source, target, &odd, 0..=odd.len())?;
+                compared.inputs +=
+                    pieces.cuts_agree(*source, target, &injected, 0..=injected.len())?;
             }
         }
     }
@@ -441,21 +450,25 @@ fn odd_and_cut(calls: &Calls, files: &[(u32, &str)], to_all: bool) -> Result<Com
 }
 
 #[test]
-fn odd_files_may_be_cut_at_each_place() {
+fn injected_files_are_cut_at_each_place() {
     const CUTS: usize = 400_000;
-    let compared = agreed(odd_and_cut(&PROVED, &CUT, false));
-    compared.tell("cuts of odd files", CUTS);
+    let compared = agreed(injected_and_cut(&PROVED, &CUT, false));
+    compared.report("cuts of files with injected bytes", CUTS);
 }
 
-/// Files cut in three at each two places, of all odd ones one in so many.
-fn odd_and_cut_twice(calls: &Calls, one_in: usize) -> Result<Compared, String> {
+/// Files cut in three at each two places, one in `one_in` of those with injected bytes.
+fn injected_and_cut_twice(calls: &Calls, one_in: usize) -> Result<Compared, String> {
     let mut pieces = PieceComparison::new(calls.pieces);
     let mut compared = Compared::default();
     for (source, file) in CUT {
-        for odd in odd_files(file.as_bytes()).step_by(one_in) {
-            for second in 0..=odd.len() {
+        for injected in injected_files(file.as_bytes()).step_by(one_in) {
+            for second in 0..=injected.len() {
                 for first in 0..=second {
-                    let parts = [&odd[..first], &odd[first..second], &odd[second..]];
+                    let parts = [
+                        &injected[..first],
+                        &injected[first..second],
+                        &injected[second..],
+                    ];
                     let [first, second, third] = parts.map(|part| Call::Piece(part, PIECE_ROOM));
                     let calls = [first, second, third, Call::End(PIECE_ROOM)];
                     pieces.calls_agree(source, target_of(source), &calls)?;
@@ -467,18 +480,18 @@ fn odd_and_cut_twice(calls: &Calls, one_in: usize) -> Result<Compared, String> {
     Ok(compared)
 }
 
-/// It has no divisor with the number of odd files at a place, so that each of these comes in turn.
+/// It has no divisor in common with the number of files for a place, so that each kind of them is taken.
 const ONE_IN: usize = 97;
 
 #[test]
-fn odd_files_may_be_cut_at_each_two_places() {
-    let compared = agreed(odd_and_cut_twice(&PROVED, ONE_IN));
-    compared.tell("odd files cut twice", 80_000);
+fn injected_files_are_cut_at_each_two_places() {
+    let compared = agreed(injected_and_cut_twice(&PROVED, ONE_IN));
+    compared.report("files with injected bytes, cut twice", 80_000);
 }
 
 // ---- the limit of a file
 
-/// A last record: the dialect, and what stands before and behind its filler. Of two, the first is ordinary and the second odd.
+/// A last record: the dialect, and what is before and after its filler. Of two, the first stays on the fast path and the second falls back.
 const LAST: [(u32, [(&str, &str); 2]); 3] = [
     (3, [("\"1\",\"", "\"\r\n"), ("1,", "")]),
     (2, [("\"1\",\"", "\"\n"), ("#c\n\"1\",\"", "\"\"\"\r")]),
@@ -492,9 +505,9 @@ fn full_files(calls: &Calls, in_all: bool) -> Result<Compared, String> {
     let mut pieces = PieceComparison::new(&calls.pieces[..1]);
     let record = format!("\"Harbour\",\"{}\"\r\n", "West Harbour ".repeat(200));
     for more in 0..=2 {
-        for (turn, (dialect, last)) in LAST.into_iter().enumerate() {
+        for (index, (dialect, last)) in LAST.into_iter().enumerate() {
             for (which, last) in last.into_iter().enumerate() {
-                if !in_all && (turn + more + which) % LAST.len() != 0 {
+                if !in_all && (index + more + which) % LAST.len() != 0 {
                     continue;
                 }
                 let (target, length) = (target_of(dialect), FILE_BYTES + more);
@@ -512,9 +525,9 @@ fn full_files(calls: &Calls, in_all: bool) -> Result<Compared, String> {
 }
 
 #[test]
-fn files_may_be_odd_at_their_limit() {
+fn files_fall_back_at_their_limit() {
     let compared = agreed(full_files(&PROVED, false));
-    compared.tell("files about the limit", 6);
+    compared.report("files about the limit", 6);
     let numbers = |number| DIALECTS.map(|(dialect, _)| compared.reports.of(dialect, number));
     assert_eq!(numbers(0).iter().sum::<usize>(), 2);
     assert_eq!(numbers(8).iter().sum::<usize>(), 4);
@@ -524,15 +537,18 @@ fn files_may_be_odd_at_their_limit() {
 
 #[test]
 #[ignore = "it takes minutes; the others cut shorter files, each to one dialect, and fewer of them twice"]
-fn all_odd_files_may_be_cut_anywhere() {
+fn all_injected_files_are_cut_anywhere() {
     let compared = agreed(full_files(&PROVED, true));
-    compared.tell("files about the limit", 18);
-    let compared = agreed(odd_wide_records(&PROVED, &ODD));
-    compared.tell("files about the limit of columns", 6_000);
-    let compared = agreed(odd_and_cut_twice(&PROVED, 5));
-    compared.tell("odd files cut twice", 1_500_000);
-    let compared = agreed(odd_and_cut(&PROVED, &ORDINARY, true));
-    compared.tell("cuts of odd files to all dialects", 16_000_000);
+    compared.report("files about the limit", 18);
+    let compared = agreed(injected_wide_records(&PROVED, &INJECTED));
+    compared.report("files about the limit of columns", 6_000);
+    let compared = agreed(injected_and_cut_twice(&PROVED, 5));
+    compared.report("files with injected bytes, cut twice", 1_500_000);
+    let compared = agreed(injected_and_cut(&PROVED, &ORDINARY, true));
+    compared.report(
+        "cuts of files with injected bytes to all dialects",
+        16_000_000,
+    );
 }
 
 // ---- wrong calls
@@ -650,16 +666,16 @@ const fn wrong_pieces(pieces: &'static [PieceConverter]) -> Calls {
 
 const WRONG: [(&str, Wrong); 9] = [
     (
-        "a byte that breaks UTF-8 behind seven clean ones is passed over",
-        (wrong_reader(PASSES_OVER_80), odd_in_words),
+        "a byte that breaks UTF-8 after seven clean ones is passed over",
+        (wrong_reader(PASSES_OVER_80), injected_in_words),
     ),
     (
         "a CR ends a record of CSVJ and CSV+",
-        (wrong_reader(ENDS_BY_CR), odd_at_each_place),
+        (wrong_reader(ENDS_BY_CR), injected_at_each_place),
     ),
     (
         "a record of 4,096 bytes is too long",
-        (wrong_reader(REFUSES_FULL_RECORDS), odd_long_records),
+        (wrong_reader(REFUSES_FULL_RECORDS), injected_long_records),
     ),
     (
         "a file of 16,777,215 bytes is too long",
@@ -668,32 +684,32 @@ const WRONG: [(&str, Wrong); 9] = [
         }),
     ),
     (
-        "a quote behind eight clean bytes is copied as it stands",
-        (wrong_converter(COPIES_A_QUOTE), odd_in_words),
+        "a quote after eight clean bytes is copied as it is",
+        (wrong_converter(COPIES_A_QUOTE), injected_in_words),
     ),
     (
         "a record of 64 cells has too many",
         (wrong_converter(REFUSES_64_CELLS), |calls| {
-            odd_wide_records(calls, &FEW_ODD)
+            injected_wide_records(calls, &FEW_INJECTED)
         }),
     ),
     (
         "a character that is cut is lost",
         (wrong_pieces(&[LOSES_A_CUT_CHARACTER]), |calls| {
-            odd_and_cut(calls, &CUT, false)
+            injected_and_cut(calls, &CUT, false)
         }),
     ),
     (
-        "a quote behind a piece's text is taken for text",
+        "a quote after a piece's text is taken for text",
         (
             wrong_pieces(&[TAKES_A_LAST_QUOTE_FOR_TEXT]),
-            odd_in_cells_in_pieces,
+            injected_in_cells_in_pieces,
         ),
     ),
     (
         "an empty piece ends the file",
         (wrong_pieces(&[ENDS_BY_AN_EMPTY_PIECE]), |calls| {
-            odd_and_cut_twice(calls, ONE_IN)
+            injected_and_cut_twice(calls, ONE_IN)
         }),
     ),
 ];

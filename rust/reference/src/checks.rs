@@ -39,12 +39,12 @@ pub(crate) struct Progress {
 pub(crate) enum Rest {
     /// They end between records.
     Nothing,
-    /// They end inside a mark, comment or record.
+    /// They end inside a byte order mark, comment or record.
     Unfinished,
 }
 
 impl Progress {
-    /// Judges the records one by one and hands the sound ones over, up to the first fault.
+    /// Checks the records one by one and passes on the sound ones, up to the first fault.
     pub(crate) fn run(
         &mut self,
         dialect: Dialect,
