@@ -1,5 +1,18 @@
-//! The command `hemakuliwi`: converts, checks and shows tables in CSVJ, TDIF and CSV+. What a file means is told by the proved library
-//! alone; this program reads and writes, and says what the library answers in words.
+//! The command `hemakuliwi`: converts, checks and shows tables in CSVJ, TDIF and CSV+. Which files are accepted and what is written is
+//! decided by the proved library alone; this program reads and writes, and puts the library's answers into words.
+//!
+//! - `args`, `help`, `nearest`: the words of a command line.
+//! - `input`, `output`, `standard`, `failure`: files, and the standard streams where they are closed.
+//! - `system`: two calls of the operating system, for a stream that is closed and for the width of a terminal: the only code that Rust does
+//!   not check.
+//! - `commands`, `convert`, `show`, `progress`: what each command does.
+//! - `lines`, `cells`, `trail`: where a byte lies in a text that comes in pieces.
+//! - `scene`, `hints`, `explain`, `diagnosis`: what is around a fault, what people usually get wrong, the faults in words.
+//! - `foreign`, `windows_1252`, `look_alikes`: other types of files, encodings, and characters that look like others, for the hints.
+//! - `excerpt`, `report`, `json`, `paint`, `printable`, `width`: how it is printed.
+//!
+//! `share/` has the man page and the completions. `tests/` runs the command as a person does; `tests/refusals` has the report for each
+//! fault, reason and hint.
 
 mod args;
 mod cells;

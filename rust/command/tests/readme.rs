@@ -1,4 +1,4 @@
-//! The commands in the documents, and what they are said to write.
+//! The commands in the README, and their output.
 
 mod common;
 
@@ -33,19 +33,16 @@ fn examples(document: &str) -> Vec<(String, String)> {
 }
 
 #[test]
-fn the_examples_of_the_documents_are_exact() {
-    let mut run = 0;
-    for document in ["README.md", "rust/command/README.md"] {
-        let document = fs::read_to_string(repository().join(document)).expect("a document");
-        for (command, expected) in examples(&document) {
-            let command = command.replace("./hemakuliwi ", "\"$command\" ");
-            let told = shell(
-                &format!("cd '{}'; {{ {command}; }} 2>&1", text(repository())),
-                b"",
-            );
-            assert_eq!(told.told, expected, "{command}");
-            run += 1;
-        }
+fn the_examples_of_the_readme_are_exact() {
+    let document = fs::read_to_string(repository().join("README.md")).expect("the README");
+    let examples = examples(&document);
+    for (command, expected) in &examples {
+        let command = command.replace("./hemakuliwi ", "\"$command\" ");
+        let run = shell(
+            &format!("cd '{}'; {{ {command}; }} 2>&1", text(repository())),
+            b"",
+        );
+        assert_eq!(run.told, *expected, "{command}");
     }
-    assert!(run >= 3, "{run} examples");
+    assert!(examples.len() >= 3, "{} examples", examples.len());
 }
