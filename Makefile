@@ -1,5 +1,5 @@
 # `make` builds the library, as an archive and as a shared library of the same objects. `make install PREFIX=..` installs both with the
-# header and the pkg-config file, and the command with its texts; `make uninstall` takes all of it away again. No library is built whose
+# header and the pkg-config file, and the command with its texts; `make uninstall` removes all of it. No library is built whose
 # proof does not pass.
 #
 # All rules are here. For make's own it would look at each source, which takes twenty times as long.
@@ -12,7 +12,7 @@ INSTALL ?= install
 
 version := $(shell sed -n 's/^#define HK_VERSION "\(.*\)"/\1/p' include/hemakuliwi.h)
 library := target/staticlib/libhemakuliwi.a
-# The file of the shared library, the name that programs ask the loader for, and the name that the linker looks for.
+# The file of the shared library, the name that programs require of the loader, and the name that the linker looks for.
 shared_name := libhemakuliwi.so.$(version)
 loader_name := libhemakuliwi.so.$(basename $(basename $(version)))
 linker_name := libhemakuliwi.so

@@ -1,7 +1,7 @@
 #!/usr/bin/env bash
 # Passes the tests: the layout of the Rattle files, the proofs, what refused each must-fail edit, the library that the proofs allow, the
 # vectors computed by the definitions, and the tests of the program, of the command and of callers in Rust, C, C++ and, where it is
-# installed, Python. Stops at the first failure and says where. The last line is the verdict of `rt ci`, and stands there only if everything
+# installed, Python. Stops at the first failure and reports where. The last line is that of `rt ci`, and is printed only if everything
 # passed.
 set -euo pipefail
 cd "$(dirname "$0")"
@@ -60,7 +60,7 @@ refusals() {
   cargo run --offline --quiet --package harness --no-default-features --bin edit_logs
 }
 
-# A repository of two crates: the definitions, and every vector as an equation that the prover computes. It stands outside this
+# A repository of two crates: the definitions, and every vector as an equation that the prover computes. It is outside this
 # repository, where `rt ci` would find crates that it does not know.
 vectors_by_definitions() {
   cargo run --release --offline --quiet --package harness --no-default-features --bin definitions -- "$scratch/definitions"

@@ -1,5 +1,5 @@
 #!/usr/bin/env bash
-# Tries whether the boundary tells wrong libraries by its seeds: fuzz/check.sh. It needs the library (`make`), gcc and python3.
+# Tries whether the seeds of the boundary notice wrong libraries: fuzz/check.sh. It needs the library (`make`), gcc and python3.
 set -euo pipefail
 cd "$(dirname "$0")/.."
 scratch=$(mktemp -d)
@@ -14,10 +14,10 @@ python3 fuzz/seeds.py "$scratch/seeds"
 missed=0
 for ((wrong = 1; wrong <= wrongs; wrong++)); do
   if said=$( (WRONG=$wrong "$scratch/replay" "$scratch"/seeds/*) 2>&1 >/dev/null); then
-    said='NOT TOLD'
+    said='NOT NOTICED'
     missed=$((missed + 1))
   fi
   echo "$wrong: ${said:-ended by a guard page}"
 done
-echo "$((wrongs - missed)) of $wrongs wrong libraries are told"
+echo "$((wrongs - missed)) of $wrongs wrong libraries are noticed"
 [[ $missed -eq 0 ]]

@@ -45,7 +45,7 @@ struct hk_read_answer __wrap_hk_read(uint32_t dialect, const uint8_t *file, size
     if (is_wrong(4) && is_accepted && answer.cells > 1) { /* a cell ends too early */
         ends[1] -= ends[1] > starts[1];
     }
-    if (is_wrong(5) && answer.report.number == HK_ROOM) { /* too few places are not told */
+    if (is_wrong(5) && answer.report.number == HK_ROOM) { /* too few places are not reported */
         answer.report.number = HK_ACCEPTED;
     }
     return answer;

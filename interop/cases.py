@@ -1,4 +1,4 @@
-"""The tables of the trials, and how one is told from another."""
+"""The tables of the trials, and how they are compared."""
 
 import json
 

@@ -1,5 +1,5 @@
 """The other programs: how each reads a file of ours, and how each writes one for us. A reader takes the bytes of a file and gives records,
-a writer takes records and gives the bytes of a file; either may refuse. A reader is told the header, as some have to know it before."""
+a writer takes records and gives the bytes of a file; either may refuse. A reader is given the header, as some have to know it before."""
 
 import csv
 import io

@@ -16,7 +16,7 @@ OURS = ROOT / "target/bin/program"
 
 
 def convert(source, target, file):
-    """Our program tells a refusal on standard error, and keeps what was sound before it."""
+    """Our program reports a refusal on standard error, after it has written the records before it."""
     done = subprocess.run([OURS, source, target], input=file, capture_output=True)
     if done.stderr:
         raise Refused("ours: " + done.stderr.decode().strip())
@@ -36,10 +36,10 @@ def we_read(program, table):
 
 
 def outcome(trial, program, table):
-    """A mark for the table, and what is to be said below it."""
+    """A sign for the table, and what is to be printed below it."""
     try:
-        told = trial(program, table)
-        return ("=", None) if told is None else ("*", told)
+        found = trial(program, table)
+        return ("=", None) if found is None else ("*", found)
     except NotCarried:
         return "-", None
     except Refused as refused:
@@ -63,8 +63,8 @@ def print_table(title, rows, columns):
     width = max(map(len, CASES)) + 1
     for index, name in enumerate(columns):
         print(" " * width + "| " * index + name)
-    for case, marks in rows.items():
-        print(f"{case:<{width}}" + " ".join(marks))
+    for case, signs in rows.items():
+        print(f"{case:<{width}}" + " ".join(signs))
 
 
 def main():
@@ -82,10 +82,10 @@ def main():
                 rows = {case: [] for case in CASES}
                 for program in tried:
                     for case, table in CASES.items():
-                        mark, told = outcome(trial, program, table)
-                        rows[case].append(mark)
-                        if told is not None:
-                            said.append(f"{title}: {program.name}: {case}: {told}")
+                        sign, found = outcome(trial, program, table)
+                        rows[case].append(sign)
+                        if found is not None:
+                            said.append(f"{title}: {program.name}: {case}: {found}")
                 print_table(title, rows, [program.name for program in tried])
             print("\n" + "\n".join(f"{program.name}: {program.version()}" for program in programs) + "\n")
             print("\n".join(said))
