@@ -25,7 +25,7 @@ use Rattle.grammar.specs.dialects.Derives.{Derives}
 use Rattle.grammar.specs.dialects.FormReads.{decodedLine}
 use Rattle.grammar.specs.Accepted.{Acceptable, cellCount, ShowsRecord}
 use Rattle.grammar.proofs.dialects.FileGrammar.{LinesDerived, lines-derived, file-derived, some-decoded, derived-reads, reads-derived, unambiguous}
-use Rattle.grammar.proofs.Checks.{each-length, checks-all, all-checks}
+use Rattle.grammar.proofs.RecordChecks.{each-length, checks-all, all-checks}
 use Rattle.grammar.proofs.DerivationState.{joined, joined-rest, fit-rest, rest-fit, Lies, tidy-rest}
 use Rattle.grammar.proofs.AcceptedIf.{Some, some, Accepted, accepted as accepted-with, Ready, reads-accepted}
 use Rattle.grammar.proofs.AcceptedOnly.{stopped-going, Facts, Outcome, outcome, accepted-comes}

@@ -20,8 +20,8 @@ use Rattle.grammar.specs.dialects.FormReads.{Reads, decoded}
 use Rattle.grammar.specs.dialects.FormReads as reading
 use Rattle.grammar.specs.Accepted.{ShowsCell, ShowsRecord}
 use Rattle.model.proofs.file_laws.FileSteps.{Transition, tail-uncounted, ends-uncounted, its-transition}
-use Rattle.grammar.proofs.Stages.{at-rest, stageOf, Recording, cell-stage, between-stage, tail-stage, ends-stage}
-use Rattle.grammar.proofs.Checks.{LineSound, ChecksFrom, checks-next, record-sound-checked}
+use Rattle.grammar.proofs.StepStages.{at-rest, stageOf, Recording, cell-stage, between-stage, tail-stage, ends-stage}
+use Rattle.grammar.proofs.RecordChecks.{LineSound, ChecksFrom, checks-next, record-sound-checked}
 use Rattle.grammar.proofs.DerivationState.{each-snoc, length-snoc, joined, joined-rest, joined-of-cell, joined-between, joined-between-closing}
 use Rattle.grammar.proofs.DerivationState.{joined-tail-closing, joined-ends, joined-ends-closing, Fit, fit-line, fit-rest, Lies, closes-now}
 use Rattle.grammar.proofs.DerivationState.{stands-reset, stands-more, Rested, rested, Parted, parted, Ended, ended, recording-tidy, rest-tidy}

@@ -26,9 +26,9 @@ use Rattle.grammar.specs.rfc.Derived.{Derived, Line, line, every-none, E
 use Rattle.grammar.specs.dialects.FormReads.{Reads, decoded, decodedLine}
 use Rattle.grammar.specs.dialects.FormReads as reading
 use Rattle.grammar.specs.Accepted.{ShowsCell, ShowsRecord}
-use Rattle.grammar.proofs.Stages.{Stage, at-rest, in-cell, stageOf, Recording, record-open, cell-open, NoCell, outside-rests, passed-rests}
-use Rattle.grammar.proofs.Stages.{cell-stage, between-stage, tail-stage, ends-stage, between-no-cell, tail-no-cell, ends-no-cell}
-use Rattle.grammar.proofs.Checks.{LineSound, ChecksFrom, checks-none, checks-next, record-checked}
+use Rattle.grammar.proofs.StepStages.{Stage, at-rest, in-cell, stageOf, Recording, record-open, cell-open, NoCell, outside-rests, passed-rests}
+use Rattle.grammar.proofs.StepStages.{cell-stage, between-stage, tail-stage, ends-stage, between-no-cell, tail-no-cell, ends-no-cell}
+use Rattle.grammar.proofs.RecordChecks.{LineSound, ChecksFrom, checks-none, checks-next, record-checked}
 use Rattle.grammar.proofs.DerivationState.{each-snoc, length-snoc, joined, joined-rest, joined-of-cell, joined-between, joined-between-closing}
 use Rattle.grammar.proofs.DerivationState.{joined-tail-closing, joined-ends, joined-ends-closing, Fit, fit-none, fit-line, rest-fit, Lies}
 use Rattle.grammar.proofs.DerivationState.{closes-now, stands-reset, stands-more, Rested, rested, Parted, parted, recording-tidy, rest-tidy}

@@ -16,9 +16,9 @@ use Rattle.grammar.specs.rfc.Derived.{Derived, Line, line, textIn, Every
 use Rattle.grammar.specs.dialects.FormReads.{decoded, decodedLine}
 use Rattle.grammar.specs.Accepted.{ShowsCell, ShowsRecord}
 use Rattle.model.proofs.file_laws.FileSteps.{Transition, between-counts, tail-uncounted, ends-uncounted}
-use Rattle.grammar.proofs.Stages.{Stage, at-rest, in-record, in-cell, stageOf, Recording, record-open, cell-open, NoCell, none-at-rest}
-use Rattle.grammar.proofs.Stages.{none-in-record, outside-rests, passed-rests, between-stage, tail-stage, ends-stage, between-no-cell}
-use Rattle.grammar.proofs.Stages.{tail-no-cell, ends-no-cell}
+use Rattle.grammar.proofs.StepStages.{Stage, at-rest, in-record, in-cell, stageOf, Recording, record-open, cell-open, NoCell, none-at-rest}
+use Rattle.grammar.proofs.StepStages.{none-in-record, outside-rests, passed-rests, between-stage, tail-stage, ends-stage, between-no-cell}
+use Rattle.grammar.proofs.StepStages.{tail-no-cell, ends-no-cell}
 
 pub each-snoc :
     {A B : Type 0} {R : A → B → Type 0} {xs : List A} {ys : List B} {x : A} {y : B} → Each R xs ys → R x y →

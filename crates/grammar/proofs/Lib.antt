@@ -3,13 +3,13 @@ pub mod rfc
 pub mod AbsentInFiles
 pub mod dialects
 pub mod Absent
-pub mod Stages
-pub mod Checks
+pub mod StepStages
+pub mod RecordChecks
 pub mod DerivationState
 pub mod AcceptedIf
 pub mod AcceptedOnly
 pub mod Acceptance
-pub mod Placed
+pub mod SameSpans
 pub mod ViablePrefixes
 pub mod Refused
 pub mod Theorems

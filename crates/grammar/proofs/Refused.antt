@@ -35,8 +35,8 @@ use Rattle.grammar.specs.Mistakes.{Mistakes, nameA, twoNames, tooLong}
 use Rattle.grammar.specs.NextByte.{ProceedsOn}
 use Rattle.grammar.specs.dialects.Spans.{span, stretches}
 use Rattle.grammar.proofs.rfc.Ranges.{range}
-use Rattle.grammar.proofs.dialects.Steps.{Finishes, clean, final, Takes, by-bytes, reads-once}
-use Rattle.grammar.proofs.dialects.Steps as steps
+use Rattle.grammar.proofs.dialects.FormSteps.{Finishes, clean, final, Takes, by-bytes, reads-once}
+use Rattle.grammar.proofs.dialects.FormSteps as steps
 use Rattle.grammar.proofs.AcceptedOnly.{stopped-going}
 
 -- ---- a file that is read by form takes the automaton to its end

@@ -33,8 +33,8 @@ use Rattle.grammar.specs.Exact.{Exact, ExactPlaces}
 use Rattle.grammar.specs.FileMistakes.{Misplacements}
 use Rattle.grammar.specs.Mistakes.{Mistakes}
 use Rattle.grammar.proofs.Acceptance.{acceptance, accepted-records, reader-acceptance}
-use Rattle.grammar.proofs.dialects.PlacedReads.{past-length}
-use Rattle.grammar.proofs.Placed.{same-spans, reader-spans}
+use Rattle.grammar.proofs.dialects.ReadsWithSpans.{past-length}
+use Rattle.grammar.proofs.SameSpans.{same-spans, reader-spans}
 use Rattle.grammar.proofs.ViablePrefixes.{can-go-on, next-byte-exact}
 use Rattle.grammar.proofs.Refused.{refused, refused-places}
 

@@ -19,7 +19,7 @@ use Rattle.grammar.specs.rfc.Derived.{Line, line}
 use Rattle.grammar.specs.dialects.FormReads.{Reads, decodedLine}
 use Rattle.grammar.specs.dialects.FormReads as reading
 use Rattle.grammar.specs.NextByte.{ProceedsOn, NextByte}
-use Rattle.grammar.proofs.Stages.{in-cell, stageOf, cell-stage, ends-next}
+use Rattle.grammar.proofs.StepStages.{in-cell, stageOf, cell-stage, ends-next}
 use Rattle.grammar.proofs.AcceptedOnly.{HasCell, has-cell, reads-cell}
 use Rattle.grammar.proofs.dialects.FileGrammar.{derived-reads, reads-derived}
 

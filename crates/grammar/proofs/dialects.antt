@@ -2,9 +2,9 @@ pub mod TdifCells
 pub mod PlusCells
 pub mod CsvjCells
 pub mod CellGrammar
-pub mod Steps
+pub mod FormSteps
 pub mod Separators
-pub mod PlacedReads
+pub mod ReadsWithSpans
 pub mod CellReads
 pub mod Delimited
 pub mod Continuations

@@ -1,7 +1,7 @@
 pub mod Ranges
 pub mod Chars
 pub mod Texts
-pub mod Spelling
+pub mod WholeCells
 pub mod Doubled
 pub mod Numbers
 pub mod Strings

@@ -32,7 +32,7 @@ use Rattle.model.proofs.round_trip.TableText.{row-length}
 use Rattle.model.proofs.round_trip.RoundTrip.{accepts, fitted-fits, Wrote, writer-wrote}
 use Rattle.model.proofs.round_trip.WriterBack.{next-none}
 use Rattle.model.proofs.round_trip.AllTrips.{trips}
-use Rattle.grammar.proofs.Checks.{not-text, among-cons, cons-among}
+use Rattle.grammar.proofs.RecordChecks.{not-text, among-cons, cons-among}
 use Rattle.theorems.specs.Demands.{DistinctNames, no-names, a-name, CarriedTable}
 
 module _ (t : Dialect) where

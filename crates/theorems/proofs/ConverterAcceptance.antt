@@ -37,7 +37,7 @@ use Rattle.model.proofs.round_trip.WriterBack.{next-none}
 use Rattle.grammar.specs.rfc.Derived.{Derived, kindIn, Line, cellsIn, Every, every-none, every-cons, Each, each-none, each-cons}
 use Rattle.grammar.specs.Accepted.{Acceptable, ChecksHold, checks-hold, ShowsCell, ShowsRecord}
 use Rattle.grammar.proofs.Acceptance.{ReadAs, read-as, acceptable-read, AcceptedAs, accepted-as, read-acceptable}
-use Rattle.grammar.proofs.Checks.{each-length}
+use Rattle.grammar.proofs.RecordChecks.{each-length}
 use Rattle.grammar.proofs.Theorems.{same-records}
 use Rattle.theorems.specs.Demands.{ReportsFile, CarriedTable, valueIn, rowIn}
 use Rattle.theorems.specs.Demands as told

@@ -19,7 +19,7 @@ use Rattle.model.proofs.round_trip.RoundTrip.{reader-known}
 use Rattle.grammar.specs.rfc.Derived.{Derived, kindIn, contentIn, Line, cellsIn, Each, each-none, each-cons}
 use Rattle.grammar.specs.Accepted.{Acceptable, ChecksHold, cellCount, ShowsCell, ShowsRecord}
 use Rattle.grammar.proofs.Acceptance.{ten, ReadAs, read-as, acceptable-read}
-use Rattle.grammar.proofs.Checks.{each-length}
+use Rattle.grammar.proofs.RecordChecks.{each-length}
 use Rattle.grammar.proofs.Theorems.{reader-exactly}
 use Rattle.theorems.specs.Demands.{columnsIn, AsDerived}
 

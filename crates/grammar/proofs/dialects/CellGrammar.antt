@@ -9,7 +9,7 @@ use Rattle.model.specs.rules.Decode.{validateCell}
 use Rattle.grammar.specs.rfc.Derived.{Derived, cell, rawOf}
 use Rattle.grammar.specs.dialects.Derives.{DerivesCell}
 use Rattle.grammar.specs.dialects.FormReads.{decoded}
-use Rattle.grammar.proofs.rfc.Spelling.{Spells, DerivedFrom, derived-from, spells-validated, validated-spells}
+use Rattle.grammar.proofs.rfc.WholeCells.{Spells, DerivedFrom, derived-from, spells-validated, validated-spells}
 use Rattle.grammar.proofs.dialects.CsvjCells as csvj
 use Rattle.grammar.proofs.dialects.TdifCells as tdif
 use Rattle.grammar.proofs.dialects.PlusCells as plus

@@ -14,11 +14,11 @@ use Rattle.model.proofs.Tests.{impossible}
 use Rattle.model.proofs.cell_laws.CellContent.{no-more}
 use Rattle.grammar.specs.rfc.Derived.{Line, line}
 use Rattle.grammar.specs.dialects.Spans.{Span, span, past}
-use Rattle.grammar.proofs.rfc.Spelling.{Spells, whole, byte}
+use Rattle.grammar.proofs.rfc.WholeCells.{Spells, whole, byte}
 use Rattle.grammar.proofs.dialects.Separators.{Separates, Reached, reached-step, stops}
-use Rattle.grammar.proofs.dialects.PlacedReads.{Runs, of-cell}
-use Rattle.grammar.proofs.dialects.Steps.{Takes, rejected, stop-whole}
-use Rattle.grammar.proofs.dialects.Steps as steps
+use Rattle.grammar.proofs.dialects.ReadsWithSpans.{Runs, of-cell}
+use Rattle.grammar.proofs.dialects.FormSteps.{Takes, rejected, stop-whole}
+use Rattle.grammar.proofs.dialects.FormSteps as steps
 
 -- ---- a cell is read
 

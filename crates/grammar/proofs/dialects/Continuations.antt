@@ -25,8 +25,8 @@ use Rattle.grammar.specs.dialects.Tdif.{Remark, no-remark, commentdata, 
 use Rattle.grammar.specs.dialects.Tdif.{cr, lf, crlf}
 use Rattle.grammar.proofs.rfc.Ranges.{range}
 use Rattle.grammar.proofs.rfc.Chars.{Finishes, finished, finishing, long, long-data, whole-ascii}
-use Rattle.grammar.proofs.dialects.Steps.{Takes, rejected, by-bytes, cut-off}
-use Rattle.grammar.proofs.dialects.Steps as steps
+use Rattle.grammar.proofs.dialects.FormSteps.{Takes, rejected, by-bytes, cut-off}
+use Rattle.grammar.proofs.dialects.FormSteps as steps
 use Rattle.grammar.proofs.dialects.CellReads.{CellThen, cell-then, AfterByte, more-cell, in-cell-byte}
 
 -- what bytes give, and what they give after a cell: with the rest of the record's text and its cells

@@ -13,7 +13,7 @@ use Rattle.grammar.specs.rfc.Rfc8259.{encoded-false, encoded-null, encod
 use Rattle.grammar.specs.rfc.Derived.{Derived, rawOf}
 use Rattle.grammar.specs.dialects.FormReads.{decoded}
 use Rattle.grammar.specs.dialects.Csvj.{Value, a-false, a-null, a-true, a-number, a-string}
-use Rattle.grammar.proofs.rfc.Spelling.{Spells, whole, byte, DerivedFrom, derived-from, spelled, last-letter}
+use Rattle.grammar.proofs.rfc.WholeCells.{Spells, whole, byte, DerivedFrom, derived-from, spelled, last-letter}
 use Rattle.grammar.proofs.rfc.Numbers.{number-spells, spells-number, rest-negative, rest-nought, rest-positive, digit-nonzero, first-of-number}
 use Rattle.grammar.proofs.rfc.Numbers.{number-content}
 use Rattle.grammar.proofs.rfc.Strings.{chars-spell, spells-chars}

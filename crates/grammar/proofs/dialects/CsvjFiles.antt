@@ -18,13 +18,13 @@ use Rattle.grammar.specs.dialects.Csvj.{File, unmarked, marked, Csvj-fil
 use Rattle.grammar.specs.dialects.Csvj.{ended, Line-text, empty, filled, Values, value, values, Comma, comma, Line-terminator, lf, crlf, Ws}
 use Rattle.grammar.specs.dialects.Csvj.{no-ws, space, tab}
 use Rattle.grammar.specs.dialects.Csvj as csvj
-use Rattle.grammar.proofs.rfc.Spelling.{Spells}
+use Rattle.grammar.proofs.rfc.WholeCells.{Spells}
 use Rattle.grammar.proofs.dialects.CellGrammar.{derived-spells, spells-derived}
 use Rattle.grammar.proofs.dialects.Separators.{Separates, by-delimiter, by-cr, by-lf, by-space, by-tab}
-use Rattle.grammar.proofs.dialects.Steps.{Takes, rejected, cut-off}
-use Rattle.grammar.proofs.dialects.Steps as steps
-use Rattle.grammar.proofs.dialects.PlacedReads.{Runs, ends-clean, outside, passed, between, between-closing, tail, tail-closing, ends}
-use Rattle.grammar.proofs.dialects.PlacedReads.{ends-closing, from-state, past-append}
+use Rattle.grammar.proofs.dialects.FormSteps.{Takes, rejected, cut-off}
+use Rattle.grammar.proofs.dialects.FormSteps as steps
+use Rattle.grammar.proofs.dialects.ReadsWithSpans.{Runs, ends-clean, outside, passed, between, between-closing, tail, tail-closing, ends}
+use Rattle.grammar.proofs.dialects.ReadsWithSpans.{ends-closing, from-state, past-append}
 use Rattle.grammar.proofs.dialects.CellReads.{Follows, cell-reads, after-whole, FirstOfCell, first-of-cell, spells-first, other-byte, CellThen}
 use Rattle.grammar.proofs.dialects.CellReads.{cell-then, AfterByte, ended-before, ends-now}
 use Rattle.grammar.proofs.dialects.Continuations.{Grammar, MarkRest, mark-bb, AfterCr, then-lf, WantedThen, wanted-then, blank-ws, Then}

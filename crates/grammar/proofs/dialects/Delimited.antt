@@ -12,11 +12,11 @@ use Rattle.model.proofs.Tests.{same-byte}
 use Rattle.model.proofs.cell_laws.CellContent.{Doubles, d-tdif, d-plus}
 use Rattle.grammar.specs.rfc.Derived.{Line, line}
 use Rattle.grammar.specs.dialects.Spans.{Span, past, cellAt}
-use Rattle.grammar.proofs.rfc.Spelling.{Spells}
+use Rattle.grammar.proofs.rfc.WholeCells.{Spells}
 use Rattle.grammar.proofs.dialects.Separators.{Reached, by-delimiter}
-use Rattle.grammar.proofs.dialects.PlacedReads.{Runs, between-closing, past-append}
-use Rattle.grammar.proofs.dialects.Steps.{Takes}
-use Rattle.grammar.proofs.dialects.Steps as steps
+use Rattle.grammar.proofs.dialects.ReadsWithSpans.{Runs, between-closing, past-append}
+use Rattle.grammar.proofs.dialects.FormSteps.{Takes}
+use Rattle.grammar.proofs.dialects.FormSteps as steps
 use Rattle.grammar.proofs.dialects.CellReads.{Follows, cell-reads, after-whole, CellThen, cell-then, AfterByte, ended-before, ends-now}
 
 -- cell *( delimiter cell )

@@ -13,8 +13,8 @@ use Rattle.grammar.specs.dialects.Csvj as csvj
 use Rattle.grammar.specs.dialects.Tdif as tdif
 use Rattle.grammar.specs.dialects.CsvPlus as plus
 use Rattle.grammar.proofs.dialects.CellGrammar.{derived-content}
-use Rattle.grammar.proofs.dialects.Steps.{reads-once}
-use Rattle.grammar.proofs.dialects.PlacedReads.{Runs, reads}
+use Rattle.grammar.proofs.dialects.FormSteps.{reads-once}
+use Rattle.grammar.proofs.dialects.ReadsWithSpans.{Runs, reads}
 use Rattle.grammar.proofs.dialects.CsvjFiles as csvj-files
 use Rattle.grammar.proofs.dialects.TdifFiles as tdif-files
 use Rattle.grammar.proofs.dialects.PlusFiles as plus-files

@@ -28,7 +28,7 @@ use Rattle.grammar.specs.dialects.CsvPlus as plus
 use Rattle.grammar.specs.rfc.Types as types
 use Rattle.grammar.proofs.rfc.Ranges.{range}
 use Rattle.grammar.proofs.rfc.Chars.{Finishes, finished, finishing, Long, long, data-long, long-data, whole-ascii, first-high}
-use Rattle.grammar.proofs.rfc.Spelling.{Spells, whole, byte, DerivedFrom, derived-from, TextState, long-spells}
+use Rattle.grammar.proofs.rfc.WholeCells.{Spells, whole, byte, DerivedFrom, derived-from, TextState, long-spells}
 use Rattle.grammar.proofs.rfc.Doubled.{Doubled, no-char, ascii-char, long-char, two-quotes, doubled-spells, Closing, closing, spells-doubled}
 use Rattle.grammar.proofs.rfc.Doubled.{doubled-content}
 

@@ -21,12 +21,12 @@ use Rattle.grammar.specs.dialects.Spans.{Span, past, cellAt, plusHeader,
 use Rattle.grammar.specs.dialects.CsvPlus.{BeginsWithBom, bom, File, file, Table, header-unended, header-alone, header-then, Records, unended}
 use Rattle.grammar.specs.dialects.CsvPlus.{last, next, Header, a-name, names, Record, field, fields, name, comma, CRLF, lf, crlf}
 use Rattle.grammar.proofs.dialects.PlusCells.{COMMA}
-use Rattle.grammar.proofs.rfc.Spelling.{whole}
+use Rattle.grammar.proofs.rfc.WholeCells.{whole}
 use Rattle.grammar.proofs.dialects.CellGrammar.{derived-spells, spells-derived}
 use Rattle.grammar.proofs.dialects.Separators.{by-cr, by-lf}
-use Rattle.grammar.proofs.dialects.Steps.{Takes, rejected, at-end, cut-off}
-use Rattle.grammar.proofs.dialects.Steps as steps
-use Rattle.grammar.proofs.dialects.PlacedReads.{Runs, ends-clean, ends-final, tail-closing, ends, ends-closing, reads, from-state, with-cell-byte}
+use Rattle.grammar.proofs.dialects.FormSteps.{Takes, rejected, at-end, cut-off}
+use Rattle.grammar.proofs.dialects.FormSteps as steps
+use Rattle.grammar.proofs.dialects.ReadsWithSpans.{Runs, ends-clean, ends-final, tail-closing, ends, ends-closing, reads, from-state, with-cell-byte}
 use Rattle.grammar.proofs.dialects.CellReads.{Follows, cell-step, after-whole, CellThen, cell-then, AfterByte, ended-before, ends-now, more-cell}
 use Rattle.grammar.proofs.dialects.Delimited.{Cells, one-cell, more-cells, cellsAt, cells-read, RecordThen, record-then, After, at-tail}
 use Rattle.grammar.proofs.dialects.Delimited.{record-of, delimiter-taken}

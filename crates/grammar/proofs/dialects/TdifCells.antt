@@ -20,7 +20,7 @@ use Rattle.grammar.specs.dialects.Tdif.{Textdata, below-quote, above-quo
 use Rattle.grammar.specs.dialects.Tdif.{Field, a-null, a-value, Value}
 use Rattle.grammar.proofs.rfc.Ranges.{range}
 use Rattle.grammar.proofs.rfc.Chars.{data-long, long-data}
-use Rattle.grammar.proofs.rfc.Spelling.{Spells, whole, byte, DerivedFrom, derived-from, last-letter}
+use Rattle.grammar.proofs.rfc.WholeCells.{Spells, whole, byte, DerivedFrom, derived-from, last-letter}
 use Rattle.grammar.proofs.rfc.Doubled.{Doubled, no-char, ascii-char, long-char, two-quotes as doubled-quotes, doubled-spells, Closing, closing}
 use Rattle.grammar.proofs.rfc.Doubled.{spells-doubled, doubled-content}
 

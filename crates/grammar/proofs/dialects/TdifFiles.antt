@@ -27,9 +27,9 @@ use Rattle.grammar.specs.dialects.Tdif as tdif
 use Rattle.grammar.proofs.rfc.Chars.{Finishes, finished, finishing, Long, long, data-long, first-high}
 use Rattle.grammar.proofs.dialects.CellGrammar.{derived-spells, spells-derived}
 use Rattle.grammar.proofs.dialects.Separators.{by-cr, by-lf}
-use Rattle.grammar.proofs.dialects.Steps.{Takes, rejected, cut-off}
-use Rattle.grammar.proofs.dialects.Steps as steps
-use Rattle.grammar.proofs.dialects.PlacedReads.{Runs, ends-clean, outside, passed, ends-closing, from-state, past-append}
+use Rattle.grammar.proofs.dialects.FormSteps.{Takes, rejected, cut-off}
+use Rattle.grammar.proofs.dialects.FormSteps as steps
+use Rattle.grammar.proofs.dialects.ReadsWithSpans.{Runs, ends-clean, outside, passed, ends-closing, from-state, past-append}
 use Rattle.grammar.proofs.dialects.CellReads.{Follows, after-whole, FirstOfCell, first-of-cell, spells-first, other-byte, CellThen, cell-then}
 use Rattle.grammar.proofs.dialects.CellReads.{AfterByte, ended-before, ends-now}
 use Rattle.grammar.proofs.dialects.Delimited.{Cells, one-cell, more-cells, cellsAt, cells-read, RecordThen, record-then, After, at-tail}

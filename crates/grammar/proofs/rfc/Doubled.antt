@@ -17,7 +17,7 @@ use Rattle.model.proofs.Tests.{impossible, is→eq, same-byte}
 use Rattle.model.proofs.cell_laws.Utf8.{ascii-whole, quote-ascii, inner-high}
 use Rattle.model.proofs.cell_laws.CellContent.{no-stop, same-more, char-on, Doubles, quoted-is}
 use Rattle.grammar.proofs.rfc.Chars.{Finishes, finished, finishing, Long, long, whole-ascii, first-high}
-use Rattle.grammar.proofs.rfc.Spelling.{Spells, whole, byte, TextState, long-spells}
+use Rattle.grammar.proofs.rfc.WholeCells.{Spells, whole, byte, TextState, long-spells}
 
 -- characters and doubled quotes, and the content that they denote
 pub data Doubled (q : ℕ) : (raw content : Bytes) → Type 0 where

@@ -18,7 +18,7 @@ use Rattle.grammar.specs.rfc.Rfc8259.{Number, number, no-minus, a-minus,
 use Rattle.grammar.specs.rfc.Rfc8259.{decimal-point, digit1-9, E, small-e, large-e, exp, Optional-sign, no-sign, negative, positive, frac, Int}
 use Rattle.grammar.specs.rfc.Rfc8259.{a-zero, nonzero, minus, plus, zero}
 use Rattle.grammar.proofs.rfc.Ranges.{range, within-range, range-within}
-use Rattle.grammar.proofs.rfc.Spelling.{Spells, whole, byte}
+use Rattle.grammar.proofs.rfc.WholeCells.{Spells, whole, byte}
 
 -- ---- a number is read
 

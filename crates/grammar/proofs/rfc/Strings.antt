@@ -23,7 +23,7 @@ use Rattle.grammar.specs.rfc.Rfc8259.{no-char, char}
 use Rattle.grammar.specs.rfc.Rfc8259 as json
 use Rattle.grammar.proofs.rfc.Ranges.{range, within-range, range-within, above-within}
 use Rattle.grammar.proofs.rfc.Chars.{Finishes, finished, finishing, long, data-long, long-data, whole-ascii}
-use Rattle.grammar.proofs.rfc.Spelling.{Spells, whole, byte, long-spells}
+use Rattle.grammar.proofs.rfc.WholeCells.{Spells, whole, byte, long-spells}
 use Rattle.grammar.proofs.rfc.Doubled.{quoted-state}
 
 -- ---- a string is read

@@ -16,11 +16,11 @@ use Rattle.model.specs.rules.Records.{faultReport}
 use Rattle.model.specs.rules.Api.{Written, unwritten}
 use Rattle.model.specs.rules.Ledger.{Call, piece, finish, Entry, bytesOf, isFinish, faultIn, endedIn, consumedIn, closedIn, writtenIn, tooSmall}
 use Rattle.model.specs.rules.Ledger.{taken, seenBy, answerTo, answerNow, checked, historyFrom, history}
-use Rattle.model.specs.laws.Demands.{seenIn, JoinedOutputs, Answers}
+use Rattle.model.specs.laws.Demands.{seenIn, JoinedOutputs}
 use Rattle.model.specs.laws.Laws.{Grows}
 use Rattle.model.specs.laws.Machine.{ConverterStage, taking, faulted, ended, seenFrom, answerAt, stageThen, stageAfter, checkedAt, LiesAt}
-use Rattle.model.specs.laws.Machine.{stood-taking, stood-faulted, stood-ended, Machine, UnknownLaws, Unknown, Carries, carries-known}
-use Rattle.model.specs.laws.Machine.{carries-source, carries-target, Steps, StepsAnswer, newText, NewTextLaws}
+use Rattle.model.specs.laws.Machine.{stood-taking, stood-faulted, stood-ended, Machine, UnknownLaws, Unknown}
+use Rattle.model.specs.laws.Machine.{newText, NewTextLaws}
 use Rattle.model.proofs.Tests.{split-on}
 use Rattle.model.proofs.file_laws.ReadAppend.{read-append, read-grows, end-grows}
 use Rattle.model.proofs.round_trip.TableText.{table-grows, rest-of, table-snoc}
@@ -224,33 +224,6 @@ unknown =
     target : (m n : ℕ) → dialectOf n ≡ none → (x : Option Dialect) → dialectOf m ≡ x → UnknownLaws m n
     target m n q none p = record { answers = λ past c. answer-source m n past c p; checks = λ past c. rw (p, checked) }
     target m n q (some d) p = record { answers = λ past c. answer-target m n d past c p q; checks = λ past c. rw (p, checked, q) }
-
--- ---- a state of the code
-
-module _ {S : Type 0} (Models : ℕ → ℕ → ConverterStage → S → Type 0) where
-  -- a call by a number that is no dialect
-  idle :
-      (m n : ℕ) (past : List Entry) (s next : S) (c : Call) (a : Written) → UnknownLaws m n →
-      Carries Models m n (past ++ (record { call = c; answer = a } ∷ [])) s →
-      a ≡ unwritten (refusal 11) → next ≡ s →
-      (a ≡ answerNow m n past c) × Carries Models m n (past ++ (record { call = c; answer = a } ∷ [])) next × (checked m n past c ≡ true → next ≡ s)
-  idle m n past s next c a u k e z = (e ∙ sym (u .answers past c), rw z k, λ _. z)
-
-  steps : (s : S) (c : Call) (a : Written) (next : S) → Steps Models s c a next → Answers (Carries Models) s c a next
-  steps s c a next g m n past (carries-known d t w p q stood model) =
-      let l = machine m n d t p q in
-      let x = g .known m n d t w p q model in
-      let moved : LiesAt d (into t) (past ++ (record { call = c; answer = answerAt d (into t) w c } ∷ [])) (stageAfter d (into t) w c)
-      = l .moves past w c stood in
-      let here : LiesAt d (into t) (past ++ (record { call = c; answer = a } ∷ [])) (stageAfter d (into t) w c) = rw (x .0) moved in
-      (x .0 ∙ sym (l .answers past w c stood), carries-known d t (stageAfter d (into t) w c) p q here (x .1), λ k. x .2 (sym (l .checks past w c stood) ∙ k))
-  steps s c a next g m n past (carries-source p model) =
-      let x = g .source m n p model in idle m n past s next c a (unknown .source m n p) (carries-source p model) (x .0) (x .1)
-  steps s c a next g m n past (carries-target q model) =
-      let x = g .target m n q model in idle m n past s next c a (unknown .target m n q) (carries-target q model) (x .0) (x .1)
-
-pub steps-answer : {S : Type 0} (Models : ℕ → ℕ → ConverterStage → S → Type 0) → StepsAnswer Models
-steps-answer Models s c a next g = steps Models s c a next g
 
 -- ---- what a call writes
 

@@ -14,7 +14,7 @@ use Rattle.model.specs.rules.Report.{refusal}
 use Rattle.model.specs.rules.Records.{Rec, rows, Read, Progress, going, stopped, nothingRead, readFrom, readBytes, readEnd, readFile, faultReport}
 use Rattle.model.specs.rules.Api.{Written, unwritten}
 use Rattle.model.specs.rules.Ledger.{Call, piece, finish, Entry, isFinish, faultIn, endedIn, consumedIn, writtenIn, tooSmall, taken, answerNow, checked}
-use Rattle.model.specs.laws.Demands.{seenIn, Answers}
+use Rattle.model.specs.laws.Demands.{seenIn}
 
 -- ---- the machine
 
@@ -101,19 +101,6 @@ pub data Carries {S : Type 0} (Models : ℕ → ℕ → ConverterStage → S →
       Carries Models m n past s
   carries-source : dialectOf m ≡ none → Models m n ended s → Carries Models m n past s
   carries-target : dialectOf n ≡ none → Models m n ended s → Carries Models m n past s
-
--- a call's contract that depends on no other call: its answer and the next state, by the stage of the state (§15.3 §15.8)
-pub record Steps {S : Type 0} (Models : ℕ → ℕ → ConverterStage → S → Type 0) (s : S) (c : Call) (a : Written) (next : S) : Type 0 where
-  pub known :
-      (m n : ℕ) (d t : Dialect) (w : ConverterStage) → dialectOf m ≡ some d → dialectOf n ≡ some t → Models m n w s →
-      (a ≡ answerAt d (into t) w c) × Models m n (stageAfter d (into t) w c) next × (checkedAt w c ≡ true → next ≡ s)
-  pub source : (m n : ℕ) → dialectOf m ≡ none → Models m n ended s → (a ≡ unwritten (refusal 11)) × (next ≡ s)
-  pub target : (m n : ℕ) → dialectOf n ≡ none → Models m n ended s → (a ≡ unwritten (refusal 11)) × (next ≡ s)
-
--- such a call satisfies `Answers` of Demands, so a list of such calls follows the ledger (§16.1)
-abbrev pub StepsAnswer : {S : Type 0} → (ℕ → ℕ → ConverterStage → S → Type 0) → Type 0
-StepsAnswer {S} Models =
-    (s : S) (c : Call) (a : Written) (next : S) → Steps Models s c a next → Answers (Carries Models) s c a next
 
 -- ---- what a call writes
 

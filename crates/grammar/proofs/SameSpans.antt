@@ -21,11 +21,11 @@ use Rattle.grammar.specs.rfc.Derived.{Derived, Line}
 use Rattle.grammar.specs.dialects.Derives.{Derives}
 use Rattle.grammar.specs.dialects.Spans.{Span, span, stretches, spanOf, shown}
 use Rattle.model.proofs.file_laws.FileSteps.{its-transition}
-use Rattle.grammar.proofs.Stages.{stageOf, cell-stage, between-stage, tail-stage, ends-stage}
+use Rattle.grammar.proofs.StepStages.{stageOf, cell-stage, between-stage, tail-stage, ends-stage}
 use Rattle.grammar.proofs.DerivationState.{Tidy, tidy-rest, tidy-cell, recording-tidy, rest-tidy, rested-none, parted-tidy}
 use Rattle.grammar.proofs.DerivationState.{moved-outside, moved-passed, moved-between, moved-tail}
-use Rattle.grammar.proofs.dialects.PlacedReads.{Runs}
-use Rattle.grammar.proofs.dialects.PlacedReads as walks
+use Rattle.grammar.proofs.dialects.ReadsWithSpans.{Runs}
+use Rattle.grammar.proofs.dialects.ReadsWithSpans as walks
 use Rattle.grammar.proofs.AcceptedOnly.{not-going, same-going, stopped-going}
 use Rattle.grammar.proofs.dialects.FileGrammar.{derived-runs}
 use Rattle.grammar.proofs.Acceptance.{accepted-going, ten}
