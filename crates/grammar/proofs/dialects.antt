@@ -1,3 +1,4 @@
+-- The automaton reads exactly the cells and files that the grammars of the three dialects derive.
 pub mod TdifCells
 pub mod PlusCells
 pub mod CsvjCells

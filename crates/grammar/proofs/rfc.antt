@@ -1,3 +1,4 @@
+-- The automaton reads exactly the texts, numbers and strings of the RFCs.
 pub mod Ranges
 pub mod Chars
 pub mod Texts

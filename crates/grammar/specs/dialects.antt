@@ -1,3 +1,4 @@
+-- The grammars of the three dialects, and reading by form.
 pub mod Csvj
 pub mod Tdif
 pub mod CsvPlus

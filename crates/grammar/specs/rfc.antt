@@ -1,3 +1,4 @@
+-- The grammars of the RFCs, and what a derivation gives.
 pub mod Types
 pub mod Rfc5234
 pub mod Rfc3629

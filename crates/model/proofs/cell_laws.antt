@@ -1,3 +1,4 @@
+-- Laws of one cell: its steps, its runs and the form of its content.
 pub mod Utf8
 pub mod CellSteps
 pub mod CellRuns

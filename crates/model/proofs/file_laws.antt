@@ -1,3 +1,4 @@
+-- Laws of reading a file: steps, faults, limits, lengths, and what can be completed.
 pub mod ReadAppend
 pub mod Counted
 pub mod FileSteps

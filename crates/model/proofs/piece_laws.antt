@@ -1,3 +1,4 @@
+-- Laws of files in pieces: the ledger, its state machine, and scans of a part of a file.
 pub mod CallsMade
 pub mod Histories
 pub mod MachineLaws

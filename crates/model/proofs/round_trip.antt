@@ -1,3 +1,4 @@
+-- What was written is read back: cells, records, tables and conversions.
 pub mod TableText
 pub mod JsonBack
 pub mod TextBack

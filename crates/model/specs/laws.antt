@@ -1,3 +1,4 @@
+-- Statements over the definitions: laws, round trips, the demands, and the examples of the rules.
 pub mod Viable
 pub mod Laws
 pub mod RoundTrips

@@ -1,3 +1,4 @@
+-- The rules (docs/RULES.md) as executable definitions, each file over those before it.
 pub mod Types
 pub mod Base
 pub mod Dialect
