@@ -11,7 +11,7 @@ const MOST_BYTES: usize = 100_000;
 /// the whole text before it.
 const MOST_RECORDS: usize = 2_000;
 
-/// What stands in a lent list or buffer before a call.
+/// What is in a lent list or buffer before a call.
 const LENT: &str = "7";
 
 /// The vectors as one module of antt.

@@ -84,12 +84,12 @@ fn too_long(rest: &[u8]) -> &[u8] {
     }
 }
 
-/// Less output than a call asks for.
+/// Less output than a call requires.
 pub fn small_room(rng: &mut Rng) -> usize {
     rng.pick(&[0, 1, PIECE_BYTES, PIECE_ROOM - 1])
 }
 
-/// As much output as a call asks for, or more.
+/// As much output as a call requires, or more.
 pub fn large_room(rng: &mut Rng) -> usize {
     PIECE_ROOM + rng.pick(&[0, 0, 0, 1, 2, 1_000])
 }

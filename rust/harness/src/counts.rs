@@ -19,7 +19,7 @@ impl Counts {
         self.0[dialect as usize - 1][number]
     }
 
-    /// Tells the counts on standard error.
+    /// Prints the counts to standard error.
     pub fn print(&self, what: &str) {
         for ((dialect, _), counts) in DIALECTS.iter().zip(&self.0) {
             eprintln!("{what}, dialect {dialect}: reports by number {counts:?}");

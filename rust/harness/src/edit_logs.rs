@@ -91,7 +91,7 @@ pub fn refused_by(edit: &str, log: &str) -> Result<String, String> {
     }
 }
 
-/// The messages of a log, each with the lines that go on with it.
+/// The messages of a log, each with the lines that continue it.
 fn messages(log: &str) -> Vec<String> {
     let mut found: Vec<String> = Vec::new();
     for line in log.lines() {

@@ -8,7 +8,7 @@ use crate::vectors::{parse_file, Bytes, Call, Case, Fault, TableShape};
 /// A case of a document.
 #[derive(Clone, Debug)]
 pub struct Example {
-    /// The heading that it stands under.
+    /// The heading that it is under.
     pub heading: String,
     /// The case.
     pub case: Case,
@@ -79,7 +79,7 @@ fn dialect_number(words: &str) -> Result<u32, String> {
     number.ok_or(format!("'{words}' is no dialect"))
 }
 
-/// The bytes that the indented lines stand for, and the lines after these.
+/// The bytes that the indented lines mean, and the lines after these.
 fn indented<'a>(lines: &'a [&'a str]) -> Result<(Vec<u8>, &'a [&'a str]), String> {
     let mut bytes = Vec::new();
     let mut rest = lines;
@@ -93,7 +93,7 @@ fn indented<'a>(lines: &'a [&'a str]) -> Result<(Vec<u8>, &'a [&'a str]), String
     Ok((bytes, rest))
 }
 
-/// The bytes of a text in which what stands between `<` and `>` is a sign for others.
+/// The bytes of a text in which what is between `<` and `>` is a sign for others.
 fn bytes_of(text: &str) -> Result<Vec<u8>, String> {
     let mut bytes = Vec::new();
     let mut rest = text;
@@ -107,7 +107,7 @@ fn bytes_of(text: &str) -> Result<Vec<u8>, String> {
     Ok(bytes)
 }
 
-/// Where the `>` stands that closes the `<` before a text. Signs may stand inside each other.
+/// Where the `>` is that closes the `<` before a text. Signs may be nested.
 fn closing(text: &str) -> Result<usize, String> {
     let mut open = 1;
     for (place, character) in text.char_indices() {
@@ -123,7 +123,7 @@ fn closing(text: &str) -> Result<usize, String> {
     Err(format!("`<{text}` is not closed"))
 }
 
-/// The bytes of a sign: a line break, a tab, bytes in hexadecimal, or a text so many times.
+/// The bytes of a sign: a line break, a tab, bytes in hexadecimal, or a text repeated.
 fn sign(text: &str) -> Result<Vec<u8>, String> {
     match text {
         "LF" => return Ok(vec![b'\n']),
@@ -143,7 +143,7 @@ fn sign(text: &str) -> Result<Vec<u8>, String> {
         .ok_or(format!("`<{text}>` is no sign"))
 }
 
-/// A number, in which commas may stand.
+/// A number, which may have commas.
 fn number(word: &str) -> Result<usize, String> {
     let digits = word.replace(',', "");
     digits
@@ -164,7 +164,7 @@ fn call(source: u32, file: &[u8], line: &str, text: Vec<u8>) -> Result<Call, Str
     let numbers = numbers(answer.trim_start())?;
     let fault = fault(&numbers);
     if !text.is_empty() && !numbers.is_empty() {
-        return Err(format!("after '{line}' no text can stand"));
+        return Err(format!("after '{line}' no text can follow"));
     }
     match (asked.strip_prefix("to "), &numbers[..]) {
         (Some(target), numbers) if numbers.is_empty() || fault.is_some() => Ok(Call::Convert {
@@ -205,7 +205,7 @@ fn numbers(answer: &str) -> Result<Vec<(&str, usize)>, String> {
         .collect()
 }
 
-/// The fault of which an answer tells, if it does. What it leaves out is 0.
+/// The fault that an answer names, if it names one. What it leaves out is 0.
 fn fault(numbers: &[(&str, usize)]) -> Option<Fault> {
     let places = ["record", "column", "offset"];
     let (("fault", number), rest) = numbers.split_first()? else {

@@ -1,4 +1,4 @@
-//! How much stack a function can take, told from the machine code: its frame, and that of each function down every chain of calls.
+//! How much stack a function can take, computed from the machine code: its frame, and that of each function down every chain of calls.
 
 use crate::programs::succeeded;
 use std::collections::{BTreeMap, BTreeSet};
@@ -17,7 +17,7 @@ struct Frame {
 pub struct Frames(BTreeMap<usize, Frame>);
 
 impl Frames {
-    /// Reads what objdump tells of a library. Fails if a frame can grow while it is used, or if it can't be told what is called.
+    /// Reads what objdump prints of a library. Fails if a frame can grow while it is used, or if it is unknown what is called.
     pub fn of(library: &Path) -> Self {
         let mut objdump = Command::new("objdump");
         objdump
@@ -43,7 +43,7 @@ impl Frames {
         Self(frames)
     }
 
-    /// The stack that the function of this name takes at most, from its return address on. Fails if functions can come to call themselves.
+    /// The stack that the function of this name takes at most, from its return address on. Fails if functions can call themselves.
     pub fn stack_of(&self, name: &str) -> usize {
         let found = self.0.iter().find(|(_, frame)| frame.name == name);
         let (address, _) = found.unwrap_or_else(|| panic!("{name} is no function"));

@@ -1,4 +1,4 @@
-//! Random files: tables spelt in every way that a dialect allows, tables with a fault planted in
+//! Random files: tables encoded in every way that a dialect allows, tables with a fault planted in
 //! them, and both of these with bytes changed. And random tables for the writer, of the same cells.
 
 use crate::json::surrogate_bytes;
@@ -18,7 +18,7 @@ pub struct Sample {
     pub records: Option<Vec<Vec<Cell>>>,
 }
 
-/// A cell before it is spelt; text is a list of code points.
+/// A cell before it is encoded; text is a list of code points.
 #[derive(Clone, Debug, PartialEq, Eq)]
 enum Value {
     Text(Vec<u32>),
@@ -49,7 +49,7 @@ const NUMBERS: [&str; 12] = [
     "-9.9e99",
     "12345678901234567890",
 ];
-const MARK: &[u8; 3] = b"\xEF\xBB\xBF";
+const BYTE_ORDER_MARK: &[u8; 3] = b"\xEF\xBB\xBF";
 /// Bytes that are likely to change what a file means.
 const BYTES: &[u8] = b"\"\"\",,\r\r\n\n\\N#  \t\0\x1FaA01-+.eEtnfu8d/[{\
     \x7F\x80\x8F\x90\x9F\xA0\xBB\xBF\xC0\xC1\xC2\xDF\xE0\xED\xEF\xF0\xF4\xF5\xFF";
@@ -62,7 +62,7 @@ pub fn sample(rng: &mut Rng, dialect: Dialect) -> Sample {
         _ => sound_table(rng, dialect),
     };
     if rng.percent(3) {
-        stretch(rng, &mut sample.file);
+        widen(rng, &mut sample.file);
         sample.records = None;
     }
     if rng.percent(40) {
@@ -75,7 +75,7 @@ pub fn sample(rng: &mut Rng, dialect: Dialect) -> Sample {
 }
 
 /// Fills up a line until it has about as many bytes as a record may have.
-fn stretch(rng: &mut Rng, file: &mut Vec<u8>) {
+fn widen(rng: &mut Rng, file: &mut Vec<u8>) {
     let place = rng.below(file.len() + 1);
     let is_inside = |byte: &&u8| !matches!(byte, b'\r' | b'\n');
     let before = file[..place].iter().rev().take_while(is_inside).count();
@@ -86,11 +86,11 @@ fn stretch(rng: &mut Rng, file: &mut Vec<u8>) {
     drop(file.splice(place..place, repeat_n(filler, missing)));
 }
 
-/// Changes, adds or takes away a byte, puts a mark in front, repeats a part, or cuts the bytes off.
+/// Changes, adds or removes a byte, adds a byte order mark in front, repeats a part, or cuts the bytes off.
 pub fn mutate(rng: &mut Rng, file: &mut Vec<u8>) {
     let place = rng.below(file.len() + 1);
     match rng.below(20) {
-        0 => drop(file.splice(..0, *MARK)),
+        0 => drop(file.splice(..0, *BYTE_ORDER_MARK)),
         1..=2 => file.truncate(place),
         3 => {
             let end = rng.between(place, file.len().min(place + 20));
@@ -120,7 +120,7 @@ pub fn file_of(header: &str, record: &str, last: (&str, &str), length: usize) ->
     (file, times + 2)
 }
 
-/// How many bytes stand beside the content in the canonical text of a record of one cell: CR and LF in CSV+, else two quotes and LF.
+/// How many bytes are beside the content in the canonical text of a record of one cell: CR and LF in CSV+, else two quotes and LF.
 pub const fn beside_content(target: u32) -> usize {
     if target == 3 {
         2
@@ -144,7 +144,7 @@ pub fn file_of_long_text(to: u32, more: usize) -> Vec<u8> {
 fn no_records(rng: &mut Rng, dialect: Dialect) -> Sample {
     let mut file = Vec::new();
     match dialect {
-        Dialect::Csvj if rng.percent(50) => file.extend(MARK),
+        Dialect::Csvj if rng.percent(50) => file.extend(BYTE_ORDER_MARK),
         Dialect::Tdif => (0..rng.below(3)).for_each(|_| spell_comment(rng, &mut file)),
         Dialect::Csvj | Dialect::CsvPlus => {}
     }
@@ -156,7 +156,7 @@ fn no_records(rng: &mut Rng, dialect: Dialect) -> Sample {
 
 fn sound_table(rng: &mut Rng, dialect: Dialect) -> Sample {
     let records = table(rng, dialect);
-    spell(rng, dialect, &records)
+    encode(rng, dialect, &records)
 }
 
 fn table(rng: &mut Rng, dialect: Dialect) -> Vec<Vec<Value>> {
@@ -186,11 +186,11 @@ fn faulty_table(rng: &mut Rng, dialect: Dialect) -> Sample {
     plant_fault(rng, dialect, &mut records);
     Sample {
         records: None,
-        ..spell(rng, dialect, &records)
+        ..encode(rng, dialect, &records)
     }
 }
 
-/// Repeats a name, puts another kind into the header, or adds a record that is too wide or has another count of cells.
+/// Repeats a name, changes a kind in the header, or adds a record that is too wide or has another count of cells.
 fn plant_fault(rng: &mut Rng, dialect: Dialect, records: &mut Vec<Vec<Value>>) {
     let columns = records[0].len();
     match rng.below(4) {
@@ -367,7 +367,7 @@ const CONTENTS: [&[u8]; 16] = [
     b"\xEF\xBB\xBF",
 ];
 
-/// A random table for the writer, of cells that some dialect has. Its stretches may share bytes, leave gaps and come in any order. Some
+/// A random table for the writer, of cells that some dialect has. Its spans may share bytes, leave gaps and come in any order. Some
 /// tables have a fault, some are none.
 pub fn table_lists(rng: &mut Rng) -> TableLists {
     let (_, dialect) = rng.pick(&DIALECTS);
@@ -402,7 +402,7 @@ fn cells_in(records: &[Vec<Value>]) -> Vec<Vec<Cell>> {
     records.iter().map(cells).collect()
 }
 
-/// The writer's arguments for these records, whose contents stand in file order or not.
+/// The writer's arguments for these records, whose contents are in file order or not.
 fn lists_of(rng: &mut Rng, records: &[Vec<Cell>]) -> TableLists {
     let (columns, count, cells) = (records[0].len(), records.len(), records.concat());
     match rng.percent(50) {
@@ -526,12 +526,12 @@ fn change_shape(rng: &mut Rng, lists: &mut TableLists) {
     }
 }
 
-/// Spells a table in one of the ways that the dialect allows.
-fn spell(rng: &mut Rng, dialect: Dialect, records: &[Vec<Value>]) -> Sample {
+/// Encodes a table in one of the ways that the dialect allows.
+fn encode(rng: &mut Rng, dialect: Dialect, records: &[Vec<Value>]) -> Sample {
     let mut file = Vec::new();
     let mut sound = records[0].len() <= COLUMNS;
     if dialect == Dialect::Csvj && rng.percent(20) {
-        file.extend(MARK);
+        file.extend(BYTE_ORDER_MARK);
     }
     for (index, record) in records.iter().enumerate() {
         if dialect == Dialect::Tdif && rng.percent(20) {
@@ -593,9 +593,10 @@ fn spell_record(rng: &mut Rng, dialect: Dialect, record: &[Value], is_header: bo
             (Value::Text(_), Dialect::Tdif) => spell_quoted(&content(value).content, &mut line),
             (Value::Text(_), Dialect::CsvPlus) => {
                 let bytes = content(value).content;
-                let is_mark = is_header && index == 0 && bytes.starts_with(MARK);
+                let is_byte_order_mark =
+                    is_header && index == 0 && bytes.starts_with(BYTE_ORDER_MARK);
                 let special = bytes.iter().any(|byte| b"\",\r\n".contains(byte));
-                if is_mark || special || rng.percent(40) {
+                if is_byte_order_mark || special || rng.percent(40) {
                     spell_quoted(&bytes, &mut line);
                 } else {
                     line.extend(bytes);
@@ -629,7 +630,7 @@ fn spell_quoted(bytes: &[u8], line: &mut Vec<u8>) {
 }
 
 fn spell_string(rng: &mut Rng, points: &[u32], line: &mut Vec<u8>) {
-    // A long text is spelt as short as can be, to stay near the limit.
+    // A long text is encoded as short as can be, to stay near the limit.
     let escapes = if points.len() > 100 { 0 } else { 20 };
     line.push(b'"');
     for &point in points {

@@ -1,4 +1,4 @@
-//! The library as `make install` installs it, and programs in C and C++ that are linked with it as pkg-config tells.
+//! The library as `make install` installs it, and programs in C and C++ that are linked with it by pkg-config's flags.
 
 use crate::programs::{make, succeeded};
 use crate::repository;
@@ -27,7 +27,7 @@ pub enum Linked {
 
 /// The library as it was installed: all paths that it knows are below `stage`, of which it does not know.
 pub struct Installed {
-    /// The folder that stands for the root of the system; none if it is that itself.
+    /// The folder that is used as the root of the system; none if it is that itself.
     pub stage: PathBuf,
     /// Where the libraries are.
     pub library_folder: PathBuf,
@@ -50,7 +50,7 @@ impl Installed {
         self.library_folder.join("pkgconfig")
     }
 
-    /// What pkg-config tells or, where that is not installed, what it would read.
+    /// What pkg-config prints or, where that is not installed, what it would read.
     pub fn told(&self, options: &[&str]) -> Vec<String> {
         let told = Command::new("pkg-config")
             .args(options)
@@ -147,10 +147,10 @@ fn words(text: &str) -> Vec<String> {
     text.split_whitespace().map(str::to_string).collect()
 }
 
-/// The name that programs ask the loader for.
+/// The name that programs require of the loader.
 pub const LOADER_NAME: &str = "libhemakuliwi.so.0";
 
-/// What a tool of the linker tells of a file.
+/// What a tool of the linker prints of a file.
 pub fn inspected(tool: &str, options: &[&str], file: &Path) -> String {
     let told = Command::new(tool)
         .args(options)
@@ -171,7 +171,7 @@ pub fn dynamic_entries(file: &Path, entry: &str) -> BTreeSet<String> {
     of_entry.filter_map(value).collect()
 }
 
-/// The shared libraries that a file asks the loader for.
+/// The shared libraries that a file requires of the loader.
 pub fn needed(file: &Path) -> BTreeSet<String> {
     dynamic_entries(file, "(NEEDED)")
 }

@@ -1,4 +1,4 @@
-//! The ledger of the rules (§16.1): the answers to a list of piece and end calls, told from the dialect
+//! The ledger of the rules (§16.1): the answers to a list of piece and end calls, computed from the dialect
 //! numbers, the calls and the whole converter alone.
 
 use crate::whole::convert_whole;
@@ -126,8 +126,8 @@ impl Ledger {
         Answer { report, text: new }
     }
 
-    /// The fault that the bytes consumed have wherever the file goes on. A fault of the end alone
-    /// is another one after one more quote: the quote opens a cell, or goes on in it, or is
+    /// The fault that the bytes consumed have however the file continues. A fault of the end alone
+    /// is another one after one more quote: the quote opens a cell, or continues it, or is
     /// itself a fault.
     fn fault_at_a_byte(&self) -> Option<Report> {
         let now = convert_whole(self.source, self.target, &self.consumed).err()?;

@@ -16,12 +16,12 @@ pub struct Lists {
     kinds: Vec<u8>,
 }
 
-/// What stands in a place of the starts or the ends before a call: no offset, and in each place another.
+/// What is in a place of the starts or the ends before a call: no offset, and in each place another.
 fn unused_offset(index: usize) -> usize {
     usize::MAX - index
 }
 
-/// What stands in a place of the kinds before a call: no kind, and seldom that of a place near it.
+/// What is in a place of the kinds before a call: no kind, and seldom that of a place near it.
 fn unused_kind(index: usize) -> u8 {
     0x80 | index as u8
 }
@@ -57,7 +57,7 @@ impl Lists {
             && (count..self.kinds.len()).all(|at| self.kinds[at] == unused_kind(at))
     }
 
-    /// The start, end and kind number of so many cells.
+    /// The start, end and kind number of this many cells.
     pub fn cells(&self, count: usize) -> Vec<(usize, usize, u8)> {
         let cell = |index| (self.starts[index], self.ends[index], self.kinds[index]);
         (0..count).map(cell).collect()
@@ -91,7 +91,7 @@ fn first_difference<T: PartialEq + std::fmt::Debug>(
     ))
 }
 
-/// Lengths for the three lists, of which each in turn is the shortest.
+/// Lengths for the three lists, of which each is the shortest once.
 pub fn lengths(shortest: usize, file: &[u8]) -> Vec<[usize; 3]> {
     let longer = shortest + 2;
     let mut lengths = vec![

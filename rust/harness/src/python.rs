@@ -1,4 +1,4 @@
-//! A third judge: Python's own json and csv modules, which read CSVJ and CSV+ texts.
+//! A third implementation to compare with: Python's own json and csv modules, which read CSVJ and CSV+ texts.
 
 use crate::generate::{sample, sound_lists};
 use crate::programs::{run, succeeded};
@@ -19,7 +19,7 @@ pub struct Written {
     pub records: Vec<Vec<Cell>>,
 }
 
-/// Whether a Python is at hand that can judge: since 3.11 its csv module takes a byte 0 for a character.
+/// Whether a Python is installed that can compare: since 3.11 its csv module takes a byte 0 for a character.
 pub fn is_installed() -> bool {
     is_at_least(11)
 }
@@ -31,7 +31,7 @@ pub fn is_at_least(minor: u32) -> bool {
     answer.is_ok_and(|status| status.success())
 }
 
-/// So many texts in CSVJ and CSV+ of random tables, half of them converted from files of all dialects and half written.
+/// This many texts in CSVJ and CSV+ of random tables, half of them converted from files of all dialects and half written.
 pub fn written(converter: WholeConverter, writer: Writer, seed: u64, count: usize) -> Vec<Written> {
     let mut rng = Rng::new(seed);
     let mut all = Vec::new();
@@ -46,7 +46,7 @@ pub fn written(converter: WholeConverter, writer: Writer, seed: u64, count: usiz
     all
 }
 
-/// The text of a random file that is known to be sound, if the target can carry it.
+/// The text of a random file that is known to be sound, if the target can represent it.
 fn converted(rng: &mut Rng, converter: WholeConverter, target: u32) -> Option<Written> {
     let (source, dialect) = rng.pick(&DIALECTS);
     let sample = sample(rng, dialect);
@@ -61,7 +61,7 @@ fn converted(rng: &mut Rng, converter: WholeConverter, target: u32) -> Option<Wr
     })
 }
 
-/// The text of a random table, if the target can carry it.
+/// The text of a random table, if the target can represent it.
 fn written_table(rng: &mut Rng, writer: Writer, target: u32) -> Option<Written> {
     let (lists, records) = sound_lists(rng);
     let mut text = vec![0; lists.room()];

@@ -9,18 +9,18 @@ pub type WholeConverter = fn(u32, u32, &[u8], &mut [u8]) -> Converted;
 /// A writer of tables, given the target's number, the table and the room.
 pub type Writer = fn(u32, Table, &mut [u8]) -> Converted;
 
-/// How many bytes stand on either side of the room, which belong to nobody.
+/// How many bytes lie on either side of the room, which belong to nobody.
 const BESIDE: usize = 16;
 
 /// How far from a text each call is looked at, where there are many.
 const NEAR: usize = 1_000;
 
-/// What stands in a place before a call: a byte that no text has, and another one than in the places near it.
+/// What is in a place before a call: a byte that no text has, and another one than in the places near it.
 fn unused(place: usize) -> u8 {
     0xF5 + (place % 11) as u8
 }
 
-/// The room after a call, with what stands on either side of it.
+/// The room after a call, with what lies on either side of it.
 #[derive(Clone, Debug, PartialEq, Eq)]
 pub struct Room(Vec<u8>);
 
@@ -38,7 +38,7 @@ impl Room {
         &room[..length.min(room.len())]
     }
 
-    /// Whether all but so many bytes of the room, and all beside it, is as it was before the call.
+    /// Whether all but this many bytes of the room, and all beside it, is as it was before the call.
     pub fn untouched_from(&self, length: usize) -> bool {
         let text = BESIDE..BESIDE + length;
         let mut places = (0..).zip(&self.0);
@@ -76,7 +76,7 @@ impl Output {
         call(&mut self.bytes[BESIDE..BESIDE + length])
     }
 
-    /// Takes so many bytes from a room of this length, if what is near them and near the room's ends is as it was before the call.
+    /// Takes this many bytes from a room of this length, if what is near them and near the room's ends is as it was before the call.
     pub fn take(&mut self, length: usize, written: usize) -> Result<Vec<u8>, String> {
         let (end, last) = (BESIDE + written, length + 2 * BESIDE);
         let near = last.min(end + NEAR);

@@ -117,7 +117,7 @@ pub fn run(cases: &[Case]) -> Result<Tally, String> {
     }
 }
 
-/// The differences in the first of these cases and in those that come to the same thread.
+/// The differences in the first of these cases and in those that run in the same thread.
 fn differences(cases: &[Case]) -> Vec<String> {
     let cases = cases.iter().step_by(THREADS);
     let told = cases.map(|case| (case, check(&case.call)));
@@ -321,7 +321,7 @@ pub fn check_convert(
     check_text(call, room, expected.as_ref().err(), &text)
 }
 
-/// Hands a case's file to the piece converter, which has to come to what the case expects of the whole file.
+/// Passes a case's file to the piece converter, which has to return what the case expects of the whole file.
 fn check_converted_pieces(
     source: u32,
     target: u32,

@@ -12,7 +12,7 @@ use reference::{Dialect, Report};
 /// Longer files say little more and take the prover long.
 const LONGEST: usize = 400;
 
-/// As many random cases as asked for: files to read, to convert whole and in pieces, and raw cells to decode.
+/// As many random cases as required: files to read, to convert whole and in pieces, and raw cells to decode.
 pub fn cases(seed: u64, count: usize) -> Result<Vec<Case>, String> {
     let mut rng = Rng::new(seed);
     (0..count)

@@ -34,7 +34,7 @@ pub struct Fault {
 /// Bytes as a case states them, so that long files take up no room until they are wanted.
 #[derive(Clone, Debug, Default, PartialEq, Eq)]
 pub struct Bytes {
-    /// Each item and how many times it stands.
+    /// Each item and how many times it is repeated.
     items: Vec<(Vec<u8>, usize)>,
 }
 
@@ -53,7 +53,7 @@ impl Bytes {
         repeated.collect::<Vec<_>>().concat()
     }
 
-    /// Each item and how many times it stands.
+    /// Each item and how many times it is repeated.
     pub fn items(&self) -> &[(Vec<u8>, usize)] {
         &self.items
     }
@@ -168,11 +168,11 @@ pub struct TableArguments {
     pub columns: usize,
     /// The number of records, the header too.
     pub records: usize,
-    /// The bytes that the stretches name.
+    /// The bytes that the spans refer to.
     pub content: Bytes,
-    /// The starts of the stretches.
+    /// The starts of the spans.
     pub starts: Vec<usize>,
-    /// The ends of the stretches.
+    /// The ends of the spans.
     pub ends: Vec<usize>,
     /// The kind numbers.
     pub kinds: Vec<u8>,
@@ -283,7 +283,7 @@ pub fn parse_file(file_name: &str, text: &str) -> Result<Vec<Case>, String> {
         .collect()
 }
 
-/// A line together with those that go on from it.
+/// A line together with those that continue it.
 struct Line {
     place: String,
     tokens: Vec<Token>,

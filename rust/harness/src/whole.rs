@@ -12,7 +12,7 @@ pub struct Cell {
     pub content: Vec<u8>,
 }
 
-/// What the reader tells of an accepted file.
+/// What the reader returns for an accepted file.
 #[derive(Clone, Debug, PartialEq, Eq)]
 pub struct ReadTable {
     /// The number of columns.
@@ -76,7 +76,7 @@ pub fn cells_of(dialect: u32, file: &[u8]) -> Result<(ReadTable, Vec<Cell>), Rep
 /// The writer's arguments: a table, or what is to be refused as none.
 #[derive(Clone, Debug)]
 pub struct TableLists {
-    /// The bytes that the stretches name.
+    /// The bytes that the spans refer to.
     pub content: Vec<u8>,
     /// Where each cell's content starts.
     pub starts: Vec<usize>,

@@ -1,4 +1,4 @@
-//! The library as C and C++ have it: installed by `make install`, and found as pkg-config tells, shared and static.
+//! The library as C and C++ have it: installed by `make install`, and found by pkg-config, shared and static.
 
 use harness::frames::Frames;
 use harness::installed::{
@@ -366,7 +366,7 @@ fn declared() -> BTreeSet<String> {
     functions.into_iter().collect()
 }
 
-/// The names in what nm tells that stand after this letter, without their versions.
+/// The names that nm prints after this letter, without their versions.
 fn symbols(told: &str, letter: char) -> Vec<String> {
     let of_letter = told
         .lines()

@@ -18,7 +18,7 @@ impl File {
         self.text.lines().enumerate().map(|(i, line)| (i + 1, line))
     }
 
-    /// How many lines the comment has with which a file of code begins: it stands above no definition.
+    /// How many lines the comment has with which a file of code begins: it is above no definition.
     fn head(&self) -> usize {
         let mark = match extension(&self.path) {
             "antt" => "--",
@@ -129,7 +129,7 @@ fn defines(line: &str) -> Option<&str> {
 }
 
 /// The comment directly above line i: lines of `--` at the definition's own depth, which are no heading. An `infix` line may
-/// stand between.
+/// lie between.
 fn comment_above(lines: &[&str], i: usize) -> Comment {
     let depth = lines[i].len() - lines[i].trim_start().len();
     let end = (0..i)

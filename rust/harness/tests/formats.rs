@@ -1,4 +1,4 @@
-//! `docs/FORMATS.md`: every example is answered by the proved calls as it says, every fault has its examples, and each call tells the
+//! `docs/FORMATS.md`: every example is answered by the proved calls as it says, every fault has its examples, and each call reports the
 //! faults that the table of calls and faults says.
 
 use harness::compare::{
@@ -215,7 +215,7 @@ fn every_fault_has_its_examples() {
     }
 }
 
-// ---- which call tells which fault
+// ---- which call reports which fault
 
 /// A dialect and the number of a fault.
 type Told = BTreeSet<(u32, usize)>;
@@ -251,7 +251,7 @@ fn faults_in(counts: &[Counts]) -> Told {
 }
 
 #[test]
-fn whole_calls_tell_the_faults_of_their_rows() {
+fn whole_calls_report_the_faults_of_their_rows() {
     const COUNT: usize = 5_000;
     let read = read_random(proved_reader, 1, COUNT).unwrap();
     assert_eq!(faults_in(&[read]), file_row("read a file"));
@@ -284,7 +284,7 @@ fn met_in_pieces(rng: &mut Rng, source: u32, file: &[u8]) -> Option<(bool, usize
 }
 
 #[test]
-fn calls_of_a_converter_tell_the_faults_of_their_rows() {
+fn calls_of_a_converter_report_the_faults_of_their_rows() {
     const FILES: usize = 40_000;
     let mut rng = Rng::new(1);
     let (mut by_piece, mut by_end) = (Told::new(), Told::new());

@@ -1,5 +1,5 @@
 //! The proved program that converts standard input, over the stored runs of `program_runs/runs`: NAME.args has its arguments, a word to a
-//! line, NAME.in its input, NAME.out and NAME.err what it has to write. `rt ci` builds it as target/bin/program; another place may be told
+//! line, NAME.in its input, NAME.out and NAME.err what it has to write. `rt ci` builds it as target/bin/program; another place may be named
 //! in HEMAKULIWI_PROGRAM.
 
 use harness::programs::run;

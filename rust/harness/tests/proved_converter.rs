@@ -60,7 +60,7 @@ fn random_files_are_converted_as_the_reference_does() {
         counts.print(&what);
         agreed(counts.require([0, 10], 3_000));
         agreed(counts.require([1, 2, 3, 4, 5, 6, 7, 8, 11], 1_000));
-        // A record is as long in its own dialect's canonical text, or shorter, so that it is always carried.
+        // A record is as long in its own dialect's canonical text, or shorter, so that it can always be represented.
         let others = DIALECTS.map(|(source, _)| source).into_iter();
         for source in others.filter(|source| source != target) {
             assert!(counts.of(source, 9) >= 200, "{source} to {target}");
@@ -68,7 +68,7 @@ fn random_files_are_converted_as_the_reference_does() {
     }
 }
 
-/// A file of so many bytes.
+/// A file of this many bytes.
 fn file_about_the_limit(dialect: u32, length: usize) -> Vec<u8> {
     let (record, last) = match dialect {
         1 => (

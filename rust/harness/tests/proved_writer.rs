@@ -47,7 +47,7 @@ fn random_tables_are_written_as_the_reference_does() {
     agreed(counts.require([6, 7, 8, 9, 10, 11, 12], 1_000));
 }
 
-/// Records of one cell, all but the last of which share a content of a thousand bytes, whose text has so many bytes.
+/// Records of one cell, all but the last of which share a content of a thousand bytes, whose text has this many bytes.
 fn table_of_length(target: u32, length: usize) -> TableLists {
     let beside = beside_content(target);
     let record = 1_000 + beside;

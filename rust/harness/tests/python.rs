@@ -7,7 +7,7 @@ use harness::repository;
 use harness::whole::Cell;
 use std::process::Command;
 
-/// Whether the judge is there; if not, it is said.
+/// Whether such a Python is installed; if not, that is printed.
 fn is_judged() -> bool {
     let is_installed = is_installed();
     if !is_installed {

@@ -107,7 +107,7 @@ fn check_decoded(dialect: u32, raw: &[u8]) -> usize {
     match report.number {
         2 => assert_eq!(read, Err(in_file), "{}", show()),
         3 => {
-            // After a sound cell, what no cell goes on with may still go on in a file.
+            // After a sound cell, what can't continue the cell may still continue the file.
             let may_follow = matches!(raw[report.offset], b',' | b'\r' | b'\n' | b' ' | b'\t');
             let is_comment = dialect == 2 && raw.starts_with(b"#");
             assert!(
@@ -163,7 +163,7 @@ fn files_are_converted_as_they_are_read_and_written() {
     counts.require(1..=9, 700).unwrap();
 }
 
-/// The converter and the writer agree, save that 6 stands for the clash in the writer.
+/// The converter and the writer agree, save that the writer reports 6 for the clash.
 fn check_written(
     target: u32,
     names: &[Cell],

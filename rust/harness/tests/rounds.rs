@@ -1,4 +1,4 @@
-//! The command that compares all calls on random inputs, and that its rounds tell a wrong call.
+//! The command that compares all calls on random inputs, and that its rounds notice a wrong call.
 
 use harness::compare::{
     proved_converter, proved_lent, proved_reader, proved_writer, Calls, Totals, PROVED,
@@ -44,7 +44,7 @@ fn a_command_line_without_a_sound_seed_is_refused() {
     }
 }
 
-/// Each is wrong in one call and in nothing else, and shown with the call that tells it.
+/// Each is wrong in one call and in nothing else, and shown with the call that notices it.
 const WRONG: [(&str, Calls); 4] = [
     (
         "read ",
@@ -102,7 +102,7 @@ const WRONG: [(&str, Calls); 4] = [
 ];
 
 #[test]
-fn a_round_tells_a_wrong_call_and_shows_its_input() {
+fn a_round_notices_a_wrong_call_and_shows_its_input() {
     for (shown, calls) in WRONG {
         let mut totals = Totals::default();
         let difference = totals.round(&calls, 1).expect_err(shown);

@@ -1,4 +1,4 @@
-//! Wrong piece converters against the comparison that the proved one is held to: each has to be noticed.
+//! Wrong piece converters against the comparison that the proved one has to pass: each has to be noticed.
 
 use harness::compare::{made_up_random, pieces_random, proved_lent, PieceConverter};
 use harness::ledger::Call;
@@ -25,7 +25,7 @@ fn with_piece(state: &mut Converter, piece: &[u8], out: &mut [u8]) -> Converted 
     proved_lent(state, &Call::Piece(piece, out.len()), out)
 }
 
-/// The call with as much output as it asks for, of which as much is handed on as there is room for.
+/// The call with as much output as it requires, of which as much is passed on as there is room for.
 fn with_room(state: &mut Converter, call: &Call, out: &mut [u8]) -> Converted {
     let mut room = vec![0; PIECE_ROOM.max(out.len())];
     let made = proved_lent(state, call, &mut room);
@@ -99,7 +99,7 @@ const WRONG_CONVERTERS: [(&str, PieceConverter); 30] = [
         made
     }),
     (
-        "a fault is told once, and then that the call is wrong",
+        "a fault is reported once, and then that the call is wrong",
         |state, call, out| {
             let was_met = state.numbers[FAULT] > 0;
             match proved_lent(state, call, out) {
@@ -109,7 +109,7 @@ const WRONG_CONVERTERS: [(&str, PieceConverter); 30] = [
         },
     ),
     (
-        "a fault is told again without its place",
+        "a fault is reported again without its place",
         |state, call, out| {
             let was_met = state.numbers[FAULT] > 0;
             let mut made = proved_lent(state, call, out);
@@ -134,7 +134,7 @@ const WRONG_CONVERTERS: [(&str, PieceConverter); 30] = [
         },
     ),
     (
-        "a piece that meets a fault tells no length",
+        "a piece that finds a fault returns no length",
         |state, call, out| {
             let made = proved_lent(state, call, out);
             match made.report.is_accepted() {
@@ -144,7 +144,7 @@ const WRONG_CONVERTERS: [(&str, PieceConverter); 30] = [
         },
     ),
     (
-        "an end that meets a fault leaves the record in hand in the output",
+        "an end that finds a fault leaves the current record in the output",
         |state, call, out| {
             let made = proved_lent(state, call, out);
             if let (Call::End(_), 4) = (call, made.report.number) {
@@ -235,29 +235,32 @@ const WRONG_CONVERTERS: [(&str, PieceConverter); 30] = [
         state.numbers[ENDED] = 0;
         made
     }),
-    ("sizes are asked before the dialects", |state, call, out| {
-        let is_unknown = Dialect::from_number(state.source).is_none();
-        match is_unknown && is_ill_sized(call) {
-            true => refusal(10),
-            false => proved_lent(state, call, out),
-        }
-    }),
     (
-        "sizes are asked before an earlier fault",
+        "sizes are checked before the dialects",
+        |state, call, out| {
+            let is_unknown = Dialect::from_number(state.source).is_none();
+            match is_unknown && is_ill_sized(call) {
+                true => refusal(10),
+                false => proved_lent(state, call, out),
+            }
+        },
+    ),
+    (
+        "sizes are checked before an earlier fault",
         |state, call, out| match state.numbers[FAULT] > 0 && is_ill_sized(call) {
             true => refusal(10),
             false => proved_lent(state, call, out),
         },
     ),
     (
-        "sizes are asked before an earlier end",
+        "sizes are checked before an earlier end",
         |state, call, out| match state.numbers[ENDED] > 0 && is_ill_sized(call) {
             true => refusal(10),
             false => proved_lent(state, call, out),
         },
     ),
     (
-        "the low byte of the number tells the dialect",
+        "the low byte of the number names the dialect",
         |state, call, out| {
             let target = state.target;
             state.target &= 0xFF;
@@ -320,7 +323,7 @@ const WRONG_CONVERTERS: [(&str, PieceConverter); 30] = [
     ),
 ];
 
-/// Each wrong one differs in this comparison on so many samples, and the proved one does not.
+/// Each wrong one differs in this comparison on this many samples, and the proved one does not.
 fn are_noticed<T>(
     wrong_ones: &[(&str, PieceConverter)],
     compare: fn(&[PieceConverter], u64, usize) -> Result<T, String>,
@@ -346,7 +349,7 @@ const WRONG_CHECKS: [(&str, PieceConverter); 5] = [
         proved_lent(state, call, out)
     }),
     (
-        "only 1 tells that an end was accepted",
+        "only 1 means that an end was accepted",
         |state, call, out| {
             if state.numbers[ENDED] > 1 {
                 state.numbers[ENDED] = 0;

@@ -1,4 +1,4 @@
-//! Wrong converters and wrong writers against the comparison that the proved ones are held to: each has to be noticed.
+//! Wrong converters and wrong writers against the comparison that the proved ones have to pass: each has to be noticed.
 
 use harness::compare::{convert_random, write_random};
 use harness::ledger::completed_text;
@@ -43,7 +43,7 @@ fn shorter(room: &mut [u8]) -> &mut [u8] {
     &mut room[..length]
 }
 
-/// A text with one part in place of another, wherever that stands.
+/// A text with one part in place of another, wherever that is.
 fn replaced(text: &[u8], old: &[u8], new: &[u8]) -> Vec<u8> {
     let mut changed = Vec::new();
     let mut rest = text;
@@ -125,7 +125,7 @@ const WRONG_CONVERTERS: [(&str, WholeConverter); 29] = [
         convert(from, to, file, shorter(room))
     }),
     (
-        "a text goes as far as there is room",
+        "a text is written as far as there is room",
         |from, to, file, room| match convert_whole(from, to, file) {
             Ok(text) => deliver(&text[..text.len().min(room.len())], room),
             Err(report) => refused(report),
@@ -169,7 +169,7 @@ const WRONG_CONVERTERS: [(&str, WholeConverter); 29] = [
         },
     ),
     (
-        "the length is told with too little room",
+        "the length is returned with too little room",
         |from, to, file, room| {
             let answer = convert(from, to, file, room);
             match convert_whole(from, to, file) {
@@ -182,11 +182,11 @@ const WRONG_CONVERTERS: [(&str, WholeConverter); 29] = [
         },
     ),
     (
-        "the low byte of the number tells the source",
+        "the low byte of the number names the source",
         |from, to, file, room| convert(from & 0xFF, to, file, room),
     ),
     (
-        "the low byte of the number tells the target",
+        "the low byte of the number names the target",
         |from, to, file, room| convert(from, to & 0xFF, file, room),
     ),
     (
@@ -208,7 +208,7 @@ const WRONG_CONVERTERS: [(&str, WholeConverter); 29] = [
         },
     ),
     (
-        "what the target can't carry comes after all else",
+        "what the target can't represent comes after all else",
         |from, to, file, room| {
             let answer = convert(from, to, file, room);
             match (answer.report.number, read_whole(from, file)) {
@@ -218,7 +218,7 @@ const WRONG_CONVERTERS: [(&str, WholeConverter); 29] = [
         },
     ),
     (
-        "what the target can't carry has no offset",
+        "what the target can't represent has no offset",
         |from, to, file, room| {
             let mut answer = convert(from, to, file, room);
             if answer.report.number == 9 {
@@ -251,7 +251,7 @@ const WRONG_CONVERTERS: [(&str, WholeConverter); 29] = [
     ),
     ("4,097 bytes are a record of CSVJ", takes_one_byte_more::<1>),
     ("4,097 bytes are a record of TDIF", takes_one_byte_more::<2>),
-    ("a lone surrogate is carried", |from, to, file, room| {
+    ("a lone surrogate is represented", |from, to, file, room| {
         let answer = convert(from, to, file, room);
         let Ok(table) = read_whole(from, file) else {
             return answer;
@@ -269,7 +269,7 @@ const WRONG_CONVERTERS: [(&str, WholeConverter); 29] = [
         respelt(3, b"\n \r", b"\n\" \"\r", (from, to), file, room)
     }),
     (
-        "the mark begins a CSV+ text",
+        "a byte order mark begins a CSV+ text",
         |from, to, file, room| match convert_whole(from, to, file) {
             Ok(text) if to == 3 && text.starts_with(b"\"\xEF\xBB\xBF") => deliver(&text[1..], room),
             _ => convert(from, to, file, room),
@@ -287,7 +287,7 @@ const WRONG_CONVERTERS: [(&str, WholeConverter); 29] = [
     ("7F is escaped", |from, to, file, room| {
         respelt(1, b"\x7F", b"\\u007f", (from, to), file, room)
     }),
-    ("numbers are spelt anew", |from, to, file, room| {
+    ("numbers are written anew", |from, to, file, room| {
         respelt(1, b"1E+05", b"1e5", (from, to), file, room)
     }),
     (
@@ -396,11 +396,11 @@ const WRONG_WRITERS: [(&str, Writer); 29] = [
         },
     ),
     (
-        "the low byte of the number tells the dialect",
+        "the low byte of the number names the dialect",
         |target, table, room| write(target & 0xFF, table, room),
     ),
     (
-        "the shortest list tells the number of cells",
+        "the shortest list determines the number of cells",
         |target, table, room| {
             let lists = [table.starts.len(), table.ends.len(), table.kinds.len()];
             let cells = lists.into_iter().min().unwrap_or(0);
@@ -424,25 +424,22 @@ const WRONG_WRITERS: [(&str, Writer); 29] = [
             }
         },
     ),
-    ("a reversed stretch is empty", |target, table, room| {
+    ("a reversed span is empty", |target, table, room| {
         changed(table, target, room, |start, end, _| *end = *end.max(start))
     }),
-    (
-        "an empty stretch may stand outside",
-        |target, table, room| {
-            let length = table.content.len();
-            changed(table, target, room, |start, end, _| {
-                if start == end {
-                    (*start, *end) = (length.min(*start), length.min(*end));
-                }
-            })
-        },
-    ),
-    ("a stretch ends with the content", |target, table, room| {
+    ("an empty span may lie outside", |target, table, room| {
+        let length = table.content.len();
+        changed(table, target, room, |start, end, _| {
+            if start == end {
+                (*start, *end) = (length.min(*start), length.min(*end));
+            }
+        })
+    }),
+    ("a span ends with the content", |target, table, room| {
         let length = table.content.len();
         changed(table, target, room, |_, end, _| *end = length.min(*end))
     }),
-    ("the low bits tell the kind", |target, table, room| {
+    ("the low bits name the kind", |target, table, room| {
         changed(table, target, room, |_, _, kind| *kind &= 7)
     }),
     ("kind 6 is null", |target, table, room| {
@@ -473,18 +470,15 @@ const WRONG_WRITERS: [(&str, Writer); 29] = [
             *end -= usize::from(*kind == 2 && spelt.ends_with(b"."));
         })
     }),
-    (
-        "two halves may stand in their order",
-        |target, table, room| {
-            let content = table.content;
-            changed(table, target, room, |start, end, kind| {
-                let text = content.get(*start..*end).unwrap_or_default();
-                if *kind == 1 && text == b"\xED\xA0\xBD\xED\xB8\x80" {
-                    *end = *start;
-                }
-            })
-        },
-    ),
+    ("two halves may be in their order", |target, table, room| {
+        let content = table.content;
+        changed(table, target, room, |start, end, kind| {
+            let text = content.get(*start..*end).unwrap_or_default();
+            if *kind == 1 && text == b"\xED\xA0\xBD\xED\xB8\x80" {
+                *end = *start;
+            }
+        })
+    }),
     ("no records are a table", |target, table, room| {
         match table.records == 0 && table.starts.is_empty() {
             true => ACCEPTED,
@@ -516,7 +510,7 @@ const WRONG_WRITERS: [(&str, Writer); 29] = [
         },
     ),
     (
-        "a clash is what the target can't carry",
+        "a clash is what the target can't represent",
         |target, table, room| {
             let mut answer = write(target, table, room);
             if answer.report.number == 6 {
@@ -560,7 +554,7 @@ const WRONG_WRITERS: [(&str, Writer); 29] = [
         "4,097 bytes are a record of CSV+",
         writes_one_byte_more::<3>,
     ),
-    ("a lone surrogate is carried", |target, table, room| {
+    ("a lone surrogate is represented", |target, table, room| {
         let answer = write(target, table, room);
         let Report { record, column, .. } = answer.report;
         match answer.report.number == 9 && record > 1 && column > 0 {
@@ -569,7 +563,7 @@ const WRONG_WRITERS: [(&str, Writer); 29] = [
         }
     }),
     (
-        "bytes that no cell holds are judged",
+        "bytes that no cell holds are checked",
         |target, table, room| {
             let is_utf8 = std::str::from_utf8(table.content).is_ok();
             match is_utf8 || surrogate(table.content).is_some() {

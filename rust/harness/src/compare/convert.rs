@@ -46,9 +46,9 @@ pub fn convert_in_rooms(
         .collect()
 }
 
-/// Compares the converters on so many random files, each converted to all dialects. Now and then a number is another dialect's or none's.
+/// Compares the converters on this many random files, each converted to all dialects. Now and then a number is another dialect's or none's.
 ///
-/// The reports, by target; a report is counted for the dialect that the file was made in and for the target that would be asked for.
+/// The reports, by target; a report is counted for the dialect that the file was made in and for the target that would be named.
 pub fn convert_random(
     converter: WholeConverter,
     seed: u64,

@@ -36,7 +36,7 @@ impl AddAssign for MadeUpCounts {
     }
 }
 
-/// Makes calls over so many states that no calls made: each call has to end, to stay inside what it was lent and to make the four checks,
+/// Makes calls over this many states that no calls made: each call has to end, to stay inside what it was lent and to make the four checks,
 /// and all converters have to do the same.
 pub fn made_up_random(
     converters: &[PieceConverter],
@@ -236,7 +236,7 @@ fn up_to(rng: &mut Rng, limit: usize) -> usize {
     }
 }
 
-/// A number of a place of `numbers`, in which 0 to 8 say where the conversion stands.
+/// A number of a place of `numbers`, in which 0 to 8 say where the conversion is.
 fn likely_number(rng: &mut Rng, place: usize) -> usize {
     match place {
         0 => rng.between(0, 120),

@@ -44,11 +44,11 @@ pub fn proved_by_value(state: &mut Converter, call: &Call, out: &mut [u8]) -> Co
     converted(done.answer)
 }
 
-/// How many bytes stand on either side of a state, which belong to nobody.
+/// How many bytes lie on either side of a state, which belong to nobody.
 const BESIDE: usize = 64;
 const UNUSED: [u8; BESIDE] = [0xA5; BESIDE];
 
-/// A state, with what stands on either side of it.
+/// A state, with what lies on either side of it.
 #[repr(C)]
 struct Guarded {
     before: [u8; BESIDE],
@@ -72,7 +72,7 @@ pub struct Trial {
     lent: Box<Guarded>,
 }
 
-/// An output in which stray writes show, for trials that take turns.
+/// An output in which stray writes show, for trials that share it.
 pub fn output() -> Output {
     Output::new(MOST_ROOM)
 }
@@ -192,7 +192,7 @@ impl Past {
 struct Shown {
     records: usize,
     columns: usize,
-    /// The names as they are spelt in the file.
+    /// The names as they are encoded in the file.
     names: Vec<Vec<u8>>,
 }
 
@@ -237,7 +237,7 @@ impl Shown {
     }
 }
 
-/// Longer files are not told from the whole converter at each call, which takes long.
+/// Longer files are not compared with the whole converter at each call, which takes long.
 const LEDGER_BYTES: usize = 150;
 
 /// Several piece converters, the reference implementation's and the ledger, compared call by call.
@@ -449,7 +449,7 @@ impl PieceComparison {
     }
 }
 
-/// Compares the converters on so many random lists of calls. Now and then a number is no dialect's.
+/// Compares the converters on this many random lists of calls. Now and then a number is no dialect's.
 ///
 /// The reports; one that later calls repeat counts once.
 pub fn pieces_random(

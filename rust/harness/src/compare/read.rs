@@ -58,7 +58,7 @@ pub fn read_in_rooms(reader: Reader, dialect: u32, file: &[u8]) -> Result<ReadAn
     read_agrees(reader, dialect, file, [cells + COLUMNS; 3])
 }
 
-/// Compares the readers on so many random files, some of them read by another dialect or by none.
+/// Compares the readers on this many random files, some of them read by another dialect or by none.
 ///
 /// A report of an unknown dialect is counted for the dialect that the file was made in.
 pub fn read_random(reader: Reader, seed: u64, count: usize) -> Result<Counts, String> {

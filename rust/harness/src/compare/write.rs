@@ -61,9 +61,9 @@ pub fn write_in_rooms(
         .collect()
 }
 
-/// Compares the writers on so many random tables, each written in all dialects, and now and then in none.
+/// Compares the writers on this many random tables, each written in all dialects, and now and then in none.
 ///
-/// A report of an unknown dialect is counted for the one that would be asked for.
+/// A report of an unknown dialect is counted for the one that would be named.
 pub fn write_random(writer: Writer, seed: u64, count: usize) -> Result<Counts, String> {
     let mut rng = Rng::new(seed);
     let mut counts = Counts::default();
