@@ -64,7 +64,7 @@ pub const FILE_TEXT: Reason = Reason {
     rule: "all that the target writes has at most 16,777,215 bytes",
 };
 
-pub const FAULTS: [Explanation; 12] = [
+pub static FAULTS: [Explanation; 12] = [
     Explanation {
         fault: Fault::NoRecord,
         name: "no_record",
