@@ -1,5 +1,4 @@
--- A writer's progress as one record: what the room holds, and what is still to come. A turn of a loop is one law.
--- Assumes nothing.
+-- The progress of a writer as one record: what the buffer holds, and what remains to be written. A step of a loop is one law.
 use mathlib.Core.Path.{_≡_, refl, sym, ap, ap₂, _∙_}
 use mathlib.Core.List.{List, [], _∷_, _++_, append-assoc, append-nil}
 use Prim.Native.Nat.{ℕ, _+_, _≤_, _<_}
@@ -11,11 +10,11 @@ use lib.Seq.{take-at, drop-at, drop-drop, drop-cons, set-split}
 use Rattle.model.specs.rules.Base.{Bytes, over}
 use Rattle.buffer.specs.Written.{written}
 
--- a list from a place on, by its next element
+-- a list from an index on, by its next element
 pub drop-next : (xs : List ℕ) (i j : ℕ) → i < length xs → i + 1 ≡ j → drop i xs ≡ getD xs i 0 ∷ drop j xs
 drop-next xs i j h n = rw (← n, add-one, drop-cons xs i 0)
 
--- a list of which n elements can be taken has them
+-- a list from which n elements can be taken has them
 pub taken-whole : (n : ℕ) (l : Bytes) → length (take n l) ≡ n → n ≤ length l
 taken-whole n l e = omega (arith, length-take n l, e)
 
@@ -25,7 +24,7 @@ length-written d at w h = simp (length-append, length-take, length-drop) (omega 
 pub written-nil : (d : Bytes) (at : ℕ) → written d at [] ≡ d
 written-nil d at = ap (λ (k : ℕ). take at d ++ drop k d) (add-zero at) ∙ take-append-drop at d
 
--- w written, then v: the text is both
+-- w written, then v: together w ++ v
 pub written-more : (d : Bytes) (at : ℕ) (w v : Bytes) → at + length w ≤ length d → written (written d at w) (at + length w) v ≡ written d at (w ++ v)
 written-more d at w v h =
     let n : ℕ = at + length w in
@@ -38,11 +37,11 @@ written-more d at w v h =
     ∙ ap₂ (λ (a b : Bytes). a ++ (v ++ b)) (take-at p q n long) past
     ∙ simp (append-assoc, length-append, add-assoc)
 
--- a store is a text of one byte
+-- a store writes a text of one byte
 pub set-written : (l : Bytes) (o x : ℕ) → o < length l → set l o x ≡ written l o (x ∷ [])
 set-written l o x h = set-split l o x h ∙ ap (λ (k : ℕ). take o l ++ (x ∷ drop k l)) (sym (add-one o))
 
--- old is being written over from at with the text whole: out is what it holds now, o the next place, and rest what is still to come
+-- old is being overwritten from at with the text whole: out is the buffer now, o the next offset, rest what remains
 pub record Writing (old : Bytes) (at : ℕ) (whole out : Bytes) (o : ℕ) (rest : Bytes) : Type 0 where
   pub w : Bytes
   pub place : o ≡ at + length w
@@ -55,7 +54,7 @@ pub start : (old : Bytes) (at : ℕ) (whole : Bytes) → at + length whole ≤ l
 start old at whole h = record { w = []; place = omega arith; text = sym (written-nil old at); left = refl; room = omega arith; long = refl }
 
 module _ {old : Bytes} {at : ℕ} {whole out : Bytes} {o : ℕ} where
-  -- a text of the rest goes out
+  -- the first part of the rest is written
   pub put : (v : Bytes) {rest : Bytes} → Writing old at whole out o (v ++ rest) → Writing old at whole (written out o v) (o + length v) rest
   put v {rest} p =
       let fits : at + length (p .w) + (length v + length rest) ≤ length old = rw length-append at (p .room) in
@@ -69,24 +68,24 @@ module _ {old : Bytes} {at : ℕ} {whole out : Bytes} {o : ℕ} where
         long = length-written out o v (omega (arith, p .place, p .long)) ∙ p .long;
       }
 
-  -- there is a place for the next byte, and it goes out
+  -- there is room for the next byte, and it is written
   pub here : {x : ℕ} {rest : Bytes} → Writing old at whole out o (x ∷ rest) → o < length out
   here p = omega (arith, p .place, p .long, p .room)
 
   pub store : {x : ℕ} {rest : Bytes} → Writing old at whole out o (x ∷ rest) → Writing old at whole (set out o x) (o + 1) rest
   store {x} p = rw (set-written out o x (here p)) (put (x ∷ []) p)
 
-  -- room for what is left
+  -- room for the rest
   pub room-left : {rest : Bytes} → Writing old at whole out o rest → o + length rest ≤ length out
   room-left p = omega (arith, p .place, p .long, p .room)
 
-  -- nothing is left
+  -- nothing remains
   pub done : Writing old at whole out o [] → (o ≡ at + length whole) × (out ≡ written old at whole)
   done p =
       let e : whole ≡ p .w = sym (p .left) ∙ append-nil (p .w) in
       rw e (p .place, p .text)
 
--- from the beginning on
+-- from offset 0
 pub written-first : (old w : Bytes) → written old 0 w ≡ over w old
 written-first old w = let from-zero : 0 + length w ≡ length w = omega arith in ap (λ (n : ℕ). w ++ drop n old) from-zero
 

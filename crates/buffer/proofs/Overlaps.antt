@@ -1,5 +1,4 @@
--- Blocks of bytes that are stored from the last to the first, and a last block that overlaps what is written before it.
--- Assumes nothing.
+-- Blocks whose bytes are stored from the last to the first, and a last block that overlaps what was written before it.
 use mathlib.Core.Path.{_≡_, refl, sym, ap, ap₂, _∙_}
 use mathlib.Core.List.{[], _∷_, _++_, append-assoc}
 use Prim.Native.Nat.{ℕ, suc, _+_, _-_, _/_, _≤_, _<_}
@@ -13,7 +12,7 @@ use Rattle.buffer.proofs.BlockProgress.{drop-next, written-nil, set-wri
 
 -- ---- stores
 
--- a store before a text that is written
+-- a store directly before a written text
 before-written : (l : Bytes) (o j x : ℕ) (w : Bytes) → o + 1 ≡ j → j + length w ≤ length l → set (written l j w) o x ≡ written l o (x ∷ w)
 before-written l o j x w e h =
     let n : j ≡ suc o = omega arith in
@@ -74,7 +73,7 @@ module _ (l : Bytes) (o : ℕ) (s : Bytes) (i : ℕ) where
       let e0 = before-written l o (o + 1) (getD s i 0) (at 1 ∷ at 2 ∷ at 3 ∷ at 4 ∷ at 5 ∷ at 6 ∷ at 7 ∷ []) (omega arith) (omega arith) in
       rw (slice-eight s i k, e7, e6, e5, e4, e3, e2, e1, e0)
 
--- the first, the middle and the last of one to three
+-- the first, the middle and the last of one to three bytes
 pub few-stored : (l : Bytes) (o : ℕ) (s : Bytes) (m n : ℕ) → m ≡ length s / 2 → n ≡ length s - 1 → 0 < length s → length s ≤ 3 → o + length s ≤ length l
     → set (set (set l (o + n) (getD s n 0)) (o + m) (getD s m 0)) o (getD s 0 0) ≡ written l o s
 few-stored l o [] m n e f g h k = absurd (omega arith)
@@ -139,7 +138,7 @@ module _ {old : Bytes} {at : ℕ} {src out : Bytes} {o : ℕ} (i : ℕ) (p : Wri
       let place : o + length (slice src i (i + n)) ≡ r = ap (λ (k : ℕ). o + k) long ∙ e in
       rw (f, ← place) (put (slice src i (i + n)) (rw parts at p))
 
-  -- the last n do, from k on, and some of them again
+  -- the last n follow from k on, some of them again
   pub last-block : {new : Bytes} (k : ℕ) → o ≡ at + i → k ≤ i → i ≤ length src → k + n ≡ length src → new ≡ written out (at + k) (slice src k (k + n)) → new ≡ written old at src
   last-block k e h j l f =
       let w : Bytes = p .w in

@@ -1,5 +1,5 @@
--- A writer's progress as one record, where the text may be only measured; and, passed on from below, where it is written.
--- Assumes nothing.
+-- The progress of a writer as one record where the text may be only measured; the record for writing alone is exported from
+-- BlockProgress.
 use mathlib.Core.Path.{_≡_, refl, sym, ap, _∙_}
 use mathlib.Core.Bool.{Bool, true, false}
 use mathlib.Core.List.{[], _++_, append-assoc, append-nil}
@@ -16,7 +16,7 @@ use Rattle.buffer.proofs.BlockProgress.{written-more}
 use Rattle.buffer.specs.Writes.{written, measure, Room, WrittenAt}
 pub use Rattle.buffer.proofs.BlockProgress.{drop-next, taken-whole, length-written, written-nil, set-written, Writing, start, put, here, store, room-left, done, written-first, filled}
 
--- ---- a place as it is measured
+-- ---- measured offsets
 
 pub measure-within : (n : ℕ) → n ≤ MAXFILE → measure n ≡ n
 unfolding measure
@@ -30,7 +30,7 @@ pub measure-least : (n : ℕ) → measure n ≤ MAXFILE
 unfolding measure
 measure-least n = split (λ (r : ℕ). r ≤ MAXFILE) (leb MAXFILE n) (λ _. omega arith) λ e. omega (arith, leb-false MAXFILE n e)
 
--- measured in two parts
+-- measuring in two parts
 measure-more : (n k : ℕ) → measure (measure n + k) ≡ measure (n + k)
 unfolding measure
 measure-more n k =
@@ -48,7 +48,7 @@ module _ {write : Bool} {old : Bytes} {o : ℕ} {w new : Bytes} {r : ℕ} where
   unfolding if_then_else_
   put-measured e p q = record { place = rw e p; text = rw e q }
 
--- the same text by another name
+-- the same text by an equation
 pub room-as : {write : Bool} {o : ℕ} {w v out : Bytes} → w ≡ v → Room write o v out → Room write o w out
 room-as e p = rw e p
 
@@ -62,7 +62,7 @@ unfolding if_then_else_
 length-emitted true {old} {o} {w} h p = ap length (p .text) ∙ length-written old o w (h .inside refl)
 length-emitted false h p = ap length (p .text)
 
--- w was put, and v is put after it
+-- w was written or measured, then v
 written-then : (write : Bool) {old : Bytes} {at : ℕ} {w mid : Bytes} {o : ℕ} {v new : Bytes} {r : ℕ}
     → Room write at (w ++ v) old → WrittenAt write old at w mid o → WrittenAt write mid o v new r → WrittenAt write old at (w ++ v) new r
 unfolding if_then_else_
@@ -94,13 +94,13 @@ emitting false {old} {at} h =
     let same : at + 0 ≡ at = omega arith in
     record { w = []; so-far = record { place = sym (measure-within at (h .measured refl)) ∙ ap measure (sym same); text = refl }; left = refl; room = h }
 
--- a place that was measured is within the limit
+-- a measured offset is within the limit
 written-within : (write : Bool) {old : Bytes} {o : ℕ} {w new : Bytes} {r : ℕ} → WrittenAt write old o w new r → write ≡ false → r ≤ MAXFILE
 unfolding if_then_else_
 written-within true p e = impossible (sym e)
 written-within false {old} {o} {w} p e = rw (p .place) (measure-least (o + length w))
 
--- a place after a text that was written
+-- the offset after a written text
 written-place : (write : Bool) {old : Bytes} {o : ℕ} {w new : Bytes} {r : ℕ} → WrittenAt write old o w new r → write ≡ true → r ≡ o + length w
 unfolding if_then_else_
 written-place true p e = p .place
@@ -116,7 +116,7 @@ module _ {write : Bool} {old : Bytes} {at : ℕ} {whole out : Bytes} {o : ℕ} w
   pub same-long : {rest : Bytes} → Emitting write old at whole out o rest → length out ≡ length old
   same-long p = length-emitted write (room-before p) (p .so-far)
 
-  -- there is room for the next part, and it goes out
+  -- there is room for the next part, and it is written
   pub room-next : (v rest : Bytes) → Emitting write old at whole out o (v ++ rest) → Room write o v out
   room-next v rest p =
       let all : length whole ≡ length (p .w) + (length v + length rest) = rw length-append at (so-long p) in
@@ -135,6 +135,6 @@ module _ {write : Bool} {old : Bytes} {at : ℕ} {whole out : Bytes} {o : ℕ} w
       record { measured = p .room .measured; inside = λ e. simp length-append (omega (arith, all, p .room .inside e)) } in
       record { w = p .w ++ v; so-far = written-then write both (p .so-far) q; left = append-assoc (p .w) v rest ∙ p .left; room = p .room }
 
-  -- nothing is left
+  -- nothing remains
   pub put-whole : Emitting write old at whole out o [] → WrittenAt write old at whole out o
   put-whole p = emitted-as (sym (p .left) ∙ append-nil (p .w)) (p .so-far)

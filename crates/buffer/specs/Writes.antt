@@ -8,16 +8,16 @@ use Rattle.model.specs.rules.Report.{MAXFILE}
 use Rattle.model.specs.rules.Api.{least}
 pub use Rattle.buffer.specs.Written.{written}
 
--- a place as it is measured: none is beyond the limit of a file, so that a text of any length has a measure (§7.1)
+-- an offset as it is measured: at most the limit of a file, so that a text of any length has a measure (§7.1)
 unfoldable pub measure : ℕ → ℕ
 measure n = least MAXFILE n
 
--- a text w may be measured from o on, or written there if `write` says so
+-- a text w may be measured from o on, and written there if `write` is set
 pub record Room (write : Bool) (o : ℕ) (w out : Bytes) : Type 0 where
   pub measured : write ≡ false → o ≤ MAXFILE
   pub inside : write ≡ true → o + length w ≤ length out
 
--- a text w was written over old from o on if `write` says so, and otherwise only measured: new is the buffer now, r the place after it
+-- a text w was written over old from o on if `write` is set, and otherwise only measured: new is the buffer now, r the offset after w
 pub record WrittenAt (write : Bool) (old : Bytes) (o : ℕ) (w new : Bytes) (r : ℕ) : Type 0 where
   pub place : r ≡ (if write then o + length w else measure (o + length w))
   pub text : new ≡ (if write then written old o w else old)

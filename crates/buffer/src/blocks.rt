@@ -1,8 +1,10 @@
-// Bytes copied eight and four at once. All bytes of a block are read before the first is stored, so that the compiler makes one load and
-// one store of them. They are stored from the last to the first: the other way round it makes one store of the last byte of `copy_few`, `copy_short`
-// and `copy_long`, after all three, and the bytes before it no longer go at once.
+// Copies in blocks of eight and four bytes. A source and an offset go in; the text is written there (`written` of specs/Written.antt).
 //
-// No byte behind the text is stored to. The last block overlaps the one before it, and stores the same bytes there again.
+// All bytes of a block are loaded before the first is stored, so that the compiler makes one load and one store of them. They are stored
+// from the last to the first: in the other order it merges the last byte's store of `copy_few`, `copy_short` and `copy_long` into one
+// after all three, and the bytes before it are no longer stored at once.
+//
+// No byte after the text is stored. The last block overlaps the one before it and stores the same bytes again (proofs/Overlaps.antt).
 ghost use mathlib.Core.Path.{_≡_};
 ghost use Prim.Native.Nat.{_+_, _≤_, _<_};
 ghost use lib.ListN.{length};
@@ -45,7 +47,7 @@ fn copy_four(out: &mut [u8], o: usize, src: &[u8], i: usize)
     out[o] = b0;
 }
 
-// One to three bytes: the first, the middle and the last, of which some are the same.
+// One to three bytes: the first, the middle and the last, some of them equal.
 fn copy_few(out: &mut [u8], at: usize, src: &[u8])
     requires { ⌜ (0 < length (now src)) × (length (now src) ≤ 3) × (at + length (now src) ≤ length (now out)) ⌝ }
     ensures { λ r. ⌜ now (out .exit) ≡ written (now (out .entry)) at (now (src .entry)) ⌝ }

@@ -1,8 +1,8 @@
-// Bytes into a lent buffer at a place. Whoever writes bytes over others does it by these, or by `Writing` of proofs/WriteProgress.antt:
-// what the buffer holds and what is still to come, with a law for each way to go on.
+// Bytes written into a lent buffer at an offset, or only measured. Every writer above uses these, with the record `Writing` or `Emitting`
+// of proofs/WriteProgress.antt: what the buffer holds and what remains, with one law for each step.
 //
-// `emit` and `emit_byte` measure where `write` is false and leave the buffer alone, so that measuring a text and writing it are one walk
-// with one proof. Nothing is measured beyond the limit of a file: any text has a measure, and no sum overflows.
+// `emit` and `emit_byte` measure if `write` is false and leave the buffer alone, so that measuring and writing a text are one loop with
+// one proof. A measure stops at the limit of a file: every text has one, and no sum overflows.
 ghost use mathlib.Core.Path.{_≡_};
 ghost use Prim.Native.Nat.{_+_, _≤_};
 ghost use lib.ListN.{length};
@@ -13,7 +13,7 @@ use codes::MAX_FILE;
 
 pub mod blocks;
 
-// Copies all of src into out from place at.
+// Copies src into out from `at` on, and returns the offset after it.
 pub fn copy(out: &mut [u8], at: usize, src: &[u8]) -> usize
     requires { ⌜ at + length (now src) ≤ length (now out) ⌝ }
     ensures { λ r. ⌜ (r ≡ at + length (now (src .entry)))
@@ -27,7 +27,7 @@ pub fn copy(out: &mut [u8], at: usize, src: &[u8]) -> usize
     at + src.len()
 }
 
-// The place after n bytes from o on, where they are only measured.
+// The offset after n bytes from o on, where they are only measured.
 pub fn measured(o: usize, n: usize) -> usize
     requires { ⌜ o ≤ MAXFILE ⌝ }
     ensures { λ r. ⌜ r ≡ measure (o + n) ⌝ }
@@ -38,7 +38,7 @@ pub fn measured(o: usize, n: usize) -> usize
     o + n
 }
 
-// All of s at o.
+// All of s at o, or only measured.
 pub fn emit(out: &mut [u8], o: usize, s: &[u8], write: bool) -> usize
     requires { ⌜ Room write o (now s) (now out) ⌝ }
     ensures { λ r. ⌜ WrittenAt write (now (out .entry)) o (now (s .entry)) (now (out .exit)) r ⌝ }
@@ -49,7 +49,7 @@ pub fn emit(out: &mut [u8], o: usize, s: &[u8], write: bool) -> usize
     measured(o, s.len())
 }
 
-// One byte at o.
+// One byte at o, or only measured.
 pub fn emit_byte(out: &mut [u8], o: usize, b: u8, write: bool) -> usize
     requires { ⌜ Room write o (b ∷ []) (now out) ⌝ }
     ensures { λ r. ⌜ WrittenAt write (now (out .entry)) o (b ∷ []) (now (out .exit)) r ⌝ }

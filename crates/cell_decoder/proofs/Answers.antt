@@ -1,5 +1,4 @@
--- The answers of the definition, case by case: what a call answered and left is what the definition says.
--- Assumes nothing.
+-- The definition's answers, case by case: the code's answer and the room after the call are those of the definition.
 use mathlib.Core.Path.{_≡_, refl, sym, ap, _∙_}
 use mathlib.Core.Option.{none, some}
 use Prim.Native.Nat.{ℕ, _<_, _≤_}
@@ -20,7 +19,7 @@ use Rattle.cell_decoder.specs.declared.Decoded.the-variants.{Content, Re
 use Rattle.cell_decoder.specs.Answer.{givenAnswer, decoderAnswer, soundCell, anyCell}
 use Rattle.cell_decoder.proofs.CellValidation.{no-column}
 
--- the answer r and a room that held old and holds new are what the definition answers
+-- the answer r and a room that held old and holds new are the definition's
 abbrev pub Decodes : api.Decoded → Decoded → (old new : Bytes) → Type 0
 Decodes a r old new = (givenAnswer r ≡ decoderAnswer a) × (new ≡ over (a .content) old)
 

@@ -1,5 +1,4 @@
--- The check by how the automaton of a cell ends: it is the same run, and only what is said of its end differs.
--- Assumes nothing.
+-- The check of a cell by the end of its automaton: it is the same run, and only the report on its end differs.
 use mathlib.Core.Path.{_≡_, refl, sym, ap, _∙_}
 use mathlib.Core.List.{[], _∷_}
 use Prim.Native.Nat.{ℕ, suc, _+_, _-_}
@@ -26,7 +25,7 @@ use Rattle.cell_scanner.specs.declared.CellEnd.the-variants.{Stopped, Refused, 
 use Rattle.cell_scanner.specs.Run.{cellRun}
 use Rattle.model.specs.rules.Api.{slice}
 
--- what is said of an end, in a cell of n bytes
+-- the check result of an end, for a cell of n bytes
 abbrev pub validatedBy : Dialect → (n : ℕ) → CellEnd → CellCheck
 validatedBy d n (Stopped c i) = Unsound (Byte Syntax) i
 validatedBy d n (Refused e i) = Unsound (Byte e) i

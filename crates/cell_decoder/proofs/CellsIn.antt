@@ -1,5 +1,4 @@
--- The cells that stand in lists, by place; and the cells of a file, whose starts, ends and kinds are put into lists.
--- Assumes nothing.
+-- The cells of lists by index; and the cells of a file, whose starts, ends and kinds were stored in lists.
 use mathlib.Core.Path.{_≡_, refl, sym, ap, _∙_}
 use mathlib.Core.List.{List, [], _∷_}
 use Prim.Native.Nat.{ℕ, zero, suc, _+_, _-_, _<_, _≤_}
@@ -32,7 +31,7 @@ cells-length src s (i ∷ starts) (j ∷ ends) [] e k = absurd (omega arith)
 cells-length src s (i ∷ starts) (j ∷ ends) (n ∷ kinds) e k = ap suc (cells-length src s starts ends kinds (omega arith) (omega arith))
 
 module _ (src : Source) (s : Bytes) (starts ends kinds : List ℕ) where
-  -- the cell at a place, and the cells from there on
+  -- the cell at an index, and the cells from there on
   abbrev pub cellAt : ℕ → Value
   cellAt n = cellIn src s (getD starts n 0) (getD ends n 0) (getD kinds n 0)
 
@@ -81,7 +80,7 @@ module _ (d : Dialect) (file : Bytes) where
         spelt = in-file (stretch-short (v .from) (v .upto) forward within short) (sound-followed d (slice file (v .from) (v .upto)) sound) (number-kind (v .kind) ∙ kind);
       }
 
-  -- cells of which each has its kind and content, and lies where it says
+  -- cells of which each has its kind and content, and lies in its span
   module _ (P : Value → Type 0) where
     pub cells-are : ((v : Value) → P v → cellIn (File d) file (v .from) (v .upto) (kindNumber (v .kind)) ≡ v) → {vs : List Value} → All P vs
         → cellsIn (File d) file (startsOf vs) (endsOf vs) (kindsOf vs) ≡ vs

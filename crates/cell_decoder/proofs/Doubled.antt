@@ -1,5 +1,4 @@
--- Text with quotes doubled, by place: what the definition makes of the bytes from a place on, by the bytes that stand there.
--- Assumes nothing.
+-- Text with doubled quotes by offset: the definition's content of the bytes from an offset on, by the bytes there.
 use mathlib.Core.Path.{_≡_, refl, sym, ap, _∙_}
 use mathlib.Core.Bool.{Bool, true, false}
 use mathlib.Core.List.{[], _∷_}
@@ -32,7 +31,7 @@ module _ (q : ℕ) (raw : Bytes) (i : ℕ) (h : i < length raw) where
       ∙ rw (drop-next raw (i + 1) (i + 1 + 1) k refl, eq-eqb (getD raw (i + 1) 0) q f)
       (ap (λ (b : ℕ). b ∷ undouble q false (drop (i + 1 + 1) raw)) (f ∙ sym e))
 
-  -- none does
+  -- no second quote follows
   pub at-close : getD raw i 0 ≡ q → i + 1 < length raw → (getD raw (i + 1) 0 ≡ q → ⊥) → undouble q false (drop i raw) ≡ []
   unfolding undouble if_then_else_
   at-close e k f = at-first e ∙ rw (drop-next raw (i + 1) (i + 1 + 1) k refl, ne-eqb (getD raw (i + 1) 0) q f)

@@ -1,5 +1,4 @@
--- What the first byte says of the content is what the definition says of the cell.
--- Assumes nothing.
+-- The encoding that the first byte determines yields the definition's content of the cell.
 use mathlib.Core.Path.{_≡_, refl, ap, _∙_}
 use mathlib.Core.Bool.{Bool, true, false, _||_}
 use mathlib.Core.List.{[], _∷_}
@@ -21,7 +20,7 @@ plus-none : (s : Settings) → contentIn (spellingBy (CsvPlus s) 0) [] ≡ []
 unfolding spellingBy undouble
 plus-none s = split (λ (k : Spelling). contentIn k [] ≡ []) (0 is quoteOf (CsvPlus s)) (λ _. refl) λ _. refl
 
--- a choice of spellings, by a test
+-- a choice of encodings, by a test
 in-choice : (t : Bool) (x y : Spelling) (raw : Bytes) → contentIn (if t then x else y) raw ≡ (if t then contentIn x raw else contentIn y raw)
 unfolding if_then_else_
 in-choice true x y raw = refl
@@ -38,7 +37,7 @@ content-first Tdif (b ∷ bs) = in-choice (b is QUOTE) (Doubled QUOTE) Nothing (
 content-first (CsvPlus s) [] = plus-none s
 content-first (CsvPlus s) (b ∷ bs) = in-choice (b is quoteOf (CsvPlus s)) (Doubled (quoteOf (CsvPlus s))) AsItStands (b ∷ bs)
 
--- a spelling after the dialect's own quote
+-- the encoding after the dialect's own quote
 pub encoded-tdif : (d : Dialect) (q b : ℕ) (r : Spelling) → d ≡ Tdif → q ≡ quoteOf d → r ≡ (if b is q then Doubled q else Nothing) → r ≡ spellingBy d b
 unfolding spellingBy
 encoded-tdif d q b r e f h = rw e (rw (f, e) at h)

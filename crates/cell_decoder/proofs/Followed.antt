@@ -1,6 +1,5 @@
--- In a sound cell no byte ED begins a lone surrogate: a byte from 80 to 9F comes after it, in the cell. So it is in sound cells that stand
--- one after another.
--- Assumes nothing.
+-- In a sound cell no byte ED begins a lone surrogate: a byte from 80 to 9F follows it in the cell. The same holds of sound cells one
+-- after another.
 use mathlib.Core.Path.{_≡_, refl, sym, ap, _∙_}
 use mathlib.Core.Bool.{true, false}
 use mathlib.Core.List.{[], _∷_, _++_}
@@ -34,12 +33,12 @@ use Rattle.model.proofs.cell_laws.CellRuns.{Runs, here, there, sound-runs}
 use Rattle.model.proofs.cell_laws.CellContent.{char-on, no-more, no-stop, same-more}
 use Rattle.cell_decoder.specs.Followed.{EdFollows, EdFollowed}
 
--- a cell that waits for the byte after ED
+-- a state in which the byte after ED comes next
 data AfterEd : Cell → Type 0 where
   in-quotes : AfterEd (Quoted (Within (Second Ed)))
   in-plain : AfterEd (Plain (Within (Second Ed)))
 
--- what ED does to a cell
+-- the step of ED
 data EdStep : CellStep → Type 0 where
   ed-more : {c : Cell} → AfterEd c → EdStep (More c)
   ed-stop : EdStep Stop
@@ -113,7 +112,7 @@ ed-low : (b : ℕ) (c : Char) → charStep (Within (Second Ed)) b ≡ On c → (
 unfolding charStep innerStep rowOf if_then_else_
 ed-low b c e = split-on (within 0x80 0x9F b) (λ p. within-true 0x80 0x9F b p) λ p. broken-on (rw p at e)
 
--- the rest of a cell begins with one
+-- the rest of a cell begins with such a byte
 data LowFirst : Bytes → Type 0 where
   low-first : {b : ℕ} {bs : Bytes} → 0x80 ≤ b → b ≤ 0x9F → LowFirst (b ∷ bs)
 
@@ -128,7 +127,7 @@ low-next d in-quotes here w = impossible w
 low-next d in-plain here w = impossible w
 low-next d a (there {b} x r) w = let l = low-step d b a x in low-first (l .0) (l .1)
 
--- ---- bytes in which it is so, up to the last
+-- ---- lists of bytes of which it holds, except at the end
 
 pub data EdClosed : Bytes → Type 0 where
   closed-none : EdClosed []

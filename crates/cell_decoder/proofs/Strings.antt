@@ -1,5 +1,4 @@
--- Strings of CSVJ by place: what the definition makes of the bytes from a place on, by the bytes that stand there.
--- Assumes nothing.
+-- Strings of CSVJ by offset: the definition's content of the bytes from an offset on, by the bytes there.
 use mathlib.Core.Path.{_≡_, refl, sym, ap, _∙_}
 use mathlib.Core.Bool.{true, false, and-false}
 use mathlib.Core.List.{List, [], _∷_, _++_, append-nil}
@@ -20,7 +19,7 @@ use Rattle.cell_decoder.specs.WrittenContent.{Stepped}
 use Rattle.cell_decoder.specs.Units.{one}
 use Rattle.cell_decoder.proofs.Units.{packed-unit, packed-single, short-ed}
 
--- ---- the bytes that stand at a place
+-- ---- the bytes at an offset
 
 module _ (raw : Bytes) (i j : ℕ) (h : i < length raw) (n : i + 1 ≡ j) where
   pub at-quote : getD raw i 0 ≡ QUOTE → units between (drop i raw) ≡ []
@@ -88,7 +87,7 @@ pub lone-unit : (l : ℕ) (us : List Unit16) → isLow l ≡ false → Lone (uni
 unfolding textOf if_then_else_
 lone-unit l us e h = rw (e, and-false (isHigh h))
 
--- a unit that is no high surrogate joins nothing
+-- a unit that is no high surrogate joins no other
 pub calm : (h : ℕ) (us : List Unit16) → isHigh h ≡ false → textOf (unit h ∷ us) ≡ pack h ++ textOf us
 unfolding textOf if_then_else_
 calm h [] e = sym (append-nil (pack h))
@@ -110,9 +109,9 @@ lone-cut (b ∷ bs) h =
     escaped [] h = lone-nil
     escaped (c ∷ cs) h = split Lone (c is 0x75) (λ _. rw (cut-digits cs (omega arith)) lone-nil) λ _. lone-byte (shortOf c) (units between cs)
 
--- ---- a \u escape at a place
+-- ---- a \u escape at an offset
 
--- a \u escape stands at i, whole
+-- a whole \u escape is at i
 module _ (raw : Bytes) (i : ℕ) (u : UnitThere raw i) where
   pub at-unit : units between (drop i raw) ≡ unit (unitAt raw (i + 2)) ∷ units between (drop (i + 6) raw)
   at-unit =
@@ -120,7 +119,7 @@ module _ (raw : Bytes) (i : ℕ) (u : UnitThere raw i) where
       ∙ at-u raw (i + 1) (i + 2) (omega (arith, u .inside)) (omega arith) (u .letter)
       ∙ at-digits raw (i + 2) (i + 6) (omega (arith, u .inside)) (omega arith)
 
--- ---- the low surrogate at a place
+-- ---- the low surrogate at an offset
 
 low-none : (raw : Bytes) (i : ℕ) → Lone (units between (drop i raw)) → LowAt raw i 0
 low-none raw i l = record { some = λ h. absurd (omega arith); none = λ _. l }
@@ -166,9 +165,9 @@ low-there raw i r u e lo hi =
       none = λ z. absurd (omega arith);
     }
 
--- ---- pieces
+-- ---- parts of a string
 
--- the end of the cell stands directly after a backslash, or before the last digit
+-- the cell ends directly after a backslash, or before the last digit
 pub cut-backslash : (raw : Bytes) (i : ℕ) → i < length raw → length raw - i < 2 → getD raw i 0 ≡ BACKSLASH → units between (drop i raw) ≡ []
 cut-backslash raw i h s e = at-backslash raw i (i + 1) h refl e ∙ at-end escape raw (i + 1) (omega arith)
 
@@ -179,7 +178,7 @@ cut-unit raw i h s e u =
     ∙ at-u raw (i + 1) (i + 2) h (omega arith) u
     ∙ cut-digits (drop (i + 2) raw) (rw length-drop (omega arith))
 
--- a cut escape says nothing
+-- an escape that is cut short has no content
 pub proceeds-cut : (raw : Bytes) (i : ℕ) (bytes : Bytes) → i < length raw → units between (drop i raw) ≡ [] → Proceeds raw i bytes 0 (length raw)
 unfolding textOf
 proceeds-cut raw i bytes h e =
@@ -234,7 +233,7 @@ module _ (raw : Bytes) (i h : ℕ) (u : UnitThere raw i) (e : h ≡ unitAt raw (
   pub goes-lone : (l : ℕ) → LowAt raw (i + 6) l → l ≡ 0 → Packs h bytes size → next ≡ i + 6 → Proceeds raw i bytes size next
   goes-lone l w z p n = rw n (proceeds-packed raw i h bytes size (i + 6) p (omega arith) (from-unit ∙ w .none z h) (omega arith) (u .inside))
 
-  -- two halves of one code point
+  -- a surrogate pair
   pub goes-pair : (l v : ℕ) → isHigh h ≡ true → LowAt raw (i + 6) l → (l ≡ 0 → ⊥) → Joins h l v → Packs v bytes size → next ≡ i + 12 → Proceeds raw i bytes size next
   goes-pair l v t a z j p n =
       let w : LowThere raw (i + 6) l = a .some (omega arith) in
@@ -253,7 +252,7 @@ module _ (raw : Bytes) (i h : ℕ) (u : UnitThere raw i) (e : h ≡ unitAt raw (
 pub proceeds-length : {raw : Bytes} {i : ℕ} {bytes : Bytes} {size next : ℕ} → Proceeds raw i bytes size next → length (stringFrom raw i) ≡ size + length (stringFrom raw next)
 proceeds-length {raw} {i} {bytes} {size} {next} g = ap length (g .stands) ∙ length-append (take size bytes) (stringFrom raw next) ∙ ap (λ (n : ℕ). n + length (stringFrom raw next)) (g .sized)
 
--- ---- what a string says at a place
+-- ---- the content of a string at an offset
 
 module _ (raw : Bytes) (i : ℕ) where
   pub string-end : length raw ≤ i → stringFrom raw i ≡ []
@@ -268,7 +267,7 @@ module _ (raw : Bytes) (i : ℕ) where
   unfolding textOf
   string-byte h q b = ap textOf (at-byte raw i (i + 1) h refl q b)
 
--- a part of a string goes out
+-- a part of a string is written
 pub stepped : {old : Bytes} {at : ℕ} {whole out : Bytes} {o : ℕ} (raw : Bytes) (i : ℕ) → Writing old at whole out o (stringFrom raw i)
     → {new : Bytes} {read write : ℕ} → Stepped raw i out o new read write → Writing old at whole new write (stringFrom raw read)
 stepped raw i p t = rw (t .text, t .place) (put (t .w) (rw (t .stands) at p))

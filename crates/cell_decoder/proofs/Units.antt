@@ -1,5 +1,4 @@
--- The bytes of a code point are a unit of content.
--- Assumes nothing.
+-- The bytes of a code point are one unit of content.
 use mathlib.Core.Path.{_≡_, sym, ap, _∙_}
 use mathlib.Core.List.{[], _∷_}
 use Prim.Native.Nat.{ℕ, _+_, _/_, _%_, _≤_, _<_}
@@ -14,7 +13,7 @@ use Rattle.utf8.specs.Codes.{packed, Packs}
 use Rattle.utf8.proofs.Codes.{packed-one, packed-two, packed-three, packed-four}
 use Rattle.cell_decoder.specs.Units.{Lead, Later, Unit, one, two, three, four}
 
--- the low six bits, as a later byte
+-- the low six bits as a continuation byte
 six-later : (n : ℕ) → Later (0x80 + n % 0x40)
 six-later n = record { least = omega arith; most = omega arith }
 
@@ -33,7 +32,7 @@ packed-unit u most =
     split-on (leb u 0xFFFF) (λ g. rw (packed-three u b (leb-true u 0xFFFF g)) (three (0xE0 + u / 0x1000) (0x80 + u / 0x40 % 0x40) (0x80 + u % 0x40) (omega arith) (six-later (u / 0x40)) (six-later u))) λ g.
     rw (packed-four u (leb-false u 0xFFFF g) most) (four _ _ _ _ (four-lead u) (six-later (u / 0x1000)) (six-later (u / 0x40)) (six-later u))
 
--- one of a single byte is ASCII
+-- a code point of a single byte is ASCII
 packed-ascii : (u : ℕ) → u ≤ 0x10FFFF → length (packed u) ≡ 1 → u ≤ 0x7F
 packed-ascii u most l =
     split-on (leb u 0x7F) (λ e. leb-true u 0x7F e) λ e.
@@ -53,7 +52,7 @@ packed-single u bytes size most p e =
     let f : getD bytes 0 0 ≡ u = first-taken bytes size u e (p .packs ∙ packed-one u h) in
     omega arith
 
--- only ED is escaped as ED
+-- only ED is the short escape of ED
 pub short-ed : (b : ℕ) → shortOf b ≡ 0xED → b ≡ 0xED
 unfolding if_then_else_
 short-ed b e =

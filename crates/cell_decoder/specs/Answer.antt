@@ -1,4 +1,4 @@
--- What the decoder's answer stands for: a report, the number of the kind and the length of the content.
+-- What the decoder's answer means: a report, the number of the kind and the length of the content.
 use Prim.Native.Nat.{ℕ}
 use lib.ListN.{length}
 use Rattle.model.specs.declared.Report.{Report}
@@ -16,13 +16,12 @@ pub record CellAnswer : Type 0 where
   pub kind : ℕ
   pub size : ℕ
 
--- what each case of the decoder's enum stands for: the content's length and kind, or a refusal, whose length and kind are 0 (§9.2 §11.1
--- §19.7)
+-- what each case of the decoder's enum means: the content's length and kind, or a refusal, whose length and kind are 0 (§9.2 §11.1 §19.7)
 abbrev pub givenAnswer : Decoded → CellAnswer
 givenAnswer (Content n k) = record { report = accepted; kind = kindNumber k; size = n }
 givenAnswer (Refused e) = record { report = e; kind = 0; size = 0 }
 
--- the definition's answer, with its content by length; the content itself is what the room holds
+-- the definition's answer with the length of its content; the content itself is in the room
 abbrev pub decoderAnswer : api.Decoded → CellAnswer
 decoderAnswer a = record { report = a .report; kind = a .kind; size = length (a .content) }
 

@@ -1,4 +1,4 @@
--- What the first byte of a cell says of its spelling. A cell with no byte counts as one that begins with 0.
+-- The encoding of a cell by its first byte. A cell without bytes is treated as one that begins with 0.
 use Prim.Native.Nat.{ℕ}
 use mathlib.Core.Bool.{false, _||_}
 use mathlib.Core.List.{[]}
@@ -21,7 +21,7 @@ spellingBy Csvj b =
 spellingBy Tdif b = if b is QUOTE then Doubled QUOTE else Nothing
 spellingBy (CsvPlus s) b = if b is quoteOf (CsvPlus s) then Doubled (quoteOf (CsvPlus s)) else AsItStands
 
--- the content of a cell that is spelt so
+-- the content of a cell in this encoding
 abbrev pub contentIn : Spelling → Bytes → Bytes
 contentIn Nothing raw = []
 contentIn AsItStands raw = raw

@@ -1,4 +1,4 @@
--- The cells of a record that stand in lists: their bytes in spans of a file or of a table's content, their kinds as numbers.
+-- The cells of a record in lists: their bytes as spans of a file or of a table's content, their kinds as numbers.
 use Prim.Native.Nat.{ℕ, _<_, _≤_}
 use mathlib.Core.Path.{_≡_}
 use mathlib.Core.Option.{Option, none, some}
@@ -24,7 +24,7 @@ abbrev pub orNull : Option Kind → Kind
 orNull none = Null
 orNull (some k) = k
 
--- the kind of a number, where numbers of no kind have been refused before it is asked (§2.3 §13.6)
+-- the kind of a number, where numbers of no kind were refused before (§2.3 §13.6)
 abbrev pub kindFrom : ℕ → Kind
 kindFrom n = orNull (kindNamed n)
 
@@ -33,12 +33,12 @@ abbrev pub contentBy : Source → Bytes → Bytes
 contentBy (File d) raw = contentOf d raw
 contentBy Contents raw = raw
 
--- how that content is spelt
+-- the encoding of that content
 abbrev pub spellingIn : Source → Bytes → Spelling
 spellingIn (File d) raw = spellingBy d (getD raw 0 0)
 spellingIn Contents raw = AsItStands
 
--- the cell of this span and of the kind that this number names
+-- the cell of this span, of the kind that this number names
 abbrev pub cellIn : Source → Bytes → (from upto kind : ℕ) → Value
 cellIn src s i j k = record { from = i; upto = j; kind = kindFrom k; content = contentBy src (slice s i j) }
 
@@ -49,8 +49,8 @@ cellsIn src s (i ∷ starts) [] kinds = []
 cellsIn src s (i ∷ starts) (j ∷ ends) [] = []
 cellsIn src s (i ∷ starts) (j ∷ ends) (k ∷ kinds) = cellIn src s i j k ∷ cellsIn src s starts ends kinds
 
--- bytes that a cell of this kind may have: in a file no more than a record has, with no lone surrogate as it is, and those of the kind
--- that they tell, as it is with every sound cell; as contents any
+-- bytes that a cell of this kind may have: in a file at most a record's, with no raw lone surrogate, and of the kind that they determine,
+-- as in every sound cell; as contents any
 pub data Encoded : Source → Kind → Bytes → Type 0 where
   in-file :
       {d : Dialect} {k : Kind} {raw : Bytes} → length raw ≤ MAXRECORD → EdFollowed raw → k ≡ kindOf d raw → Encoded (File d) k raw
@@ -62,7 +62,7 @@ pub record CellSpan (src : Source) (s : Bytes) (from upto kind : ℕ) : Type 0 w
   pub within : upto ≤ length s
   pub spelt : Encoded src (kindFrom kind) (slice s from upto)
 
--- as many ends and kinds as starts, and each start with its end and its kind such a span
+-- as many ends and kinds as starts, and each start with its end and its kind is such a span
 pub record Cells (src : Source) (s : Bytes) (starts ends kinds : List ℕ) : Type 0 where
   pub with-ends : length starts ≡ length ends
   pub with-kinds : length starts ≡ length kinds

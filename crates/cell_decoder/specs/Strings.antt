@@ -1,4 +1,4 @@
--- What a CSVJ string holds from a place on, and what is answered of the escape that stands there.
+-- The content of a CSVJ string from an offset on, and of the escape there.
 use Prim.Native.Nat.{ℕ, _+_, _-_, _*_, _<_, _≤_}
 use mathlib.Core.Path.{_≡_}
 use mathlib.Core.Bool.{true}
@@ -18,7 +18,7 @@ abbrev pub unitAt : Bytes → ℕ → ℕ
 unitAt raw i =
     ((hexOf (getD raw i 0) * 0x10 + hexOf (getD raw (i + 1) 0)) * 0x10 + hexOf (getD raw (i + 2) 0)) * 0x10 + hexOf (getD raw (i + 3) 0)
 
--- a \u escape stands at i, with all its digits
+-- a \u escape with all its digits is at i
 pub record UnitThere (raw : Bytes) (i : ℕ) : Type 0 where
   pub inside : i + 6 ≤ length raw
   pub backslash : getD raw i 0 ≡ BACKSLASH
@@ -34,12 +34,12 @@ pub record LowThere (raw : Bytes) (i r : ℕ) : Type 0 where
   pub inside : i + 6 ≤ length raw
   pub there : units between (drop i raw) ≡ unit r ∷ units between (drop (i + 6) raw)
 
--- the low surrogate of the escape at i, or 0 where none stands there
+-- the low surrogate of the escape at i, or 0 if there is none
 pub record LowAt (raw : Bytes) (i r : ℕ) : Type 0 where
   pub some : 0 < r → LowThere raw i r
   pub none : r ≡ 0 → Lone (units between (drop i raw))
 
--- the first `size` of `bytes` are what the string says at i, a unit of content or nothing, and it goes on at `next`; a single byte ED stands
+-- the first `size` of `bytes` are the string's content at i, one unit or nothing, and the string continues at `next`; a single byte ED is
 -- in the string itself, before `next`
 pub record Proceeds (raw : Bytes) (i : ℕ) (bytes : Bytes) (size next : ℕ) : Type 0 where
   pub stands : stringFrom raw i ≡ take size bytes ++ stringFrom raw next

@@ -7,7 +7,7 @@ use Rattle.model.specs.rules.Base.{Bytes}
 use Rattle.buffer.specs.Writes.{written}
 use Rattle.cell_decoder.specs.Strings.{stringFrom}
 
--- a part w of the string was read from i to `read` and written from o to `write`, over old
+-- a part w of the string was read from i to `read` and written from o to `write` over old
 pub record Stepped (raw : Bytes) (i : ℕ) (old : Bytes) (o : ℕ) (new : Bytes) (read write : ℕ) : Type 0 where
   pub w : Bytes
   pub stands : stringFrom raw i ≡ w ++ stringFrom raw read

@@ -1,4 +1,6 @@
-// The content of a cell: how long it is, and written into a lent room.
+// The content of a cell, measured or written into a lent room: the encoding and the raw bytes go in, the length or the content comes out.
+// The definition is `contentIn` of specs/FirstByte.antt (`contentOf` of model's specs/rules/Decode.antt). The loops are proved by
+// `Writing` of buffer; a new encoding is a pair of functions and an arm in `length_in` and `write_in`.
 ghost use mathlib.Core.Path.{_≡_};
 ghost use Prim.Native.Nat.{_+_, _<_, _≤_};
 ghost use mathlib.Core.Bool.{false};
@@ -13,7 +15,7 @@ use crate::first_byte::Spelling;
 
 // ---- text with quotes doubled
 
-// How long the text after an opening quote is.
+// The length of the text after an opening quote.
 fn undoubled_length(q: u8, raw: &[u8]) -> usize
     ensures { λ r. ⌜ r ≡ length (undouble q false (drop 1 (now (raw .entry)))) ⌝ }
 {
@@ -61,7 +63,7 @@ fn write_undoubled(q: u8, raw: &[u8], out: &mut [u8])
 
 // ---- strings of CSVJ
 
-// How long the string after an opening quote is.
+// The length of the string after an opening quote.
 fn string_length(raw: &[u8]) -> usize
     ensures { λ r. ⌜ r ≡ length (stringFrom (now (raw .entry)) 1) ⌝ }
 {
@@ -84,13 +86,13 @@ fn string_length(raw: &[u8]) -> usize
     n
 }
 
-// Where a string is read and written next.
+// The offsets at which a string is read and written next.
 struct Cursor {
     read: usize,
     write: usize,
 }
 
-// The escape whose backslash stands at i, written at o.
+// The escape whose backslash is at i, written at o.
 fn write_escape(raw: &[u8], i: usize, out: &mut [u8], o: usize) -> Cursor
     requires { ⌜ (i < length (now raw)) × (getD (now raw) i 0 ≡ BACKSLASH) ⌝ }
     requires { ⌜ o + length (stringFrom (now raw) i) ≤ length (now out) ⌝ }
@@ -130,9 +132,9 @@ fn write_string(raw: &[u8], out: &mut [u8])
     }
 }
 
-// ---- content, however it is spelt
+// ---- content in any encoding
 
-// How long content that is spelt so is.
+// The length of content in this encoding.
 pub fn length_in(s: Spelling, raw: &[u8]) -> usize
     ensures { λ r. ⌜ r ≡ length (contentIn s (now (raw .entry))) ⌝ }
 {
@@ -144,7 +146,7 @@ pub fn length_in(s: Spelling, raw: &[u8]) -> usize
     }
 }
 
-// Content that is spelt so, at the beginning of out.
+// Content in this encoding, at the beginning of out.
 pub fn write_in(s: Spelling, raw: &[u8], out: &mut [u8])
     requires { ⌜ length (contentIn s (now raw)) ≤ length (now out) ⌝ }
     ensures { λ r. ⌜ now (out .exit) ≡ over (contentIn s (now (raw .entry))) (now (out .entry)) ⌝ }

@@ -1,6 +1,7 @@
-// Escapes of a CSVJ string: the bytes that one stands for, and where the string goes on after it.
+// Escapes of a CSVJ string: the offset of a backslash goes in; the bytes of the escape and the offset after it come out (`Proceeds` of
+// specs/Strings.antt).
 //
-// A high surrogate escape looks ahead for a low one, so that nothing is carried from one escape to the next.
+// The escape of a high surrogate looks ahead for a low one (§2.8), so that no state is saved from one escape to the next.
 ghost use mathlib.Core.Path.{_≡_};
 ghost use Prim.Native.Nat.{_+_, _-_, _<_, _≤_};
 ghost use lib.ListN.{length, getD};
@@ -9,14 +10,14 @@ ghost use Rattle.model.specs.rules.Decode.{hexOf, shortOf};
 ghost use Rattle.cell_decoder.specs.Strings.{unitAt, UnitThere, LowAt, Proceeds};
 ghost use Rattle.utf8.specs.Codes.{Packs};
 
-// What a part of a string stands for, the first `length` of `bytes`, and where the string goes on.
+// The bytes of a part of a string, the first `size` of `bytes`, and where the string continues.
 pub struct Unescaped {
     pub bytes: [u8; 4],
     pub size: usize,
     pub next: usize,
 }
 
-// b less by, and 0 where there is less.
+// b - by, or 0 if that is negative.
 fn saturating_sub(b: u8, by: u8) -> u32
     ensures { λ r. ⌜ r ≡ b - by ⌝ }
 {
@@ -26,7 +27,7 @@ fn saturating_sub(b: u8, by: u8) -> u32
     (b - by) as u32
 }
 
-// The value of a digit.
+// The value of a hexadecimal digit.
 fn hex_of(b: u8) -> u32
     ensures { λ r. ⌜ (r ≡ hexOf b) × (r ≤ 168) ⌝ }
 {
@@ -39,7 +40,7 @@ fn hex_of(b: u8) -> u32
     saturating_sub(b, 0x57)
 }
 
-// What an escape of one letter stands for.
+// The byte that an escape of one letter means (§3.6).
 fn short_escape(b: u8) -> u8
     ensures { λ r. ⌜ r ≡ shortOf b ⌝ }
 {
@@ -73,7 +74,7 @@ fn unit_at(raw: &[u8], i: usize) -> u32
     ((a * 0x10 + b) * 0x10 + c) * 0x10 + d
 }
 
-// The low surrogate of an escape that stands at i, 0 where none does.
+// The low surrogate of an escape at i, 0 if there is none.
 fn low_at(raw: &[u8], i: usize) -> u32
     requires { ⌜ i ≤ length (now raw) ⌝ }
     ensures { λ r. ⌜ LowAt (now (raw .entry)) i r ⌝ }
@@ -97,7 +98,7 @@ fn low_at(raw: &[u8], i: usize) -> u32
     l
 }
 
-// A code point as the piece before `next`.
+// A code point, in a string that continues at `next`.
 fn packed(u: u32, next: usize) -> Unescaped
     ensures { λ r. ⌜ (Packs u (r .bytes) (r .size)) × (r .next ≡ next) ⌝ }
 {
@@ -130,7 +131,7 @@ fn unescape_unit(raw: &[u8], i: usize) -> Unescaped
     packed(utf8::joined(h, l), i + 12)
 }
 
-// The escape whose backslash stands at i. One that the end of the cell cuts says nothing.
+// The escape whose backslash is at i. One that the end of the cell cuts short has no content.
 pub fn unescape_at(raw: &[u8], i: usize) -> Unescaped
     requires { ⌜ (i < length (now raw)) × (getD (now raw) i 0 ≡ BACKSLASH) ⌝ }
     ensures { λ r. ⌜ Proceeds (now (raw .entry)) i (r .bytes) (r .size) (r .next) ⌝ }

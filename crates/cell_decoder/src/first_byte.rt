@@ -1,4 +1,4 @@
-// What the first byte of a cell says of its content: how it is spelt.
+// The encoding of a cell's content, from its first byte. The definition is `spellingBy` of specs/FirstByte.antt.
 ghost use mathlib.Core.Path.{_≡_};
 ghost use Rattle.model.specs.rules.Base.{if_then_else_, _is_};
 ghost use Rattle.cell_decoder.specs.FirstByte.{spellingBy};
@@ -6,11 +6,11 @@ ghost use Rattle.model.specs.declared.Dialect.the-variants.{Csvj};
 ghost use Rattle.cell_decoder.specs.declared.first_byte.Spelling.the-variants.{Doubled};
 use model::Dialect;
 
-// How the content of a cell is spelt.
+// How the content of a cell is encoded.
 pub enum Spelling {
-    // It has none.
+    // There is no content.
     Nothing,
-    // The cell itself.
+    // The content is the raw cell.
     AsItStands,
     // After this quote, with each quote inside doubled.
     Doubled(u8),
@@ -36,7 +36,7 @@ fn csvj_spelling(b: u8) -> Spelling
     Spelling::AsItStands
 }
 
-// Doubled after a quote, and otherwise as the dialect has it.
+// Doubled after a quote, and otherwise as the dialect encodes it.
 fn doubled_or(q: u8, b: u8, other: Spelling) -> Spelling
     ensures { λ r. ⌜ r ≡ (if b is q then Doubled q else other) ⌝ }
 {

@@ -1,12 +1,12 @@
-// The decoder of one cell. A dialect's number and the raw bytes of a cell go in, with a room to write to; the content comes out
-// in the room, and its length and kind as the answer, or a refusal that leaves the room as it was.
+// The decoder of one cell. A dialect's number, the raw bytes of a cell and a room go in; the content comes out in the room, with its
+// length and kind as the answer, or a refusal that leaves the room unchanged.
 //
-// It validates and measures first and writes then, so that nothing is written before everything is known to fit. The definitions
-// are model's specs/rules/Decode.antt, and `decoder` and `decoderLeaves` of its specs/rules/Api.antt; specs/Answer.antt says what an answer
-// stands for in the rules' numbers.
+// It validates and measures first and writes afterwards, so that nothing is written before all is known to fit. The definitions are
+// model's specs/rules/Decode.antt, and `decoder` and `decoderLeaves` of its specs/rules/Api.antt; specs/Answer.antt says what an answer
+// means in the rules' numbers.
 //
-// source.rt names what the bytes of a cell are, first_byte.rt how they are spelt by the first, validate.rt checks them by the automaton,
-// escape.rt reads an escape of CSVJ, and content.rt measures and writes.
+// source.rt says what the bytes of a cell are, first_byte.rt how they are encoded, validate.rt checks them by the automaton, escape.rt
+// reads an escape of CSVJ, and content.rt measures and writes.
 ghost use mathlib.Core.Path.{_≡_};
 ghost use Prim.Native.Nat.{_≤_};
 ghost use lib.ListN.{length};
@@ -27,23 +27,23 @@ pub mod first_byte;
 pub mod source;
 pub mod validate;
 
-// What the decoder answers.
+// What the decoder returns.
 pub enum Decoded {
-    // The content is in the room, this long.
+    // The content is in the room and has this length.
     Content { size: usize, kind: Kind },
     Refused(Report),
 }
 
 // ---- cells that are known to be sound
 
-// How long the content of a cell is.
+// The length of the content of a cell.
 pub fn content_length(d: Dialect, raw: &[u8]) -> usize
     ensures { λ r. ⌜ r ≡ length (contentOf d (now (raw .entry))) ⌝ }
 {
     content::length_in(first_byte::spelling_by(d, cell::first_of(raw)), raw)
 }
 
-// The content of a cell, at the beginning of a room that holds it.
+// The content of a cell, at the beginning of a room that has space for it.
 fn write_content(d: Dialect, raw: &[u8], room: &mut [u8])
     requires { ⌜ length (contentOf d (now raw)) ≤ length (now room) ⌝ }
     ensures { λ r. ⌜ now (room .exit) ≡ over (contentOf d (now (raw .entry))) (now (room .entry)) ⌝ }
@@ -51,7 +51,7 @@ fn write_content(d: Dialect, raw: &[u8], room: &mut [u8])
     content::write_in(first_byte::spelling_by(d, cell::first_of(raw)), raw, room)
 }
 
-// A cell that is not validated again: 10 where its content is longer than the room.
+// A cell that is not validated again: 10 if its content is longer than the room (§11.6).
 pub fn decode_sound(d: Dialect, raw: &[u8], room: &mut [u8]) -> Decoded
     ensures { λ r. ⌜ givenAnswer r ≡ decoderAnswer (soundCell d (now (raw .entry)) (length (now (room .entry)))) ⌝ }
     ensures { λ r. ⌜ now (room .exit) ≡ over (soundCell d (now (raw .entry)) (length (now (room .entry))) .content) (now (room .entry)) ⌝ }
@@ -69,7 +69,7 @@ pub fn decode_sound(d: Dialect, raw: &[u8], room: &mut [u8]) -> Decoded
 
 // ---- any raw bytes
 
-// A cell of this dialect: 2, 3 or 4 where the bytes are no single cell.
+// A cell of this dialect: 2, 3 or 4 if the bytes are no single cell (§11.2 §11.3 §11.4).
 pub fn decode_cell(d: Dialect, raw: &[u8], room: &mut [u8]) -> Decoded
     ensures { λ r. ⌜ givenAnswer r ≡ decoderAnswer (anyCell d (now (raw .entry)) (length (now (room .entry)))) ⌝ }
     ensures { λ r. ⌜ now (room .exit) ≡ over (anyCell d (now (raw .entry)) (length (now (room .entry))) .content) (now (room .entry)) ⌝ }

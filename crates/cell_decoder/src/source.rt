@@ -1,4 +1,5 @@
-// What the bytes of a cell are: its raw spelling in a file of some dialect, or its content itself, as the writer is given it.
+// What the bytes of a cell are: its raw bytes in a file of some dialect, or the content itself, as the writer gets it. So the checks and
+// writers above have one proof for both. The definitions are those of specs/Sources.antt.
 ghost use mathlib.Core.Path.{_≡_};
 ghost use Rattle.model.specs.rules.Text.{isText};
 ghost use Rattle.cell_decoder.specs.FirstByte.{contentIn};
@@ -37,7 +38,7 @@ pub fn is_text(k: Kind) -> bool
     }
 }
 
-// How the content of a cell is spelt.
+// The encoding of a cell's content.
 pub fn spelling_in(src: Source, raw: &[u8]) -> Spelling
     ensures { λ r. ⌜ contentIn r (now (raw .entry)) ≡ contentBy src (now (raw .entry)) ⌝ }
     ensures { λ r. ⌜ r ≡ spellingIn src (now (raw .entry)) ⌝ }

@@ -1,4 +1,5 @@
-// Whether raw bytes are a single cell: the automaton of a cell over all of them.
+// Whether raw bytes are a single cell: the cell's automaton runs over all of them, and its end is the check result. The definition is
+// `validateCell` of model's specs/rules/Decode.antt.
 ghost use mathlib.Core.Path.{_≡_};
 ghost use Rattle.model.specs.rules.Decode.{validateCell};
 use cell_scanner::CellEnd;
@@ -9,7 +10,7 @@ use model::CellCheck;
 use model::Dialect;
 use model::Fault;
 
-// The whole of raw, from its first byte on.
+// A single cell is all of raw, from its first byte on.
 pub fn validate_cell(d: Dialect, raw: &[u8]) -> CellCheck
     ensures { λ r. ⌜ r ≡ validateCell d (now (raw .entry)) ⌝ }
 {

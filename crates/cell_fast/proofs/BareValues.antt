@@ -1,4 +1,4 @@
--- Laws of cells without quotes of CSVJ and TDIF: digits, numbers and words.
+-- Laws of unquoted values of CSVJ and TDIF: digits, numbers and words.
 use Prim.Native.Nat.{ℕ, _+_, _≤_, _<_}
 use native.Mathlib.Omega.{arith}
 use mathlib.Core.Path.{_≡_, refl, ap, _∙_}
@@ -34,7 +34,7 @@ use Rattle.cell_fast.proofs.QuotedCells.{complete-ends}
 digit-range : (b : ℕ) → isDigit b ≡ true → (0x30 ≤ b) × (b ≤ 0x39)
 digit-range b e = within-true 0x30 0x39 b e
 
--- a numeral that a digit leaves as it is
+-- a state of a number that a digit leaves unchanged
 data Proceeds : Numeral → Type 0 where
   integer-proceeds : Proceeds Integer
   fraction-proceeds : Proceeds Fraction
@@ -53,7 +53,7 @@ module _ {s : Bytes} {stop at r : ℕ} (x : Digits s at stop r) (k : stop ≤ le
       let y = and-true (isDigit (getD s at 0)) (allPass isDigit (slice s (at + 1) r)) all in
       (y .0, record { from = omega arith; upto = u; each = y .1 })
 
-  -- the first digit leads from c to a numeral that goes on
+  -- the first digit leads from c to a state of a number, and the others leave it unchanged
   digits-come : {n : Numeral} → Proceeds n → (c : Cell) → cellStep Csvj c (getD s at 0) ≡ More (InNumber n) → Results Csvj s stop c at (InNumber n) r
   digits-come {n} g c e =
       let u : r ≤ stop = x .upto in
@@ -113,7 +113,7 @@ module _ (s : Bytes) (stop at : ℕ) (k : stop ≤ length s) where
       let h : at < r = omega arith in
       record { from = f; upto = x .upto; comes = λ _. digits-come x k h fraction-proceeds (InNumber Point) (point-first (getD s at 0) (parts x k h .0)); next = x .ends }
 
-  -- a number ends behind its integer
+  -- a number ends after its integer
   pub number-integer : (i : ℕ) → IntegerEnd s stop at i → i < stop → ¬ (i ≡ at) → ¬ (getD s i 0 ≡ 0x2E) → isLetterE (getD s i 0) ≡ false
       → (c : Cell) → BeginsNumber c → EndsFrom Csvj s stop c at i
   unfolding cellStep afterInteger if_then_else_
@@ -122,7 +122,7 @@ module _ (s : Bytes) (stop at : ℕ) (k : stop ≤ length s) where
       let y = x .integer (omega arith) in
       ends-here (y .comes c b) h k (y .next h ∙ rw (ne-eqb (getD s i 0) 0x2E p, e))
 
-  -- or behind its fraction
+  -- or after its fraction
   pub number-fraction : (i r : ℕ) → IntegerEnd s stop at i → i < stop → ¬ (i ≡ at) → getD s i 0 ≡ 0x2E → FractionEnd s stop (i + 1) r → r < stop → isLetterE (getD s r 0) ≡ false
       → (c : Cell) → BeginsNumber c → EndsFrom Csvj s stop c at r
   unfolding cellStep numeralStep afterInteger if_then_else_
@@ -139,7 +139,7 @@ module _ (s : Bytes) (stop at : ℕ) (k : stop ≤ length s) where
 -- ---- numbers before a comma
 
 module _ (s : Bytes) (stop at : ℕ) (k : stop ≤ length s) (i : ℕ) (h : i < stop) (x : PassRun isDigit s at stop i) (n : ¬ (i ≡ at)) (zero : getD s at 0 ≡ 0x30 → i ≤ at + 1) where
-  -- an integer whose digits these are
+  -- an integer with these digits
   integer-of : isDigit (getD s i 0) ≡ false → IntegerEnd s stop at i
   integer-of e =
       let f : at ≤ i = x .from in
@@ -168,7 +168,7 @@ unfolding cellStep if_then_else_
 letter d w b e = rw (eq-eqb b (letterOf w) e)
 
 module _ {s : Bytes} {stop at : ℕ} (k : stop ≤ length s) where
-  -- four letters: the words that have been read after each
+  -- four letters: the state after each
   letters-come : (d : Dialect) (w0 w1 w2 : Word) (t : Cell) {r : ℕ} → afterLetter w0 ≡ InWord w1 → afterLetter w1 ≡ InWord w2 → afterLetter w2 ≡ t
       → cellStep d Fresh (getD s at 0) ≡ More (InWord w0) → FourLetters s at (letterOf w0) (letterOf w1) (letterOf w2) r → r ≤ stop → Results d s stop Fresh at t r
   letters-come d w0 w1 w2 t {r} e1 e2 e3 e x h =

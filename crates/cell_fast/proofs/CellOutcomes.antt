@@ -1,4 +1,4 @@
--- Laws of what reading a cell comes to: a byte more, a text more, and where it ends.
+-- Laws of the result of reading a cell: one byte more, one text more, and where it ends.
 use Prim.Native.Nat.{ℕ, suc, _+_, _-_, _≤_, _<_}
 use native.Mathlib.Omega.{arith}
 use mathlib.Core.Path.{_≡_, refl, ap, _∙_}
@@ -39,7 +39,7 @@ results-on {at} {i} {r} x y =
     record { from = omega arith; upto = y .upto; rest = x .rest ∙ y .rest }
 
 module _ {d : Dialect} {s : Bytes} {stop : ℕ} {c t : Cell} {at i : ℕ} (x : Results d s stop c at t i) (h : i < stop) (k : stop ≤ length s) where
-  -- a byte more; j is the place after it
+  -- one byte more; j is the offset after it
   pub comes-byte : (u : Cell) (j : ℕ) → j ≡ i + 1 → cellStep d t (getD s i 0) ≡ More u → Results d s stop c at u j
   comes-byte u j n e =
       let f : at ≤ i = x .from in
@@ -51,16 +51,16 @@ module _ {d : Dialect} {s : Bytes} {stop : ℕ} {c t : Cell} {at i : ℕ} (x : R
 pub results-ends : {d : Dialect} {s : Bytes} {stop : ℕ} {c t : Cell} {at i end : ℕ} → Results d s stop c at t i → EndsFrom d s stop t i end → EndsFrom d s stop c at end
 results-ends x y = record { cell = y .cell; ran = x .rest ∙ y .ran }
 
--- ---- what is told
+-- ---- the result of the fast path
 
 pub untold : (d : Dialect) (s : Bytes) (at stop : ℕ) (clean : Bool) → CellEndSound d s at stop stop clean
 untold d s at stop clean = record { ends = λ h. absurd (omega arith); content = λ h _. absurd (omega arith) }
 
--- of a cell that is not clean
+-- for a cell that is not verbatim
 pub value-found : {d : Dialect} {s : Bytes} {at stop end : ℕ} → (end < stop → EndsFrom d s stop Fresh at end) → CellEndSound d s at stop end false
 value-found f = record { ends = f; content = λ h e. impossible e }
 
--- ---- bytes that lead from one cell to another by the state of a text
+-- ---- bytes that lead from one cell state to another by the UTF-8 state of a text
 
 module _ (d : Dialect) (f : Char → Cell) (passes : ℕ → Bool)
     (step : (c c′ : Char) (b : ℕ) → passes b ≡ true → charStep c b ≡ On c′ → cellStep d (f c) b ≡ More (f c′)) where

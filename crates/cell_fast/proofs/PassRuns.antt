@@ -1,4 +1,4 @@
--- Laws of bytes that pass a test, one after another: a byte more, a word more, and what stands before the first flag of a word.
+-- Laws of spans whose bytes pass a test: one byte more, one word more, and the bytes before the first flag of a word.
 use Prim.Native.Nat.{ℕ, _+_, _-_, _≤_, _<_}
 use native.Mathlib.Omega.{arith}
 use mathlib.Core.Path.{_≡_, sym, ap, _∙_}
@@ -51,7 +51,7 @@ module _ {passes : ℕ → Bool} {s : Bytes} {at i stop w flags : ℕ} (x : Pass
       let part : slice s i (i + n) ≡ take n (slice s i stop) = (let m : i + n - i ≡ n = omega arith in rw m (sym (take-take n (stop - i) (drop i s) (omega arith)))) in
       (small, pass-join x (record { from = omega arith; upto = omega arith; each = rw (part, same) (passing-pass passes (slice s i stop)) }))
 
-  -- what stands before the first flag, whether there is one or not
+  -- the bytes before the first flag, whether there is one or not
   pub pass-zeros : (n : ℕ) → n ≡ zeroBytes (bytesOf 8 flags) → (n ≤ 8) × PassRun passes s at stop (i + n)
   unfolding zeroBytes bytesOf if_then_else_
   pass-zeros n z =

@@ -1,5 +1,5 @@
--- Laws of cells without quotes of CSV+: a cell that begins with no quote is read as its text is, and ends before a delimiter or the end of
--- its line.
+-- Laws of unquoted cells of CSV+: a cell that does not begin with a quote is read as its text is, and ends before a delimiter or a line
+-- break.
 use Prim.Native.Nat.{ℕ, _+_, _≤_, _<_}
 use native.Mathlib.Omega.{arith}
 use mathlib.Core.Path.{_≡_, refl, sym, ap, _∙_}
@@ -29,7 +29,7 @@ use Rattle.cell_fast.specs.CellOutcome.{isEnd}
 use Rattle.cell_fast.proofs.CellOutcomes.{ends-here}
 use Rattle.cell_fast.proofs.TextRuns.{text-clean, plain-results}
 
--- two cells that a byte does the same to end at the same place
+-- two states in which a byte has the same effect end at the same offset
 same-end : {d : Dialect} {s : Bytes} {stop at end : ℕ} (c t : Cell) → at < stop → stop ≤ length s → cellStep d c (getD s at 0) ≡ cellStep d t (getD s at 0) → EndsFrom d s stop t at end → EndsFrom d s stop c at end
 same-end {d} {s} {stop} {at} {end} c t h k same x = go (cellStep d t (getD s at 0)) refl
   where

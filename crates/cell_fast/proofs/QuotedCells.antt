@@ -1,4 +1,4 @@
--- Laws of quoted cells: what stops a run between the quotes and is passed over, and how the cell begins and ends.
+-- Laws of quoted cells: what stops a run inside the quotes and is part of the text, and how the cell begins and ends.
 use Prim.Native.Nat.{ℕ, _+_, _≤_, _<_}
 use native.Mathlib.Omega.{arith}
 use mathlib.Core.Path.{_≡_, refl, sym, ap, _∙_}
@@ -50,7 +50,7 @@ hex : (n : HexLeft) (b : ℕ) → isHex b ≡ true → cellStep Csvj (Hex n) b �
 unfolding cellStep if_then_else_
 hex n b e = rw e
 
--- where quotes are doubled
+-- dialects that double quotes
 module _ (d : Dialect) (n : isCsvj d ≡ false) (b : ℕ) where
   quote-first : b ≡ quoteOf d → cellStep d (Quoted Whole) b ≡ More Closed
   unfolding cellStep quotedByte if_then_else_
@@ -86,7 +86,7 @@ pub complete-ends : (d : Dialect) (b : ℕ) → cellStep d Complete b ≡ Stop
 unfolding cellStep
 complete-ends d b = refl
 
--- ---- what is passed over
+-- ---- what is part of the text
 
 module _ (s : Bytes) (stop i : ℕ) (k : stop ≤ length s) where
   pub short-escape : i + 2 ≤ stop → getD s i 0 ≡ 0x5C → isShort (getD s (i + 1) 0) ≡ true → InQuotes Csvj s stop i (i + 2)

@@ -1,4 +1,5 @@
--- Laws of runs of clean characters: runs of ASCII and of other characters are ones, they join, and a cell stays as it is over them.
+-- Laws of runs of clean characters: runs of ASCII and of other characters are such runs, they join, and they leave a cell's state
+-- unchanged.
 use Prim.Native.Nat.{ℕ, _≤_, _<_}
 use native.Mathlib.Omega.{arith}
 use mathlib.Core.Path.{_≡_, refl, _∙_}
@@ -31,7 +32,7 @@ use Rattle.cell_fast.specs.TextRuns.{PassRun, TextRun, isOpen}
 use Rattle.cell_fast.specs.CellOutcome.{Results, InQuotes, Passed, QuotedText}
 use Rattle.cell_fast.proofs.CellOutcomes.{results-none, results-on, text-comes}
 
--- ---- what the tests say
+-- ---- what the tests mean
 
 ascii-open : (p q b : ℕ) → cleanAscii p q b ≡ true → (isOpen p q b ≡ true) × (b ≤ 0x7F)
 unfolding cleanAscii isOpen isClean
@@ -59,7 +60,7 @@ ascii-chars passes low (b ∷ bs) e =
     let x = and-true (passes b) (allPass passes bs) e in
     chars-on Whole Whole b bs (ascii-whole b (low b (x .0))) ∙ ascii-chars passes low bs (x .1)
 
--- bytes of ASCII
+-- ASCII bytes
 pub low-text : {passes : ℕ → Bool} {s : Bytes} {at stop r : ℕ} → ((b : ℕ) → passes b ≡ true → b ≤ 0x7F) → PassRun passes s at stop r → TextRun passes s at stop r
 low-text {passes} {s} {at} {stop} {r} low x = record { from = x .from; upto = x .upto; each = x .each; whole = ascii-chars passes low (slice s at r) (x .each) }
 
@@ -100,7 +101,7 @@ text-join {passes} {s} {at} {i} {stop} {r} x y =
 pub text-clean : (p q : ℕ) {s : Bytes} {at stop r : ℕ} → TextRun (isOpen p q) s at stop r → TextRun (isClean q) s at stop r
 text-clean p q x = text-weaker (isClean q) (open-clean p q) x
 
--- ---- over which a cell stays as it is
+-- ---- they leave a cell's state unchanged
 
 quoted-step : (d : Dialect) (c c′ : Char) (b : ℕ) → isClean (quoteOf d) b ≡ true → charStep c b ≡ On c′ → cellStep d (Quoted c) b ≡ More (Quoted c′)
 unfolding cellStep quotedByte if_then_else_
@@ -126,7 +127,7 @@ quoted-results d x k = text-comes d Quoted (isClean (quoteOf d)) (quoted-step d)
 pub plain-results : (d : Dialect) {s : Bytes} {at stop r : ℕ} → TextRun (isOpen (delimiterOf d) (quoteOf d)) s at stop r → stop ≤ length s → Results d s stop (Plain Whole) at (Plain Whole) r
 plain-results d x k = text-comes d Plain (isOpen (delimiterOf d) (quoteOf d)) (plain-step d) x k
 
--- ---- what stops a run between quotes and is passed over
+-- ---- what stops a run inside quotes and is part of the text
 
 pub wide-passed : (d : Dialect) {s : Bytes} {at stop r : ℕ} → stop ≤ length s → WideRun s at stop r → Passed d s stop at r
 wide-passed d k x =
@@ -137,7 +138,7 @@ wide-passed d k x =
 pub ascii-passed : {d : Dialect} {s : Bytes} {at stop r : ℕ} → getD s at 0 < 0x80 → InQuotes d s stop at r → Passed d s stop at r
 ascii-passed h x = record { comes = x; clean = λ l. absurd (omega arith) }
 
--- ---- the text between quotes
+-- ---- the text inside quotes
 
 clean-join : (quote : ℕ) (s : Bytes) (at i r : ℕ) → at ≤ i → i ≤ r → allPass (isClean quote) (slice s at i) ≡ true → allPass (isClean quote) (slice s i r) ≡ true → allPass (isClean quote) (slice s at r) ≡ true
 clean-join quote s at i r h k x y = rw (part-join s at i r h k) (all-join (isClean quote) (slice s at i) (slice s i r) x y)
@@ -147,7 +148,7 @@ unfolding allPass
 quoted-none d s stop at clean h = record { comes = results-none d s stop (Quoted Whole) at h; content = λ _. rw (part-end s at) }
 
 module _ {d : Dialect} {s : Bytes} {stop at i r : ℕ} {clean : Bool} (x : QuotedText d s stop at i clean) where
-  -- a run more
+  -- one run more
   pub quoted-run-on : (q : ℕ) → q ≡ quoteOf d → stop ≤ length s → PassRun (cleanAscii q q) s i stop r → QuotedText d s stop at r clean
   quoted-run-on q e k y =
       let run : TextRun (isClean (quoteOf d)) s i stop r = rw e at (text-clean q q (ascii-text q q y)) in
@@ -156,7 +157,7 @@ module _ {d : Dialect} {s : Bytes} {stop at i r : ℕ} {clean : Bool} (x : Quote
         content = λ c. clean-join (quoteOf d) s at i r (x .comes .from) (y .from) (x .content c) (run .each);
       }
 
-  -- what stopped it more
+  -- then what stopped it
   pub quoted-clean-on : 0x80 ≤ getD s i 0 → Passed d s stop i r → QuotedText d s stop at r clean
   quoted-clean-on h y =
       record {
@@ -174,7 +175,7 @@ quoted-run d q {s} {at} {stop} {r} e k x =
     let l : r ≤ stop = x .upto in
     quoted-run-on (quoted-none d s stop at true (omega arith)) q e k x
 
--- and text behind it
+-- then the text after it
 pub quoted-join : {d : Dialect} {s : Bytes} {stop at i r : ℕ} {clean : Bool} → QuotedText d s stop at i true → QuotedText d s stop i r clean → QuotedText d s stop at r clean
 quoted-join {d} {s} {stop} {at} {i} {r} x y =
     record {

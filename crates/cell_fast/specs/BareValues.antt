@@ -1,4 +1,4 @@
--- Cells without quotes of CSVJ, by their parts.
+-- Unquoted values of CSVJ, by their parts.
 use Prim.Native.Nat.{ℕ, _+_, _≤_, _<_}
 use mathlib.Core.Path.{_≡_}
 use mathlib.Core.Bool.{Bool, true, false, _||_}
@@ -16,7 +16,7 @@ use Rattle.model.specs.rules.Api.{slice}
 use Rattle.swar.specs.Words.{allPass}
 use Rattle.cell_fast.specs.CellOutcome.{Results}
 
--- all digits that stand from this place on
+-- all digits from this offset on, up to r
 pub record Digits (s : Bytes) (at stop r : ℕ) : Type 0 where
   pub from : at ≤ r
   pub upto : r ≤ stop
@@ -27,12 +27,12 @@ pub record Digits (s : Bytes) (at stop r : ℕ) : Type 0 where
 abbrev pub isLetterE : ℕ → Bool
 isLetterE b = b is 0x65 || b is 0x45
 
--- the digits of a number are still to come
+-- a cell of which the digits of a number come next
 pub data BeginsNumber : Cell → Type 0 where
   unsigned : BeginsNumber Fresh
   negative : BeginsNumber (InNumber Minus)
 
--- what the byte after an integer does
+-- the step of the byte after an integer
 unfoldable pub afterInteger : ℕ → CellStep
 afterInteger b = if b is 0x2E then More (InNumber Point) else if isLetterE b then More (InNumber E) else Stop
 
@@ -41,20 +41,20 @@ pub record Integer (s : Bytes) (stop at r : ℕ) : Type 0 where
   pub comes : (c : Cell) → BeginsNumber c → Results Csvj s stop c at (InNumber numeral) r
   pub next : r < stop → numeralStep numeral (getD s r 0) ≡ afterInteger (getD s r 0)
 
--- an integer stands from here to r, unless r is here
+-- an integer lies from here to r, unless r is here
 pub record IntegerEnd (s : Bytes) (stop at r : ℕ) : Type 0 where
   pub from : at ≤ r
   pub upto : r ≤ stop
   pub integer : at < r → Integer s stop at r
 
--- the digits after a point end before r, and there are some, unless r is `stop`
+-- the digits after a point end before r, and there is at least one, unless r is `stop`
 pub record FractionEnd (s : Bytes) (stop at r : ℕ) : Type 0 where
   pub from : at ≤ r
   pub upto : r ≤ stop
   pub comes : r < stop → Results Csvj s stop (InNumber Point) at (InNumber Fraction) r
   pub next : r < stop → isDigit (getD s r 0) ≡ false
 
--- four letters, of which the last three are these, end before r
+-- four letters end before r, the last three being these
 pub record FourLetters (s : Bytes) (at second third fourth r : ℕ) : Type 0 where
   pub place : r ≡ at + 4
   pub letter-second : getD s (at + 1) 0 ≡ second

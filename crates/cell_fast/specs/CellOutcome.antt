@@ -1,4 +1,4 @@
--- What reading a cell comes to, from a place in it on.
+-- The result of reading a cell from an offset in it on.
 use Prim.Native.Nat.{ℕ, _+_, _≤_, _<_}
 use mathlib.Core.Path.{_≡_}
 use mathlib.Core.Bool.{Bool, true, _||_}
@@ -14,32 +14,32 @@ use Rattle.swar.specs.Words.{isClean, allPass}
 use Rattle.cell_scanner.specs.Run.{cellRun}
 use Rattle.cell_fast.specs.Ends.{EndsFrom}
 
--- the cell c at this place is the cell t at r, where the bytes before r have been read
+-- the cell c at `at` has become the cell t at r, the bytes between having been read
 pub record Results (d : Dialect) (s : Bytes) (stop : ℕ) (c : Cell) (at : ℕ) (t : Cell) (r : ℕ) : Type 0 where
   pub from : at ≤ r
   pub upto : r ≤ stop
   pub rest : cellRun d c at (slice s at stop) ≡ cellRun d t r (slice s r stop)
 
--- between quotes at both places
+-- inside quotes at both offsets
 abbrev pub InQuotes : (d : Dialect) (s : Bytes) (stop at r : ℕ) → Type 0
 InQuotes d s stop at r = Results d s stop (Quoted Whole) at (Quoted Whole) r
 
--- what stops a run between quotes is passed over; characters that are not ASCII are clean
+-- what stops a run inside quotes is part of the text up to r; non-ASCII characters are clean
 pub record Passed (d : Dialect) (s : Bytes) (stop at r : ℕ) : Type 0 where
   pub comes : InQuotes d s stop at r
   pub clean : 0x80 ≤ getD s at 0 → allPass (isClean (quoteOf d)) (slice s at r) ≡ true
 
--- the text between quotes from here to r, and whether it is clean
+-- the text inside quotes from `at` to r, and whether it is verbatim
 pub record QuotedText (d : Dialect) (s : Bytes) (stop at r : ℕ) (clean : Bool) : Type 0 where
   pub comes : InQuotes d s stop at r
   pub content : clean ≡ true → allPass (isClean (quoteOf d)) (slice s at r) ≡ true
 
--- the byte at this place is the quote that ends the cell, and a byte before `stop` follows it
+-- the byte at this offset is the quote that closes the cell, and a byte before `stop` follows it
 pub record Closes (d : Dialect) (s : Bytes) (stop at : ℕ) : Type 0 where
   pub followed : at + 1 < stop
   pub quote : getD s at 0 ≡ quoteOf d
   pub ends : EndsFrom d s stop (Quoted Whole) at (at + 1)
 
--- a cell without quotes of CSV+ ends before this byte
+-- an unquoted cell of CSV+ ends before this byte
 abbrev pub isEnd : (delimiter b : ℕ) → Bool
 isEnd delimiter b = b is delimiter || b is LF || b is CR

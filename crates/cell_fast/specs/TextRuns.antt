@@ -1,4 +1,4 @@
--- Spans of bytes that are passed over at once.
+-- Spans of bytes that are skipped at once.
 use Prim.Native.Nat.{ℕ, _≤_}
 use mathlib.Core.Path.{_≡_}
 use mathlib.Core.Bool.{Bool, true, not, _&&_}
@@ -9,7 +9,7 @@ use Rattle.model.specs.rules.Api.{slice}
 use Rattle.swar.specs.Words.{isClean, allPass}
 use Rattle.utf8.specs.Multibyte.{charsFrom}
 
--- bytes that pass this test stand from here to r, at most to `stop`
+-- bytes that pass this test lie from `at` to r, and r is at most `stop`
 pub record PassRun (passes : ℕ → Bool) (s : Bytes) (at stop r : ℕ) : Type 0 where
   pub from : at ≤ r
   pub upto : r ≤ stop
@@ -22,6 +22,6 @@ pub record TextRun (passes : ℕ → Bool) (s : Bytes) (at stop r : ℕ) : Type 
   pub each : allPass passes (slice s at r) ≡ true
   pub whole : charsFrom Whole (slice s at r) ≡ On Whole
 
--- a clean byte that is not the delimiter: of a cell without quotes
+-- a clean byte other than the delimiter: one of an unquoted cell
 unfoldable pub isOpen : (delimiter quote b : ℕ) → Bool
 isOpen delimiter quote b = isClean quote b && not (b is delimiter)

@@ -1,9 +1,11 @@
-// The fast way to a cell's end, by whole runs of bytes: it answers the end that the cell's automaton comes to, or falls back to it.
+// The fast path to the end of a cell, by whole runs of bytes: the start of a cell goes in; its end comes out, with whether the cell is
+// verbatim, or `stop`, which is to fall back to the automaton. The contract is one-sided (`CellEndSound` of specs/Ends.antt): an end that
+// is found is the automaton's.
 //
-// The next cell waits for this one's end. So the end of a short cell is guessed from the delimiter or the quote alone, and whether the bytes
-// before it are a cell is tested aside: tables of short cells take a sixth less time.
+// The next cell waits for this one's end. So the end of a short cell is guessed from the delimiter or the quote alone, and the bytes
+// before it are tested beside that: tables of short cells take a sixth less time.
 //
-// runs.rt passes over clean ASCII, text.rt over text with quotes and without, value.rt over the values of CSVJ and TDIF.
+// runs.rt skips clean ASCII, text.rt text inside quotes and outside, value.rt the values of CSVJ and TDIF.
 ghost use mathlib.Core.Path.{_≡_};
 ghost use mathlib.Core.Bool.{true};
 ghost use Prim.Native.Nat.{ℕ, _+_, _≤_, _<_};
@@ -21,13 +23,13 @@ pub mod runs;
 pub mod text;
 pub mod value;
 
-// The end of a cell, and whether its content stands in it as it is.
+// The end of a cell, and whether it is verbatim: its content is its bytes.
 pub struct FoundEnd {
     pub at: usize,
     pub clean: bool,
 }
 
-// Whether the byte at i is the quote that ends the cell; false too where the automaton has to say.
+// Whether the byte at i is the quote that closes the cell; false also where the automaton has to decide.
 fn closes(d: Dialect, q: u8, s: &[u8], i: usize, stop: usize) -> bool
     requires { ⌜ (i < stop) × (stop ≤ length (now s)) × (q ≡ quoteOf d) ⌝ }
     ensures { λ r. ⌜ (r ≡ true → Closes d (now (s .entry)) stop i) ⌝ }
@@ -45,7 +47,7 @@ fn closes(d: Dialect, q: u8, s: &[u8], i: usize, stop: usize) -> bool
     }
 }
 
-// Where a quoted cell ends whose text goes on at `from`.
+// The end of a quoted cell whose text continues at `from`.
 fn quoted_rest_end(d: Dialect, q: u8, s: &[u8], from: usize, stop: usize) -> FoundEnd
     requires { ⌜ (from ≤ stop) × (stop ≤ length (now s)) × (q ≡ quoteOf d) ⌝ }
     ensures { λ r. ⌜ ((at : ℕ) → at < stop → getD (now (s .entry)) at 0 ≡ q → PassRun (cleanAscii q q) (now (s .entry)) (at + 1) stop from → CellEndSound d (now (s .entry)) at stop (r .at) (r .clean)) ⌝ }
@@ -66,7 +68,7 @@ fn quoted_rest_end(d: Dialect, q: u8, s: &[u8], from: usize, stop: usize) -> Fou
     }
 }
 
-// Where the quoted cell that begins at `at` ends; first by a guess, the next quote.
+// The end of the quoted cell at `at`; first by a guess, the next quote.
 fn quoted_end(d: Dialect, q: u8, s: &[u8], at: usize, stop: usize) -> FoundEnd
     requires { ⌜ (at < stop) × (stop ≤ length (now s)) × (q ≡ quoteOf d) × (getD (now s) at 0 ≡ q) ⌝ }
     ensures { λ r. ⌜ CellEndSound d (now (s .entry)) at stop (r .at) (r .clean) ⌝ }
@@ -89,7 +91,7 @@ fn quoted_end(d: Dialect, q: u8, s: &[u8], at: usize, stop: usize) -> FoundEnd
     quoted_rest_end(d, q, s, from, stop)
 }
 
-// Whether a cell without quotes of CSV+ ends before this byte.
+// Whether an unquoted cell of CSV+ ends before this byte.
 fn is_end(b: u8, p: u8) -> bool
     ensures { λ r. ⌜ r ≡ isEnd p b ⌝ }
 {
@@ -102,7 +104,7 @@ fn is_end(b: u8, p: u8) -> bool
     b == 0x0D
 }
 
-// Where the cell without quotes of CSV+ ends that begins at `at`, by runs and characters.
+// The end of the unquoted cell of CSV+ at `at`, by runs and characters.
 fn plain_rest_end(s: &[u8], at: usize, stop: usize, p: u8, q: u8) -> FoundEnd
     requires { ⌜ (at < stop) × (stop ≤ length (now s)) × (p < 0x80) × (q < 0x80) × (getD (now s) at 0 ≡ q → ⊥) ⌝ }
     ensures { λ r. ⌜ ((d : TheDialect) → mayBeEmpty d ≡ true → p ≡ delimiterOf d → q ≡ quoteOf d → CellEndSound d (now (s .entry)) at stop (r .at) (r .clean)) ⌝ }
@@ -119,7 +121,7 @@ fn plain_rest_end(s: &[u8], at: usize, stop: usize, p: u8, q: u8) -> FoundEnd
     }
 }
 
-// Where the cell without quotes of CSV+ ends that begins at `at`; first by a guess, the next delimiter.
+// The end of the unquoted cell of CSV+ at `at`; first by a guess, the next delimiter.
 fn plain_end(s: &[u8], at: usize, stop: usize, p: u8, q: u8) -> FoundEnd
     requires { ⌜ (at < stop) × (stop ≤ length (now s)) × (p < 0x80) × (q < 0x80) × (getD (now s) at 0 ≡ q → ⊥) ⌝ }
     ensures { λ r. ⌜ ((d : TheDialect) → mayBeEmpty d ≡ true → p ≡ delimiterOf d → q ≡ quoteOf d → CellEndSound d (now (s .entry)) at stop (r .at) (r .clean)) ⌝ }
@@ -141,7 +143,7 @@ fn plain_end(s: &[u8], at: usize, stop: usize, p: u8, q: u8) -> FoundEnd
     plain_rest_end(s, at, stop, p, q)
 }
 
-// Where the cell that begins at `at` ends; `stop`: fall back. p is the dialect's delimiter, and q its quote.
+// The end of the cell at `at`; `stop` means fallback. p is the dialect's delimiter, q its quote.
 pub fn cell_end(d: Dialect, p: u8, q: u8, s: &[u8], at: usize, stop: usize) -> FoundEnd
     requires { ⌜ (at < stop) × (stop ≤ length (now s)) × (p ≡ delimiterOf d) × (q ≡ quoteOf d) ⌝ }
     ensures { λ r. ⌜ CellEndSound d (now (s .entry)) at stop (r .at) (r .clean) ⌝ }

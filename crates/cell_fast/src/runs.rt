@@ -1,12 +1,13 @@
-// Runs of clean ASCII, eight bytes to a step.
+// Runs of clean ASCII, eight bytes to a step: a slice, an offset and the stops go in, the end of the run comes out (`PassRun` of
+// specs/TextRuns.antt).
 //
-// The two runs are written out, as each is called from one place, and there the compiler takes it in with its stops.
+// The runs inside quotes and outside are two functions: each has one call site, where the compiler inlines it with its stops.
 ghost use Prim.Native.Nat.{_≤_};
 ghost use lib.ListN.{length};
 ghost use Rattle.swar.specs.Words.{cleanAscii};
 ghost use Rattle.cell_fast.specs.TextRuns.{PassRun};
 
-// How far clean ASCII other than p and q goes from `at`, a byte at a time.
+// The end of the clean ASCII from `at` other than p and q, a byte at a time.
 fn single_steps(s: &[u8], at: usize, stop: usize, p: u8, q: u8) -> usize
     requires { ⌜ (at ≤ stop) × (stop ≤ length (now s)) ⌝ }
     ensures { λ r. ⌜ PassRun (cleanAscii p q) (now (s .entry)) at stop r ⌝ }
@@ -34,7 +35,7 @@ fn single_steps(s: &[u8], at: usize, stop: usize, p: u8, q: u8) -> usize
     i
 }
 
-// How far clean ASCII goes between quotes.
+// The end of the clean ASCII inside quotes.
 pub fn quoted_run(s: &[u8], at: usize, stop: usize, q: u8) -> usize
     requires { ⌜ (at ≤ stop) × (stop ≤ length (now s)) ⌝ }
     ensures { λ r. ⌜ PassRun (cleanAscii q q) (now (s .entry)) at stop r ⌝ }
@@ -50,7 +51,7 @@ pub fn quoted_run(s: &[u8], at: usize, stop: usize, q: u8) -> usize
     single_steps(s, i, stop, q, q)
 }
 
-// How far it goes between quotes by whole words alone.
+// The same by whole words alone.
 pub fn clean_words(s: &[u8], at: usize, stop: usize, q: u8) -> usize
     requires { ⌜ (at ≤ stop) × (stop ≤ length (now s)) ⌝ }
     ensures { λ r. ⌜ PassRun (cleanAscii q q) (now (s .entry)) at stop r ⌝ }
@@ -65,7 +66,7 @@ pub fn clean_words(s: &[u8], at: usize, stop: usize, q: u8) -> usize
     i
 }
 
-// How far it goes without quotes, where the delimiter p ends it too.
+// The end of the clean ASCII outside quotes, where the delimiter p ends it too.
 pub fn plain_run(s: &[u8], at: usize, stop: usize, p: u8, q: u8) -> usize
     requires { ⌜ (at ≤ stop) × (stop ≤ length (now s)) ⌝ }
     ensures { λ r. ⌜ PassRun (cleanAscii p q) (now (s .entry)) at stop r ⌝ }

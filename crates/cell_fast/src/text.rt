@@ -1,4 +1,5 @@
-// Text between quotes and without them: runs, and what stops a run between quotes and belongs to the text.
+// Text inside quotes and outside: runs, and what stops a run inside quotes and is part of the text. An offset goes in, the end of the
+// text comes out; the definitions are `QuotedText` of specs/CellOutcome.antt and `TextRun` of specs/TextRuns.antt.
 ghost use mathlib.Core.Path.{_≡_};
 ghost use mathlib.Core.Bool.{false};
 ghost use Prim.Native.Nat.{_≤_, _<_};
@@ -12,7 +13,7 @@ use crate::runs;
 use model::Dialect;
 use utf8::multibyte::multibyte_run;
 
-// Behind the escape with four digits whose backslash stands at i; i: it is none.
+// The end of the escape with four digits whose backslash is at i; i if it is none.
 fn long_escape_end(s: &[u8], i: usize, stop: usize) -> usize
     requires { ⌜ (i < stop) × (stop ≤ length (now s)) × (getD (now s) i 0 ≡ 0x5C) ⌝ }
     ensures { λ r. ⌜ InQuotes Csvj (now (s .entry)) stop i r ⌝ }
@@ -38,7 +39,7 @@ fn long_escape_end(s: &[u8], i: usize, stop: usize) -> usize
     i + 6
 }
 
-// Behind the escape whose backslash stands at i; i: it is none.
+// The end of the escape whose backslash is at i; i if it is none.
 fn escape_end(s: &[u8], i: usize, stop: usize) -> usize
     requires { ⌜ (i < stop) × (stop ≤ length (now s)) × (getD (now s) i 0 ≡ 0x5C) ⌝ }
     ensures { λ r. ⌜ InQuotes Csvj (now (s .entry)) stop i r ⌝ }
@@ -52,7 +53,7 @@ fn escape_end(s: &[u8], i: usize, stop: usize) -> usize
     long_escape_end(s, i, stop)
 }
 
-// Behind two quotes at i, or behind any other byte of ASCII, where quotes are doubled; i: the quote is single.
+// Where quotes are doubled: the end of two quotes at i, or of any other ASCII byte; i if the quote is single.
 fn doubled_end(q: u8, s: &[u8], i: usize, stop: usize) -> usize
     requires { ⌜ (i < stop) × (stop ≤ length (now s)) × (getD (now s) i 0 < 0x80) ⌝ }
     ensures { λ r. ⌜ ((d : TheDialect) → isCsvj d ≡ false → q ≡ quoteOf d → InQuotes d (now (s .entry)) stop i r) ⌝ }
@@ -69,7 +70,7 @@ fn doubled_end(q: u8, s: &[u8], i: usize, stop: usize) -> usize
     i
 }
 
-// Behind what stops a run at i and belongs to the text between quotes; i: nothing does, or it is not told.
+// The end of what stops a run at i and is part of the text inside quotes; i if nothing is, or to fall back.
 fn pass(d: Dialect, q: u8, s: &[u8], i: usize, stop: usize) -> usize
     requires { ⌜ (i < stop) × (stop ≤ length (now s)) × (q ≡ quoteOf d) ⌝ }
     ensures { λ r. ⌜ Passed d (now (s .entry)) stop i r ⌝ }
@@ -89,13 +90,13 @@ fn pass(d: Dialect, q: u8, s: &[u8], i: usize, stop: usize) -> usize
     }
 }
 
-// How far a text goes, and whether it is clean.
+// The end of a text, and whether it is verbatim.
 pub struct TextEnd {
     pub end: usize,
     pub clean: bool,
 }
 
-// How far the text between quotes goes from `at`, at most to `stop`. What is passed over and is ASCII is not clean.
+// The end of the text inside quotes from `at`, at most `stop`. A text with an ASCII byte that stops a run is not verbatim.
 pub fn quoted_text(d: Dialect, s: &[u8], at: usize, stop: usize, q: u8) -> TextEnd
     requires { ⌜ (at ≤ stop) × (stop ≤ length (now s)) × (q ≡ quoteOf d) ⌝ }
     ensures { λ r. ⌜ QuotedText d (now (s .entry)) stop at (r .end) (r .clean) ⌝ }
@@ -118,7 +119,7 @@ pub fn quoted_text(d: Dialect, s: &[u8], at: usize, stop: usize, q: u8) -> TextE
     }
 }
 
-// How far the text of a cell without quotes goes from `at`, at most to `stop`.
+// The end of the text of an unquoted cell from `at`, at most `stop`.
 pub fn plain_text(s: &[u8], at: usize, stop: usize, p: u8, q: u8) -> usize
     requires { ⌜ (at ≤ stop) × (stop ≤ length (now s)) × (p < 0x80) × (q < 0x80) ⌝ }
     ensures { λ r. ⌜ TextRun (isOpen p q) (now (s .entry)) at stop r ⌝ }

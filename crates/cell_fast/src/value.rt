@@ -1,4 +1,5 @@
-// Cells without quotes of CSVJ and TDIF: numbers without an exponent, true, false and null. An end at `stop` is to fall back.
+// The ends of unquoted cells of CSVJ and TDIF: numbers without an exponent, true, false and null. An end at `stop` means fallback. The
+// definition is `EndsFrom` of specs/Ends.antt, by the parts of specs/BareValues.antt.
 ghost use mathlib.Core.Path.{_≡_};
 ghost use mathlib.Core.Bool.{true};
 ghost use Prim.Native.Nat.{_≤_, _<_};
@@ -11,7 +12,7 @@ ghost use Rattle.cell_fast.specs.TextRuns.{PassRun};
 ghost use Rattle.cell_fast.specs.Ends.{EndsFrom};
 ghost use Rattle.cell_fast.specs.BareValues.{Digits, isLetterE, BeginsNumber, IntegerEnd, FractionEnd, FourLetters};
 
-// Behind the digits from `at` on.
+// The end of the digits from `at` on.
 fn digits(s: &[u8], at: usize, stop: usize) -> usize
     requires { ⌜ (at ≤ stop) × (stop ≤ length (now s)) ⌝ }
     ensures { λ r. ⌜ Digits (now (s .entry)) at stop r ⌝ }
@@ -26,7 +27,7 @@ fn digits(s: &[u8], at: usize, stop: usize) -> usize
     i
 }
 
-// Behind the integer at `at`; `at`: there is none.
+// The end of the integer at `at`; `at` if there is none.
 fn integer_end(s: &[u8], at: usize, stop: usize) -> usize
     requires { ⌜ (at < stop) × (stop ≤ length (now s)) ⌝ }
     ensures { λ r. ⌜ IntegerEnd (now (s .entry)) stop at r ⌝ }
@@ -37,7 +38,7 @@ fn integer_end(s: &[u8], at: usize, stop: usize) -> usize
     digits(s, at, stop)
 }
 
-// Behind the digits after a point.
+// The end of the digits after a point.
 fn fraction_end(s: &[u8], at: usize, stop: usize) -> usize
     requires { ⌜ (at ≤ stop) × (stop ≤ length (now s)) ⌝ }
     ensures { λ r. ⌜ FractionEnd (now (s .entry)) stop at r ⌝ }
@@ -58,7 +59,7 @@ fn is_letter_e(b: u8) -> bool
     b == 0x45
 }
 
-// Where a number ends whose digits begin at `at`.
+// The end of a number whose digits begin at `at`.
 fn number_end(s: &[u8], at: usize, stop: usize) -> usize
     requires { ⌜ (at < stop) × (stop ≤ length (now s)) ⌝ }
     ensures { λ r. ⌜ (r < stop → (c : Cell) → BeginsNumber c → EndsFrom Csvj (now (s .entry)) stop c at r) ⌝ }
@@ -86,7 +87,7 @@ fn number_end(s: &[u8], at: usize, stop: usize) -> usize
     end
 }
 
-// Behind four letters from `at` on, if the last three are these.
+// The end of the four letters from `at` on, if the last three are these.
 fn letters_end(s: &[u8], at: usize, stop: usize, second: u8, third: u8, fourth: u8) -> usize
     requires { ⌜ (at < stop) × (stop ≤ length (now s)) ⌝ }
     ensures { λ r. ⌜ (r < stop → FourLetters (now (s .entry)) at second third fourth r) ⌝ }
@@ -106,7 +107,7 @@ fn letters_end(s: &[u8], at: usize, stop: usize, second: u8, third: u8, fourth: 
     at + 4
 }
 
-// Where false ends, of which the first letter stands at `at`.
+// The end of false, whose first letter is at `at`.
 fn false_end(s: &[u8], at: usize, stop: usize) -> usize
     requires { ⌜ (at < stop) × (stop ≤ length (now s)) × (getD (now s) at 0 ≡ 0x66) ⌝ }
     ensures { λ r. ⌜ (r < stop → EndsFrom Csvj (now (s .entry)) stop Fresh at r) ⌝ }
@@ -121,7 +122,7 @@ fn false_end(s: &[u8], at: usize, stop: usize) -> usize
     end + 1
 }
 
-// Where a cell without quotes of CSVJ ends, byte by byte.
+// The end of an unquoted cell of CSVJ, a byte at a time.
 fn stepwise_end(s: &[u8], at: usize, stop: usize) -> usize
     requires { ⌜ (at < stop) × (stop ≤ length (now s)) ⌝ }
     ensures { λ r. ⌜ (r < stop → EndsFrom Csvj (now (s .entry)) stop Fresh at r) ⌝ }
@@ -148,7 +149,7 @@ fn stepwise_end(s: &[u8], at: usize, stop: usize) -> usize
     stop
 }
 
-// Behind the digits from `at` on, as far as the next eight bytes tell.
+// The end of the digits from `at` on, as far as the next eight bytes show.
 fn word_digits(s: &[u8], at: usize, stop: usize) -> usize
     requires { ⌜ (at ≤ stop) × (stop ≤ length (now s)) ⌝ }
     ensures { λ r. ⌜ PassRun isDigit (now (s .entry)) at stop r ⌝ }
@@ -159,7 +160,7 @@ fn word_digits(s: &[u8], at: usize, stop: usize) -> usize
     at + swar::before_flag(swar::no_digit(swar::word(s, at)))
 }
 
-// Whether the bytes from `at` up to the comma at `end` are a number without sign and exponent; false too where it is not told.
+// Whether the bytes from `at` up to the comma at `end` are a number without sign and exponent; false also as fallback.
 fn is_number(s: &[u8], at: usize, end: usize, stop: usize) -> bool
     requires { ⌜ (at ≤ end) × (end < stop) × (stop ≤ length (now s)) × (getD (now s) end 0 ≡ 0x2C) ⌝ }
     ensures { λ r. ⌜ (r ≡ true → EndsFrom Csvj (now (s .entry)) stop Fresh at end) ⌝ }
@@ -186,7 +187,7 @@ fn is_number(s: &[u8], at: usize, end: usize, stop: usize) -> bool
     last == end
 }
 
-// Where a cell without quotes of CSVJ ends; first by a guess, a number before the next comma.
+// The end of an unquoted cell of CSVJ; first by a guess, a number before the next comma.
 pub fn value_end(s: &[u8], at: usize, stop: usize) -> usize
     requires { ⌜ (at < stop) × (stop ≤ length (now s)) ⌝ }
     ensures { λ r. ⌜ (r < stop → EndsFrom Csvj (now (s .entry)) stop Fresh at r) ⌝ }
@@ -204,7 +205,7 @@ pub fn value_end(s: &[u8], at: usize, stop: usize) -> usize
     stepwise_end(s, at, stop)
 }
 
-// Where TDIF's null ends.
+// The end of TDIF's null.
 pub fn null_end(s: &[u8], at: usize, stop: usize) -> usize
     requires { ⌜ (at < stop) × (stop ≤ length (now s)) ⌝ }
     ensures { λ r. ⌜ (r < stop → EndsFrom Tdif (now (s .entry)) stop Fresh at r) ⌝ }

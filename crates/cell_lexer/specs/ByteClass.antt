@@ -1,4 +1,4 @@
--- What the answers of the inner functions stand for, in the definition's terms.
+-- What the results of the inner functions mean, in the definition's terms.
 use Prim.Native.Nat.{ℕ}
 use Rattle.model.specs.declared.CellStep.{CellStep}
 use Rattle.model.specs.declared.Cell.the-variants.{Quoted, Plain}
@@ -7,7 +7,7 @@ use Rattle.model.specs.rules.Cell.{textByte}
 use Rattle.cell_lexer.specs.declared.ByteClass.{ByteClass}
 use Rattle.cell_lexer.specs.declared.ByteClass.the-variants.{Is, InQuotes, InPlain}
 
--- what a byte does to a cell
+-- the step that a class of a byte means
 abbrev pub cellStepOf : ByteClass → ℕ → CellStep
 cellStepOf (Is a) b = a
 cellStepOf (InQuotes t) b = textByte Quoted (charStep t b)

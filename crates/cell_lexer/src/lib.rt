@@ -1,8 +1,9 @@
-// The automaton of one cell, a byte at a time, for all three dialects. Each step is the definition's step of the same state (model's
-// specs/rules/Cell.antt), with its tests in the same order.
+// The automaton of one cell, a byte at a time, in all three dialects: a state and a byte go in, the next state comes out, or that the
+// cell stops before the byte or refuses it. Each step is the definition's step of the same state (model's specs/rules/Cell.antt), with
+// its tests in the same order; a step that changes needs the proof of its function.
 //
-// `ByteClass` keeps most functions on the way of a byte at one call site, so that the compiler can put them into the loop that calls them.
-// `benchmark.sh` measures what comes of it.
+// `ByteClass` leaves most functions on the path of a byte with one call site, so that the compiler inlines them into the loop that calls
+// them; `benchmark.sh` measures the effect.
 use model::Advance;
 use model::ByteFault;
 use model::Cell;
@@ -69,7 +70,7 @@ fn is_separator(d: Dialect, b: u8) -> bool
     b == 0x0A
 }
 
-// What a byte does to a cell, or the text in which it stands.
+// What a byte does to a cell, or the text whose UTF-8 state decides it.
 enum ByteClass {
     Is(CellStep),
     InQuotes(Char),

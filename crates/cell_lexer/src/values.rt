@@ -1,7 +1,6 @@
-// The values of CSVJ and the null of TDIF: what a byte does to a number, a word or an escape, and the first byte of a cell in either.
-//
-// Each answer is the definition's, of the same state (model's specs/rules/Cell.antt), with its tests in the same order. A return is proved
-// from the tests that led to it.
+// The values of CSVJ and the null of TDIF: the step of a number, a word or an escape by a byte, and of the first byte of a cell. Each is
+// the definition's step of the same state (model's specs/rules/Cell.antt), with its tests in the same order. A return is proved from the
+// tests before it.
 use model::ByteFault;
 use model::Cell;
 use model::CellStep;
@@ -80,7 +79,7 @@ pub fn is_short(b: u8) -> bool
     b == 0x74
 }
 
-// After the digits before a point or an exponent.
+// After the digits before a point or an exponent (§3.5).
 fn after_integer(b: u8) -> CellStep
     ensures { λ r. ⌜ r ≡ numeralStep Numeral.Zero b ⌝ }
 {

@@ -1,6 +1,6 @@
--- The law of runs. A byte of a run steps to the same form, so it is read as a run of one byte (`of-cell`, `of-comment`); runs join
--- (`ran-append`), and the law is an induction over the run (`many`). In a comment it leans on there being no current record,
--- which every step keeps, since a step into a comment is always outside records.
+-- The proof of the law of runs. A byte of a run steps to the same state, so it is read as a run of one byte (`of-cell`, `of-comment`);
+-- runs join (`ran-append`), and the law is an induction over the run (`many`). In a comment it needs that no record has begun, which
+-- every step preserves, since a step into a comment is always outside records.
 use Prim.Native.Nat.{ℕ, zero, suc, _+_, _-_, _≤_, _<_}
 use native.Mathlib.Omega.{arith}
 use mathlib.Core.Path.{_≡_, refl, sym, ap, _∙_}
@@ -143,7 +143,7 @@ module _ (d : Dialect) (target : Option Target) where
   pub run : (r : Read) (xs : Bytes) → Lies r → runIn d (r .state) xs ≡ length xs → InLimits (ran r xs) → readFrom d target (going r) xs ≡ going (ran r xs)
   run r xs s e l = in-state-run (r .state) r xs refl s e l
 
--- ---- the beginning of a run
+-- ---- prefixes of a run
 
 leading-take : (p q n : ℕ) (bs : Bytes) → n ≤ leading p q bs → leading p q (take n bs) ≡ length (take n bs)
 unfolding leading if_then_else_
@@ -159,7 +159,7 @@ take-none : (n : ℕ) (bs : Bytes) → n ≤ 0 → 0 ≡ length (take n bs)
 take-none zero bs h = refl
 take-none (suc n) bs h = absurd (omega arith)
 
--- what stands at the beginning of a run is one
+-- a prefix of a run is a run
 pub run-take : (d : Dialect) (k : Place) (n : ℕ) (bs : Bytes) → n ≤ runAt d k bs → runAt d k (take n bs) ≡ length (take n bs)
 unfolding runAt
 run-take d (in-cell c) n bs h = go (runStop d c) h
@@ -202,7 +202,7 @@ run-fewer d (in-comment (Within i)) n bs = omega arith
 run-fewer d elsewhere n bs = omega arith
 
 module _ (d : Dialect) (target : Option Target) (r : Read) (s : Bytes) (at stop m : ℕ) where
-  -- reading a slice on from `at` is reading it on from m, where the run that begins at `at` ends before `stop`
+  -- reading the slice from `at` equals reading it from m, where the run that begins at `at` ends before `stop`
   pub rest-of-slice : Lies r → m ≡ at + runIn d (r .state) (slice s at stop) → InLimits (ran r (slice s at m)) → readFrom d target (going r) (drop at s) ≡ readFrom d target (going (ran r (slice s at m))) (drop m s)
   rest-of-slice w e l =
       let h : runIn d (r .state) (slice s at stop) ≤ runIn d (r .state) (drop at s) = run-fewer d (placeIn (r .state)) (stop - at) (drop at s) in
@@ -211,7 +211,7 @@ module _ (d : Dialect) (target : Option Target) (r : Read) (s : Bytes) (at stop 
       rest d target r (m - at) (drop at s) w n l
       ∙ ap (readFrom d target (going (ran r (slice s at m)))) (drop-drop (m - at) at s ∙ ap (λ (i : ℕ). drop i s) k)
 
--- ---- in a comment no record is in hand
+-- ---- in a comment no record has begun
 
 data InRecord : Place → Type 0 where
   at-cell : {c : Cell} → InRecord (in-cell c)
@@ -227,7 +227,7 @@ opens-record o-after = at-none
 opens-record o-wanting = at-none
 opens-record o-fresh = at-cell
 
--- the state that an empty run leaves as it is, if reading goes on
+-- an empty run leaves the state unchanged, if reading proceeds
 pub data LiesAfter : Progress → Type 0 where
   proceeds-on : {r : Read} → Lies r → LiesAfter (going r)
   stops : {e : Fault} {r : Read} → LiesAfter (stopped e r)
@@ -266,7 +266,7 @@ module _ (d : Dialect) (target : Option Target) where
   move-stands r b (ends {g} {k} t p l x) = validated-stands r _ g (suc (r .offset)) (recordFault d target (r .done) (closing d k r))
   move-stands r b (ends-cr t e p) = validated-stands r _ Begin (suc (r .offset)) (recordFault d target (r .done) (closing d false r))
 
-  -- a byte leads to such a state, from any
+  -- any byte leads to such a state, from any state
   pub byte-stands : (r : Read) (b : ℕ) → LiesAfter (readByte d target r b)
   unfolding readByte
   byte-stands r b =

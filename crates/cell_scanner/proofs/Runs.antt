@@ -1,5 +1,5 @@
--- Laws of runs: the part of a slice that is left, a byte at a time; where a run goes on and where it ends; and that ordinary bytes leave
--- a cell as it is.
+-- Laws of runs: the rest of a slice by its next byte, where a run continues and where it ends, and that ordinary bytes leave a cell's
+-- state unchanged.
 use Prim.Native.Nat.{ℕ, zero, suc, _+_, _-_, _≤_, _<_}
 use native.Mathlib.Numerals.{add-one}
 use native.Mathlib.Omega.{arith}
@@ -57,7 +57,7 @@ pub leading-none : (s : Bytes) (i p q : ℕ) → i + leading p q (slice s i i) �
 unfolding leading
 leading-none s i p q = rw (part-end s i) (omega arith)
 
--- ---- ordinary bytes leave a cell as it is
+-- ---- ordinary bytes leave a cell's state unchanged
 
 no-run : {A : Type 0} {q : ℕ} → Fallback ≡ At q → A
 no-run e = let z : _≡_ {A = ℕ} 0 1 = cc in absurd (omega arith)
@@ -108,7 +108,7 @@ plain-runs d b e =
     let h : b ≤ 0x7E = k .high in
     rw (k .not-first, k .not-second, ne-eqb b CR (omega arith), ne-eqb b LF (omega arith), ascii-whole b (omega arith))
 
--- in a cell with a run stop every ordinary byte leaves the cell as it is
+-- in a cell with a run stop every ordinary byte leaves the state unchanged
 pub run-step : (d : Dialect) (c : Cell) (q b : ℕ) → runStop d c ≡ At q → ordinary (quoteOf d) q b ≡ true → cellStep d c b ≡ More c
 run-step d Fresh q b e h = no-run e
 run-step d (Quoted Whole) q b e h = let k : 0x5C ≡ q = cc in quoted-runs d b (rw k h)
@@ -122,7 +122,7 @@ run-step d (Plain Whole) q b e h = let k : delimiterOf d ≡ q = cc in plain-run
 run-step d (Plain (Within i)) q b e h = no-run e
 run-step d Complete q b e h = no-run e
 
--- in a comment every ordinary byte leaves the file where it stands
+-- in a comment every ordinary byte leaves the state unchanged
 pub comment-step : (d : Dialect) (b : ℕ) → ordinary 0 0 b ≡ true → fileStep d (Comment Whole) b ≡ To (Comment Whole) Outside
 unfolding fileStep if_then_else_
 comment-step d b e =
@@ -156,7 +156,7 @@ drop-part s i n stop =
     drop-take n (stop - i) (drop i s) ∙ rw (drop-drop, e)
 
 module _ (d : Dialect) (c : Cell) (s : Bytes) (i stop : ℕ) where
-  -- a run leaves the rest of the cell to be what it is from its end on
+  -- the rest of the cell is the same from the end of a run
   pub run-rest : cellRun d c i (slice s i stop) ≡ cellRun d c (i + runLength d (runStop d c) (slice s i stop)) (slice s (i + runLength d (runStop d c) (slice s i stop)) stop)
   run-rest = go (runStop d c) refl
     where
@@ -181,7 +181,7 @@ pub rest-open : (d : Dialect) (c : Cell) (s : Bytes) (i : ℕ) → cellRun d c i
 unfolding cellRun
 rest-open d c s i = rw (part-end s i)
 
--- a run stays before `stop`
+-- a run ends at `stop` or before it
 pub part-short : (p q : ℕ) (s : Bytes) (i stop : ℕ) → i ≤ stop → stop ≤ length s → i + leading p q (slice s i stop) ≤ stop
 unfolding leading
 part-short p q s i stop h k =

@@ -1,4 +1,4 @@
--- Laws of the steps of a run: a word of ordinary bytes is eight bytes of the run, and in any other it ends before the first flag.
+-- Laws of the word steps of a run: a word without a flag is eight bytes of the run, and otherwise the run ends before the first flag.
 use Prim.Native.Nat.{ℕ, _+_, _-_, _≤_, _<_}
 use native.Mathlib.Omega.{arith}
 use mathlib.Core.Path.{_≡_, _∙_}
@@ -11,7 +11,7 @@ use Rattle.swar.specs.Words.{ordinary, bytesOf, Word, Flags, zeroBytes}
 use Rattle.swar.proofs.FlaggedPrefix.{word-passes, word-stops}
 use Rattle.cell_scanner.specs.Run.{leading}
 
--- what is left of a slice, a word at a time
+-- the rest of a slice by its next word
 part-word : (s : Bytes) (i stop : ℕ) → i + 8 ≤ stop → slice s i stop ≡ slice s i (i + 8) ++ slice s (i + 8) stop
 part-word s i stop h =
     let n : stop - i ≡ 8 + (stop - (i + 8)) = omega arith in
@@ -20,7 +20,7 @@ part-word s i stop h =
 
 -- the word at i, and its flags
 module _ (s : Bytes) (i stop p q w flags : ℕ) (h : i + 8 ≤ stop) (is-word : Word (slice s i (i + 8)) w) (told : Flags (ordinary p q) w flags) where
-  -- no flag: the run goes over the word
+  -- no flag: the run passes the word
   pub run-goes-on : flags ≡ 0 → leading p q (slice s i stop) ≡ 8 + leading p q (slice s (i + 8) stop)
   unfolding leading
   run-goes-on e = rw (part-word s i stop h) (word-passes is-word told (slice s (i + 8) stop) e)

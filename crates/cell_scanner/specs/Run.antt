@@ -1,4 +1,4 @@
--- Runs of ordinary bytes, and the rest of a cell.
+-- Runs of ordinary ASCII bytes, and the rest of a cell.
 use Prim.Native.Nat.{ℕ, suc}
 use mathlib.Core.List.{[], _∷_}
 use Rattle.model.specs.declared.Dialect.{Dialect}
@@ -17,16 +17,16 @@ use Rattle.cell_scanner.specs.declared.RunStop.the-variants.{At, Fallbac
 use Rattle.cell_scanner.specs.declared.CellEnd.{CellEnd}
 use Rattle.cell_scanner.specs.declared.CellEnd.the-variants.{Stopped, Refused, Open}
 
--- how many ordinary bytes stand at the beginning: all of these are ordinary, and the next is not or there is none
+-- the length of the longest prefix of ordinary bytes
 unfoldable pub leading : (p q : ℕ) → Bytes → ℕ
 unfolding passing
 leading p q bs = passing (ordinary p q) bs
 
--- how many ordinary bytes stand at the beginning of the rest of a comment, which has no stops of its own: no ordinary byte is 0
+-- the same in a comment, which has no stops of its own: 0 is not ordinary
 abbrev pub commentRun : Bytes → ℕ
 commentRun bs = leading 0 0 bs
 
--- the rest of a cell, up to where it stops or is refused: where, or the cell that is still open
+-- the rest of a cell: where it stops or is refused, or the state in which it is still open
 unfoldable pub cellRun : Dialect → Cell → (i : ℕ) → Bytes → CellEnd
 cellRun d c i [] = Open c
 cellRun d c i (b ∷ bs) =
@@ -37,7 +37,7 @@ abbrev pub textStop : Char → ℕ → RunStop
 textStop Whole q = At q
 textStop (Within i) q = Fallback
 
--- in which cells ordinary bytes run: between quotes, and in a plain cell, between characters
+-- in which cells ordinary bytes run: inside quotes, and in an unquoted cell, between characters
 abbrev pub runStop : Dialect → Cell → RunStop
 runStop d Fresh = Fallback
 runStop d (Quoted t) = textStop t 0x5C
@@ -49,7 +49,7 @@ runStop d (InWord w) = Fallback
 runStop d (Plain t) = textStop t (delimiterOf d)
 runStop d Complete = Fallback
 
--- how many bytes run at the beginning
+-- the length of the run at the beginning
 abbrev pub runLength : Dialect → RunStop → Bytes → ℕ
 runLength d (At q) bs = leading (quoteOf d) q bs
 runLength d Fallback bs = 0

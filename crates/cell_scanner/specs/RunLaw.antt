@@ -1,5 +1,5 @@
--- The law of runs, over the dialect and over a target or none: a run of n ordinary bytes leaves the state as it is and adds n to
--- the offset and, outside comments, to the record's size. It is proved in proofs/RunLaw.antt.
+-- The law of runs, over the dialect and over a target or none: a run of n ordinary bytes leaves the state unchanged and adds n to the
+-- offset and, outside comments, to the record's size. It is proved in proofs/RunLaw.antt.
 use Prim.Native.Nat.{ℕ, _+_, _≤_}
 use mathlib.Core.Path.{_≡_}
 use mathlib.Core.Option.{Option}
@@ -17,7 +17,7 @@ use Rattle.model.specs.rules.Report.{MAXFILE, MAXRECORD}
 use Rattle.model.specs.rules.Records.{Read, going, readFrom, readBytes}
 use Rattle.cell_scanner.specs.Run.{commentRun, runStop, runLength}
 
--- where a file stands: in the current cell, in a comment, or where no byte runs
+-- where reading is: in the current cell, in a comment, or where there are no runs
 pub data Place : Type 0 where
   in-cell : Cell → Place
   in-comment : Char → Place
@@ -38,15 +38,15 @@ placeIn (Inside c) = in-cell c
 placeIn After = elsewhere
 placeIn Cr = elsewhere
 
--- how many bytes run at the beginning: ordinary ones, inside quotes, in a plain cell and in a comment
+-- the length of the run at the beginning: ordinary bytes inside quotes, in an unquoted cell and in a comment
 unfoldable pub runAt : Dialect → Place → Bytes → ℕ
 runAt d (in-cell c) bs = runLength d (runStop d c) bs
 runAt d (in-comment Whole) bs = commentRun bs
 runAt d (in-comment (Within i)) bs = 0
 runAt d elsewhere bs = 0
 
--- what has been read after the run xs. In a cell its bytes are the cell's; those of a comment are not counted, and no
--- record is in hand there (§7.4)
+-- the state of reading after the run xs. In a cell its bytes are the cell's; those of a comment are not counted, and no record has begun
+-- there (§7.4)
 unfoldable pub ranAt : Place → Read → Bytes → Read
 ranAt (in-cell c) r xs =
     record { done = r .done; state = r .state; offset = r .offset + length xs; start = r .start; size = r .size + length xs; opened = r .opened; raw = r .raw ++ xs; cells = r .cells }
@@ -54,14 +54,14 @@ ranAt (in-comment t) r xs =
     record { done = r .done; state = r .state; offset = r .offset + length xs; start = r .start; size = 0; opened = r .offset + length xs; raw = []; cells = [] }
 ranAt elsewhere r xs = r
 
--- both, by the form
+-- both, by the file's state
 abbrev pub runIn : Dialect → FileState → Bytes → ℕ
 runIn d f bs = runAt d (placeIn f) bs
 
 abbrev pub ran : Read → Bytes → Read
 ran r xs = ranAt (placeIn (r .state)) r xs
 
--- an empty run leaves the state as it is, which in a comment says that no record is in hand. It is so wherever reading stands
+-- an empty run leaves the state unchanged, which in a comment says that no record has begun. It holds of every state that reading reaches
 -- (`stands` below)
 abbrev pub Lies : Read → Type 0
 Lies r = ran r [] ≡ r
@@ -72,9 +72,9 @@ pub record InLimits (r : Read) : Type 0 where
   pub size : r .size ≤ MAXRECORD
 
 pub record RunLaw (d : Dialect) (target : Option Target) : Type 0 where
-  -- the law: xs is a run, or the beginning of one, and ends within the limits
+  -- the law: xs is a run or a prefix of one, and ends within the limits
   pub run : (r : Read) (xs : Bytes) → Lies r → runIn d (r .state) xs ≡ length xs → InLimits (ran r xs) → readFrom d target (going r) xs ≡ going (ran r xs)
-  -- so a reader may pass over the first n bytes of a run
+  -- so a reader may skip the first n bytes of a run
   pub rest : (r : Read) (n : ℕ) (bs : Bytes) → Lies r → n ≤ runIn d (r .state) bs → InLimits (ran r (take n bs)) → readFrom d target (going r) bs ≡ readFrom d target (going (ran r (take n bs))) (drop n bs)
-  -- every state that reading comes to
+  -- every state that reading reaches
   pub stands : (bs : Bytes) (r : Read) → readBytes d target bs ≡ going r → Lies r

@@ -1,5 +1,6 @@
-// Runs of ordinary bytes, and the rest of a cell by its step and by runs. Each answer is that of the definition in specs/Run.antt, and
-// specs/RunLaw.antt says why a reader may pass over a run.
+// The rest of a cell or of a comment, by the automaton and by runs of ordinary ASCII bytes, eight to a step. A state and a slice go in;
+// where the cell stops or is refused comes out, or the state in which it is still open. The definitions are `cellRun` and `leading` of
+// specs/Run.antt; specs/RunLaw.antt says why a reader may skip a run. A new stop of a run needs `run-step` of proofs/Runs.antt again.
 use model::ByteFault;
 use model::Cell;
 use model::CellStep;
@@ -11,7 +12,7 @@ ghost use lib.ListN.{length};
 ghost use Rattle.model.specs.rules.Api.{slice};
 ghost use Rattle.cell_scanner.specs.Run.{leading, commentRun, textStop, runStop, runLength, cellRun};
 
-// How far a run of ordinary bytes goes from `at`, a byte at a time, where fewer than eight are left before `stop`: at most seven steps.
+// The end of a run from `at`, a byte at a time, where fewer than eight bytes are left before `stop`.
 fn single_steps(s: &[u8], at: usize, stop: usize, p: u8, q: u8) -> usize
     requires { ⌜ (at ≤ stop) × (stop ≤ length (now s)) × (stop < at + 8) ⌝ }
     ensures { λ r. ⌜ r ≡ at + leading p q (slice (now (s .entry)) at stop) ⌝ }
@@ -36,14 +37,14 @@ fn single_steps(s: &[u8], at: usize, stop: usize, p: u8, q: u8) -> usize
     i
 }
 
-// How many steps of eight ordinary bytes a run takes, and how many of its bytes are left after them.
+// The number of whole words of ordinary bytes in a run, and of its bytes after them.
 struct RunSteps {
     words: usize,
     rest: usize,
 }
 
-// The steps of a run from `at`, at most to `stop`. A word with a flag is no step: the run ends in it, and the flag's place gives what is
-// left of the run at once.
+// The words of a run from `at`, at most up to `stop`. The run ends in the first word with a flag, and the flag's index gives the rest at
+// once.
 fn word_steps(s: &[u8], at: usize, stop: usize, p: u8, q: u8) -> RunSteps
     requires { ⌜ (at ≤ stop) × (stop ≤ length (now s)) ⌝ }
     ensures { λ r. ⌜ (r .words ≡ leading p q (slice (now (s .entry)) at stop) / 8) × (r .rest ≡ leading p q (slice (now (s .entry)) at stop) % 8) ⌝ }
@@ -67,7 +68,7 @@ fn word_steps(s: &[u8], at: usize, stop: usize, p: u8, q: u8) -> RunSteps
     }
 }
 
-// How far a run of ordinary bytes goes from `at`, at most to `stop`. The run ends at a byte outside 20 to 7E hex, at `p` and at `q`.
+// The end of the run of ordinary bytes from `at`, at most `stop`. It ends at a byte outside 20 to 7E hex, at `p` and at `q`.
 fn run(s: &[u8], at: usize, stop: usize, p: u8, q: u8) -> usize
     requires { ⌜ (at ≤ stop) × (stop ≤ length (now s)) ⌝ }
     ensures { λ r. ⌜ r ≡ at + leading p q (slice (now (s .entry)) at stop) ⌝ }
@@ -76,10 +77,10 @@ fn run(s: &[u8], at: usize, stop: usize, p: u8, q: u8) -> usize
     at + 8 * taken.words + taken.rest
 }
 
-// A comment has no stops of its own, and no ordinary byte is 0.
+// A comment has no stops of its own, and 0 is not ordinary.
 const NO_STOP: u8 = 0;
 
-// How far the ordinary bytes of a comment go from `at`, at most to `stop`.
+// The end of a comment's ordinary bytes from `at`, at most `stop`.
 pub fn comment_run(s: &[u8], at: usize, stop: usize) -> usize
     requires { ⌜ (at ≤ stop) × (stop ≤ length (now s)) ⌝ }
     ensures { λ r. ⌜ r ≡ at + commentRun (slice (now (s .entry)) at stop) ⌝ }
@@ -89,14 +90,14 @@ pub fn comment_run(s: &[u8], at: usize, stop: usize) -> usize
 
 // Where the rest of a cell ends.
 pub enum CellEnd {
-    // The byte at this place does not belong to the cell, which is whole without it.
+    // The byte at this offset is not part of the cell, which is whole without it.
     Stopped(Cell, usize),
     Refused(ByteFault, usize),
     // The bytes ended before the cell did.
     Open(Cell),
 }
 
-// The byte beside the quote at which a run ends in this cell, where ordinary bytes leave the cell as it is.
+// The byte beside the quote at which a run ends in this state, if ordinary bytes leave the state unchanged.
 pub enum RunStop {
     At(u8),
     Fallback,
@@ -121,7 +122,7 @@ pub fn run_stop(d: Dialect, c: Cell) -> RunStop
     }
 }
 
-// How far the cell's ordinary bytes go from `at`, at most to `stop`.
+// The end of the cell's ordinary bytes from `at`, at most `stop`.
 fn cell_run(d: Dialect, c: Cell, s: &[u8], at: usize, stop: usize) -> usize
     requires { ⌜ (at ≤ stop) × (stop ≤ length (now s)) ⌝ }
     ensures { λ r. ⌜ r ≡ at + runLength d (runStop d c) (slice (now (s .entry)) at stop) ⌝ }
@@ -132,7 +133,7 @@ fn cell_run(d: Dialect, c: Cell, s: &[u8], at: usize, stop: usize) -> usize
     }
 }
 
-// The rest of a cell from `from`, at most to `stop`.
+// The rest of a cell from `from`, at most up to `stop`.
 pub fn cell_end(d: Dialect, c0: Cell, s: &[u8], from: usize, stop: usize) -> CellEnd
     requires { ⌜ (from ≤ stop) × (stop ≤ length (now s)) ⌝ }
     ensures { λ r. ⌜ r ≡ cellRun d c0 from (slice (now (s .entry)) from stop) ⌝ }

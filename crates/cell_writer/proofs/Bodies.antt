@@ -1,5 +1,4 @@
--- The text of a content by place: what stops a run, and the rest.
--- Assumes nothing.
+-- The text of a content by offset: what stops a run, and the rest.
 use mathlib.Core.Path.{_≡_, refl, sym, ap, _∙_}
 use mathlib.Core.Bool.{Bool, true, false, _||_}
 use mathlib.Core.List.{[], _∷_, _++_}
@@ -84,7 +83,7 @@ module _ (c : Bytes) (i : ℕ) (h : i < length c) where
   pub lone-by : 3 ≤ length c - i → beginsLone (drop i c) ≡ paired (drop i c)
   lone-by k = begins-by (drop i c) (omega (arith, length-drop i c))
 
-  -- a lone surrogate stands there
+  -- a lone surrogate is there
   module _ (e : beginsLone (drop i c) ≡ true) where
     pub lone-inside : i + 3 ≤ length c
     lone-inside = omega (arith, begins-long (drop i c) e, length-drop i c)
@@ -107,7 +106,7 @@ module _ (c : Bytes) (i : ℕ) (h : i < length c) where
     stops-lone Tdif j p = impossible j
     stops-lone (CsvPlus s) j p = impossible j
 
-  -- a byte stands there
+  -- a byte is there
   first-text : (t : Dialect) → (isCsvj t ≡ true → beginsLone (drop i c) ≡ false) → bodyText t (drop i c) ≡ bodyText t (getD c i 0 ∷ []) ++ bodyText t (drop (i + 1) c)
   first-text Csvj e = let d = drop-next c i (i + 1) h refl in ap jsonBody d ∙ body-append (getD c i 0 ∷ []) (drop (i + 1) c) (one (getD c i 0)) (λ _. rw d at (e refl))
   first-text Tdif e = ap (bodyText Tdif) (drop-next c i (i + 1) h refl) ∙ doubled-append QUOTE (getD c i 0 ∷ []) (drop (i + 1) c)
@@ -189,7 +188,7 @@ lone-end e = ap holdsLone e ∙ lone-empty
 pub lone-first : (bs : Bytes) → holdsLone bs ≡ (false || holdsLone bs)
 lone-first bs = refl
 
--- nothing is left
+-- nothing remains
 pub lone-done : (lone : Bool) {all rest : Bool} → all ≡ (lone || rest) → rest ≡ false → lone ≡ all
 lone-done true e f = sym e
 lone-done false e f = sym f ∙ sym e

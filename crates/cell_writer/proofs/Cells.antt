@@ -1,5 +1,4 @@
--- The text of a cell by its parts, and what a cell of a file or a content brings with it.
--- Assumes nothing.
+-- The text of a cell by its parts, and what is known of a cell of a file or of a content.
 use mathlib.Core.Path.{_≡_, refl, sym, ap, _∙_}
 use mathlib.Core.Bool.{Bool, true, false, _&&_, _||_}
 use mathlib.Core.List.{[], _∷_, _++_, append-nil}
@@ -46,7 +45,7 @@ second-false : (x y : Bool) → (x || y) ≡ false → y ≡ false
 second-false true y e = impossible (sym e)
 second-false false y e = e
 
--- what asks for no quotes holds no quote
+-- content that needs no quotes holds no quote
 nothing-doubled : (s : Settings) (bs : Bytes) → holds (special s) bs ≡ false → doubled (quoteOf (CsvPlus s)) bs ≡ bs
 unfolding holds doubled if_then_else_
 nothing-doubled s [] e = refl
@@ -80,11 +79,11 @@ quote-none t e = rw e
 pub written-long : (write : Bool) {old : Bytes} {o : ℕ} {w new : Bytes} {r : ℕ} → Room write o w old → WrittenAt write old o w new r → length new ≡ length old
 written-long write {old} {o} {w} h p = let q : Emitting write old o w old o (w ++ []) = rw (append-nil w) (emitting write h) in same-long (put-next w q p)
 
--- nothing is put
+-- nothing is written
 pub written-nothing : (write : Bool) {old : Bytes} {o : ℕ} → Room write o [] old → WrittenAt write old o [] old o
 written-nothing write r = put-whole (emitting write r)
 
--- ---- a cell, by how its target writes it
+-- ---- a cell, by its written form
 
 no-number-tdif : (k : Kind) → AsNumber ≡ writtenAs Tdif k → ⊥
 no-number-tdif Text e = let z : _≡_ {A = ℕ} 0 1 = cc in omega arith
@@ -147,7 +146,7 @@ module _ (only first : Bool) where
       go Null e = refl
   cell-as-word (CsvPlus s) v e = let z : _≡_ {A = ℕ} 0 1 = cc in absurd (omega arith)
 
--- a target that may lose a lone surrogate writes every text as a text
+-- a target that can't represent a lone surrogate writes every text as a text
 pub text-way : (t : Dialect) (k : Kind) (w : WrittenForm) → w ≡ writtenAs t k → isText k ≡ true → isCsvj t ≡ false → w ≡ AsText
 text-way Csvj k w e x y = impossible (sym y)
 text-way Tdif Text w e x y = e
@@ -157,7 +156,7 @@ text-way Tdif False w e x y = impossible x
 text-way Tdif Null w e x y = impossible x
 text-way (CsvPlus s) k w e x y = e
 
--- only CSVJ writes a number as it stands
+-- only CSVJ writes a number verbatim
 pub number-way : (t : Dialect) (k : Kind) → AsNumber ≡ writtenAs t k → k ≡ Number
 number-way Csvj Text e = let z : _≡_ {A = ℕ} 0 1 = cc in absurd (omega arith)
 number-way Csvj Number e = refl
@@ -190,7 +189,7 @@ legible-of Escaped raw q l e = decoded (by-string l e)
 same-quote : {p q : ℕ} → Doubled p ≡ Doubled q → p ≡ q
 same-quote e = cc
 
--- the quote of a spelling is one of the dialect
+-- the quote of an encoding is one of the dialect
 encoded-quote : (d : Dialect) (b q : ℕ) → spellingBy d b ≡ Doubled q → q ≤ 0x7F
 unfolding spellingBy
 encoded-quote Csvj b q =
@@ -212,7 +211,7 @@ encoded-legible (in-file {d} {raw} h j e) =
     legible-of c raw (λ q f. encoded-quote d (getD raw 0 0) q f) short j
 encoded-legible as-content = as-it-lies
 
--- the content of a number is the cell itself, if it begins as one
+-- the content of a number is the raw cell, if it begins like a number
 no-text : {A : Type 0} → Number ≡ Text → A
 no-text e = let z : _≡_ {A = ℕ} 0 1 = cc in absurd (omega arith)
 

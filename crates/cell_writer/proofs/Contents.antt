@@ -1,5 +1,4 @@
--- The content of a cell by place: a run, the unit that stands there, and the end.
--- Assumes nothing.
+-- The content of a cell by offset: a run, the unit there, and the end.
 use mathlib.Core.Path.{_≡_, refl, sym, ap, _∙_}
 use mathlib.Core.Bool.{false, and-false}
 use mathlib.Core.List.{[], _∷_, _++_}
@@ -37,7 +36,7 @@ content-end Escaped raw i h = string-end raw i h
 pub nothing-end : (raw : Bytes) → contentFrom Nothing raw (length raw) ≡ []
 nothing-end raw = content-end Nothing raw (length raw) (omega arith)
 
--- it ends too at the quote that closes the cell
+-- it also ends at the quote that closes the cell
 pub closed-doubled : (q : ℕ) (raw : Bytes) (i : ℕ) → i < length raw → getD raw i 0 ≡ q → length raw ≤ i + 1 → contentFrom (Doubled q) raw i ≡ []
 closed-doubled q raw i h e k = undoubled.at-last q raw i h e k
 
@@ -50,7 +49,7 @@ module _ (raw : Bytes) (i j p q r : ℕ) (k : j ≡ i + plainRun p q r (drop i r
   pub part-inside : i ≤ length raw → j ≤ length raw
   part-inside h = omega (arith, run-inside p q r (drop i raw), length-drop i raw)
 
-  -- what a run was passed over for: it and the rest of the content
+  -- the content from i on is the run and then the rest of the content
   pub content-part : (c : Spelling) → q ≡ sourceQuote c → contentFrom c raw i ≡ take (plainRun p q r (drop i raw)) (drop i raw) ++ contentFrom c raw j
   content-part c e =
       let n : ℕ = plainRun p q r (drop i raw) in
@@ -134,7 +133,7 @@ decoded-ed : {c : Spelling} {raw : Bytes} → Decoded c raw → EdFollowed raw
 decoded-ed (by-doubled h l e) = e
 decoded-ed (by-string l e) = e
 
--- a byte from 80 hex on stands for itself
+-- a byte from 80 hex on is verbatim
 high-byte : {c : Spelling} {raw : Bytes} (i : ℕ) → Decoded c raw → i < length raw → 0x80 ≤ getD raw i 0 → contentFrom c raw i ≡ getD raw i 0 ∷ contentFrom c raw (i + 1)
 high-byte {raw} i (by-doubled {q} h l e) k m = undoubled.at-other q raw i k λ f. omega arith
 high-byte {raw} i (by-string l e) k m = string-byte raw i k (λ f. omega arith) λ f. omega arith
@@ -150,7 +149,7 @@ first-one : (l : Bytes) (n : ℕ) → n ≡ 1 → length (take n l) ≡ n → ta
 first-one [] n e h = let z : _≡_ {A = ℕ} 0 1 = rw e at h in absurd (omega arith)
 first-one (a ∷ l) n e h = rw e
 
--- behind ED stands a byte that begins no lone surrogate with it, or nothing
+-- after ED comes a byte with which it begins no lone surrogate, or nothing
 ed-apart : {c : Spelling} {raw : Bytes} (i : ℕ) → Decoded c raw → getD raw i 0 ≡ 0xED → paired (0xED ∷ contentFrom c raw (i + 1)) ≡ false
 ed-apart {c} {raw} i d e =
     split-on (ltb (i + 1) (length raw))

@@ -1,5 +1,4 @@
--- What the definitions of content and of canonical text make of a run: the run itself.
--- Assumes nothing.
+-- Content and canonical text of a run, by the definitions: the run itself.
 use mathlib.Core.Path.{_≡_, refl, ap, _∙_}
 use mathlib.Core.Bool.{Bool, true, false, not}
 use mathlib.Core.List.{[], _∷_, _++_}
@@ -21,7 +20,7 @@ use Rattle.cell_writer.specs.PlainRuns.{isPlain, plainRun}
 use Rattle.cell_writer.specs.Units.{bodyText}
 use Rattle.cell_writer.specs.Contents.{contentOn, sourceQuote}
 
--- a run lies in its bytes
+-- a run is no longer than its bytes
 pub run-inside : (p q r : ℕ) (bs : Bytes) → plainRun p q r bs ≤ length bs
 unfolding plainRun
 run-inside p q r bs = passing-short (isPlain p q r) bs
@@ -32,7 +31,7 @@ not-true : (t : Bool) → not t ≡ true → t ≡ false
 not-true true e = impossible e
 not-true false e = refl
 
--- what the test of a plain byte says
+-- what it means for a byte to be plain
 pub record Plain (p q r b : ℕ) : Type 0 where
   pub least : leb 0x20 b ≡ true
   pub no-backslash : (b is BACKSLASH) ≡ false
@@ -69,7 +68,7 @@ body-plain [] e t = escaped-plain e t
 body-plain (c ∷ []) e t = rw (escaped-plain e t)
 body-plain (c ∷ d ∷ bs) e t = rw (t .no-lone, escaped-plain e t)
 
--- in text with quotes doubled
+-- in text with doubled quotes
 doubled-plain : (u b : ℕ) (bs : Bytes) → (b is u) ≡ false → doubled u (b ∷ bs) ≡ b ∷ doubled u bs
 unfolding doubled if_then_else_
 doubled-plain u b bs e = rw e
@@ -101,7 +100,7 @@ module _ (p q r : ℕ) where
       (λ f. rw f (content-byte c bs e (plain-is p q r b f) ∙ ap (λ (l : Bytes). b ∷ l) (content-run c e bs)))
       (λ f. rw f)
 
-  -- it goes out as it is, before the text of the rest, in a target whose quote stops it
+  -- its text is the run, before the text of the rest, in a target whose quote stops it
   pub text-run : (t : Dialect) → p ≡ quoteOf t → (bs ys : Bytes) → let w = take (plainRun p q r bs) bs in bodyText t (w ++ ys) ≡ w ++ bodyText t ys
   unfolding plainRun if_then_else_
   text-run t e [] ys = refl
@@ -110,7 +109,7 @@ module _ (p q r : ℕ) where
       (λ f. rw f (text-byte t _ e (plain-is p q r b f) ∙ ap (λ (l : Bytes). b ∷ l) (text-run t e bs ys)))
       (λ f. rw f)
 
-  -- and holds no part of a lone surrogate
+  -- it holds no part of a lone surrogate
   pub lone-run : (bs ys : Bytes) → holdsLone (take (plainRun p q r bs) bs ++ ys) ≡ holdsLone ys
   unfolding plainRun if_then_else_
   lone-run [] ys = refl

@@ -1,5 +1,4 @@
--- Laws of the steps of a run, by a byte and by a word, and of the test of a word.
--- Assumes nothing.
+-- Laws of the steps of a run, by a byte and by a word, and of the word test.
 use mathlib.Core.Path.{_≡_, refl, sym, ap, _∙_}
 use mathlib.Core.Bool.{Bool, true, false, not, _&&_, _||_}
 use mathlib.Core.List.{[], _∷_, _++_}
@@ -19,7 +18,7 @@ use Rattle.swar.proofs.FlaggedPrefix.{word-passes, word-stops}
 use Rattle.buffer.proofs.WriteProgress.{drop-next}
 use Rattle.cell_writer.specs.PlainRuns.{isPlain, plainRun}
 
--- ---- the test of a word
+-- ---- the word test
 
 not-either : (x y : Bool) → not (x || y) ≡ (not x && not y)
 not-either true y = refl
@@ -38,13 +37,13 @@ module _ (p q : ℕ) where
   unfolding isPlain
   plain-none b = simp (not-either, not-below) (and-again (leb 0x20 b && not (b is BACKSLASH) && not (b is 0xED) && not (b is p)) (not (b is q)))
 
-  -- a byte that is flagged by each of these is plain
+  -- a byte that each of these words flags is plain
   pub plain-flags : {w from-20 no-backslash no-ed no-first no-second : ℕ} → Flags (isBelow 0x20) w from-20 → Flags (isByte BACKSLASH) w no-backslash → Flags (isByte 0xED) w no-ed
       → Flags (isByte p) w no-first → Flags (isByte q) w no-second
       → Flags (isPlain p q q) w (bitXor (bitAnd (bitAnd (bitAnd (bitAnd from-20 no-backslash) no-ed) no-first) no-second) 0x8080808080808080)
   plain-flags a b c d e = flags-same (flags-other (flags-both (flags-both (flags-both (flags-both a b) c) d) e)) plain-none
 
--- ---- two quotes that are the same
+-- ---- equal quotes
 
 plain-same : (p r b : ℕ) → isPlain p p r b ≡ isPlain p r r b
 unfolding isPlain
@@ -77,7 +76,7 @@ module _ (p q r : ℕ) (s : Bytes) (i : ℕ) where
     word-next : drop i s ≡ slice s i (i + 8) ++ drop (i + 8) s
     word-next = let m : i + 8 - i ≡ 8 = omega arith in sym (take-append-drop 8 (drop i s)) ∙ rw (m, drop-drop)
 
-    -- no flag: the run goes over the word
+    -- no flag: the run passes the word
     pub word-on : flags ≡ 0 → i + plainRun p q r (drop i s) ≡ (i + 8) + plainRun p q r (drop (i + 8) s)
     unfolding plainRun
     word-on e = let on = word-passes is-word told (drop (i + 8) s) e in rw word-next (omega arith)

@@ -1,5 +1,4 @@
--- What CSV+ asks of a content before it writes it: a run holds nothing that asks for quotes.
--- Assumes nothing.
+-- Whether CSV+ quotes a content: a run holds nothing that needs quotes.
 use mathlib.Core.Path.{_≡_, refl, sym, ap, ap₂, _∙_}
 use mathlib.Core.Bool.{Bool, true, false, _&&_, _||_, and-false, or-false, or-assoc}
 use mathlib.Core.List.{[], _∷_, _++_}
@@ -43,7 +42,7 @@ module _ (s : Settings) where
       let h : 0x20 ≤ b = leb-true 0x20 b (t .least) in
       rw (t .no-first, t .no-third, ne-eqb b 0x0D (λ e. omega arith), ne-eqb b 0x0A (λ e. omega arith))
 
-  -- a run may be passed over
+  -- a run may be skipped
   special-run : (q : ℕ) (bs ys : Bytes) → holds (special s) (take (plainRun Q q P bs) bs ++ ys) ≡ holds (special s) ys
   unfolding holds plainRun if_then_else_
   special-run q [] ys = refl
@@ -115,7 +114,7 @@ module _ (s : Settings) where
     pub by-lf : (b ≡ Q → ⊥) → (b ≡ P → ⊥) → (b ≡ CR → ⊥) → special s b ≡ (b is LF)
     by-lf h k l = rw (ne-eqb b Q h, ne-eqb b P k, ne-eqb b CR l)
 
--- ---- the mark
+-- ---- the byte order mark
 
 pub bom-short : (c : Bytes) → length c < 3 → beginsBom c ≡ false
 bom-short [] h = refl
@@ -139,7 +138,7 @@ module _ (c : Bytes) (h : 3 ≤ length c) where
   pub mark-third : getD c 0 0 ≡ 0xEF → getD c 1 0 ≡ 0xBB → beginsBom c ≡ (getD c 2 0 is 0xBF)
   mark-third e f = bom-by c h ∙ rw (eq-eqb (getD c 0 0) 0xEF e, eq-eqb (getD c 1 0) 0xBB f)
 
--- the first n bytes of a room are w, and all of it
+-- the first n bytes of a room are exactly w
 pub record Held (w room : Bytes) (n : ℕ) : Type 0 where
   pub front : take n room ≡ w
   pub inside : n ≤ length room

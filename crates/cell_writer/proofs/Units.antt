@@ -1,5 +1,4 @@
--- The text of a unit: what the definitions of canonical text make of its bytes.
--- Assumes nothing.
+-- The text of a unit: the definitions of canonical text on its bytes.
 use mathlib.Core.Path.{_≡_, refl, sym, ap, _∙_}
 use mathlib.Core.Bool.{true, false, _||_}
 use mathlib.Core.List.{[], _∷_, _++_, append-nil, append-assoc}
@@ -20,7 +19,7 @@ use Rattle.model.proofs.cell_laws.Utf8.{quote-ascii}
 use Rattle.cell_decoder.specs.Units.{Unit, one, two, three, four, Lead, Later}
 use Rattle.cell_writer.specs.Units.{Spells, bodyText, isLone, beginsLone, paired}
 
--- the same text by another name
+-- the same text by an equation
 pub spells-as : {w v bytes : Bytes} {size : ℕ} → w ≡ v → Spells v bytes size → Spells w bytes size
 spells-as e p = rw e p
 
@@ -45,7 +44,7 @@ module _ (b : ℕ) where
   escaped-code h k l m n o =
       rw (ne-eqb b QUOTE (λ e. omega arith), ne-eqb b BACKSLASH (λ e. omega arith), lt-leb 0x20 b h, ne-eqb b 0x08 k, ne-eqb b 0x09 l, ne-eqb b 0x0A m, ne-eqb b 0x0C n, ne-eqb b 0x0D o)
 
--- ---- a byte of text with quotes doubled
+-- ---- a byte of text with doubled quotes
 
 module _ (q b : ℕ) where
   pub doubled-quote : b ≡ q → doubled q (b ∷ []) ≡ b ∷ b ∷ []
@@ -112,11 +111,11 @@ in-csvj Tdif u e = impossible e
 in-csvj (CsvPlus s) u e = impossible e
 
 module _ (l : Bytes) (n : ℕ) (h : n ≤ length l) where
-  -- no unit of another length is one
+  -- a unit of another length is none
   pub lone-not : (n ≡ 3 → ⊥) → isLone (take n l) ≡ false
   lone-not e = not-three (take n l) λ z. e (omega (arith, length-take n l, z))
 
-  -- one of three bytes is, by the first two
+  -- a unit of three bytes is one by its first two
   lone-by : n ≡ 3 → isLone (take n l) ≡ isSurrogate (getD l 0 0) (getD l 1 0)
   lone-by e = let k : 3 ≤ length l = omega arith in rw (e, first-three l k)
 
@@ -129,7 +128,7 @@ module _ (l : Bytes) (n : ℕ) (h : n ≤ length l) where
   lone-three : isLone (take n l) ≡ true → n ≡ 3
   lone-three e = let k : length (take n l) ≡ 3 = three-long (take n l) e in omega (arith, length-take n l)
 
-  -- its last two bytes are as the definition takes them to be
+  -- its last two bytes are in the definition's range
   pub lone-high : Unit (take n l) → isLone (take n l) ≡ true → (0x80 ≤ getD l 1 0) × (0x80 ≤ getD l 2 0)
   lone-high u e =
       let z : n ≡ 3 = lone-three e in
@@ -143,7 +142,7 @@ module _ (l : Bytes) (n : ℕ) (h : n ≤ length l) where
       let f : isSurrogate (getD l 0 0) (getD l 1 0) ≡ true = sym (lone-by z) ∙ e in
       rw (z, first-three l k) (in-csvj t _ j ∙ three-lone (getD l 0 0) (getD l 1 0) (getD l 2 0) f)
 
--- ---- any other unit of more than one byte stands as it is
+-- ---- any other unit of more than one byte is verbatim
 
 high-escaped : (b : ℕ) → 0x80 ≤ b → escaped b ≡ b ∷ []
 high-escaped b h = escaped-itself b (λ e. omega arith) (λ e. omega arith) (omega arith)
@@ -214,7 +213,7 @@ alone : (b : ℕ) → jsonBody (b ∷ []) ≡ escaped b
 unfolding jsonBody
 alone b = refl
 
--- a byte that goes out by itself, before bytes that do
+-- a byte whose text is its own, before bytes of which the same holds
 first-append : (a : ℕ) (u bs : Bytes) → ((l : Bytes) → jsonBody (a ∷ u ++ l) ≡ escaped a ++ jsonBody (u ++ l)) → jsonBody (u ++ bs) ≡ jsonBody u ++ jsonBody bs
     → jsonBody (a ∷ u ++ bs) ≡ jsonBody (a ∷ u) ++ jsonBody bs
 first-append a u bs f e =
@@ -227,7 +226,7 @@ later-one b bs h = body-later b bs h ∙ ap (λ (l : Bytes). l ++ jsonBody bs) (
 later-two : (b c : ℕ) (bs : Bytes) → Later b → Later c → jsonBody (b ∷ c ∷ bs) ≡ jsonBody (b ∷ c ∷ []) ++ jsonBody bs
 later-two b c bs h k = first-append b (c ∷ []) bs (λ (l : Bytes). body-later b (c ∷ l) h) (later-one c bs k)
 
--- a single byte must not begin a lone surrogate with what follows it
+-- a single byte must not begin a lone surrogate with the bytes after it
 pub body-append : (u bs : Bytes) → Unit u → (length u ≡ 1 → beginsLone (u ++ bs) ≡ false) → jsonBody (u ++ bs) ≡ jsonBody u ++ jsonBody bs
 body-append u bs (one b) h = body-byte b bs (h refl) ∙ ap (λ (l : Bytes). l ++ jsonBody bs) (sym (alone b))
 body-append u bs (two a b g k) h = first-append a (b ∷ []) bs (λ (l : Bytes). body-lead a (b ∷ l) g) (later-one b bs k)
@@ -274,7 +273,7 @@ lone-append u bs (three a b c g k m) h =
     (λ e. rw e (lone-skip a (b ∷ c ∷ bs) e ∙ skip-later b (c ∷ bs) k ∙ skip-later c bs m))
 lone-append u bs (four a b c d g k m n) h = skip-lead a (b ∷ c ∷ d ∷ bs) g ∙ skip-later b (c ∷ d ∷ bs) k ∙ skip-later c (d ∷ bs) m ∙ skip-later d bs n
 
--- what begins no lone surrogate with two bytes begins none with three
+-- bytes that begin no lone surrogate by two bytes begin none by three
 pub paired-begins : (bs : Bytes) → paired bs ≡ false → beginsLone bs ≡ false
 paired-begins [] e = refl
 paired-begins (a ∷ []) e = refl

@@ -1,4 +1,4 @@
--- The text of a content between the quotes of a target, a part at a time.
+-- The text of a content between the quotes of a target, part by part.
 use Prim.Native.Nat.{ℕ, _<_, _≤_}
 use mathlib.Core.Path.{_≡_}
 use mathlib.Core.Bool.{Bool, _||_}
@@ -12,8 +12,8 @@ use Rattle.cell_decoder.specs.declared.first_byte.Spelling.{Spelling}
 use Rattle.cell_writer.specs.Units.{bodyText}
 use Rattle.cell_writer.specs.Contents.{contentFrom}
 
--- the text of a content from i on begins with the first `size` of these bytes, and goes on with that from next on; `lone`: what was read
--- of it begins with a lone surrogate
+-- the text of the content from i on begins with the first `size` of these bytes and continues with that from next on; `lone`: the content
+-- there begins with a lone surrogate
 pub record Stops (c : Spelling) (t : Dialect) (raw : Bytes) (i : ℕ) (bytes : Bytes) (size next : ℕ) (lone : Bool) : Type 0 where
   pub stands : bodyText t (contentFrom c raw i) ≡ take size bytes ++ bodyText t (contentFrom c raw next)
   pub sized : length (take size bytes) ≡ size
@@ -21,7 +21,7 @@ pub record Stops (c : Spelling) (t : Dialect) (raw : Bytes) (i : ℕ) (bytes : B
   pub inside : next ≤ length raw
   pub tells : holdsLone (contentFrom c raw i) ≡ (lone || holdsLone (contentFrom c raw next))
 
--- a part w of the text was read from i to `read` and put from o to r
+-- a part w of the text was read from i to `read` and written or measured from o to r
 pub record Stepped (c : Spelling) (t : Dialect) (raw : Bytes) (i : ℕ) (write : Bool) (old : Bytes) (o : ℕ) (new : Bytes) (read r : ℕ) (lone : Bool) : Type 0 where
   pub w : Bytes
   pub stands : bodyText t (contentFrom c raw i) ≡ w ++ bodyText t (contentFrom c raw read)

@@ -1,4 +1,4 @@
--- The text of a cell, by how its target writes a cell of its kind.
+-- The text of a cell, by the written form of its kind in the target.
 use mathlib.Core.Bool.{Bool, true, false}
 use mathlib.Core.List.{[], _∷_}
 use Rattle.model.specs.declared.Dialect.{Dialect}
@@ -15,17 +15,17 @@ use Rattle.cell_decoder.specs.Sources.{contentBy}
 use Rattle.cell_writer.specs.declared.cell.WrittenForm.{WrittenForm}
 use Rattle.cell_writer.specs.declared.cell.WrittenForm.the-variants.{AsText, AsNumber, AsWord}
 
--- a cell of this kind, wherever it stands
+-- a cell of this kind
 abbrev pub valueOf : Source → Kind → Bytes → Value
 valueOf src kind raw = record { from = 0; upto = 0; kind = kind; content = contentBy src raw }
 
--- a text stands in quotes (§14.3 §14.6 §14.7)
+-- whether a text is in quotes (§14.3 §14.6 §14.7)
 abbrev pub isQuoted : Dialect → (only first : Bool) → Bytes → Bool
 isQuoted Csvj only first bs = true
 isQuoted Tdif only first bs = true
 isQuoted (CsvPlus s) only first bs = hasQuotes s only first bs
 
--- the quote before it and after it, if it does
+-- the quote before and after it, if it is
 abbrev pub quoteBy : Dialect → (quoted : Bool) → Bytes
 quoteBy t true = quoteOf t ∷ []
 quoteBy t false = []
@@ -36,14 +36,14 @@ textCell Csvj only first bs = jsonCell Text bs
 textCell Tdif only first bs = quotedText QUOTE bs
 textCell (CsvPlus s) only first bs = csvPlusCell s only first bs
 
--- the content of a number, by how it is spelt: as it stands, or nothing (§2.5)
+-- the content of a number, by its encoding: verbatim, or nothing (§2.5)
 abbrev pub numberIn : Spelling → Bytes → Bytes
 numberIn Nothing raw = []
 numberIn AsItStands raw = raw
 numberIn (Doubled q) raw = raw
 numberIn Escaped raw = raw
 
--- how `cellText` has it (§14.5 §14.6 §14.7)
+-- the written form in `cellText` (§14.5 §14.6 §14.7)
 abbrev pub writtenAs : Dialect → Kind → WrittenForm
 writtenAs Csvj Text = AsText
 writtenAs Csvj Number = AsNumber
@@ -57,7 +57,7 @@ writtenAs Tdif False = AsWord
 writtenAs Tdif Null = AsWord
 writtenAs (CsvPlus s) k = AsText
 
--- the word of a kind, where it is written as one
+-- the word of a kind that is written as one
 abbrev pub wordFor : Dialect → Kind → Bytes
 wordFor Csvj Text = []
 wordFor Csvj Number = []

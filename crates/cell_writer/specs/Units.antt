@@ -11,7 +11,7 @@ use Rattle.model.specs.rules.Dialect.{quoteOf}
 use Rattle.model.specs.rules.Utf8.{isSurrogate}
 use Rattle.model.specs.rules.Text.{jsonBody, doubled}
 
--- the first `size` of these bytes are the text w, and all of it
+-- the first `size` of these bytes are exactly the text w
 pub record Spells (w bytes : Bytes) (size : ℕ) : Type 0 where
   pub spells : take size bytes ≡ w
   pub sized : size ≡ length w

@@ -1,4 +1,7 @@
-// The content of a cell between the quotes of a target, from any source: the one loop of all pairs, over runs and what stops them.
+// The content of a cell written between the quotes of a target, from any source: one loop for all pairs of dialects, over runs and what
+// stops them. The raw cell and its encoding go in; the end of the text comes out, and whether the content holds a lone surrogate. The
+// definition is `bodyText` of specs/Units.antt; what stops a run is `Stops` of specs/Bodies.antt, so a new encoding changes that and not
+// the loop.
 ghost use mathlib.Core.Path.{_≡_};
 ghost use mathlib.Core.Bool.{_||_};
 ghost use Prim.Native.Nat.{_<_};
@@ -17,7 +20,7 @@ use model::Dialect;
 
 // ---- what stops a run
 
-// The text of what stops a run, the first `size` of `bytes`, where the content goes on, and whether a lone surrogate stands there.
+// The text of what stops a run, the first `size` of `bytes`, where the content continues, and whether it begins with a lone surrogate.
 struct Stop {
     bytes: [u8; 6],
     size: usize,
@@ -25,7 +28,7 @@ struct Stop {
     lone: bool,
 }
 
-// Whether the first two bytes of a lone surrogate stand at i.
+// Whether the first two bytes of a lone surrogate are at i.
 fn is_paired_at(content: &[u8], i: usize) -> bool
     requires { ⌜ i < length (now content) ⌝ }
     ensures { λ r. ⌜ r ≡ paired (drop i (now (content .entry))) ⌝ }
@@ -39,7 +42,7 @@ fn is_paired_at(content: &[u8], i: usize) -> bool
     0xA0 <= content[i + 1]
 }
 
-// Whether a lone surrogate stands at i, all of it.
+// Whether a whole lone surrogate is at i.
 fn is_lone_at(content: &[u8], i: usize) -> bool
     requires { ⌜ i < length (now content) ⌝ }
     ensures { λ r. ⌜ r ≡ beginsLone (drop i (now (content .entry))) ⌝ }
@@ -50,7 +53,7 @@ fn is_lone_at(content: &[u8], i: usize) -> bool
     is_paired_at(content, i)
 }
 
-// In a content that stands as it is, and that may be any bytes.
+// In a content that is not encoded, and may be any bytes.
 fn content_stop(t: Dialect, content: &[u8], i: usize) -> Stop
     requires { ⌜ i < length (now content) ⌝ }
     ensures { λ r. ⌜ Stops AsItStands t (now (content .entry)) i (r .bytes) (r .size) (r .next) (r .lone) ⌝ }
@@ -119,7 +122,7 @@ fn stop_text(c: Spelling, t: Dialect, raw: &[u8], i: usize) -> Stop
     }
 }
 
-// Where a content is read and written next, and whether a lone surrogate was read.
+// The offsets at which a content is read and written next, and whether a lone surrogate was read.
 struct Cursor {
     read: usize,
     write: usize,
@@ -154,7 +157,7 @@ fn write_stop(
 // ---- a content
 
 pub struct Body {
-    // Where the text ends.
+    // The end of the text.
     pub end: usize,
     // Whether the content holds a lone surrogate.
     pub lone: bool,
@@ -169,7 +172,7 @@ fn either(a: bool, b: bool) -> bool
     b
 }
 
-// The content of the cell at a place of the buffer, or only measured from there.
+// The content of the cell at an offset of the buffer, or only measured from there.
 pub fn write_body(
     c: Spelling,
     t: Dialect,

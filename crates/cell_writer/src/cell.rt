@@ -1,4 +1,6 @@
-// The text of one cell, from its raw bytes in a file or from its content.
+// The text of one cell, from its raw bytes in a file or from its content: source, target, kind and bytes go in; the end of the text comes
+// out, and whether the content holds a lone surrogate. The definition is `cellText` of model's specs/rules/Text.antt; specs/Cells.antt
+// splits it by the written form.
 ghost use mathlib.Core.Path.{_≡_};
 ghost use mathlib.Core.Bool.{true, false};
 ghost use Rattle.model.specs.declared.Dialect.the-variants.{Csvj, Tdif};
@@ -33,7 +35,7 @@ fn is_quoted(c: Spelling, t: Dialect, raw: &[u8], only: bool, first: bool) -> bo
     }
 }
 
-// One of the two quotes of a text that has them.
+// The opening or the closing quote of a text that has them.
 fn write_quote(quoted: bool, t: Dialect, out: &mut [u8], o: usize, write: bool) -> usize
     requires { ⌜ Room write o (quoteBy t quoted) (now out) ⌝ }
     ensures { λ r. ⌜ WrittenAt write (now (out .entry)) o (quoteBy t quoted) (now (out .exit)) r ⌝ }
@@ -68,7 +70,7 @@ fn write_text(
 
 // ---- numbers
 
-// A number as it stands. Bytes of that kind that begin as none does have no content.
+// A number, verbatim (§14.5). Bytes of that kind that do not begin like a number have no content.
 fn write_number(c: Spelling, raw: &[u8], out: &mut [u8], o: usize, write: bool) -> usize
     requires { ⌜ Room write o (numberIn c (now raw)) (now out) ⌝ }
     ensures { λ r. ⌜ WrittenAt write (now (out .entry)) o (numberIn c (now (raw .entry))) (now (out .exit)) r ⌝ }
@@ -145,7 +147,7 @@ fn write_word(t: Dialect, kind: Kind, out: &mut [u8], o: usize, write: bool) -> 
 // How a target writes a cell of a kind.
 pub enum WrittenForm {
     AsText,
-    // A number of CSVJ, as it stands.
+    // A number of CSVJ, verbatim.
     AsNumber,
     // A word of CSVJ, or TDIF's null.
     AsWord,
@@ -185,7 +187,7 @@ fn form_in(t: Dialect, kind: Kind) -> WrittenForm
     }
 }
 
-// A cell at o, or only measured from there. `only`: its record has no other; `first`: it is the first of a header.
+// A cell at o, or only measured from there. `only`: its record has no other cell; `first`: it is the first of a header.
 pub fn write_cell(
     src: Source,
     t: Dialect,

@@ -1,4 +1,6 @@
-// The text of one unit of content between the quotes of a target: a byte, a character of more than one byte, or a lone surrogate.
+// The text of one unit of content between the quotes of a target: a byte, a character of more than one byte, or a lone surrogate. The
+// unit's bytes go in, those of its text come out. The definitions are `escaped`, `surrogate` and `doubled` of model's
+// specs/rules/Text.antt, joined as `bodyText` in specs/Units.antt.
 ghost use mathlib.Core.Path.{_≡_};
 ghost use mathlib.Core.List.{[], _∷_};
 ghost use Prim.Native.Nat.{_-_, _<_, _≤_};
@@ -47,7 +49,7 @@ fn verbatim_byte(b: u8) -> UnitText
     }
 }
 
-// A byte below 20 hex.
+// A byte below 20 hex (§14.3).
 fn control(b: u8) -> UnitText
     requires { ⌜ b < 0x20 ⌝ }
     ensures { λ r. ⌜ Spells (escaped b) (r .bytes) (r .size) ⌝ }
@@ -91,7 +93,7 @@ fn escape(b: u8) -> UnitText
     control(b)
 }
 
-// The bits of a later byte, none where it is no later byte.
+// The low bits of a continuation byte, 0 for a byte below 80 hex.
 fn later_bits(c: u8) -> u8
     ensures { λ r. ⌜ r ≡ c - 0x80 ⌝ }
 {
@@ -101,7 +103,7 @@ fn later_bits(c: u8) -> u8
     c - 0x80
 }
 
-// The lone surrogate ED b c: \ud and three digits.
+// The lone surrogate ED b c: \ud and three digits (§14.4).
 pub fn lone(b: u8, c: u8) -> UnitText
     requires { ⌜ 0x80 ≤ b ⌝ }
     ensures { λ r. ⌜ Spells (surrogate b c) (r .bytes) (r .size) ⌝ }
@@ -116,7 +118,7 @@ pub fn lone(b: u8, c: u8) -> UnitText
     }
 }
 
-// ---- text with quotes doubled
+// ---- text with doubled quotes
 
 fn double(q: u8, b: u8) -> UnitText
     ensures { λ r. ⌜ Spells (doubled q (b ∷ [])) (r .bytes) (r .size) ⌝ }

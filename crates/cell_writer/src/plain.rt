@@ -1,12 +1,13 @@
-// Runs of bytes that stand for themselves in a source and in a target.
+// Runs of plain bytes, which are verbatim in the source and in the target: an offset and the quotes go in, the end of the run comes out.
+// The definition is `plainRun` of specs/PlainRuns.antt.
 ghost use mathlib.Core.Path.{_≡_};
 ghost use Prim.Native.Nat.{_+_, _≤_};
 ghost use lib.ListN.{length, drop};
 ghost use Rattle.swar.specs.Words.{Flags};
 ghost use Rattle.cell_writer.specs.PlainRuns.{isPlain, plainRun};
 
-// Whether a byte stands for itself: one from 20 hex on that is no backslash, not ED hex, which may begin a lone surrogate, and none of p,
-// q and r, among which are the quotes of the source and of the target.
+// Whether a byte is plain: at least 20 hex, no backslash, not ED hex, which may begin a lone surrogate, and none of p, q and r, among
+// which are the quotes of the source and of the target.
 fn is_plain(p: u8, q: u8, r: u8, b: u8) -> bool
     ensures { λ x. ⌜ x ≡ isPlain p q r b ⌝ }
 {
@@ -31,7 +32,7 @@ fn is_plain(p: u8, q: u8, r: u8, b: u8) -> bool
     true
 }
 
-// How far such bytes go from `at`, a byte at a time.
+// The end of the run from `at`, a byte at a time.
 fn single_steps(s: &[u8], at: usize, p: u8, q: u8, r: u8) -> usize
     requires { ⌜ at ≤ length (now s) ⌝ }
     ensures { λ x. ⌜ x ≡ at + plainRun p q r (drop at (now (s .entry))) ⌝ }
@@ -47,7 +48,7 @@ fn single_steps(s: &[u8], at: usize, p: u8, q: u8, r: u8) -> usize
     i
 }
 
-// The top bit of each byte of a word that does not stand for itself, where q and r are the same.
+// The top bit of each byte of a word that is not plain, if q and r are equal.
 fn unplain(w: u64, p: u8, q: u8) -> u64
     ensures { λ x. ⌜ Flags (isPlain p q q) w x ⌝ }
 {
@@ -59,7 +60,7 @@ fn unplain(w: u64, p: u8, q: u8) -> u64
     plain ^ 0x8080808080808080
 }
 
-// How far such bytes go from `at`, eight to a step, where q and r are the same. A word with a flag ends them.
+// The end of the run from `at`, eight bytes to a step, if q and r are equal. A word with a flag ends it.
 fn word_steps(s: &[u8], at: usize, p: u8, q: u8) -> usize
     requires { ⌜ at ≤ length (now s) ⌝ }
     ensures { λ x. ⌜ x ≡ at + plainRun p q q (drop at (now (s .entry))) ⌝ }
@@ -75,8 +76,8 @@ fn word_steps(s: &[u8], at: usize, p: u8, q: u8) -> usize
     single_steps(s, i, p, q, q)
 }
 
-// How far such bytes go from `at`. It goes by words where the quotes are the same, as they mostly are: a third test of each word took a
-// tenth more time in long cells.
+// The end of the run from `at`, by words if p and q are equal, as they mostly are: a third stop in each word's test took a tenth more
+// time in long cells.
 pub fn plain_run(s: &[u8], at: usize, p: u8, q: u8, r: u8) -> usize
     requires { ⌜ at ≤ length (now s) ⌝ }
     ensures { λ x. ⌜ x ≡ at + plainRun p q r (drop at (now (s .entry))) ⌝ }

@@ -1,4 +1,6 @@
-// Whether CSV+ has to quote a content.
+// Whether CSV+ quotes a content (§14.7): the encoding and the raw bytes go in, the decision comes out. The definition is `hasQuotes` of
+// model's specs/rules/Text.antt. The content is read by runs and units and not decoded, except for the byte order mark of a first header
+// cell.
 ghost use mathlib.Core.Path.{_≡_};
 ghost use Prim.Native.Nat.{_<_, _≤_};
 ghost use lib.ListN.{take};
@@ -30,7 +32,7 @@ fn is_special(s: Settings, b: u8) -> bool
     b == 0x0A
 }
 
-// Whether a unit has to stand in quotes: only a single byte may have to.
+// Whether a unit needs quotes: only a single byte may.
 fn is_special_unit(s: Settings, bytes: [u8; 4], size: usize) -> bool
     requires { ⌜ size ≤ 4 ⌝ }
     requires { ⌜ (0 < size → Unit (take size bytes)) ⌝ }
@@ -42,7 +44,7 @@ fn is_special_unit(s: Settings, bytes: [u8; 4], size: usize) -> bool
     false
 }
 
-// Whether a byte of the content has to stand in quotes.
+// Whether a byte of the content needs quotes.
 fn holds_special(s: Settings, c: Spelling, raw: &[u8]) -> bool
     ensures { λ r. ⌜ r ≡ holds (special s) (contentIn c (now (raw .entry))) ⌝ }
 {
@@ -80,7 +82,7 @@ fn is_bom(content: &[u8]) -> bool
     content[2] == 0xBF
 }
 
-// The content of a cell that has to be decoded is no longer than a record.
+// The content of a cell that has to be decoded is at most a record long.
 fn decodes_to_bom(c: Spelling, raw: &[u8]) -> bool
     requires { ⌜ Decoded c (now raw) ⌝ }
     ensures { λ r. ⌜ r ≡ beginsBom (contentIn c (now (raw .entry))) ⌝ }
@@ -103,7 +105,7 @@ fn begins_with_bom(c: Spelling, raw: &[u8]) -> bool
     }
 }
 
-// Whether a cell of this content stands in quotes. `only`: its record has no other cell; `first`: it is the first header cell.
+// Whether a cell of this content is in quotes. `only`: its record has no other cell; `first`: it is the first header cell.
 pub fn is_quoted(s: Settings, c: Spelling, raw: &[u8], only: bool, first: bool) -> bool
     requires { ⌜ Legible c (now raw) ⌝ }
     ensures { λ r. ⌜ r ≡ hasQuotes s only first (contentIn c (now (raw .entry))) ⌝ }

@@ -1,4 +1,5 @@
-// One unit of a cell's content: the bytes that stand at a place of the cell, and where the content goes on.
+// One unit of a cell's content: an offset in the raw cell goes in; the unit's bytes and the offset where the content continues come out.
+// The definition is `Part` of specs/Contents.antt.
 ghost use mathlib.Core.Path.{_≡_};
 ghost use Prim.Native.Nat.{_<_};
 ghost use lib.ListN.{length};
@@ -9,7 +10,7 @@ use cell_decoder::escape;
 use cell_decoder::escape::Unescaped;
 use cell_decoder::first_byte::Spelling;
 
-// Where the content begins: at the end of a cell that has none.
+// Where the content begins: for a cell without content, at its end.
 pub fn content_start(c: Spelling, raw: &[u8]) -> usize
     ensures { λ r. ⌜ contentFrom c (now (raw .entry)) r ≡ contentIn c (now (raw .entry)) ⌝ }
 {
@@ -21,7 +22,7 @@ pub fn content_start(c: Spelling, raw: &[u8]) -> usize
     }
 }
 
-// The quote that does not stand for itself in the cell.
+// The quote that is not verbatim in the cell.
 pub fn quote_in(c: Spelling) -> u8
     ensures { λ r. ⌜ r ≡ sourceQuote c ⌝ }
 {
@@ -33,7 +34,7 @@ pub fn quote_in(c: Spelling) -> u8
     }
 }
 
-// A byte for itself.
+// One verbatim byte.
 fn byte_at(raw: &[u8], i: usize) -> Unescaped
     requires { ⌜ i < length (now raw) ⌝ }
     ensures { λ r. ⌜ Part AsItStands (now (raw .entry)) i (r .bytes) (r .size) (r .next) ⌝ }
@@ -45,7 +46,7 @@ fn byte_at(raw: &[u8], i: usize) -> Unescaped
     }
 }
 
-// At a quote a second one makes it content, and otherwise the content ends.
+// Two quotes are one quote of content, and a single quote ends the content.
 fn doubled_at(q: u8, raw: &[u8], i: usize) -> Unescaped
     requires { ⌜ i < length (now raw) ⌝ }
     ensures { λ r. ⌜ Part (Doubled q) (now (raw .entry)) i (r .bytes) (r .size) (r .next) ⌝ }
@@ -101,8 +102,8 @@ fn string_at(raw: &[u8], i: usize) -> Unescaped
     }
 }
 
-// The unit at i. Of a content that stands as it is this is a byte, and of a string a character where an escape names it. Nothing stands
-// where the content ends.
+// The unit at i: a byte where nothing is encoded, and in a string a character where an escape names one. At the end of the content there
+// is none.
 pub fn unit_at(c: Spelling, raw: &[u8], i: usize) -> Unescaped
     requires { ⌜ i < length (now raw) ⌝ }
     ensures { λ r. ⌜ Part c (now (raw .entry)) i (r .bytes) (r .size) (r .next) ⌝ }

@@ -1,4 +1,4 @@
--- What the first byte says of the kind is what the definition says of the cell.
+-- The kind that the first byte names equals the definition's kind of the cell.
 use mathlib.Core.Path.{_≡_, refl}
 use mathlib.Core.List.{[], _∷_}
 use native.Mathlib.Omega.{arith}

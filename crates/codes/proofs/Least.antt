@@ -1,4 +1,4 @@
--- The least of two numbers is at most either, and above what is below both.
+-- The least of two numbers is at most either, and any number below both is below it.
 use Prim.Native.Nat.{ℕ, _≤_, _<_}
 use native.Mathlib.Omega.{arith}
 use lib.Dec.{leb}

@@ -1,4 +1,4 @@
--- What the first byte of a cell says of its kind. A cell with no byte counts as one that begins with 0.
+-- The kind of a cell by its first byte. A cell without bytes is treated as one that begins with 0.
 use Prim.Native.Nat.{ℕ}
 use Rattle.model.specs.declared.Kind.{Kind}
 use Rattle.model.specs.declared.Kind.the-variants.{Text, Number, True, False, Null}

@@ -1,4 +1,5 @@
--- What an answer on a number stands for: the dialect or the kind that it names, or none; and what an answer says of a text.
+-- What the results of `dialect_of` and `kind_named` mean: the dialect or the kind that a number names, or none; and what a `TextAnswer`
+-- says.
 use mathlib.Core.Option.{Option, none, some}
 use lib.ListN.{length}
 use Rattle.model.specs.declared.Dialect.{Dialect}

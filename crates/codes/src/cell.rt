@@ -1,4 +1,6 @@
-// What is told of a cell with no reading of it: its kind, by its first byte, and whether it is whole, by its state.
+// Questions about a cell that need no decoding: its kind, from its first byte, and whether it is whole, from the automaton's state. The
+// definitions are `kindOf` of model's specs/rules/Decode.antt and `isWhole` of its specs/rules/Cell.antt. Each table is a match: a new
+// state or kind is a new arm, and its proof is the file of that function.
 ghost use mathlib.Core.Path.{_≡_};
 ghost use lib.ListN.{getD};
 ghost use Rattle.model.specs.declared.Dialect.the-variants.{Csvj, Tdif};
@@ -13,7 +15,7 @@ use model::Numeral;
 
 // ---- kinds
 
-// The first byte, 0 where there is none: in every dialect a byte 0 says of kind and spelling what no byte says.
+// The first byte, or 0 if there is none. In every dialect 0 leads to the same kind and encoding as no byte.
 pub fn first_of(raw: &[u8]) -> u8
     ensures { λ r. ⌜ r ≡ getD (now (raw .entry)) 0 0 ⌝ }
 {
@@ -60,7 +62,7 @@ fn kind_by(d: Dialect, b: u8) -> Kind
     }
 }
 
-// The kind of a cell that is known to be sound.
+// The kind of a cell that is known to be sound (§2.3).
 pub fn kind_of(d: Dialect, raw: &[u8]) -> Kind
     ensures { λ r. ⌜ r ≡ kindOf d (now (raw .entry)) ⌝ }
 {
@@ -103,7 +105,7 @@ fn between_characters(t: Char) -> bool
     }
 }
 
-// What has been read is a whole cell.
+// Whether the bytes read so far are a whole cell.
 pub fn is_whole(d: Dialect, c: Cell) -> bool
     ensures { λ r. ⌜ r ≡ isWhole d c ⌝ }
 {

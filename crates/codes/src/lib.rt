@@ -1,9 +1,8 @@
-// The rules' numbers, each in one place: the limits, the dialect and the kind that a number names, the number of a kind, and the
-// report of a fault or of a call that is refused. The layers above speak of dialects, kinds and faults by name.
+// The rules' numbers, each in one place: limits, dialects and kinds by number, and the reports of faults and of refused calls. Numbers
+// come in from C and go out to it here; the layers above use dialects, kinds and faults by name.
 //
-// The definitions are model's specs/rules/Report.antt, `dialectOf`, `kindNumber` and `kindNamed`; specs/Named.antt says what an answer
-// stands for. They are tables, so that a number that changes there changes its arm here and nothing else. cell.rt has what is told
-// of a cell with no reading of it.
+// The definitions are model's specs/rules/Report.antt, `dialectOf`, `kindNumber` and `kindNamed`; specs/Named.antt says what a result
+// means. They are tables: a number that changes there changes its arm here, and no other proof.
 ghost use mathlib.Core.Path.{_≡_};
 ghost use Rattle.model.specs.rules.Dialect.{dialectOf};
 ghost use Rattle.model.specs.rules.Decode.{kindNumber};
@@ -23,19 +22,19 @@ pub mod cell;
 
 // ---- limits
 
-// Bytes of a file.
+// Bytes of a file (§7.1).
 pub const MAX_FILE: usize = 16777215;
 
-// Bytes of a record that count, and so of a cell.
+// Counted bytes of a record (§7.2), and so the most that a cell has.
 pub const MAX_RECORD: usize = 4096;
 
-// Cells of a record.
+// Cells of a record (§7.3).
 pub const MAX_COLUMNS: usize = 64;
 
-// Bytes of a piece.
+// Bytes of a piece (§15.7).
 pub const MAX_PIECE: usize = 4096;
 
-// How long the output of a piece or end call must at least be.
+// The least size of the output of a piece or end call (§15.7).
 pub const LEAST_OUTPUT: usize = 49152;
 
 pub fn min_of(a: usize, b: usize) -> usize
@@ -54,7 +53,7 @@ pub enum NamedDialect {
     Unknown,
 }
 
-// The dialect that a number names.
+// The dialect that a number names (§1.4).
 pub fn dialect_of(number: u32) -> NamedDialect
     ensures { λ r. ⌜ dialectIn r ≡ dialectOf number ⌝ }
 {
@@ -92,7 +91,7 @@ pub enum NamedKind {
     Unknown,
 }
 
-// The kind that a number names.
+// The kind that a number names (§2.3).
 pub fn kind_named(number: u8) -> NamedKind
     ensures { λ r. ⌜ kindIn r ≡ kindNamed number ⌝ }
 {
@@ -169,7 +168,7 @@ fn column_of(e: Fault) -> usize
     }
 }
 
-// A fault of the record with this number, 0 for a cell that stands in no record, at this place.
+// The report of a fault in the record with this number at this offset. The number is 0 for a cell that is in no record.
 pub fn record_report(e: Fault, number: usize, place: usize) -> Report
     ensures { λ r. ⌜ r ≡ report (numberOf e) number (columnOf e) place ⌝ }
 {
@@ -181,12 +180,12 @@ pub fn record_report(e: Fault, number: usize, place: usize) -> Report
     }
 }
 
-// What a report says that no record has part in.
+// Reports that name no record.
 pub const ACCEPTED: usize = 0;
 
 pub const NO_ROOM: usize = 10;
 
-// An unknown dialect number, a call after an accepted end, or a state from which a piece converter can't proceed.
+// An unknown dialect number, a call after an accepted end, or a saved state from which a piece converter can't proceed.
 pub const WRONG_CALL: usize = 11;
 
 pub const NOT_A_TABLE: usize = 12;
@@ -204,8 +203,8 @@ pub fn call_report(number: usize) -> Report
 
 // ---- answers with a text
 
-// What a call that writes a text answers: how long the text is, 0 on refusal. It is laid out for C, so that the C boundary hands it on
-// as it is.
+// What a call that writes a text returns: the report and the length of the text, 0 on refusal (§9.2). Its layout is C's, so that the C
+// boundary returns it unchanged.
 #[repr(C)]
 pub struct TextAnswer {
     pub report: Report,

@@ -1,4 +1,5 @@
-// Whether a record's limit counts a byte: all but line breaks outside quotes. The definition is `counts` of model's specs/rules/File.antt.
+// Whether a record's limit counts a byte: all but line breaks outside quotes (§7.4). The definition is `counts` of model's
+// specs/rules/File.antt.
 use model::Cell;
 use model::FileState;
 ghost use mathlib.Core.Path.{_≡_};

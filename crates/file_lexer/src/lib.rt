@@ -1,8 +1,9 @@
-// The automaton of a file around its cells, a byte at a time, for all three dialects. Each step is the definition's step of the same
-// state (model's specs/rules/File.antt), with its tests in the same order.
+// The automaton of a file around its cells, a byte at a time, in all three dialects: a state and a byte go in, the next state and the
+// byte's role come out, or a fault. Each step is the definition's step of the same state (model's specs/rules/File.antt), with its tests
+// in the same order; a step that changes needs the proof of its function.
 //
-// `Dispatched` leaves the cell to the caller, so that most functions on the way of a byte have one call site and the compiler can put them
-// into the loop that calls them. `benchmark.sh` measures what comes of it.
+// `Dispatched` leaves the cell to the caller, so that most functions on the path of a byte have one call site and the compiler inlines
+// them into the loop that calls them; `benchmark.sh` measures the effect.
 use crate::separators::is_blank;
 use model::Advance;
 use model::ByteFault;
@@ -22,7 +23,7 @@ ghost use Rattle.file_lexer.specs.Dispatched.{stepOf};
 pub mod counted;
 pub mod separators;
 
-// What a byte does to a file, or the cell in which it stands.
+// The step of a byte, or the cell that decides it.
 pub enum Dispatched {
     Is(Step),
     InCell(Cell),
@@ -167,7 +168,7 @@ fn after_cr(b: u8) -> Step
     Step::Reject(ByteFault::Syntax)
 }
 
-// What a byte does to a file, up to the cell in which it stands.
+// The step of a byte, up to the cell that decides it.
 pub fn dispatch(d: Dialect, f: FileState, b: u8) -> Dispatched
     ensures { λ r. ⌜ stepOf d r b ≡ fileStep d f b ⌝ }
 {

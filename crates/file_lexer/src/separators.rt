@@ -1,5 +1,5 @@
-// The byte after a cell, in all three dialects: delimiters, blanks and endings. Each step is the definition's (`afterCell` of model's
-// specs/rules/File.antt), with its tests in the same order.
+// The step of the byte after a cell, in all three dialects: delimiters, blanks and endings. Each is the definition's (`afterCell` of
+// model's specs/rules/File.antt), with its tests in the same order.
 use model::ByteFault;
 use model::ByteRole;
 use model::Cell;
@@ -67,7 +67,7 @@ fn plus_after(s: Settings, closes: bool, b: u8) -> Step
     Step::Reject(ByteFault::Syntax)
 }
 
-// The byte after a cell that ends before it (closes), or after blanks that follow a cell of CSVJ.
+// The byte after a cell that ends before it (`closes`), or after blanks that follow a cell of CSVJ.
 pub fn after_cell(d: Dialect, closes: bool, b: u8) -> Step
     ensures { λ r. ⌜ r ≡ afterCell d closes b ⌝ }
 {

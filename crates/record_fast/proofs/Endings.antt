@@ -1,4 +1,4 @@
--- Laws of the byte after a cell: the delimiter goes on with the record, and an ending ends it.
+-- Laws of the byte after a cell: the record continues after a delimiter, and an ending ends it.
 use Prim.Native.Nat.{ℕ}
 use mathlib.Core.Path.{_≡_, refl}
 use mathlib.Core.Bool.{Bool, true, false}
@@ -18,7 +18,7 @@ use Rattle.model.specs.rules.Base.{if_then_else_, _is_, LF, CR}
 use Rattle.model.specs.rules.Dialect.{delimiterByte, delimiterOf}
 use Rattle.model.specs.rules.File.{afterCell}
 
--- where the file stands after a delimiter
+-- the file's state after a delimiter
 abbrev pub nextCell : Dialect → FileState
 nextCell Csvj = ExpectCell
 nextCell Tdif = Inside Fresh

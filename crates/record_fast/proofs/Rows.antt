@@ -1,5 +1,5 @@
--- What holds at each turn of the loop over cells, and how each way through a turn keeps it. The laws are the scanner's: a cell and the byte
--- after it are one turn of its loop.
+-- The invariant of the loop over cells, and one law for each path through a step. The laws are the scanner's: a cell and the byte after
+-- it are one step of its loop.
 use Prim.Native.Nat.{ℕ, suc, _+_, _-_, _^_, _≤_, _<_}
 use native.Mathlib.Omega.{arith}
 use mathlib.Core.Path.{_≡_, refl, sym, ap, subst, _∙_}
@@ -85,7 +85,7 @@ comment-refused : (b : ℕ) → (b is 0x23) ≡ true → firstByte Tdif b ≡ Re
 unfolding firstByte if_then_else_
 comment-refused b e = rw (eqb-true b 0x23 e)
 
--- a byte that a cell may begin with begins the record's first one
+-- a byte with which a cell may begin begins the record's first cell
 begins-record : (d : Dialect) (b : ℕ) → (cellStep d Fresh b ≡ Refuse Syntax → ⊥) → inCell d Fresh b ≡ beginRecord d b
 unfolding beginRecord cellStep
 begins-record Csvj b n =
@@ -107,7 +107,7 @@ opens d b ExpectCell (at-wanting e) n =
 
 -- ---- a cell and the byte after it
 
--- what is in hand where the cell after n others starts
+-- the current record where the cell after n others starts
 abbrev pub hand : (start at n : ℕ) → RecordState
 hand start at n = record { start = start; size = at - start; opened = at; cells = n }
 
@@ -156,13 +156,13 @@ module _ (call : Call) where
     pub after : Stepping call f e (extendedBy (hand start at n) (e - at)) (afterCell d true (getD part e 0)) starts ends kinds
     after = by-cell call asked true e refl _ refl _ refl
 
-    -- how far the cell lies
+    -- the bounds of the cell
     pub cell-in : (at ≤ e) × (e < length part) × (e < limit)
     cell-in = asked .lies
 
--- ---- what is put into the lists
+-- ---- stores
 
--- the cell from `at` up to e, put at place base + n of each list
+-- the cell from `at` up to e, stored at index base + n of each list
 pub record Writes (d : Dialect) (part : Bytes) (room base n at e : ℕ) (starts ends kinds starts′ ends′ kinds′ : List ℕ) : Type 0 where
   pub put : (starts′ ≡ storeIf true room (base + n) at starts) × ((ends′ ≡ storeIf true room (base + n) e ends) × (kinds′ ≡ storeIf true room (base + n) (kindNumber (kindOf d (slice part at e))) kinds))
 
@@ -177,7 +177,7 @@ stored-other room k x j old l =
     (λ _. split (λ (xs : List ℕ). getD xs j 0 ≡ getD old j 0) (ltb k room) (λ _. getD-set-other old k j x 0 (λ e. omega arith)) λ _. refl)
     λ _. refl
 
--- one more clean cell
+-- one verbatim cell more
 more-clean : {d : Dialect} {part : Bytes} {room base n at e : ℕ} {starts ends kinds starts′ ends′ kinds′ : List ℕ} → room ≤ length starts → room ≤ length ends → Clean d part room base n starts ends → CleanCell d (slice part at e) → Writes d part room base n at e starts ends kinds starts′ ends′ kinds′ → Clean d part room base (n + 1) starts′ ends′
 more-clean {d} {part} {room} {base} {n} {at} {e} {starts} {ends} {kinds} {starts′} {ends′} {kinds′} ls le c x y =
     record {
@@ -225,14 +225,14 @@ module _ (d : Dialect) (part : Bytes) (limit from room base : ℕ) (starts₀ en
   abbrev From : FileState → Call
   From first = callOf d part first limit from room base starts₀ ends₀ kinds₀
 
-  -- nothing is in hand yet
+  -- no byte of the record has been read yet
   at-from : (first : FileState) → Scanning (From first) first from (hand from from 0) starts₀ ends₀ kinds₀
   at-from first =
       let z : 0 ≡ from - from = omega arith in
       subst (λ (k : ℕ). Scanning (From first) first from (record { start = from; size = k; opened = from; cells = 0 }) starts₀ ends₀ kinds₀) z
       (begins (From first) l m b (omega arith) low)
 
-  -- the LF of a CRLF is passed over
+  -- the LF of a CRLF is skipped
   after-lf : from < length part → from < limit → getD part from 0 ≡ LF → Scanning (From Ended) Begin (from + 1) (hand (from + 1) (from + 1) 0) starts₀ ends₀ kinds₀
   unfolding fileStep if_then_else_
   after-lf i u q =
@@ -314,7 +314,7 @@ module _ (d : Dialect) (part : Bytes) (limit from room base : ℕ) (starts₀ en
         next-opens Tdif b = at-fresh
         next-opens (CsvPlus z) b = at-fresh
 
-  -- what the scanner comes to is told
+  -- the scanner's outcome is found
   found : {first : FileState} {s m next : ℕ} {g : FileState} {clean : Bool} {starts ends kinds : List ℕ} → Out (callOf d part first limit from room base starts₀ ends₀ kinds₀) (reached.Completed s m g next) starts ends kinds → (clean ≡ true → Clean d part room base m starts ends) → FastScanSound d limit part from first room base starts₀ ends₀ kinds₀ starts ends kinds (Record s m g next clean)
   found {first} {s} {m} {next} {g} o c =
       let cs : List RawCell = nextFound d limit part from first .cells in
@@ -356,9 +356,9 @@ module _ (d : Dialect) (part : Bytes) (limit from room base : ℕ) (starts₀ en
         let two : e + 1 + 1 ≡ e + 2 = omega arith in
         found (subst (λ (j : ℕ). Out k (reached.Completed start (n + 1) Begin j) starts′ ends′ kinds′) two o) (all-clean x y)
 
-  -- ---- nothing is told
+  -- ---- fallback
 
-  -- the cells found after those in hand
+  -- the cells found after those of the current record
   abbrev further : Buffered → (began : ℕ) → ScanResult → List RawCell
   further k began (pends s) = map (joinedCell k began) (s .cells)
   further k began (fails e s) = map (joinedCell k began) (s .cells)

@@ -1,4 +1,4 @@
--- A record told by the fast way: what scanning comes to, or nothing; and what stands in the lists then.
+-- The fast path over a record: the scanner's result, or fallback; and what the lists hold then.
 use Prim.Native.Nat.{ℕ, _+_, _<_}
 use mathlib.Core.Path.{_≡_}
 use mathlib.Core.Bool.{Bool, true, false}
@@ -26,7 +26,7 @@ use Rattle.record_fast.specs.declared.FastScan.the-variants.{Record, Fal
 
 -- ---- the start of a record
 
--- where the first cell of a record starts, if one may be told: here, or after the LF of a CRLF whose CR ended the record before
+-- where the first cell of a record starts, if the fast path takes it: here, or after the LF of a CRLF whose CR ended the record before
 pub data FirstCellAt (first : FileState) (part : Bytes) (from : ℕ) : ℕ → Type 0 where
   here : first ≡ Begin → FirstCellAt first part from from
   after-cr : first ≡ Ended → (getD part from 0 is LF) ≡ false → FirstCellAt first part from from
@@ -35,7 +35,7 @@ pub data FirstCellAt (first : FileState) (part : Bytes) (from : ℕ) : ℕ → T
 
 -- ---- the end of a record
 
--- what ends a record after its last cell, where it is told: one byte, or CR and LF
+-- what ends a record after its last cell, if it is found: one byte, or CR and LF
 pub data RecordEndSound (d : Dialect) (part : Bytes) (e stop : ℕ) : RecordEnd → Type 0 where
   at-once : {f : FileState} → afterCell d true (getD part e 0) ≡ To f (Ends true) → RecordEndSound d part e stop (closing.After f (e + 1))
   by-pair : e + 1 < stop → afterCell d true (getD part e 0) ≡ To Cr (Tail true) → getD part (e + 1) 0 ≡ LF → RecordEndSound d part e stop (closing.After Begin (e + 2))
@@ -43,22 +43,22 @@ pub data RecordEndSound (d : Dialect) (part : Bytes) (e stop : ℕ) : RecordEnd 
 
 -- ---- records
 
--- what scanning of this part comes to, from a place between records on
+-- the scanner's result on this part, from an offset between records on
 abbrev pub nextFound : Dialect → (limit : ℕ) → (part : Bytes) → (from : ℕ) → FileState → Found
 nextFound d limit part from f = foundIn d limit (fresh f 0 from) (drop from part)
 
--- these cells stand in the lists, from place base on, as far as there is room
+-- these cells are stored in the lists, from index base on, as far as there is room
 pub record StoredCells (d : Dialect) (room base : ℕ) (cs : List RawCell) (starts₀ ends₀ kinds₀ starts ends kinds : List ℕ) : Type 0 where
   pub at-starts : starts ≡ storedFrom room base (rawStarts cs) starts₀
   pub at-ends : ends ≡ storedFrom room base (rawEnds cs) ends₀
   pub at-kinds : kinds ≡ storedFrom room base (rawKinds d cs) kinds₀
 
--- the first n cells that stand in the lists from place base on are clean, and the quote is the quotation mark
+-- the first n cells in the lists from index base on are verbatim, and the quote is the quotation mark
 pub record Clean (d : Dialect) (part : Bytes) (room base n : ℕ) (starts ends : List ℕ) : Type 0 where
   pub quotes : quoteOf d ≡ QUOTE
   pub each : (k : ℕ) → k < n → base + k < room → CleanCell d (slice part (getD starts (base + k) 0) (getD ends (base + k) 0))
 
--- what is told of the record from there on. Where nothing is told, its first cells may stand in the lists
+-- soundness of the fast path: a record that is found is the scanner's. On fallback its first cells may be in the lists
 pub data FastScanSound (d : Dialect) (limit : ℕ) (part : Bytes) (from : ℕ) (f : FileState) (room base : ℕ) (starts₀ ends₀ kinds₀ starts ends kinds : List ℕ) : FastScan → Type 0 where
   is-found :
       {start cells next : ℕ} {g : FileState} {clean : Bool} (cs : List RawCell) →

@@ -1,8 +1,8 @@
-// The fast way over a data record: whole cells in place of bytes. It answers what the scanner comes to, or falls back: then the scanner
-// goes over the record from its start.
+// The fast path over a data record, by whole cells in place of bytes: an offset between records goes in; the scanner's result comes out,
+// or fallback, after which the scanner begins at the same offset. The contract is one-sided (`FastScanSound` of specs/FastScan.antt).
 //
-// It goes from cell to cell by `cell_fast` with numbers alone: no state of the file is built for each cell, which in the scanner takes twice
-// the time. The proof rests on the scanner's own laws, a step for each cell.
+// The loop holds numbers alone and finds each cell's end by `cell_fast`: no state of the file is built for a cell, which in the scanner
+// takes twice the time. The proof uses the scanner's own laws, one step for each cell (proofs/Rows.antt).
 ghost use mathlib.Core.Path.{_≡_};
 ghost use mathlib.Core.Bool.{true, _&&_};
 ghost use Prim.Native.Nat.{_≤_, _<_};
@@ -20,10 +20,10 @@ use model::Dialect;
 use model::FileState;
 use record_scanner::store;
 
-// What the fast way comes to.
+// The result of the fast path.
 pub enum FastScan {
-    // It is complete: where it starts, how many cells it has, where the file stands after it, the next place, and whether each cell is a
-    // text whose content stands in it as it is.
+    // The record is complete: its start, the number of its cells, the file's state after it, the next offset, and whether each cell is
+    // verbatim: a text whose content is its bytes.
     Record {
         start: usize,
         cells: usize,
@@ -31,13 +31,13 @@ pub enum FastScan {
         next: usize,
         clean: bool,
     },
-    // Nothing. Its first cells may stand in the lists.
+    // Its first cells may be in the lists.
     Fallback,
 }
 
 // ---- the start of a record
 
-// Where a record starts, after a CR that ended the one before.
+// The start of a record, after a CR that ended the one before.
 fn after_cr(part: &[u8], from: usize) -> usize
     requires { ⌜ from ≤ length (now part) ⌝ }
     ensures { λ r. ⌜ FirstCellAt Ended (now (part .entry)) from r ⌝ }
@@ -51,7 +51,7 @@ fn after_cr(part: &[u8], from: usize) -> usize
     from
 }
 
-// Where the first cell of a record starts; the part's end: fall back, as in the byte order mark, in comments and after blanks.
+// The start of a record's first cell; the part's end means fallback, as in the byte order mark, in comments and after blanks.
 fn record_start(first: FileState, part: &[u8], from: usize) -> usize
     requires { ⌜ from ≤ length (now part) ⌝ }
     ensures { λ r. ⌜ FirstCellAt first (now (part .entry)) from r ⌝ }
@@ -65,7 +65,7 @@ fn record_start(first: FileState, part: &[u8], from: usize) -> usize
 
 // ---- the end of a record
 
-// What stands after the last cell of a record: its ending, after which the file stands there, or something else.
+// The ending after the last cell of a record, with the file's state and the offset after it, or fallback.
 pub enum RecordEnd {
     After(FileState, usize),
     Fallback,
@@ -114,8 +114,8 @@ fn both(a: bool, b: bool) -> bool
     false
 }
 
-// The record from `from` on, a place between records. Bytes of the part at `limit` and behind it are too many for the file. Cells go
-// into the lists from place `base` on, up to `room`.
+// The record from `from` on, an offset between records. Bytes of the part from `limit` on are too many for the file. Cells are stored in
+// the lists from index `base` on, up to `room`.
 pub fn scan(
     d: Dialect,
     part: &[u8],

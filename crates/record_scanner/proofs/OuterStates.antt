@@ -1,5 +1,5 @@
--- Where no cell is in hand (`outer`): a byte of the mark or of a comment is met there only, and every other byte leads elsewhere,
--- ends the record, or is a blank before it. And the record's limit counts every byte of a cell and every byte between cells.
+-- States without a current cell (`outer`): bytes of the byte order mark and of comments occur in these only, and every other byte leaves
+-- them, ends the record, or is a blank before it. And the record's limit counts every byte of a cell and every byte between cells.
 use Prim.Native.Nat.{ℕ}
 use mathlib.Core.Path.{_≡_, refl}
 use mathlib.Core.Bool.{Bool, true, false}

@@ -1,4 +1,4 @@
--- What holds at each turn of the scanner's loop, and how each way through a turn keeps it.
+-- The invariant of the scanner's loop, and one law for each path through a step.
 use Prim.Native.Nat.{ℕ, suc, _+_, _-_, _^_, _≤_, _<_}
 use native.Mathlib.Numerals.{add-one}
 use native.Mathlib.Omega.{arith}
@@ -43,7 +43,7 @@ use Rattle.record_scanner.proofs.OuterStates.{Calm, step-calm, after-ca
 
 -- ---- lists
 
--- the current cell, as it ends before the next byte
+-- the current cell, if it ends before the next byte
 abbrev pub cellHere : Scan → RawCell
 cellHere s = record { from = s .opened; upto = s .offset; bytes = s .raw }
 
@@ -56,7 +56,7 @@ uptoOf c = c .upto
 abbrev numberOf : Dialect → RawCell → ℕ
 numberOf d c = kindNumber (kindOf d (c .bytes))
 
--- the cell that closes is put after the others
+-- the cell that ends is stored after the others
 pub closing-written : (φ : RawCell → ℕ) (room base n : ℕ) (old : List ℕ) (k : Bool) (s : Scan) → length (s .cells) ≡ n → storeIf k room (base + n) (φ (cellHere s)) (storedFrom room base (map φ (s .cells)) old) ≡ storedFrom room base (map φ (closingRaw k s)) old
 unfolding storeIf if_then_else_
 closing-written φ room base n old true s e =
@@ -74,7 +74,7 @@ unfolding oneMore if_then_else_
 one-more-few true a n i h = omega arith
 one-more-few false a n i h = omega arith
 
--- where no record is in hand, no cell is
+-- between records there is no current cell
 pub between-outer : (f : FileState) → inRecord f ≡ false → outer f ≡ true
 between-outer Top e = refl
 between-outer Begin e = refl
@@ -90,9 +90,9 @@ between-outer (Inside c) e = impossible (sym e)
 between-outer After e = impossible (sym e)
 between-outer Cr e = impossible (sym e)
 
--- ---- the size in hand
+-- ---- the size of the current record
 
--- what is counted of the current record, where the part ends in one
+-- the counted bytes of the current record, if the part ends in one
 abbrev sizeIn : ScanOutcome → ℕ
 sizeIn (reached.Completed start cells f next) = 0
 sizeIn (reached.NeedInput f h) = h .size
@@ -105,7 +105,7 @@ size-found (sized-completes z l) = omega arith
 
 -- ---- the invariant
 
--- what a call is given: where reading begins, the place of the first cell and the lists as they were
+-- the arguments of a call: where reading begins, the index of the first cell, and the lists at entry
 pub record Call : Type 0 where
   pub d : Dialect
   pub part : Bytes
@@ -125,13 +125,13 @@ module _ (call : Call) where
   abbrev Whole : Found
   Whole = foundIn d limit (fresh first size from) (drop from part)
 
-  -- the lists hold the cells of the current record
+  -- the lists hold the complete cells of the current record
   pub record Holds (cs : List RawCell) (starts ends kinds : List ℕ) : Type 0 where
     pub at-starts : starts ≡ storedFrom room base (map fromOf cs) starts₀
     pub at-ends : ends ≡ storedFrom room base (map uptoOf cs) ends₀
     pub at-kinds : kinds ≡ storedFrom room base (map (numberOf d) cs) kinds₀
 
-  -- the part lies on before i, where these are in hand; nothing else is asked of i
+  -- the part from i on remains to be read, in this state and with this record; nothing else is assumed of i
   pub record InPart (f : FileState) (i : ℕ) (h : RecordState) (cs : List RawCell) : Type 0 where
     pub onward : from ≤ i
     pub inside : i ≤ length part
@@ -166,7 +166,7 @@ module _ (call : Call) where
     abbrev Here : Scan
     Here = scanAt part f i h cs
 
-    -- what is put where this part closes a cell
+    -- what is stored if this byte ends a cell
     abbrev PutStarts : ByteRole → List ℕ → List ℕ
     PutStarts p xs = storeIf (closesCell p) room (base + h .cells) (h .opened) xs
 
@@ -176,7 +176,7 @@ module _ (call : Call) where
     abbrev PutKinds : ByteRole → List ℕ → List ℕ
     PutKinds p xs = storeIf (closesCell p) room (base + h .cells) (kindNumber (kindOf d (slice part (h .opened) i))) xs
 
-    -- the lists hold the record's cells after a byte that closes one or not
+    -- the lists hold the record's cells after a byte, whether it ends one or not
     put-closing : (k : Bool) {starts ends kinds : List ℕ} → Holds cs starts ends kinds → Holds (closingRaw k Here) (storeIf k room (base + h .cells) (h .opened) starts) (storeIf k room (base + h .cells) i ends) (storeIf k room (base + h .cells) (kindNumber (kindOf d (slice part (h .opened) i))) kinds)
     put-closing k y =
         record {
@@ -185,7 +185,7 @@ module _ (call : Call) where
           at-kinds = ap (λ (xs : List ℕ). storeIf k room (base + h .cells) (kindNumber (kindOf d (slice part (h .opened) i))) xs) (y .at-kinds) ∙ closing-written (numberOf d) room base (h .cells) kinds₀ k Here (q .counted);
         }
 
-    -- no cell closes, and none was complete
+    -- no cell ends, and none was complete
     put-none : {starts ends kinds : List ℕ} → cs ≡ [] → Holds cs starts ends kinds → Holds [] (storeIf false room (base + h .cells) (h .opened) starts) (storeIf false room (base + h .cells) i ends) (storeIf false room (base + h .cells) (kindNumber (kindOf d (slice part (h .opened) i))) kinds)
     unfolding storeIf if_then_else_
     put-none {starts = starts} {ends = ends} {kinds = kinds} e y = subst (λ (ws : List RawCell). Holds ws starts ends kinds) e y
@@ -236,9 +236,9 @@ module _ (call : Call) where
           record { cs = closingRaw k Here; same = goes-on (Tail k) e w; place = record { onward = omega arith; inside = omega arith; under = omega arith; counted = closing-counts k Here (h .cells) (q .counted); few = one-more-few k base (h .cells) i b; low = q .low; sized = omega arith; started = omega arith; opened = omega arith; rest = λ t. impossible (sym o ∙ t) }; lists = put-closing k y }
       on (Ends k) (finishes o) e w y = impossible (sym e)
 
-  -- ---- the ways out of the loop
+  -- ---- the exits of the loop
 
-  -- the answer, how far it lies, and the lists with the cells that go with it
+  -- the outcome, its bounds, and the lists with its cells
   pub record Out (e : ScanOutcome) (starts ends kinds : List ℕ) : Type 0 where
     pub answer : e ≡ Whole .answer
     pub at-starts : starts ≡ storedFrom room base (rawStarts (Whole .cells)) starts₀
@@ -297,7 +297,7 @@ module _ (call : Call) where
         subst (λ (x : ScanOutcome). Out x starts ends kinds) e
         (gives (foundOf (pends There)) w (y .lists) (subst (λ (x : ScanOutcome). ScanInBounds (length part) from limit base x) (sym e) bounds))
 
-  -- a byte that ends its record, or that no record goes on with
+  -- a byte that ends its record, or that is refused
   module _ {f : FileState} {i : ℕ} {h : RecordState} {cs : List RawCell} (q : InPart f i h cs) (l : i < length part) (m : i < limit) {starts ends kinds : List ℕ} (y : Holds cs starts ends kinds) where
     refused : (x : ByteFault) → Whole ≡ steppedAt d limit part f i h cs (Reject x) → Out (reached.Failed (Byte x) i) starts ends kinds
     refused x w = gives (record { answer = reached.Failed (Byte x) i; cells = cs }) (w ∙ refuses d limit part x f i h cs) y l
@@ -321,7 +321,7 @@ module _ (call : Call) where
     ends-record g (Tail k) e w = impossible e
     ends-record g (Ends k) e w = ends-here g k w
 
-  -- ---- without a step
+  -- ---- tokens of more than one byte
 
   pub grows-to : {f : FileState} {i j : ℕ} {h : RecordState} {cs : List RawCell} → i ≤ j → j ≤ length part → j ≤ limit → InPart f i h cs → InPart f j (extendedBy h (j - i)) cs
   grows-to {i = i} {j = j} {h = h} l m n q =
@@ -357,7 +357,7 @@ module _ (call : Call) where
     ap length (y .at-kinds) ∙ length-stored-from room base (map (numberOf d) cs) kinds₀,
   )
 
-  -- and after a cell was put or not
+  -- also after a cell was stored or not
   pub put-lengths : {cs : List RawCell} {starts ends kinds starts′ ends′ kinds′ : List ℕ} → Holds cs starts ends kinds → (closes : Bool) (m x y z : ℕ) → (starts′ ≡ storeIf closes room m x starts) × ((ends′ ≡ storeIf closes room m y ends) × (kinds′ ≡ storeIf closes room m z kinds)) → (length starts′ ≡ length starts₀) × (length ends′ ≡ length ends₀) × (length kinds′ ≡ length kinds₀)
   put-lengths {starts = ss} {ends = es} {kinds = ks} y closes m x u z put =
       let n : (length ss ≡ length starts₀) × (length es ≡ length ends₀) × (length ks ≡ length kinds₀) = lengths y in (
@@ -366,7 +366,7 @@ module _ (call : Call) where
         ap length (put .1 .1) ∙ length-stored-if closes room m z ks ∙ n .2,
       )
 
-  -- ---- the step of one byte, as the code takes it
+  -- ---- the step of one byte, as the code computes it
 
   pub record Stepping (f : FileState) (i : ℕ) (h : RecordState) (s : Step) (starts ends kinds : List ℕ) : Type 0 where
     pub cs : List RawCell
@@ -377,7 +377,7 @@ module _ (call : Call) where
     pub inside : i < length part
     pub under : i < limit
 
-  -- the byte at i is not one too many, and this stands ahead
+  -- the byte at i is not one too many, and this token is next
   pub record Asked (f : FileState) (i : ℕ) (h : RecordState) (starts ends kinds : List ℕ) (met : Token) : Type 0 where
     pub scanning : Scanning f i h starts ends kinds
     pub inside : i < length part
@@ -428,7 +428,7 @@ module _ (call : Call) where
         let n : j < length part = subst (λ (t : Token). TokenInBounds d limit part f i t) q (a .lies) in
         gives (record { answer = reached.Failed (Byte x) j; cells = a .scanning .cs }) (comes-to ∙ ap (λ (t : Token). metNext d limit part f i h (a .scanning .cs) t) q) (a .scanning .lists) n
 
-    -- where it lies
+    -- its bounds
     pub lies-cell : (closes : Bool) (j : ℕ) → met ≡ AfterCell closes j → (i ≤ j) × (j < length part) × (j < limit)
     lies-cell closes j q = subst (λ (x : Token). TokenInBounds d limit part f i x) q (a .lies)
 
@@ -438,7 +438,7 @@ module _ (call : Call) where
     pub lies-open : (c : Cell) (j : ℕ) → met ≡ Open c j → (i < j) × (j ≤ length part) × (j ≤ limit)
     lies-open c j q = subst (λ (x : Token). TokenInBounds d limit part f i x) q (a .lies)
 
-  -- what the code's calls say of a step
+  -- what the contracts of the calls say of a step
   module _ {f : FileState} {i : ℕ} {h : RecordState} {starts ends kinds : List ℕ} {s : Step} (y : Stepping f i h s starts ends kinds) where
     pub step-refused : (x : ByteFault) → s ≡ Reject x → Out (reached.Failed (Byte x) i) starts ends kinds
     step-refused x q = refused (y .place) (y .inside) (y .under) (y .lists) x (y .whole ∙ ap (λ (t : Step). steppedAt d limit part f i h (y .cs) t) q)
@@ -466,7 +466,7 @@ module _ (call : Call) where
           rw (eh, put-starts, put-ends, put-kinds)
           (ends-record (y .place) (y .inside) (y .under) (y .lists) g p (sym eo ∙ z) stepped-to)
 
-  -- ---- numbers that stay small
+  -- ---- no overflow
 
   pub small-sum : {f : FileState} {i : ℕ} {h : RecordState} {s : Step} {starts ends kinds : List ℕ} → Stepping f i h s starts ends kinds → base + h .cells < 2 ^ 64
   small-sum {i = i} {h = h} y =

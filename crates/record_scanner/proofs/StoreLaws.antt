@@ -1,4 +1,4 @@
--- Laws of putting cells into lists.
+-- Laws of storing cells in lists.
 use Prim.Native.Nat.{ℕ, suc, _+_, _≤_, _<_}
 use native.Mathlib.Omega.{arith}
 use mathlib.Core.Path.{_≡_, refl, ap, _∙_}
@@ -14,7 +14,7 @@ pub not-stored : (closes : Bool) (room k x : ℕ) (old : List ℕ) → closes �
 unfolding storeIf if_then_else_
 not-stored closes room k x old e = rw e
 
--- the same test
+-- by equal tests
 pub same-stored : (closes closes′ : Bool) (room k x : ℕ) (old new : List ℕ) → closes ≡ closes′ → new ≡ storeIf closes room k x old → new ≡ storeIf closes′ room k x old
 same-stored closes closes′ room k x old new e q = q ∙ ap (λ (b : Bool). storeIf b room k x old) e
 
@@ -41,7 +41,7 @@ unfolding storedFrom
 length-stored-from room k [] old = refl
 length-stored-from room k (x ∷ xs) old = length-stored-from room (suc k) xs (storeAt room k x old) ∙ length-stored room k x old
 
--- there is the same room as before
+-- the room is the same as before
 pub still-room : (room k n : ℕ) (xs old new : List ℕ) → new ≡ storedFrom room k xs old → n ≤ length old → n ≤ length new
 still-room room k n xs old new e l = rw (e, length-stored-from room k xs old) l
 

@@ -1,5 +1,5 @@
--- Laws of what lies ahead: a byte is read as its step says, a cell as its automaton runs, and the ordinary bytes of a comment
--- leave reading where it stands.
+-- Laws of the next token: a byte is read by its step, a cell by its automaton, and the ordinary bytes of a comment leave the state of
+-- reading unchanged.
 use Prim.Native.Nat.{ℕ, zero, suc, _+_, _-_, _≤_, _<_}
 use native.Mathlib.Numerals.{add-one}
 use native.Mathlib.Omega.{arith}
@@ -56,7 +56,7 @@ part-one s i j h k =
     rw n (take-suc (drop i s) (j - i) 0 g ∙ ap (λ (b : ℕ). slice s i j ++ (b ∷ [])) (getD-drop i s (j - i) 0 ∙ ap (λ (k′ : ℕ). getD s k′ 0) m))
 
 module _ (d : Dialect) (limit : ℕ) (part : Bytes) where
-  -- after a byte that does not end its record, scanning is described by the numbers in hand after it
+  -- after a byte that does not end its record, scanning is described by the record's numbers after it
   pub goes-to : (p : ByteRole) (f g : FileState) (i : ℕ) (h : RecordState) (cs : List RawCell) → h .opened ≤ i → i < length part → endsRecord p ≡ false → steppedAt d limit part f i h cs (To g p) ≡ foundIn d limit (scanAt part g (i + 1) (stateAfterByte p i h) (cellsNext p (scanAt part f i h cs))) (drop (i + 1) part)
   unfolding scanStep
   goes-to Outside f g i h cs o l e = let n : slice part (i + 1) (i + 1) ≡ [] = part-end part (i + 1) in rw (n, add-one i)
@@ -67,7 +67,7 @@ module _ (d : Dialect) (limit : ℕ) (part : Bytes) where
   goes-to (Tail k) f g i h cs o l e = let n : slice part (i + 1) (i + 1) ≡ [] = part-end part (i + 1) in rw (n, add-one i)
   goes-to (Ends k) f g i h cs o l e = impossible (sym e)
 
-  -- a byte that no record goes on with
+  -- a byte that is refused
   pub refuses : (x : ByteFault) (f : FileState) (i : ℕ) (h : RecordState) (cs : List RawCell) → steppedAt d limit part f i h cs (Reject x) ≡ record { answer = reached.Failed (Byte x) i; cells = cs }
   unfolding scanStep
   refuses x f i h cs = refl
@@ -82,7 +82,7 @@ module _ (d : Dialect) (limit : ℕ) (part : Bytes) where
 
 -- ---- the rest of a cell
 
--- what the end of a cell's run is, as it lies ahead
+-- the end of a cell's run as a token
 abbrev pub metOf : (stop : ℕ) → CellEnd → Token
 metOf stop (cell-end.Stopped c j) = AfterCell true j
 metOf stop (cell-end.Refused e j) = Refused e j
@@ -130,7 +130,7 @@ run-before d c i (b ∷ bs) = go (cellStep d c b) (λ t. run-before d t (suc i) 
     go Stop ih = omega arith
     go (Refuse e) ih = omega arith
 
--- a step does not ask where the file stood before it
+-- a step does not depend on the file's state before it
 step-form : (part : Bytes) (f g : FileState) (j b : ℕ) (h : RecordState) (cs : List RawCell) (left : Bytes) (more : Scan → ScanResult) (s : Step) → foundOf (scanStep (scanAt part f j h cs) b left more s) ≡ foundOf (scanStep (scanAt part g j h cs) b left more s)
 unfolding scanStep
 step-form part f g j b h cs left more (Reject e) = refl
@@ -149,7 +149,7 @@ module _ (d : Dialect) (limit : ℕ) (part : Bytes) (cs : List RawCell) (stop : 
   Runs f i h c =
       foundIn d limit (scanAt part f i h cs) (drop i part) ≡ metNext d limit part f i h cs (metOf stop (cellRun d c i (slice part i stop)))
 
-  -- one byte further, with one more byte in hand, the same lies ahead
+  -- one byte later, with one more byte counted, the next token is the same
   shift : (f g : FileState) (i : ℕ) (h : RecordState) (e : CellEnd) → Past (i + 1) e → i < stop → metNext d limit part g (i + 1) (extendedBy h 1) cs (metOf stop e) ≡ metNext d limit part f i h cs (metOf stop e)
   unfolding metNext
   shift f g i h (cell-end.Stopped c j) p l =
@@ -183,7 +183,7 @@ module _ (d : Dialect) (limit : ℕ) (part : Bytes) (cs : List RawCell) (stop : 
           rw (a, rest-stops d c part i stop l inside a) (sym (ap (λ (m : ℕ). steppedAt d limit part f i (record { start = h .start; size = m; opened = h .opened; cells = h .cells }) cs (afterCell d true (getD part i 0))) z))
       go (Refuse x) a = rw (a, rest-refused d c part i stop l inside x a) (refuses d limit part x f i h cs)
 
-  -- inside a cell, up to where a limit is near
+  -- inside a cell, up to where a limit may be reached
   runs : (n i : ℕ) (h : RecordState) (c : Cell) → stop - i ≡ n → i ≤ stop → h .opened ≤ i → (i < stop → h .size + (stop - i) ≤ MAXRECORD) → Runs (Inside c) i h c
   unfolding metNext fileStep inCell
   runs zero i h c n l o m =
@@ -210,7 +210,7 @@ many-free n limit i size h k l =
     let f : i < i + (MAXRECORD - size) = omega arith in
     record { on = least-above i (least n limit) (i + (MAXRECORD - size)) e f; inside = omega arith; under = omega arith; fits = λ _. omega arith }
 
--- ---- what lies ahead, by what the lexer answers
+-- ---- the token, by the lexer's result
 
 -- a cell
 pub cell-results : (d : Dialect) (limit : ℕ) (part : Bytes) (f : FileState) (c : Cell) (i size stop : ℕ) → Free (length part) limit i size stop → inCell d c (getD part i 0) ≡ fileStep d f (getD part i 0) → TokenCorrect d limit part f i size (metOf stop (cellRun d c i (slice part i stop)))
@@ -243,7 +243,7 @@ after-results d limit part f i size l m q =
           ∙ ap (λ (k : ℕ). steppedAt d limit part f i (record { start = h .start; size = k; opened = h .opened; cells = h .cells }) cs (afterCell d false (getD part i 0))) z;
     }
 
--- where a cell's run ends lies in the part
+-- the end of a cell's run is in the part
 pub cell-lies : (d : Dialect) (limit : ℕ) (c : Cell) (part : Bytes) (f : FileState) (i size stop : ℕ) → Free (length part) limit i size stop → TokenInBounds d limit part f i (metOf stop (cellRun d c i (slice part i stop)))
 cell-lies d limit c part f i size stop free = go (cellRun d c i (slice part i stop)) (run-past d c i (slice part i stop)) (run-before d c i (slice part i stop))
   where
@@ -274,7 +274,7 @@ module _ (d : Dialect) (limit : ℕ) (part : Bytes) (start stop : ℕ) (inside :
   abbrev From : ℕ → Found
   From i = foundIn d limit (scanAt part (Comment Whole) i (outside start i) []) (drop i part)
 
-  -- an ordinary byte, whatever is in hand before it
+  -- an ordinary byte, whatever the record before it
   past-one : (i : ℕ) (h : RecordState) (cs : List RawCell) → h .start ≡ start → h .opened ≤ i → i < stop → (leb MAXRECORD (h .size) && counts (Comment Whole) (getD part i 0)) ≡ false → ordinary 0 0 (getD part i 0) ≡ true → foundIn d limit (scanAt part (Comment Whole) i h cs) (drop i part) ≡ From (i + 1)
   past-one i h cs s o l e q =
       next-step d limit part (Comment Whole) i h cs (omega arith) (omega arith) e
@@ -350,7 +350,7 @@ comment-lies d limit part (Inside c) i l m more = absurd (omega arith)
 comment-lies d limit part After i l m more = absurd (omega arith)
 comment-lies d limit part Cr i l m more = absurd (omega arith)
 
--- ---- by the lexer's answers
+-- ---- by the lexer's results
 
 abbrev Lies : Dialect → (limit : ℕ) → Bytes → FileState → (i size : ℕ) → Token → Type 0
 Lies d limit part f i size m = TokenInBounds d limit part f i m × TokenCorrect d limit part f i size m

@@ -1,4 +1,4 @@
--- What a byte does to the current record, which is four numbers.
+-- The effect of a byte on the current record, which is four numbers.
 use Prim.Native.Nat.{ℕ, _+_}
 use mathlib.Core.Bool.{Bool, true, false}
 use Rattle.model.specs.rules.Base.{if_then_else_}
@@ -24,7 +24,7 @@ endsRecord (Between closes) = false
 endsRecord (Tail closes) = false
 endsRecord (Ends closes) = true
 
--- how many cells are complete, with the one that ends
+-- the number of complete cells, with the one that ends
 unfoldable pub oneMore : (closes : Bool) → ℕ → ℕ
 oneMore closes n = if closes then n + 1 else n
 

@@ -1,5 +1,5 @@
--- What going over a part of a file comes to, as the code tells it: an answer and the cells that it found. The definition is `scan` of
--- model's Scans: all places are those of the part, and of a cell that began before it the bytes that lie here.
+-- The result of scanning a part of a file, in the code's types: an outcome and the cells found. The definition is `scan` of model's
+-- Scans. All offsets are those of the part, and a cell that began before the part has its bytes in the part only.
 use Prim.Native.Nat.{ℕ, _+_, _≤_, _<_}
 use mathlib.Core.Path.{_≡_}
 use mathlib.Core.Bool.{false}
@@ -14,13 +14,13 @@ use Rattle.model.specs.declared.FileState.{FileState}
 use Rattle.record_scanner.specs.Types.{RecordState, ScanOutcome}
 use Rattle.record_scanner.specs.declared.token.ScanOutcome.the-variants as reached
 
--- ---- what is told
+-- ---- the outcome
 
 -- the current record as numbers
 abbrev pub currentOf : Scan → RecordState
 currentOf s = record { start = s .start; size = s .size; opened = s .opened; cells = length (s .cells) }
 
--- the answer, and the record's cells that were complete then
+-- the outcome, and the cells of the record that are complete then
 pub record Found : Type 0 where
   pub answer : ScanOutcome
   pub cells : List RawCell
@@ -30,11 +30,11 @@ foundOf (pends s) = record { answer = reached.NeedInput (s .state) (currentOf s)
 foundOf (fails e s) = record { answer = reached.Failed e (s .offset); cells = s .cells }
 foundOf (completes s cs f next left) = record { answer = reached.Completed (s .start) (length cs) f next; cells = cs }
 
--- what scanning these bytes comes to
+-- the result of scanning these bytes
 abbrev pub foundIn : Dialect → (limit : ℕ) → Scan → Bytes → Found
 foundIn d limit s bs = foundOf (scan d limit s bs)
 
--- where cells start and end, and the numbers of their kinds
+-- the starts and the ends of cells, and the numbers of their kinds
 abbrev pub rawStarts : List RawCell → List ℕ
 rawStarts = map (λ (c : RawCell). c .from)
 
@@ -44,9 +44,9 @@ rawEnds = map (λ (c : RawCell). c .upto)
 abbrev pub rawKinds : Dialect → List RawCell → List ℕ
 rawKinds d = map (λ (c : RawCell). kindNumber (kindOf d (c .bytes)))
 
--- ---- how far it lies
+-- ---- bounds
 
--- the current record where the part ends: it is within its limit, and all its places and cells are in the part
+-- the current record where the part ends: it is within its limit, and all its offsets and cells are in the part
 pub record CurrentInBounds (part-length limit base : ℕ) (f : FileState) (h : RecordState) : Type 0 where
   pub under : part-length ≤ limit
   pub size : h .size ≤ MAXRECORD
@@ -55,7 +55,7 @@ pub record CurrentInBounds (part-length limit base : ℕ) (f : FileState) (h : R
   pub few : base + h .cells ≤ part-length
   pub between : inRecord f ≡ false → h .cells ≡ 0
 
--- `from`: where reading began; `base`: how many cells came before
+-- `from`: where reading began; `base`: the number of cells before
 abbrev pub ScanInBounds : (part-length from limit base : ℕ) → ScanOutcome → Type 0
 ScanInBounds n from limit base (reached.Completed start cells f next) =
     (start < next) × (from < next) × (next ≤ n) × (next ≤ limit) × (base + cells ≤ next)

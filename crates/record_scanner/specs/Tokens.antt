@@ -1,5 +1,4 @@
--- What stands ahead of reading: the next byte outside cells, the rest of a cell up to where it ends, or the ordinary bytes of a
--- comment.
+-- The next token of a file: a byte outside cells, the rest of a cell up to its end, or the ordinary bytes of a comment.
 use Prim.Native.Nat.{ℕ, _+_, _-_, _≤_, _<_}
 use mathlib.Core.Path.{_≡_}
 use mathlib.Core.Bool.{Bool, true, false, _&&_}
@@ -25,7 +24,7 @@ use Rattle.record_scanner.specs.declared.token.ScanOutcome.the-variants 
 use Rattle.record_scanner.specs.CurrentRecord.{stateAfterByte, extendedBy}
 use Rattle.record_scanner.specs.Parts.{Found, foundOf, foundIn}
 
--- scanning of this part at i, by the numbers in hand: the bytes of the current cell are those from where it was opened
+-- the state of scanning at i, by the record's numbers: the bytes of the current cell are those from where it was opened
 abbrev pub scanAt : (part : Bytes) → FileState → (i : ℕ) → RecordState → List RawCell → Scan
 scanAt part f i h cs =
     record {
@@ -52,7 +51,7 @@ abbrev pub steppedAt : Dialect → (limit : ℕ) → (part : Bytes) → FileStat
 steppedAt d limit part f j h cs s =
     foundOf (scanStep (scanAt part f j h cs) (getD part j 0) (drop (j + 1) part) (λ t. scan d limit t (drop (j + 1) part)) s)
 
--- what reading from i comes to, with this ahead
+-- the result of scanning from i, with this token next
 unfoldable pub metNext : Dialect → (limit : ℕ) → (part : Bytes) → FileState → (i : ℕ) → RecordState → List RawCell → Token → Found
 metNext d limit part f i h cs (Is s) = steppedAt d limit part f i h cs s
 metNext d limit part f i h cs (Skipped j) = foundIn d limit (scanAt part f j (stateAfterByte Outside (j - 1) h) []) (drop j part)
@@ -61,7 +60,7 @@ metNext d limit part f i h cs (AfterCell closes j) =
 metNext d limit part f i h cs (Refused e j) = record { answer = reached.Failed (Byte e) j; cells = cs }
 metNext d limit part f i h cs (Open c j) = foundIn d limit (scanAt part (Inside c) j (extendedBy h (j - i)) cs) (drop j part)
 
--- where the ordinary bytes of a comment end
+-- the end of a comment's ordinary bytes
 abbrev pub commentEnd : FileState → (part : Bytes) → (limit i : ℕ) → ℕ
 commentEnd Top part limit i = i
 commentEnd Begin part limit i = i
@@ -78,11 +77,11 @@ commentEnd (Inside c) part limit i = i
 commentEnd After part limit i = i
 commentEnd Cr part limit i = i
 
--- reading from i, whose byte is not one too many, comes to that
+-- scanning from i, whose byte is not one too many, has that result
 pub record TokenCorrect (d : Dialect) (limit : ℕ) (part : Bytes) (f : FileState) (i size : ℕ) (m : Token) : Type 0 where
   pub comes : (h : RecordState) (cs : List RawCell) → h .size ≡ size → h .opened ≤ i → (leb MAXRECORD (h .size) && counts f (getD part i 0)) ≡ false → foundIn d limit (scanAt part f i h cs) (drop i part) ≡ metNext d limit part f i h cs m
 
--- reading stands between records, in the mark, in a comment or in the blanks before a record: no cell is in hand
+-- reading is between records, in the byte order mark, in a comment or in the blanks before a record: there is no current cell
 abbrev pub outer : FileState → Bool
 outer Top = true
 outer Begin = true
@@ -98,7 +97,7 @@ outer (Inside c) = false
 outer After = false
 outer Cr = false
 
--- it lies in the part and under the limit; a byte takes its own step
+-- the token is in the part and under the limit; a byte takes its own step
 abbrev pub TokenInBounds : Dialect → (limit : ℕ) → (part : Bytes) → FileState → (i : ℕ) → Token → Type 0
 TokenInBounds d limit part f i (Is s) = s ≡ fileStep d f (getD part i 0)
 TokenInBounds d limit part f i (Skipped j) = (outer f ≡ true) × (i < j) × (j ≤ length part) × (j ≤ limit)
@@ -106,7 +105,7 @@ TokenInBounds d limit part f i (AfterCell closes j) = (i ≤ j) × (j < length p
 TokenInBounds d limit part f i (Refused e j) = j < length part
 TokenInBounds d limit part f i (Open c j) = (i < j) × (j ≤ length part) × (j ≤ limit)
 
--- from i up to here no byte but the first can be one too many
+-- from i up to `stop` no byte but the first can be one too many
 pub record Free (part-length limit i size stop : ℕ) : Type 0 where
   pub on : i < stop
   pub inside : stop ≤ part-length

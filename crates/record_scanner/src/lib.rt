@@ -1,10 +1,11 @@
-// The scanner: over any part of a file, in any dialect, by form and limits alone, up to the end of the current record. A complete record
-// is handed over before it is validated, and its cells are put into lent lists as far as there is room. The definition is `scan` of
-// model's specs/laws/Scans.antt.
+// The scanner: a part of a file and a state go in; the end of the current record comes out, or a fault of form or of limits, or that the
+// part ended, with the cells stored in lent lists as far as there is room. A complete record is returned before it is checked. The
+// definition is `scan` of model's specs/laws/Scans.antt; the invariant of the loop is in proofs/ScanInvariant.antt, one law for each path
+// through a step.
 //
-// The loop holds numbers and the place in the part; `record_scanner::token` finds what stands ahead of it, which is mostly a whole cell. Each
-// function on this way is called from one place, or its answer would go through memory: that costs half of the speed. For the same
-// reason the turn after a step stands twice in it: once for both costs an eighth more instructions.
+// The loop holds numbers and an offset; `token` finds the next token, mostly a whole cell. Each function on this path has one call site,
+// or its result would go through memory, at half the speed. For the same reason the code after a step is there twice: a shared copy costs
+// an eighth more instructions.
 ghost use mathlib.Core.Path.{_≡_};
 ghost use Prim.Native.Nat.{_≤_};
 ghost use lib.ListN.{length, drop};
@@ -26,10 +27,10 @@ pub mod record_state;
 pub mod store;
 pub mod token;
 
-// Goes over a part of a file from `from` on, up to the end of the current record, a fault or the part's end. `first` says where the
-// file stands at `from`, and `size` how many bytes of the current record were counted before. Bytes of the part at `limit` and behind
-// it are too many for the file. All places are those of the part: of a cell that began before it, what lies here. Cells go into the
-// lists from place `base` on, up to `room`.
+// Scans a part of a file from `from` on, up to the end of the current record, a fault or the part's end. `first` is the file's state at
+// `from`, and `size` the number of bytes of the current record counted before. Bytes of the part from `limit` on are too many for the
+// file. All offsets are those of the part, also for a cell that began before it. Cells are stored in the lists from index `base` on, up
+// to `room`.
 pub fn scan(
     d: Dialect,
     part: &[u8],

@@ -1,4 +1,5 @@
-// The record's limit, and the end of the file.
+// The record's limit, and the end of the file. The definitions are `counts` and `fileEnd` of model's specs/rules/File.antt; a new state
+// is a new arm of `file_end`.
 ghost use mathlib.Core.Path.{_≡_};
 ghost use mathlib.Core.Bool.{_&&_};
 ghost use lib.Dec.{leb};
@@ -10,7 +11,7 @@ use model::Ending;
 use model::FileState;
 use model::Settings;
 
-// Whether this byte is one too many for its record.
+// Whether this byte is one too many for its record (§7.6).
 pub fn is_full(f: FileState, size: usize, b: u8) -> bool
     ensures { λ r. ⌜ r ≡ (leb MAXRECORD size && counts f b) ⌝ }
 {
@@ -39,7 +40,7 @@ fn last_cell(d: Dialect, c: Cell) -> Ending
     }
 }
 
-// What the end of the file means here.
+// What the end of the file means in this state.
 pub fn file_end(d: Dialect, f: FileState) -> Ending
     ensures { λ r. ⌜ r ≡ fileEnd d f ⌝ }
 {

@@ -1,4 +1,4 @@
-// The current record, as numbers: what a byte does to it.
+// The current record as four numbers, and the effect of a byte on them. The definition is `stateAfterByte` of specs/CurrentRecord.antt.
 ghost use mathlib.Core.Path.{_≡_};
 ghost use Prim.Native.Nat.{_+_, _^_, _<_};
 ghost use Rattle.record_scanner.specs.CurrentRecord.{closesCell, endsRecord, oneMore, stateAfterByte, extendedBy};
@@ -8,7 +8,7 @@ use model::ByteRole;
 pub struct RecordState {
     // Where it starts.
     pub start: usize,
-    // How many of its bytes count.
+    // How many of its bytes are counted.
     pub size: usize,
     // Where its current cell starts, or the next one.
     pub opened: usize,
@@ -54,7 +54,7 @@ fn one_more(closes: bool, cells: usize) -> usize
     cells
 }
 
-// The current record after the byte at i, which is this part of the file.
+// The current record after the byte at i, which has this role.
 pub fn after_byte(p: ByteRole, i: usize, h: RecordState) -> RecordState
     requires { ⌜ (i + 1 < 2 ^ 64) × (h .size + 1 < 2 ^ 64) × (h .cells + 1 < 2 ^ 64) ⌝ }
     ensures { λ r. ⌜ r ≡ stateAfterByte p i h ⌝ }

@@ -1,4 +1,4 @@
-// A complete cell, put into the lent lists.
+// A complete cell stored in the lent lists, if there is room. The definition is `storeIf` of specs/Stored.antt.
 ghost use mathlib.Core.Path.{_≡_};
 ghost use Prim.Native.Nat.{_≤_};
 ghost use lib.ListN.{length};
@@ -7,7 +7,7 @@ ghost use Rattle.model.specs.rules.Api.{slice};
 ghost use Rattle.record_scanner.specs.Stored.{storeAt, storeIf};
 use model::Dialect;
 
-// The cell from `opened` up to `i`, if it ends there, at place k of each list, if there is room.
+// The cell from `opened` up to `i`, if it ends there, stored at index k of each list, if there is room.
 pub fn store_cell(
     closes: bool,
     d: Dialect,

@@ -1,5 +1,6 @@
-// The next token of a file, mostly a whole cell. Beside it is what the scanner needs at each token: the limits (limits.rt), the current
-// record after a byte (record_state.rt), and where its cells are stored (store.rt).
+// The next token of a file, mostly a whole cell: a state and an offset go in; the step of a byte comes out, or where a cell or the
+// ordinary bytes of a comment end. The definition is `TokenCorrect` of specs/Tokens.antt, proved in proofs/TokenOutcomes.antt. Beside it
+// are the limits (limits.rt), the current record after a byte (record_state.rt), and the storing of its cells (store.rt).
 ghost use mathlib.Core.Path.{_≡_};
 ghost use Prim.Native.Nat.{_+_, _≤_, _<_};
 ghost use lib.ListN.{length};
@@ -18,34 +19,34 @@ use model::Fault;
 use model::FileState;
 use model::Step;
 
-// What going over a part of a file comes to. All places are those of the part.
+// The outcome of scanning a part of a file. All offsets are those of the part.
 pub enum ScanOutcome {
-    // A record is complete: where it starts, how many of its cells end here, where the file stands after it, and the next place.
+    // A record is complete: its start, the number of its cells that end in the part, the file's state after it, and the next offset.
     Completed {
         start: usize,
         cells: usize,
         state: FileState,
         next: usize,
     },
-    // The part ended: where the file stands, and the current record.
+    // The part ended: the file's state, and the current record.
     NeedInput {
         state: FileState,
         hand: RecordState,
     },
-    // A fault at this place.
+    // A fault at this offset.
     Failed {
         fault: Fault,
         offset: usize,
     },
 }
 
-// What stands ahead.
+// The next token.
 pub enum Token {
     // The next byte takes this step.
     Is(Step),
     // Ordinary bytes of a comment, up to here.
     Skipped(usize),
-    // The byte here follows a cell that ends before it (closes), or blanks after a cell.
+    // The byte here follows a cell that ends before it (`closes`), or blanks after a cell.
     AfterCell { closes: bool, at: usize },
     // This byte can't be in the cell.
     Refused(ByteFault, usize),
@@ -53,7 +54,7 @@ pub enum Token {
     Open(Cell, usize),
 }
 
-// How far bytes go from i before one can be too many for the file or the record.
+// The offset up to which no byte from i on can be too many for the file or the record.
 fn limit_end(total: usize, i: usize, size: usize, limit: usize) -> usize
     requires { ⌜ (i < total) × (i < limit) × (limit ≤ MAXFILE) ⌝ }
     ensures { λ r. ⌜ Free total limit i size r ⌝ }
@@ -64,7 +65,7 @@ fn limit_end(total: usize, i: usize, size: usize, limit: usize) -> usize
     min_of(min_of(total, limit), i + (MAX_RECORD - size))
 }
 
-// Where the ordinary bytes of a comment end, if reading stands in one.
+// The end of a comment's ordinary bytes, if reading is in one.
 fn comment_end(f: FileState, part: &[u8], i: usize, limit: usize) -> usize
     requires { ⌜ (i < length (now part)) × (i < limit) ⌝ }
     ensures { λ r. ⌜ r ≡ commentEnd f (now (part .entry)) limit i ⌝ }
@@ -78,7 +79,7 @@ fn comment_end(f: FileState, part: &[u8], i: usize, limit: usize) -> usize
     }
 }
 
-// What stands ahead of the byte at i, which is not too many. A cell goes on until it ends or a limit is near.
+// The token at i, whose byte is not one too many. A cell is read until it ends or a limit may be reached.
 pub fn next_token(
     d: Dialect,
     part: &[u8],

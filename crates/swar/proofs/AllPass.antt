@@ -1,4 +1,4 @@
--- Laws of bytes that all pass a test: they join, those that pass at the beginning do, and a word with no flag does.
+-- Laws of bytes that all pass a test: such lists join, every prefix is one, and a word without a flag is one.
 use Prim.Native.Nat.{ℕ}
 use mathlib.Core.Path.{_≡_, refl, sym, _∙_}
 use mathlib.Core.Bool.{Bool, true}
@@ -20,7 +20,7 @@ module _ (passes : ℕ → Bool) where
   passing-pass [] = refl
   passing-pass (b ∷ bs) = split-on (passes b) (λ t. rw (t, t, passing-pass bs)) λ t. rw t
 
-  -- what passes this test passes another
+  -- a weaker test passes too
   pub all-weaker : (other : ℕ → Bool) → ((b : ℕ) → passes b ≡ true → other b ≡ true) → (bs : Bytes) → allPass passes bs ≡ true → allPass other bs ≡ true
   unfolding allPass
   all-weaker other f [] e = refl

@@ -1,5 +1,5 @@
--- Laws of words. An operation on two words whose bytes stay below 100 hex goes byte by byte: `Bytewise` says so of a number, and has a law
--- for each operation.
+-- Words as lists of bytes. An operation on two words in which no byte leaves the range below 100 hex is done on each byte alone:
+-- `Bytewise` states it of a number, with one law for each operation.
 use Prim.Native.Nat.{ℕ, zero, suc, _+_, _*_, _-_, _/_, _%_, _^_, _≤_, _<_}
 use native.Mathlib.Omega.{arith}
 use mathlib.Core.Path.{_≡_, refl, sym, ap, ap₂, _∙_}
@@ -9,7 +9,7 @@ use lib.Bits.{bitAnd, bitOr, bitXor, and-block, or-block, xor-block, and-lt, or-
 use Rattle.model.specs.rules.Base.{Bytes}
 use Rattle.swar.specs.Words.{ONES, wordOf, bytesOf}
 
--- ---- bytes and the number that they make
+-- ---- bytes and the number that they form
 
 pub data AllBytes : Bytes → Type 0 where
   no-bytes : AllBytes []
@@ -41,7 +41,7 @@ pub record Bytewise (bs : Bytes) (w : ℕ) (f : ℕ → ℕ) : Type 0 where
   pub word : w ≡ wordOf (map f bs)
   pub byte : (b : ℕ) → b < 0x100 → f b < 0x100
 
--- the bytes of a word, and a byte eight times
+-- the bytes of a word, and one byte repeated eight times
 pub itself : (w : ℕ) → w < 0x100 ^ 8 → Bytewise (bytesOf 8 w) w (λ b. b)
 unfolding bytesOf
 itself w h = record { word = sym (word-back 8 w h); byte = λ b k. k }

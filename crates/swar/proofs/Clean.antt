@@ -1,4 +1,4 @@
--- The test for clean ASCII: each of its numbers tells of one test by the top digit of each byte, and together they tell of all.
+-- The word test for clean ASCII: each of its numbers has one test's outcome in the top bit of each byte, and their disjunction has all.
 use Prim.Native.Nat.{ℕ, _*_, _-_, _%_, _^_, _≤_, _<_}
 use native.Mathlib.Omega.{arith}
 use mathlib.Core.Path.{_≡_, refl}
@@ -34,7 +34,7 @@ module _ (w : ℕ) (h : w < 0x100 ^ 8) where
       here : (x : ℕ) → x ≤ 0x7F → Top (0x9F - x) (digitOf (leb 0x20 x))
       here x l = top-by (0x9F - x) (leb 0x20 x) (omega arith) (λ t. omega (arith, leb-true 0x20 x t)) (λ t. omega (arith, leb-false 0x20 x t))
 
--- ---- together they are the test
+-- ---- their disjunction is the test
 
 abbrev together : (p q b low : ℕ) → Bool
 together p q b low = ltb b 0x80 && not (low is asciiStop p) && not (low is asciiStop q) && not (low is 0x5C) && leb 0x20 low

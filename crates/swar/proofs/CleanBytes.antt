@@ -1,4 +1,4 @@
--- What a clean byte is.
+-- What it means for a byte to be clean: at least 20 hex, not the quote, not a backslash.
 use Prim.Native.Nat.{ℕ, _≤_}
 use mathlib.Core.Path.{_≡_}
 use mathlib.Core.Bool.{true, false, not, _&&_}

@@ -1,4 +1,5 @@
--- The test for digits: a sum tells whether a byte is too large, a difference whether it is too small, and the byte itself whether it is ASCII.
+-- The word test for digits: a sum shows whether a byte is too large, a difference whether it is too small, and the byte itself whether it
+-- is ASCII.
 use Prim.Native.Nat.{ℕ, _+_, _-_, _%_, _^_, _≤_, _<_}
 use native.Mathlib.Omega.{arith}
 use mathlib.Core.Path.{_≡_}

@@ -1,5 +1,5 @@
--- Numbers that tell of a test of each byte by the top digit of each byte. Two of them together tell of both tests, and the flags of a test
--- are the top digits alone.
+-- Words that have the outcome of a test in the top bit of each byte. The disjunction of two has both outcomes, and masking with 80 hex
+-- leaves the flags.
 use Prim.Native.Nat.{ℕ, _*_, _%_, _^_, _≤_, _<_, max}
 use native.Mathlib.Omega.{arith}
 use mathlib.Core.Path.{_≡_, refl, ap, _∙_}
@@ -16,7 +16,7 @@ use Rattle.swar.proofs.Flags.{flags-from}
 unfoldable pub digitOf : Bool → ℕ
 digitOf t = if t then 0 else 1
 
--- the top digit of each byte is 1 where the byte does not pass
+-- the top bit of each byte is 1 where the byte does not pass
 pub record FlagsBytes (w x : ℕ) (passes : ℕ → Bool) : Type 0 where
   pub each : ℕ → ℕ
   pub word : Bytewise (bytesOf 8 w) x each

@@ -1,5 +1,5 @@
--- Laws of flags and of the bytes that pass at the beginning, over any test: a word with no flag is eight of them, and in any other they end
--- before the first flag.
+-- Flags and the longest prefix that passes, over any test: a word without a flag extends it by eight bytes, and otherwise it ends before
+-- the first flag.
 use Prim.Native.Nat.{ℕ, suc, _+_, _≤_, _<_}
 use native.Mathlib.Omega.{arith}
 use mathlib.Core.Path.{_≡_, refl, sym, ap, _∙_}
@@ -27,7 +27,7 @@ module _ (passes : ℕ → Bool) where
       go true ih = ap suc ih
       go false ih = refl
 
-  -- no more than all of them
+  -- it is no longer than the list
   pub passing-short : (bs : Bytes) → passing passes bs ≤ length bs
   unfolding passing
   passing-short [] = omega arith
@@ -36,7 +36,7 @@ module _ (passes : ℕ → Bool) where
       split (λ (n : ℕ). n ≤ suc (length bs)) _ (λ _. omega arith) λ _. omega arith
 
   module _ (cs : Bytes) where
-    -- they go on after bytes that all pass
+    -- it continues after bytes that all pass
     pub all-pass : (bs : Bytes) → allPass passes bs ≡ true → passing passes (bs ++ cs) ≡ length bs + passing passes cs
     unfolding allPass passing if_then_else_
     all-pass [] e = omega arith
@@ -47,7 +47,7 @@ module _ (passes : ℕ → Bool) where
         go true h ih = let k = ih h in omega arith
         go false h ih = impossible h
 
-    -- they end among bytes that do not
+    -- it ends among bytes that do not all pass
     some-pass : (bs : Bytes) → allPass passes bs ≡ false → (passing passes (bs ++ cs) ≡ passing passes bs) × (passing passes bs < length bs)
     unfolding allPass passing if_then_else_
     some-pass [] e = impossible (sym e)
@@ -74,7 +74,7 @@ module _ {passes : ℕ → Bool} {bs : Bytes} {w flags : ℕ} (is-word : Word bs
   pub word-passes : flags ≡ 0 → passing passes (bs ++ cs) ≡ 8 + passing passes cs
   word-passes e = all-pass passes cs bs (sym all-told ∙ eq-eqb flags 0 e) ∙ rw eight
 
-  -- a flag: they end before it
+  -- a flag: the prefix ends before it
   pub word-stops : ¬ (flags ≡ 0) → (zeroBytes (bytesOf 8 flags) ≡ passing passes (bs ++ cs)) × (passing passes (bs ++ cs) < 8)
   word-stops e =
       let some : allPass passes bs ≡ false = sym all-told ∙ ne-eqb flags 0 e in

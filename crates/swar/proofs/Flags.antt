@@ -1,4 +1,4 @@
--- Laws of flags, over any test of a byte: a word whose bytes are flags answers for all of them, and two such words make a third.
+-- Laws of flags, over any test of a byte: a word whose bytes are flags is the test of all eight, and two such words combine into a third.
 use Prim.Native.Nat.{ℕ, _+_, _*_, _<_}
 use native.Mathlib.Omega.{arith}
 use mathlib.Core.Path.{_≡_, refl, sym, _∙_}
@@ -42,7 +42,7 @@ pub flags-same : {t u : ℕ → Bool} {w flags : ℕ} → Flags t w flags → ((
 unfolding flagOf
 flags-same {t} {u} x same = flags-from (flags-each x) λ b h. rw (same b)
 
--- what is flagged in both words passes neither test
+-- a byte flagged in both words passes neither test
 pub flags-both : {t u : ℕ → Bool} {w x y : ℕ} → Flags t w x → Flags u w y → Flags (λ b. t b || u b) w (bitAnd x y)
 unfolding flagOf if_then_else_
 flags-both {t} {u} {w} a b = flags-from (and-bytes (all-bytes 8 w) (flags-each a) (flags-each b)) λ c h. byte c
@@ -56,7 +56,7 @@ flags-both {t} {u} {w} a b = flags-from (and-bytes (all-bytes 8 w) (flags-each a
     byte : (c : ℕ) → bitAnd (flagOf t c) (flagOf u c) ≡ flagOf (λ b. t b || u b) c
     byte c = bits (t c) (u c)
 
--- what is not flagged passes
+-- a byte that is not flagged passes
 pub flags-other : {t : ℕ → Bool} {w x : ℕ} → Flags t w x → Flags (λ b. not (t b)) w (bitXor x 0x8080808080808080)
 unfolding flagOf if_then_else_
 flags-other {t} {w} a = flags-from (xor-bytes (all-bytes 8 w) (flags-each a) (eight-times w 0x80 (omega arith))) λ c h. byte c

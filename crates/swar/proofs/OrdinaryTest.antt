@@ -1,4 +1,4 @@
--- The test of a word. With the laws of Bytewise.antt it is the test of each of its bytes, and there the top digits of five numbers tell:
+-- The word test for ordinary ASCII. By the laws of Bytewise.antt it is a test of each byte, where the top bits of five numbers decide:
 -- each is 1 exactly where the byte is not ASCII, is a stop, is below 20 hex or is 7F hex.
 use Prim.Native.Nat.{ℕ, _+_, _*_, _-_, _/_, _%_, _^_, _≤_, _<_, max}
 use native.Mathlib.Omega.{arith}
@@ -18,14 +18,14 @@ use Rattle.swar.proofs.Flags.{flags-from}
 
 -- ---- one byte
 
--- the code's test of a word, on one byte
+-- the code's word test on one byte
 abbrev testOf : (p q b : ℕ) → ℕ
 testOf p q b =
     bitAnd
     (bitOr (bitOr (bitOr (bitOr b (0x80 - bitXor (bitAnd b 0x7F) p)) (0x80 - bitXor (bitAnd b 0x7F) q)) (0x9F - bitAnd b 0x7F)) (bitAnd b 0x7F + 0x01))
     0x80
 
--- the top digit of each number, in the order of the test
+-- the top bit of each number, in the order of the test
 record Tops (p q b : ℕ) (not-ascii is-first is-second below-20 is-7f : ℕ) : Type 0 where
   at-not-ascii : Top b not-ascii
   at-first : Top (0x80 - bitXor (bitAnd b 0x7F) p) is-first
@@ -38,7 +38,7 @@ test-top {p} {q} {b} s =
     let e = or-top (or-top (or-top (or-top (s .at-not-ascii) (s .at-first)) (s .at-second)) (s .at-below-20)) (s .at-7f) in
     and-high _ 1 7 ∙ ap (λ (n : ℕ). n % 2 * 0x80) (e .digit)
 
--- a stop's digit
+-- the top bit for a stop
 pub stop-hit : (x p : ℕ) → p < 0x80 → x ≡ p → Top (0x80 - bitXor x p) 1
 stop-hit x p h e =
     let z : bitXor x p ≡ 0 = rw e (xor-self p) in
@@ -59,7 +59,7 @@ raised {p} {q} {b} {t} {u} {v} {x} {y} s h =
     let one : max (max (max (max t u) v) x) y ≡ 1 = omega arith in
     test-top s ∙ ap (λ (n : ℕ). n % 2 * 0x80) one
 
--- an ordinary byte raises nothing; any other has a number with its top digit set
+-- an ordinary byte sets no top bit; any other byte sets one
 module _ (p q b : ℕ) (h : b < 0x100) (hp : p < 0x80) (hq : q < 0x80) where
   test-low : bitAnd b 0x7F ≡ b % 0x80
   test-low = and-mask b 7
@@ -159,7 +159,7 @@ module _ (w : ℕ) (h : w < 0x100 ^ 8) where
       let hs = all-bytes 8 w in
       and-bytes hs (or-bytes hs (or-bytes hs (or-bytes hs (or-bytes hs (itself w h) (stop-bits p hp)) (stop-bits q hq)) below-bits) last-bits) (eight-times w 0x80 (omega arith))
 
--- ---- any stops
+-- ---- stops that need not be ASCII
 
 pub ascii-small : (p : ℕ) → asciiStop p < 0x80
 unfolding asciiStop
@@ -189,7 +189,7 @@ stop-fits w p first e =
     let x : bitXor (bitAnd w 0x7F7F7F7F7F7F7F7F) first < 0x8000000000000000 = xor-lt 63 (bitAnd w 0x7F7F7F7F7F7F7F7F) first (omega arith) (omega arith) in
     omega arith
 
--- ---- what the test answers
+-- ---- the contract of the test
 
 pub flags : (w p q first second : ℕ) → w < 0x100 ^ 8 → first ≡ asciiStop p * ONES → second ≡ asciiStop q * ONES → Flags (ordinary p q) w (testWord w first second)
 unfolding flagOf

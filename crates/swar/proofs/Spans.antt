@@ -1,4 +1,5 @@
--- Laws of spans whose bytes all pass: a word more, the word of the last bytes, and what such a word holds.
+-- Spans whose bytes all pass a test: a word more, the word of the last bytes, and what such a word holds. A loop that tests a span by
+-- words needs these laws and no others.
 use Prim.Native.Nat.{ℕ, zero, suc, _+_, _-_, _/_, _≤_, _<_}
 use native.Mathlib.Nat.{le-refl}
 use native.Mathlib.Omega.{arith}
@@ -44,7 +45,7 @@ module _ (passes : ℕ → Bool) where
   all-from [] f = refl
   all-from (b ∷ bs) f = rw (f 0 (omega arith), all-from bs λ k h. f (suc k) (omega arith))
 
-  -- from a part to its bytes
+  -- from a slice to its bytes
   pub part-all : (s : Bytes) (i j : ℕ) → j ≤ length s → allPass passes (slice s i j) ≡ true → (k : ℕ) → i ≤ k → k < j → passes (getD s k 0) ≡ true
   part-all s i j l e k h m =
       let n : i + (k - i) ≡ k = omega arith in
@@ -55,14 +56,14 @@ module _ (passes : ℕ → Bool) where
   pub in-all : {s : Bytes} {i j : ℕ} → AllIn passes s i j → j ≤ length s → allPass passes (slice s i j) ≡ true
   in-all {s} {i} {j} x l = all-from (slice s i j) λ k h. let len = part-length s i j l in rw (part-at s i j k (omega arith)) (x .each (i + k) (omega arith) (omega arith))
 
-  -- and of a whole one
+  -- for the whole list
   pub in-whole : {s : Bytes} → AllIn passes s 0 (length s) → allPass passes s ≡ true
   in-whole {s} x =
       let n : length s - 0 ≡ length s = omega arith in
       let whole : slice s 0 (length s) ≡ s = rw n (take-length s) in
       rw whole at (in-all x (le-refl (length s)))
 
-  -- how many pass from its beginning: as many as it has, where the next does not or there is none
+  -- the longest prefix that passes is the span, if the next byte does not pass or there is none
   pub in-ends : {s : Bytes} {i j : ℕ} → AllIn passes s i j → i ≤ j → j ≤ length s → passing passes (drop j s) ≡ 0 → passing passes (drop i s) ≡ j - i
   in-ends {s} {i} {j} x h l z =
       let n : i + (j - i) ≡ j = omega arith in
@@ -71,7 +72,7 @@ module _ (passes : ℕ → Bool) where
       let on = all-pass passes (drop j s) (slice s i j) (in-all x l) in
       rw whole (omega arith)
 
-  -- what passes this test passes another
+  -- a weaker test passes too
   pub in-weaker : {s : Bytes} {i j : ℕ} (other : ℕ → Bool) → ((b : ℕ) → passes b ≡ true → other b ≡ true) → AllIn passes s i j → AllIn other s i j
   in-weaker {s} other f x = record { each = λ k h l. f (getD s k 0) (x .each k h l) }
 

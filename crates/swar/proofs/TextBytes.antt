@@ -1,4 +1,4 @@
--- The tests of bytes in a text. Each works on every byte of a word by itself, and what it answers there is computed for all bytes.
+-- The word tests of bytes in a text. Each works on every byte of a word alone, and its outcome there is computed for all 256 bytes.
 use Prim.Native.Nat.{ℕ, zero, suc, _+_, _*_, _^_, _≤_, _<_}
 use native.Mathlib.Omega.{arith}
 use mathlib.Core.Path.{_≡_, refl}
@@ -12,7 +12,7 @@ use Rattle.swar.specs.Words.{ONES, bytesOf, flagOf, isClean, plainText, 
 use Rattle.swar.proofs.Bytewise.{all-bytes, itself, eight-times, Bytewise, and-bytes, or-bytes, xor-bytes, add-bytes}
 use Rattle.swar.proofs.Flags.{flags-from}
 
--- ---- a rule of every number below n, by computing it for each
+-- ---- a rule of every number below n, computed for each
 
 abbrev allBelow : (n : ℕ) (rule : ℕ → Bool) → Bool
 allBelow zero rule = true
@@ -26,7 +26,7 @@ below-at rule (suc n) e b h =
 
 -- ---- one byte
 
--- the low bits with some flipped, and k more
+-- the low bits with some flipped, plus k
 abbrev sumOf : (flip k b : ℕ) → ℕ
 sumOf flip k b = bitXor (bitAnd b 0x7F) flip + k
 
@@ -74,7 +74,7 @@ module _ (w : ℕ) (h : w < 0x100 ^ 8) where
   no-ed : Bytewise (bytesOf 8 w) (sumWord 0x6D6D6D6D6D6D6D6D 0x7F7F7F7F7F7F7F7F w) (sumOf 0x6D 0x7F)
   no-ed = sum-bytes 0x6D 0x7F (omega arith) (omega arith)
 
-  -- the top bit alone, turned over
+  -- the top bit alone, inverted
   turned : {v : ℕ} {f : ℕ → ℕ} → Bytewise (bytesOf 8 w) v f → Bytewise (bytesOf 8 w) (bitXor (bitAnd v 0x8080808080808080) 0x8080808080808080) (λ b. bitXor (bitAnd (f b) 0x80) 0x80)
   turned x = let hs = all-bytes 8 w in xor-bytes hs (and-bytes hs x (eight-times w 0x80 (omega arith))) (eight-times w 0x80 (omega arith))
 

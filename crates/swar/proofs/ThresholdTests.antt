@@ -1,5 +1,5 @@
--- The tests whose sums reach the top digit: a sum of the low digits of a byte and k, below 81 hex, has it where they are at least 80 - k,
--- and the byte itself has it from 80 hex on. So the flag tells whether the byte is at least 80 - k.
+-- Word tests by a sum: the low seven bits of a byte plus k, k at most 80 hex, reach the top bit exactly from 80 - k on, and the byte
+-- itself has it from 80 hex on. So the flag shows whether the byte is at least 80 - k.
 use Prim.Native.Nat.{ℕ, _+_, _*_, _-_, _/_, _%_, _^_, _≤_, _<_, max}
 use native.Mathlib.Omega.{arith}
 use mathlib.Core.Path.{_≡_, ap, _∙_}

@@ -1,4 +1,4 @@
--- The top digit of a byte, which is its flag in a word.
+-- The top bit of a byte, which is its flag in a word.
 use Prim.Native.Nat.{ℕ, zero, suc, _+_, _*_, _/_, _≤_, _<_, max}
 use native.Mathlib.Omega.{arith}
 use mathlib.Core.Path.{_≡_, refl, _∙_}
@@ -33,7 +33,7 @@ digit-small {n} {t} s =
     let d : n / 0x80 ≡ t = s .digit in
     omega arith
 
--- equal bytes are those that differ in no digit
+-- bytes that differ in no bit are equal
 pub differ-none : (x p : ℕ) → bitXor x p ≡ 0 → x ≡ p
 differ-none x p e =
     let sum : bitXor x p + bitAnd x p * 2 ≡ x + p = xor-add-and x p in

@@ -1,4 +1,4 @@
--- Reading a word out of a slice, and the place of its first flag: trailing zeros count the bytes of 0 before it.
+-- Reading a word from a slice, and the index of its first flag: the trailing zeros count the zero bytes before it.
 use Prim.Native.Nat.{ℕ, zero, suc, _+_, _*_, _-_, _/_, _%_, _^_, _≤_, _<_}
 use native.Mathlib.Nat.{mul-one}
 use native.Mathlib.Omega.{arith}
@@ -44,7 +44,7 @@ word-read s i w h byte e =
     in
     record { value = e ∙ ap wordOf (sym same); bytes = ap (bytesOf 8) e ∙ bytes-back all ∙ sym same }
 
--- eight bytes joined: each is put above those before it
+-- eight bytes joined, each above those before it
 pub joined-word : (b0 b1 b2 b3 b4 b5 b6 b7 : ℕ) → b0 < 0x100 → b1 < 0x100 → b2 < 0x100 → b3 < 0x100 → b4 < 0x100 → b5 < 0x100 → b6 < 0x100
     → bitOr (bitOr (bitOr (bitOr (bitOr (bitOr (bitOr b0 (b1 * 0x100)) (b2 * 0x10000)) (b3 * 0x1000000)) (b4 * 0x100000000)) (b5 * 0x10000000000)) (b6 * 0x1000000000000)) (b7 * 0x100000000000000)
     ≡ wordOf (b0 ∷ b1 ∷ b2 ∷ b3 ∷ b4 ∷ b5 ∷ b6 ∷ b7 ∷ [])
@@ -81,7 +81,7 @@ joined-four b0 b1 b2 b3 h0 h1 h2 h3 =
     let whole : bitOr (bitOr (bitOr b0 (b1 * 0x100)) (b2 * 0x10000)) (b3 * 0x1000000) ≡ wordOf (b0 ∷ b1 ∷ b2 ∷ b3 ∷ []) = omega arith in
     (ap (bytesOf 4) whole ∙ bytes-back (and-byte h0 (and-byte h1 (and-byte h2 (and-byte h3 no-bytes)))), omega arith)
 
--- two times four
+-- two groups of four
 both-bytes : {xs ys : Bytes} → AllBytes xs → AllBytes ys → AllBytes (xs ++ ys)
 both-bytes no-bytes k = k
 both-bytes (and-byte h hs) k = and-byte h (both-bytes hs k)
@@ -95,7 +95,7 @@ fours-joined a b h k =
     let whole : bitOr a (b * 0x100000000) ≡ wordOf (bytesOf 4 a ++ bytesOf 4 b) = omega arith in
     ap (bytesOf 8) whole ∙ bytes-back (both-bytes (all-bytes 4 a) (all-bytes 4 b))
 
--- three, and the rest filled up
+-- three bytes and five spaces
 pub three-bytes : (w b0 b1 b2 : ℕ) → b0 < 0x100 → b1 < 0x100 → b2 < 0x100 → w ≡ wordOf (b0 ∷ b1 ∷ b2 ∷ 0x20 ∷ 0x20 ∷ 0x20 ∷ 0x20 ∷ 0x20 ∷ [])
     → bytesOf 8 w ≡ b0 ∷ b1 ∷ b2 ∷ 0x20 ∷ 0x20 ∷ 0x20 ∷ 0x20 ∷ 0x20 ∷ []
 three-bytes w b0 b1 b2 h0 h1 h2 e =
@@ -114,7 +114,7 @@ unfolding trailingZeros
 shifted-zeros zero k a = ap (trailingZeros k) (mul-one a)
 shifted-zeros (suc j) k a = rw (shifted-even a j, shifted-half a j) (ap suc (shifted-zeros j k a))
 
--- a byte of 0 is eight zeros before those of the bytes after it
+-- a zero byte is eight zeros before those of the next bytes
 zero-byte : (k w : ℕ) → w % 0x100 ≡ 0 → trailingZeros (plus 8 k) w ≡ plus 8 (trailingZeros k (w / 0x100))
 zero-byte k w h = let e : w ≡ w / 0x100 * 2 ^ 8 = omega arith in ap (trailingZeros (plus 8 k)) e ∙ shifted-zeros 8 k (w / 0x100)
 

@@ -1,10 +1,9 @@
-// Eight bytes at a time, as one number with the first byte lowest: each is put to a test, and the top bit of each that does not pass is its
-// flag. So a word tells whether all eight pass, and if not, how many do before the first that does not. The definitions are those of
-// specs/Words.antt.
+// Eight bytes at a time in one little-endian word (SWAR). A word and a test go in; the top bit of each byte that does not pass comes out,
+// its flag. So a word shows whether all eight bytes pass, and otherwise how many do before the first that does not. The definitions are
+// those of specs/Words.antt.
 //
-// The tests are exact because their numbers never carry or borrow from one byte into the next: each byte of a sum is at most FF hex, and
-// each byte of a difference takes away no more than it has. So every operation works on each byte by itself, and the top bit of a byte
-// tells of that byte alone.
+// The tests are exact, since no operation carries or borrows across a byte: each byte of a sum is at most FF hex, and each byte of a
+// difference subtracts no more than it has. A new test needs the values on one byte and the laws of proofs/Bytewise.antt.
 ghost use mathlib.Core.Path.{_≡_};
 ghost use Prim.Native.Nat.{_+_, _*_, _≤_, _<_};
 ghost use mathlib.Core.List.{[], _∷_, _++_};
@@ -14,8 +13,8 @@ ghost use Rattle.model.specs.rules.Cell.{isDigit};
 ghost use Rattle.model.specs.rules.Api.{slice};
 ghost use Rattle.swar.specs.Words.{wordOf, Word, ONES, bytesOf, asciiStop, ordinary, cleanAscii, isClean, plainText, isByte, isBelow, Flags, zeroBytes, LastBytes};
 
-// Eight bytes as one number, the first lowest. They are joined by |, of which the compiler makes one load at once: of a sum it does so only
-// after it has found a caller's loop too long to stand where it is called, and tables of short cells took a tenth more time.
+// Eight bytes as one number, the first lowest. They are joined by |, which the compiler turns into one load at once; a sum it recognizes
+// only after it has refused to inline the caller's loop, and tables of short cells took a tenth more time.
 fn joined(b0: u8, b1: u8, b2: u8, b3: u8, b4: u8, b5: u8, b6: u8, b7: u8) -> u64
     ensures { λ r. ⌜ r ≡ wordOf (b0 ∷ b1 ∷ b2 ∷ b3 ∷ b4 ∷ b5 ∷ b6 ∷ b7 ∷ []) ⌝ }
 {
@@ -62,7 +61,7 @@ fn four(s: &[u8], i: usize) -> u64
     joined_four(s[i], s[i + 1], s[i + 2], s[i + 3])
 }
 
-// Two times four bytes.
+// Two groups of four bytes.
 fn fours(s: &[u8], i: usize, j: usize) -> u64
     requires { ⌜ (i + 4 ≤ length (now s)) × (j + 4 ≤ length (now s)) ⌝ }
     ensures { λ r. ⌜ bytesOf 8 r ≡ slice (now (s .entry)) i (i + 4) ++ slice (now (s .entry)) j (j + 4) ⌝ }
@@ -70,7 +69,7 @@ fn fours(s: &[u8], i: usize, j: usize) -> u64
     four(s, i) | four(s, j) * 0x100000000
 }
 
-// Three bytes, and the rest filled up.
+// Three bytes, padded with spaces.
 fn three(s: &[u8], i: usize, j: usize, k: usize) -> u64
     requires { ⌜ (i < length (now s)) × (j < length (now s)) × (k < length (now s)) ⌝ }
     ensures { λ r. ⌜ bytesOf 8 r ≡ getD (now (s .entry)) i 0 ∷ getD (now (s .entry)) j 0 ∷ getD (now (s .entry)) k 0 ∷ 0x20 ∷ 0x20 ∷ 0x20 ∷ 0x20 ∷ 0x20 ∷ [] ⌝ }
@@ -78,7 +77,8 @@ fn three(s: &[u8], i: usize, j: usize, k: usize) -> u64
     joined(s[i], s[j], s[k], 0x20, 0x20, 0x20, 0x20, 0x20)
 }
 
-// The last eight bytes of a span. Of fewer, some stand in the word twice: so no byte outside is read, and none by itself.
+// The last eight bytes of a span. A span of fewer fills the word by bytes that are read twice, so that no byte outside is read and none
+// needs a step of its own.
 pub fn last_word(s: &[u8], from: usize, upto: usize) -> u64
     requires { ⌜ (from ≤ upto) × (upto ≤ length (now s)) ⌝ }
     ensures { λ r. ⌜ LastBytes (now (s .entry)) from upto r ⌝ }
@@ -98,8 +98,8 @@ pub fn last_word(s: &[u8], from: usize, upto: usize) -> u64
 
 // ---- tests of bytes
 
-// A stop, eight times. Bytes from 80 hex on are not ordinary or clean anyway, so a stop that is one of them is as good as 0, which is not
-// either.
+// A stop, repeated eight times. Bytes from 80 hex on are not ordinary or clean anyway, so a stop among them is replaced by 0, which is
+// neither.
 fn eight_stops(p: u8) -> u64
     ensures { λ r. ⌜ r ≡ asciiStop p * ONES ⌝ }
 {
@@ -110,8 +110,8 @@ fn eight_stops(p: u8) -> u64
     }
 }
 
-// The top bit of each byte that is not ordinary. Without its top bit a byte is at most 7F hex, and so then is what it differs in from a
-// stop. 80 less that has the top bit where the two are the same, 9F less the byte where it is below 20, and 1 more than it at 7F.
+// The top bit of each byte that is not ordinary ASCII. Without its top bit a byte is at most 7F hex, and so is its difference from a stop
+// in the bits. 80 minus that has the top bit where the two are equal, 9F minus the byte where it is below 20, and the byte plus 1 at 7F.
 pub fn unordinary(w: u64, p: u8, q: u8) -> u64
     ensures { λ r. ⌜ Flags (ordinary p q) w r ⌝ }
 {
@@ -123,7 +123,7 @@ pub fn unordinary(w: u64, p: u8, q: u8) -> u64
     (w | is_first | is_second | below_20 | is_7f) & 0x8080808080808080
 }
 
-// The top bit of each byte that is not clean ASCII, told as in `unordinary`; 7F hex is clean.
+// The top bit of each byte that is not clean ASCII, computed as in `unordinary`; 7F hex is clean.
 pub fn unclean(w: u64, p: u8, q: u8) -> u64
     ensures { λ r. ⌜ Flags (cleanAscii p q) w r ⌝ }
 {
@@ -135,8 +135,8 @@ pub fn unclean(w: u64, p: u8, q: u8) -> u64
     (w | is_first | is_second | is_backslash | below_20) & 0x8080808080808080
 }
 
-// The top bit of each byte that is no digit, told as in `unordinary`: 46 hex more than the byte has it from 3A hex on, and AF less the byte
-// has it below 30.
+// The top bit of each byte that is no digit, computed as in `unordinary`: the byte plus 46 hex has it from 3A hex on, AF minus the byte
+// below 30.
 pub fn no_digit(w: u64) -> u64
     ensures { λ r. ⌜ Flags isDigit w r ⌝ }
 {
@@ -146,8 +146,8 @@ pub fn no_digit(w: u64) -> u64
     (w | above | below) & 0x8080808080808080
 }
 
-// The top bit of each byte that is not clean in a text. Of ASCII the low bits tell: to flip 02 hex leaves what is below 20 there, and of
-// the others brings the quotation mark alone to 20, so that one sum tells both from what is above. A byte from 80 hex on is clean.
+// The top bit of each byte that is not clean in a text. Flipping 02 hex keeps ASCII below 20 there and moves only the quotation mark to
+// 20, so that one sum separates both from all above. A byte from 80 hex on is clean.
 pub fn unclean_text(w: u64) -> u64
     ensures { λ r. ⌜ Flags (isClean QUOTE) w r ⌝ }
 {
@@ -157,7 +157,7 @@ pub fn unclean_text(w: u64) -> u64
     (((no_mark & no_backslash) | w) & 0x8080808080808080) ^ 0x8080808080808080
 }
 
-// The top bit of each byte that is not plain in a text: of ASCII it is told as in `unclean_text`, and of the others ED hex alone is not.
+// The top bit of each byte that is not plain in a text: ASCII as in `unclean_text`, and of the other bytes ED hex alone.
 pub fn unplain_text(w: u64) -> u64
     ensures { λ r. ⌜ Flags plainText w r ⌝ }
 {
@@ -169,7 +169,7 @@ pub fn unplain_text(w: u64) -> u64
     ((ascii | (no_ed & w)) & 0x8080808080808080) ^ 0x8080808080808080
 }
 
-// The top bit of each byte that is not `c`: a byte of the difference is not 0, so its low bits reach that bit, or it is set already.
+// The top bit of each byte that is not `c`: if a byte of the difference is not 0, its low bits carry into that bit, or it is set already.
 pub fn other_than(w: u64, c: u8) -> u64
     ensures { λ r. ⌜ Flags (isByte c) w r ⌝ }
 {
@@ -184,15 +184,15 @@ pub fn from_20(w: u64) -> u64
     (((w & 0x7F7F7F7F7F7F7F7F) + 0x6060606060606060) | w) & 0x8080808080808080
 }
 
-// How many bytes stand before the first flag.
+// The number of bytes before the first flag.
 pub fn before_flag(flags: u64) -> usize
     ensures { λ r. ⌜ r ≡ zeroBytes (bytesOf 8 flags) ⌝ }
 {
     (u64::trailing_zeros(flags) as usize) / 8
 }
 
-// A guess at how many bytes stand before the first `c`; 8: none seems to be one. It takes fewer steps than a test, as a byte that differs in
-// its top bit alone is taken for `c`. Nothing is promised of it, so who goes by it tests it.
+// A guess at the number of bytes before the first `c`; 8: none found. It takes fewer instructions than an exact test, since it takes a
+// byte that differs in its top bit alone for `c`. Nothing is promised of it, so its callers test what it returns.
 pub fn guess(w: u64, c: u8) -> usize {
     let near = (0x8080808080808080 - ((w & 0x7F7F7F7F7F7F7F7F) ^ eight_stops(c)))
         & 0x8080808080808080;

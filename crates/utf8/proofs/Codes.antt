@@ -1,6 +1,5 @@
--- Code points: what shifts and masks make of a number is what the definitions say. A mask of k ones is the remainder by 2 ^ k,
--- and a mark above k bits adds: both are laws over the width.
--- Assumes nothing.
+-- Shifts and masks on code points equal the definitions' arithmetic: a mask of k ones is the remainder by 2 ^ k, and a tag above k bits
+-- adds. Both are laws over the width.
 use mathlib.Core.Path.{_≡_, sym, ap, _∙_}
 use mathlib.Core.List.{[], _∷_, _++_}
 use Prim.Native.Nat.{ℕ, _+_, _*_, _/_, _%_, _^_, _-_, _≤_, _<_}
@@ -13,13 +12,13 @@ use Rattle.model.specs.rules.Utf8.{pack, joined}
 use Rattle.model.proofs.Tests.{split, within-true}
 use Rattle.utf8.specs.Codes.{packed, zeros, Packs, tenBits, Joins}
 
--- the k low bits of u, below the mark a
+-- the k low bits of u below the tag a
 pub marked : (a k u : ℕ) → bitOr (bitAnd u (2 ^ k - 1)) (a * 2 ^ k) ≡ a * 2 ^ k + u % 2 ^ k
 marked a k u = or-shifted-r a k (bitAnd u (2 ^ k - 1)) (mask-lt u k) ∙ ap (λ (n : ℕ). a * 2 ^ k + n) (and-mask u k)
 
 -- ---- the bytes of a code point
 
--- four bytes that begin with those of u and go on with zeros
+-- four bytes that begin with those of u, followed by zeros
 pub packs-of : (u : ℕ) (bytes : Bytes) (size : ℕ) → packed u ≡ take size bytes → size ≡ length (take size bytes) → bytes ≡ take 4 (take size bytes ++ zeros) → Packs u bytes size
 packs-of u bytes size e l z = record { packs = sym e; sized = l ∙ ap length (sym e); padded = z ∙ ap (λ (bs : Bytes). take 4 (bs ++ zeros)) (sym e) }
 
@@ -44,7 +43,7 @@ pub packed-none : (u : ℕ) → 0x10FFFF < u → packed u ≡ []
 unfolding packed if_then_else_
 packed-none u h = rw (lt-leb u 0x10FFFF h)
 
--- a code point's bytes are the definition's
+-- the packed bytes are the definition's
 pub packed-is : (u : ℕ) → u ≤ 0x10FFFF → packed u ≡ pack u
 unfolding packed if_then_else_
 packed-is u h = rw (le-leb u 0x10FFFF h)
@@ -55,9 +54,9 @@ packed-most u =
     let P : Bytes → Type 0 = λ l. length l ≤ 4 in
     split P _ (λ _. split P _ (λ _. omega arith) λ _. split P _ (λ _. omega arith) λ _. split P _ (λ _. omega arith) λ _. omega arith) λ _. omega arith
 
--- ---- two surrogates
+-- ---- surrogate pairs
 
--- ten bits of each, one above the other; the shift loses none
+-- ten bits of each, one group above the other; the shift loses none
 pub ten-bits : (h l : ℕ) → bitOr (bitAnd h 0x3FF * 0x400 % 0x100000000) (bitAnd l 0x3FF) ≡ h % 0x400 * 0x400 + l % 0x400
 ten-bits h l =
     let hh : bitAnd h 0x3FF < 0x400 = mask-lt h 10 in

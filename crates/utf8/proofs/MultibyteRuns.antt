@@ -1,5 +1,5 @@
--- Laws of whole characters that are not ASCII: they join, a character of each length is one, and the row of a first byte above DF hex is
--- told by where the rows end.
+-- Laws of runs of whole non-ASCII characters: runs join, a character of each length is a run, and the table row of a first byte above DF
+-- hex is found by comparing it with the rows' last first bytes.
 use Prim.Native.Nat.{ℕ, suc, _+_, _-_, _≤_, _<_}
 use native.Mathlib.Omega.{arith}
 use mathlib.Core.Path.{_≡_, refl, ap, _∙_}
@@ -24,7 +24,7 @@ use Rattle.model.proofs.Tests.{split-on, and-true}
 use Rattle.model.proofs.cell_laws.Utf8.{ascii-whole, inner-high, broken-on}
 use Rattle.utf8.specs.Multibyte.{charsFrom, allHigh, WideText, WideRun, RowFor, no-row, three, four}
 
--- ---- spans of bytes
+-- ---- slices
 
 part-next : (s : Bytes) (i j stop : ℕ) → j ≡ suc i → i < stop → stop ≤ length s → slice s i stop ≡ getD s i 0 ∷ slice s j stop
 part-next s i j stop e h k =
@@ -41,7 +41,7 @@ part-join s i j stop h k =
     let m : i + (j - i) ≡ j = omega arith in
     ap (λ (x : ℕ). take x (drop i s)) n ∙ take-add (j - i) (stop - j) (drop i s) ∙ rw (drop-drop, m)
 
--- ---- characters join
+-- ---- runs join
 
 pub chars-on : (c c′ : Char) (b : ℕ) (bs : Bytes) → charStep c b ≡ On c′ → charsFrom c (b ∷ bs) ≡ charsFrom c′ bs
 unfolding charsFrom
@@ -85,7 +85,7 @@ wide-join {s} {at} {i} {stop} {r} x y =
 
 -- ---- one character
 
--- a first byte of more than one is not ASCII
+-- the first byte of a multibyte character is not ASCII
 first-high : (b : ℕ) (i : Inner) → charStep Whole b ≡ On (Within i) → 0x80 ≤ b
 first-high b i e =
     split-on (leb b 0x7F)
@@ -141,7 +141,7 @@ module _ (l : Lead) (a b : ℕ) (first : charStep Whole a ≡ On (Within (Second
             ∙ chars-on (Within Last) Whole e [] last;
       }
 
--- ---- the row of a first byte
+-- ---- the table row of a first byte
 
 skip-row : (l : Lead) (ls : List Lead) (b : ℕ) → rowOf l .hi < b → leadByte (l ∷ ls) b ≡ leadByte ls b
 unfolding leadByte if_then_else_
@@ -158,7 +158,7 @@ beyond-ascii b h = rw (lt-leb b 0x7F h, and-false (leb 0x00 b))
 abbrev from-row : List Lead → ℕ → Type 0
 from-row ls b = charStep Whole b ≡ leadByte ls b
 
--- the rows that are left behind what has been passed
+-- the rows that remain after those already excluded
 module _ (b : ℕ) where
   at-c2 : 0xC2 ≤ b → from-row (C2ToDf ∷ E0 ∷ E1ToEc ∷ Ed ∷ EeToEf ∷ F0 ∷ F1ToF3 ∷ F4 ∷ []) b
   unfolding leads
@@ -220,9 +220,9 @@ module _ (b : ℕ) where
   unfolding rowOf
   row-f4 h k = four F4 (at-f4 h ∙ take-row F4 _ b h k) refl
 
--- ---- the character at a place
+-- ---- the character at an offset
 
--- its length, where there is one
+-- its length, if it has a row
 pub row-length : {b n low high : ℕ} → RowFor b n low high → ¬ (n ≡ 0) → 3 ≤ n
 row-length no-row h = absurd (h refl)
 row-length (three l e z) h = omega arith

@@ -1,7 +1,6 @@
--- The table's rule. A column of the code's table is one part of each of the definition's rows, in their order. `firsts` to
--- `highs` are the definition's columns, and they compute: a proof that hands a test on the code's array to a law on one of
--- these has the two lists compared, entry by entry. The laws then say what the definition does by the entries at one place.
--- Assumes nothing.
+-- The code's table against the definition's rows. A column of the code's table is one field of each row, in order; `firsts` to `highs`
+-- are the definition's columns and compute, so a proof that passes a test on the code's array to a law on one of them compares the two
+-- lists entry by entry. The laws then give the definition's step by the entries at one index.
 use mathlib.Core.Path.{_≡_, refl}
 use mathlib.Core.List.{List, [], _∷_, map}
 use Prim.Native.Nat.{ℕ, zero, suc, _<_}
@@ -15,11 +14,11 @@ use Rattle.model.specs.declared.Inner.the-variants.{Second}
 use Rattle.model.specs.declared.Char.the-variants.{Within}
 use Rattle.model.specs.declared.Advance.the-variants.{On, Broken}
 
--- one part of each row
+-- one field of each row
 abbrev pub column : (Row → ℕ) → List Lead → List ℕ
 column slice ls = map (λ l. slice (rowOf l)) ls
 
--- an entry is that part of the row at its place
+-- an entry is that field of the row at its index
 pub entry : (slice : Row → ℕ) (ls : List Lead) (i : ℕ) → i < length ls → getD (column slice ls) i 0 ≡ slice (rowOf (getD ls i C2ToDf))
 entry slice [] i h = absurd (not-suc-le-zero h)
 entry slice (l ∷ ls) zero h = refl
@@ -40,7 +39,7 @@ lows = column (λ r. r .lo2) leads
 abbrev pub highs : List ℕ
 highs = column (λ r. r .hi2) leads
 
--- the search of the table from place i on
+-- the search of the table from index i on
 lead-from : (ls : List Lead) (i b : ℕ) → i < length ls
     → leadByte (drop i ls) b
     ≡ (if within (getD (column (λ r. r .lo) ls) i 0) (getD (column (λ r. r .hi) ls) i 0) b
@@ -56,7 +55,7 @@ module _ (i b : ℕ) (h : i < 8) where
   unfolding leads
   lead-at = lead-from leads i b h
 
-  -- the second byte of a character of the row at place i
+  -- the second byte of a character whose row has index i
   pub second-at : {l : Lead} → getD leads i C2ToDf ≡ l
       → innerStep (Second l) b ≡ (if within (getD lows i 0) (getD highs i 0) b then On (afterSecond (getD sizes i 0)) else Broken)
   unfolding leads innerStep

@@ -1,4 +1,4 @@
--- Texts of whole characters that are not ASCII.
+-- Runs of whole non-ASCII characters (§2.11).
 use Prim.Native.Nat.{ℕ, _≤_}
 use mathlib.Core.Path.{_≡_}
 use mathlib.Core.Bool.{Bool, true, _&&_}
@@ -14,7 +14,7 @@ use Rattle.model.specs.rules.Base.{Bytes}
 use Rattle.model.specs.rules.Utf8.{rowOf, charStep}
 use Rattle.model.specs.rules.Api.{slice}
 
--- where a text stands after these bytes
+-- the automaton's state after these bytes
 unfoldable pub charsFrom : Char → Bytes → Advance
 charsFrom c [] = On c
 charsFrom c (b ∷ bs) = elim (charStep c b) [ On c′ ↦ charsFrom c′ bs | Broken ↦ Broken ]
@@ -28,13 +28,13 @@ pub record WideText (bs : Bytes) : Type 0 where
   pub high : allHigh bs ≡ true
   pub whole : charsFrom Whole bs ≡ On Whole
 
--- whole characters that are not ASCII stand from this place to r, at most to `stop`
+-- whole non-ASCII characters lie from `at` to r, and r is at most `stop`
 pub record WideRun (s : Bytes) (at stop r : ℕ) : Type 0 where
   pub from : at ≤ r
   pub upto : r ≤ stop
   pub characters : WideText (slice s at r)
 
--- what the table says of a character of three or four bytes by its first: its length, and where its second byte lies; or length 0
+-- the table's row for a first byte of three or four: the length of the character and the range of its second byte; or length 0, no row
 pub data RowFor (b : ℕ) : (length low high : ℕ) → Type 0 where
   no-row : {low high : ℕ} → RowFor b 0 low high
   three : (l : Lead) → charStep Whole b ≡ On (Within (Second l)) → rowOf l .size ≡ 3 → RowFor b 3 (rowOf l .lo2) (rowOf l .hi2)

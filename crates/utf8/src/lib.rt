@@ -1,11 +1,9 @@
-// Characters of UTF-8: a text validated a byte at a time, and code points packed into bytes.
+// UTF-8: a text validated a byte at a time, and code points packed into bytes. A state and the next byte go in, and the next state comes
+// out, or that the text is broken; a code point goes in, and its bytes come out. The definitions are those of model's
+// specs/rules/Utf8.antt (charStep, pack, joined); specs/Codes.antt says what is returned for a number that is no code point.
 //
-// Where a text stands and its next byte go in, and where it stands then comes out, or that it is broken. A code point goes in,
-// and its bytes come out. The definitions are those of model's specs/rules/Utf8.antt (charStep, pack, joined); specs/Codes.antt says
-// what is answered for a number that is no code point.
-//
-// The prover compares the table with the definition's rows, entry by entry (proofs/Table.antt): a row that changes in both needs
-// no new proof. A return is proved from the tests that led to it, so a test that changes needs the proof of its function.
+// The prover compares the table with the definition's rows entry by entry (proofs/Table.antt): a row that changes in both needs no new
+// proof. A return is proved from the tests before it, so a changed test needs the proof of its function again.
 ghost use mathlib.Core.Path.{_≡_};
 ghost use Prim.Native.Nat.{_+_, _%_, _<_};
 ghost use lib.ListN.{getD};
@@ -39,7 +37,7 @@ pub const LOW: [u8; 8] = [0x80, 0xA0, 0x80, 0x80, 0x80, 0x90, 0x80, 0x80];
 
 pub const HIGH: [u8; 8] = [0xBF, 0xBF, 0xBF, 0x9F, 0xBF, 0xBF, 0xBF, 0x8F];
 
-// Later bytes, the same in every row.
+// Bytes after the second, the same in every row.
 pub const LATER: [u8; 2] = [0x80, 0xBF];
 
 // The rows' names.
@@ -54,7 +52,7 @@ const ROWS: [Lead; 8] = [
     Lead::F4,
 ];
 
-// Where a row stands in the table.
+// The index of a row.
 fn row_of(l: Lead) -> usize
     ensures { λ r. ⌜ (r < 8) × (getD leads r C2ToDf ≡ l) ⌝ }
 {
@@ -72,7 +70,7 @@ fn row_of(l: Lead) -> usize
 
 // ---- a text, a byte at a time
 
-// The first byte of a character of more than one.
+// The first byte of a multibyte character.
 fn lead_byte(b: u8) -> Advance
     ensures { λ r. ⌜ r ≡ leadByte leads b ⌝ }
 {
@@ -112,7 +110,7 @@ fn second_byte(l: Lead, b: u8) -> Advance
     Advance::On(Char::Within(Inner::LastTwo))
 }
 
-// A later byte, and where the text stands after it.
+// A byte after the second, and the state after it.
 fn later_byte(b: u8, after: Char) -> Advance
     ensures { λ r. ⌜ r ≡ (if within 0x80 0xBF b then On after else Broken) ⌝ }
 {
@@ -125,7 +123,7 @@ fn later_byte(b: u8, after: Char) -> Advance
     Advance::On(after)
 }
 
-// The next byte of a text. ASCII is told before the table.
+// The next byte of a text. ASCII is tested before the table is searched.
 pub fn char_step(c: Char, b: u8) -> Advance
     ensures { λ r. ⌜ r ≡ charStep c b ⌝ }
 {
@@ -147,20 +145,20 @@ pub fn char_step(c: Char, b: u8) -> Advance
 
 // ---- code points
 
-// The bytes of a code point: the first `length` of `bytes`, with zeros after them.
+// The bytes of a code point: the first `size` of `bytes`, with zeros after them.
 pub struct Packed {
     pub bytes: [u8; 4],
     pub size: usize,
 }
 
-// The low six bits, as a later byte.
+// The low six bits as a continuation byte.
 fn six_bits(u: u32) -> u8
     ensures { λ r. ⌜ r ≡ 0x80 + u % 0x40 ⌝ }
 {
     ((u & 0x3F) | 0x80) as u8
 }
 
-// A code point, a surrogate too, as its bytes. What is no code point has none.
+// The bytes of a code point, also of a surrogate. A number that is no code point has none.
 pub fn pack(u: u32) -> Packed
     ensures { λ r. ⌜ Packs u (r .bytes) (r .size) ⌝ }
 {
@@ -197,7 +195,7 @@ pub fn pack(u: u32) -> Packed
     }
 }
 
-// The code point of a high and a low surrogate: ten bits of each.
+// The code point of a surrogate pair: ten bits of each (§2.8).
 pub fn joined(high: u32, low: u32) -> u32
     ensures { λ r. ⌜ Joins high low r ⌝ }
 {

@@ -1,6 +1,7 @@
-// Whole characters that are not ASCII, as far as they stand one after another: by the table, a character at a time.
+// Runs of whole non-ASCII characters, validated by the table a character at a time. A slice and an offset go in, the end of the run comes
+// out (`WideRun` of specs/Multibyte.antt).
 //
-// The table's entries are taken one by one, so that each is a number in the code.
+// The table's entries are indexed by constants, so that each becomes an immediate operand.
 ghost use mathlib.Core.Path.{_≡_};
 ghost use Prim.Native.Nat.{_≤_, _<_};
 ghost use lib.ListN.{length, getD};
@@ -13,7 +14,7 @@ use crate::LATER;
 use crate::LENGTH;
 use crate::LOW;
 
-// What a row says of a character after its first byte. Length 0: there is no row.
+// What a row says of the bytes after the first. Length 0: no row.
 struct Row {
     length: u8,
     low: u8,
@@ -90,7 +91,7 @@ fn is_later(b: u8) -> bool
     b <= LATER[1]
 }
 
-// Behind the character of three or four bytes at i; i: it is broken or goes beyond `stop`.
+// The end of the three- or four-byte character at i; i if it is broken or passes `stop`.
 fn long_end(s: &[u8], i: usize, stop: usize) -> usize
     requires { ⌜ (i < stop) × (stop ≤ length (now s)) × (0xDF < getD (now s) i 0) ⌝ }
     ensures { λ r. ⌜ WideRun (now (s .entry)) i stop r ⌝ }
@@ -122,7 +123,7 @@ fn long_end(s: &[u8], i: usize, stop: usize) -> usize
     i + size
 }
 
-// Behind the character of two bytes at i; i: it is broken or goes beyond `stop`.
+// The end of the two-byte character at i; i if it is broken or passes `stop`.
 fn two_end(s: &[u8], i: usize, stop: usize) -> usize
     requires { ⌜ (i < stop) × (stop ≤ length (now s)) × (0xC2 ≤ getD (now s) i 0) × (getD (now s) i 0 ≤ 0xDF) ⌝ }
     ensures { λ r. ⌜ WideRun (now (s .entry)) i stop r ⌝ }
@@ -140,7 +141,7 @@ fn two_end(s: &[u8], i: usize, stop: usize) -> usize
     i + 2
 }
 
-// Behind the character at i; i: it is ASCII, broken or goes beyond `stop`.
+// The end of the character at i; i if it is ASCII, broken or passes `stop`.
 fn char_end(s: &[u8], i: usize, stop: usize) -> usize
     requires { ⌜ (i < stop) × (stop ≤ length (now s)) ⌝ }
     ensures { λ r. ⌜ WideRun (now (s .entry)) i stop r ⌝ }
@@ -155,7 +156,7 @@ fn char_end(s: &[u8], i: usize, stop: usize) -> usize
     long_end(s, i, stop)
 }
 
-// How far whole characters that are not ASCII go from `at`, at most to `stop`.
+// The end of the run of whole non-ASCII characters from `at`, at most `stop`.
 pub fn multibyte_run(s: &[u8], at: usize, stop: usize) -> usize
     requires { ⌜ (at ≤ stop) × (stop ≤ length (now s)) ⌝ }
     ensures { λ r. ⌜ WideRun (now (s .entry)) at stop r ⌝ }

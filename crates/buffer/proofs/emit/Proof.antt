@@ -1,5 +1,4 @@
--- `buffer::emit` meets its contract: a copy, or nothing but a sum.
--- Assumes nothing.
+-- `buffer::emit` meets its contract: a copy, or a sum alone.
 use mathlib.Core.Path.{refl}
 use borrow.Author.Needs.{needs}
 use Rattle.buffer.proofs.WriteProgress.{put-written, put-measured}

@@ -1,5 +1,4 @@
--- `buffer::emit_byte` meets its contract: a store, or nothing but a sum.
--- Assumes nothing.
+-- `buffer::emit_byte` meets its contract: a store, or a sum alone.
 use mathlib.Core.Path.{refl}
 use native.Mathlib.Omega.{arith}
 use borrow.Author.Needs.{needs}

@@ -1,5 +1,4 @@
 -- `buffer::measured` meets its contract: the sum, or the limit.
--- Assumes nothing.
 use Prim.Native.Nat.{_+_}
 use mathlib.Core.Path.{sym}
 use native.Mathlib.Omega.{arith}

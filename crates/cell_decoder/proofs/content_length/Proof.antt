@@ -1,5 +1,4 @@
--- `cell_decoder::content_length` meets its contract: the first byte says how the content is spelt.
--- Assumes nothing.
+-- `cell_decoder::content_length` meets its contract: the first byte determines the encoding.
 use mathlib.Core.Path.{_≡_, ap, _∙_}
 use lib.ListN.{length}
 use borrow.Author.Needs.{needs}
@@ -10,7 +9,7 @@ use Rattle.cell_decoder.proofs.FirstByte.{content-first}
 use Rattle.cell_decoder.proofs.content_length.Statement.{statement}
 use Rattle.cell_decoder.proofs.content_length.Tie as tie
 
--- the spelling that was told is that of the cell
+-- the encoding that was returned is that of the cell
 spelt : (c : tie.After-spelling-by)
     → contentIn (c .spelling-by .result) (c .before .before .before .args .raw .now) ≡ contentOf (c .before .before .before .args .d) (c .before .before .before .args .raw .now)
 spelt c =

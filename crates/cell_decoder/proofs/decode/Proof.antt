@@ -1,5 +1,4 @@
 -- `cell_decoder::decode` meets its contract, by the dialect that the number names.
--- Assumes nothing.
 use mathlib.Core.Path.{sym, ap, _∙_}
 use borrow.Author.Needs.{needs}
 use Rattle.codes.specs.Named.{dialectIn}

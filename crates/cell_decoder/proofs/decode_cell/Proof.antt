@@ -1,5 +1,4 @@
 -- `cell_decoder::decode_cell` meets its contract: the check decides, and a refusal names its fault.
--- Assumes nothing.
 use mathlib.Core.Path.{sym, _∙_}
 use borrow.Author.Needs.{needs}
 use Rattle.cell_decoder.proofs.Answers.{sound, unsound}

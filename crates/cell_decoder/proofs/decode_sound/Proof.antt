@@ -1,5 +1,4 @@
 -- `cell_decoder::decode_sound` meets its contract: content that fits is written, and other content is refused.
--- Assumes nothing.
 use native.Mathlib.Omega.{arith}
 use borrow.Author.Needs.{needs}
 use Rattle.cell_decoder.proofs.Answers.{too-long, fits}

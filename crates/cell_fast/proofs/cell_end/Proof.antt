@@ -1,3 +1,4 @@
+-- `cell_fast::cell_end` meets its contract: the dialect and the first byte decide which function finds the end.
 use Prim.Native.Nat.{_≤_}
 use mathlib.Core.Path.{_≡_, sym, ap, _∙_}
 use mathlib.Core.Bool.{true}
@@ -31,7 +32,7 @@ returns-3 c =
     let plus : mayBeEmpty (u .args .d) ≡ true = rw (c .before .before .before .enum-told3 .given .1) in
     c .plain-end .ensures (u .args .d) plus (u .pre .2) (u .pre .3)
 
--- whichever dialect it is, the quote stands at the cell's start
+-- in every dialect the quote is at the cell's start
 opened : (c : tie.At-match-came) → let a = c .before .before .args in getD (a .s .now) (a .at) 0 ≡ a .q
 opened c =
     let u = c .before .before in

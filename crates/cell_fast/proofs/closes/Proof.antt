@@ -1,3 +1,4 @@
+-- `cell_fast::closes` meets its contract: a quote before a byte that is no second quote closes the cell; in CSVJ every quote does.
 use mathlib.Core.Path.{_≡_, sym, ap, _∙_}
 use mathlib.Core.Bool.{false}
 use native.Mathlib.Omega.{arith}

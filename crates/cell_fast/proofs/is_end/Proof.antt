@@ -1,3 +1,4 @@
+-- `cell_fast::is_end` meets its contract, by its tests.
 use Rattle.model.proofs.Tests.{tests}
 use Rattle.cell_fast.proofs.is_end.Statement.{statement}
 use Rattle.cell_fast.proofs.is_end.Tie as tie

@@ -1,3 +1,4 @@
+-- `cell_fast::plain_end` meets its contract: the guess is tested, and otherwise `plain_rest_end` finds the end.
 use Prim.Native.Nat.{_+_}
 use native.Mathlib.Omega.{arith}
 use mathlib.Core.Path.{_≡_, refl, sym, _∙_}

@@ -1,3 +1,4 @@
+-- `cell_fast::plain_rest_end` meets its contract: the text of the cell, and the byte after it.
 use mathlib.Core.Path.{_≡_, sym, _∙_}
 use mathlib.Core.Bool.{true, false}
 use lib.ListN.{getD}

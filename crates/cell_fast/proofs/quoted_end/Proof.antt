@@ -1,3 +1,4 @@
+-- `cell_fast::quoted_end` meets its contract: the guess is tested, and otherwise `quoted_rest_end` finds the end.
 use native.Mathlib.Omega.{arith}
 use mathlib.Core.Path.{_∙_}
 use borrow.Author.Needs.{needs}

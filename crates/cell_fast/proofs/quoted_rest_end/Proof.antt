@@ -1,3 +1,4 @@
+-- `cell_fast::quoted_rest_end` meets its contract: the text inside the quotes, and the quote that closes it.
 use mathlib.Core.Path.{_∙_}
 use mathlib.Core.Bool.{false}
 use borrow.Author.Needs.{needs}

@@ -1,3 +1,4 @@
+-- `cell_lexer::cell_step` meets its contract: `classify` returns the step, or the text whose UTF-8 step decides it.
 use Rattle.model.proofs.Tests.{tests}
 use borrow.Author.Needs.{needs}
 use Rattle.cell_lexer.proofs.cell_step.Statement.{statement}

@@ -1,3 +1,4 @@
+-- `cell_lexer::classify` meets its contract: each arm is the definition's step of its state.
 use Rattle.model.specs.rules.Cell.{cellStep}
 use Rattle.model.proofs.Tests.{tests}
 use borrow.Author.Needs.{needs}

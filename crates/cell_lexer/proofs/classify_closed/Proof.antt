@@ -1,3 +1,4 @@
+-- `cell_lexer::classify_closed` meets its contract, by its test.
 use Rattle.model.specs.rules.Base.{if_then_else_}
 use Rattle.model.specs.rules.Cell.{cellStep}
 use Rattle.model.proofs.Tests.{tests}

@@ -1,3 +1,4 @@
+-- `cell_lexer::classify_first` meets its contract, dialect by dialect.
 use Rattle.model.proofs.Tests.{tests}
 use borrow.Author.Needs.{needs}
 use Rattle.cell_lexer.proofs.classify_first.Statement.{statement}

@@ -1,3 +1,4 @@
+-- `cell_lexer::classify_text` meets its contract: within a character the UTF-8 step decides.
 use Rattle.model.specs.rules.Cell.{cellStep}
 use Rattle.model.proofs.Tests.{tests}
 use borrow.Author.Needs.{needs}

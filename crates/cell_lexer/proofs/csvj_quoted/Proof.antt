@@ -1,3 +1,4 @@
+-- `cell_lexer::csvj_quoted` meets its contract, by its tests in the definition's order.
 use native.Mathlib.Omega.{arith}
 use borrow.Author.Tests.{lt-ltb, le-ltb}
 use Rattle.model.specs.rules.Base.{if_then_else_}

@@ -1,3 +1,4 @@
+-- `cell_lexer::is_separator` meets its contract, by its tests.
 use Rattle.model.specs.rules.Base.{if_then_else_}
 use Rattle.model.proofs.Tests.{tests}
 use borrow.Author.Needs.{needs}

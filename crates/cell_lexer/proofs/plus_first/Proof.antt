@@ -1,3 +1,4 @@
+-- `cell_lexer::plus_first` meets its contract, by its tests in the definition's order.
 use native.Mathlib.Omega.{arith}
 use Rattle.model.specs.rules.Base.{if_then_else_}
 use Rattle.model.specs.rules.Cell.{firstByte}

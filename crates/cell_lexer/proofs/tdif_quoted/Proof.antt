@@ -1,3 +1,4 @@
+-- `cell_lexer::tdif_quoted` meets its contract, by its test.
 use Rattle.model.specs.rules.Base.{if_then_else_}
 use Rattle.model.specs.rules.Cell.{quotedByte}
 use Rattle.model.proofs.Tests.{tests}

@@ -1,4 +1,4 @@
--- The invariant: what the rest of the cell is from `from` is what it is from here, with the cell read so far.
+-- `cell_scanner::cell_end` meets its contract. The invariant: `cellRun` from `from` equals `cellRun` from here, in the current state.
 use Prim.Native.Nat.{ℕ, _+_, _-_, _≤_}
 use native.Mathlib.Omega.{arith}
 use mathlib.Core.Path.{_≡_, refl, sym, ap, _∙_}

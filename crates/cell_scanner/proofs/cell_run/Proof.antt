@@ -1,3 +1,4 @@
+-- `cell_scanner::cell_run` meets its contract: the run with this cell's stop, or none.
 use mathlib.Core.Path.{_≡_, sym, _∙_}
 use native.Mathlib.Omega.{arith}
 use Rattle.cell_scanner.specs.declared.RunStop.the-variants.{At, Fallback}

@@ -1,4 +1,4 @@
--- The run stays before `stop`, so its end fits.
+-- `cell_scanner::run` meets its contract. The run ends at `stop` or before it, so no sum overflows.
 use native.Mathlib.Omega.{arith}
 use borrow.Author.Needs.{needs}
 use Rattle.cell_scanner.proofs.Runs.{part-short}

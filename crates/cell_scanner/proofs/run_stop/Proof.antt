@@ -1,4 +1,4 @@
--- Bytes run in no cell but a quoted and a plain one.
+-- `cell_scanner::run_stop` meets its contract: only quoted and unquoted texts have runs.
 use Prim.Native.Nat.{ℕ}
 use mathlib.Core.Path.{_≡_, refl}
 use mathlib.Core.List.{List, [], _∷_}
@@ -15,7 +15,7 @@ use borrow.Author.Needs.{needs}
 use Rattle.cell_scanner.proofs.run_stop.Statement.{statement}
 use Rattle.cell_scanner.proofs.run_stop.Tie as tie
 
--- the places of the other cells in the enum
+-- the other cells' indices in the enum
 abbrev others : List ℕ
 others = 0 ∷ 2 ∷ 3 ∷ 4 ∷ 5 ∷ 6 ∷ 8 ∷ []
 

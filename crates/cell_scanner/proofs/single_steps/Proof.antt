@@ -1,4 +1,4 @@
--- The invariant: what the run from `at` answers is what a run from here answers.
+-- `cell_scanner::single_steps` meets its contract. The invariant: the end of the run from `at` is the end of the run from here.
 use Prim.Native.Nat.{_+_, _-_, _≤_}
 use native.Mathlib.Omega.{arith}
 use mathlib.Core.Path.{_≡_, refl, sym, _∙_}

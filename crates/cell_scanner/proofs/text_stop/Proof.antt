@@ -1,3 +1,4 @@
+-- `cell_scanner::text_stop` meets its contract: a run begins between two characters only.
 use Rattle.model.proofs.Tests.{tests}
 use borrow.Author.Needs.{needs}
 use Rattle.cell_scanner.proofs.text_stop.Statement.{statement}

@@ -1,4 +1,5 @@
--- The invariant: the run from `at` is eight bytes for each step, and then the run from here.
+-- `cell_scanner::word_steps` meets its contract. The invariant: the run from `at` is eight bytes for each step, and then the run from
+-- here.
 use Prim.Native.Nat.{_+_, _*_, _-_, _≤_, _<_}
 use native.Mathlib.Omega.{arith}
 use mathlib.Core.Path.{_≡_, _∙_}

@@ -1,4 +1,4 @@
--- `codes::record_report` meets its contract: number and column are the table's.
+-- `codes::record_report` meets its contract: number and column are read off the tables.
 use borrow.Author.Needs.{needs}
 use Rattle.codes.proofs.record_report.Statement.{statement}
 use Rattle.codes.proofs.record_report.Tie as tie

@@ -1,3 +1,4 @@
+-- `file_lexer::after_cr` meets its contract, by its test.
 use Rattle.model.specs.rules.Base.{if_then_else_}
 use Rattle.model.specs.rules.File.{fileStep}
 use Rattle.model.proofs.Tests.{tests}

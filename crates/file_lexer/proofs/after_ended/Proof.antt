@@ -1,3 +1,4 @@
+-- `file_lexer::after_ended` meets its contract: an LF belongs to the ending before it, and any other byte begins a record.
 use Rattle.model.specs.rules.Base.{if_then_else_}
 use Rattle.model.specs.rules.File.{fileStep}
 use Rattle.model.proofs.Tests.{tests}

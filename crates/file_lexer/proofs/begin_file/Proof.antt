@@ -1,3 +1,4 @@
+-- `file_lexer::begin_file` meets its contract, dialect by dialect.
 use Rattle.model.specs.rules.Base.{if_then_else_}
 use Rattle.model.specs.rules.File.{beginFile}
 use Rattle.model.proofs.Tests.{tests}

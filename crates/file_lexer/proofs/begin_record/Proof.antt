@@ -1,3 +1,4 @@
+-- `file_lexer::begin_record` meets its contract, dialect by dialect, by its tests in the definition's order.
 use Rattle.model.specs.rules.Base.{if_then_else_}
 use Rattle.model.specs.rules.File.{beginRecord}
 use Rattle.model.proofs.Tests.{tests}

@@ -1,3 +1,4 @@
+-- `file_lexer::comment_text` meets its contract: the UTF-8 step decides.
 use Rattle.model.specs.rules.Base.{if_then_else_}
 use Rattle.model.proofs.Tests.{tests}
 use borrow.Author.Needs.{needs}

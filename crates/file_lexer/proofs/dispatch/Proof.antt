@@ -1,3 +1,4 @@
+-- `file_lexer::dispatch` meets its contract: each arm is the definition's step of its state.
 use Prim.Native.Nat.{ℕ}
 use mathlib.Core.Path.{_≡_, refl}
 use Rattle.model.specs.declared.Dialect.{Dialect}

@@ -1,3 +1,4 @@
+-- `file_lexer::in_comment` meets its contract: a line break ends a comment between characters only.
 use Rattle.model.specs.rules.Base.{if_then_else_}
 use Rattle.model.specs.rules.File.{fileStep}
 use Rattle.model.proofs.Tests.{tests}

@@ -1,3 +1,4 @@
+-- `record_fast::after_cr` meets its contract: an LF belongs to the ending before it.
 use mathlib.Core.Path.{refl}
 use borrow.Author.Needs.{needs}
 use borrow.Author.Tests.{ne-eqb}

@@ -1,3 +1,4 @@
+-- `record_fast::crlf_end` meets its contract: a CR is an ending only with the LF after it.
 use native.Mathlib.Omega.{arith}
 use borrow.Author.Needs.{needs}
 use Rattle.record_fast.specs.FastScan.{RecordEndSound, at-once, by-pair, nowhere}
@@ -6,31 +7,24 @@ use Rattle.record_fast.proofs.crlf_end.Tie as tie
 use Rattle.record_fast.proofs.crlf_end.Reads as reads
 use Rattle.record_fast.proofs.crlf_end.Lts as lts
 
--- src/lib.rt:79:8
 sub-if1 : tie.Need-sub-if1
 sub-if1 c = search needs
 
--- src/lib.rt:80:9
 returns : tie.Need-returns
 returns c = λ d _. nowhere
 
--- src/lib.rt:82:13
 add-if2 : tie.Need-add-if2
 add-if2 c = search needs
 
--- src/lib.rt:82:8
 shared-slice-read-if2 : tie.Need-shared-slice-read-if2
 shared-slice-read-if2 c = search needs
 
--- src/lib.rt:83:9
 returns-2 : tie.Need-returns-2
 returns-2 c = λ d _. nowhere
 
--- src/lib.rt:85:38
 add-t4 : tie.Need-add-t4
 add-t4 c = search needs
 
--- src/lib.rt:75:1
 returns-3 : tie.Need-returns-3
 returns-3 c = λ d h. by-pair (omega arith) h (c .if2 .left)
 

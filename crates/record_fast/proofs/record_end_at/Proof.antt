@@ -1,3 +1,4 @@
+-- `record_fast::record_end_at` meets its contract: an LF, TDIF's CR, or a CRLF.
 use Prim.Native.Nat.{ℕ}
 use mathlib.Core.Bool.{true}
 use mathlib.Core.Path.{ap, _∙_}
@@ -13,61 +14,48 @@ use Rattle.record_fast.proofs.record_end_at.Reads as reads
 use Rattle.record_fast.proofs.record_end_at.Lts as lts
 use Rattle.record_fast.proofs.crlf_end.Reads as by-pair-reads
 
--- src/lib.rt:92:13
 shared-slice-read-b : tie.Need-shared-slice-read-b
 shared-slice-read-b c = search needs
 
--- src/lib.rt:94:49
 add-t10 : tie.Need-add-t10
 add-t10 c = search needs
 
--- src/lib.rt:94:9
 returns : tie.Need-returns
 returns c =
     let a = c .before .before .before .args in
     at-once (ap (λ (b : ℕ). afterCell (a .d) true b) (c .if1 .taken) ∙ after-lf (a .d))
 
--- src/lib.rt:97:9
 returns-2 : tie.Need-returns-2
 returns-2 c = nowhere
 
--- src/lib.rt:100:26
 enum-told : tie.Need-enum-told
 enum-told c = search needs
 
--- src/lib.rt:100:26
 crlf-end-requires : tie.Need-crlf-end-requires
 crlf-end-requires c κs = search needs
 
--- src/lib.rt:101:41
 enum-told-2 : tie.Need-enum-told-2
 enum-told-2 c = search needs
 
--- src/lib.rt:101:59
 add-t13 : tie.Need-add-t13
 add-t13 c = search needs
 
--- src/lib.rt:102:32
 enum-told-3 : tie.Need-enum-told-3
 enum-told-3 c = search needs
 
--- src/lib.rt:102:32
 crlf-end-requires-2 : tie.Need-crlf-end-requires-2
 crlf-end-requires-2 c κs = search needs
 
--- src/lib.rt:88:1
 returns-3 : tie.Need-returns-3
 returns-3 c =
     let a = c .before .before .before .before .before .before .before .args in
     c .crlf-end .ensures (a .d) (ap (λ (b : ℕ). afterCell (a .d) true b) (c .before .before .before .if2 .left) ∙ ap (λ (x : Dialect). afterCell x true CR) (c .before .enum-told .given .1) ∙ after-cr-csvj)
 
--- src/lib.rt:88:1
 returns-4 : tie.Need-returns-4
 returns-4 c =
     let a = c .before .before .before .before .before .before .args in
     at-once (ap (λ (b : ℕ). afterCell (a .d) true b) (c .before .before .if2 .left) ∙ ap (λ (x : Dialect). afterCell x true CR) (c .enum-told2 .given .1) ∙ after-cr-tdif)
 
--- src/lib.rt:88:1
 returns-5 : tie.Need-returns-5
 returns-5 c =
     let a = c .before .before .before .before .before .before .before .args in

@@ -1,3 +1,4 @@
+-- `record_fast::record_start` meets its contract: the fast path begins between records only.
 use Rattle.record_fast.specs.FastScan.{FirstCellAt, here, after-cr, after-pair, unknown}
 use borrow.Author.Needs.{needs}
 use Rattle.record_fast.proofs.record_start.Statement.{statement}

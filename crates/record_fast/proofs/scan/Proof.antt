@@ -1,4 +1,5 @@
--- The invariant: what scanning from `from` comes to is what it comes to from the cell at `at`, with the cells before it in the lists.
+-- `record_fast::scan` meets its contract. The invariant: scanning from `from` has the result of scanning from the cell at `at`, with the
+-- cells before it in the lists.
 use Prim.Native.Nat.{ℕ, _+_, _-_, _≤_, _<_}
 use native.Mathlib.Omega.{arith}
 use mathlib.Core.Path.{_≡_, refl, sym, ap, subst, _∙_}
@@ -71,7 +72,7 @@ lies u =
     let x = cell-lies-in _ _ _ _ _ _ _ _ _ _ _ (u .before .before .before .before .loop .inv) (u .before .before .before .loop-test .taken) (ends-at u) _ (u .before .before .before .before .before .before .before .before .before .before .record-start .ensures) in
     (x .0, x .1)
 
--- its numbers are small
+-- no overflow
 small : (u : tie.After-both Inv-loop μ-loop) → (u .before .before .before .before .before .before .before .before .before .before .before .before .before .before .before .args .base + u .before .before .before .before .loop .n ≤ u .before .before .before .before .loop .at) × (u .before .before .cell-end .result .at < MAXFILE)
 small u =
     let l = u .before .before .before .before .loop in

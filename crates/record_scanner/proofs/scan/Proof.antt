@@ -1,4 +1,5 @@
--- The invariant: what reading from `from` comes to is what it comes to from here, with the cells found so far, which the lists hold.
+-- `record_scanner::scan` meets its contract. The invariant: scanning from `from` has the result of scanning from here with the cells
+-- found so far, which the lists hold.
 use Prim.Native.Nat.{_+_, _-_, _≤_, _<_}
 use native.Mathlib.Omega.{arith}
 use mathlib.Core.Path.{sym, _∙_}
@@ -16,7 +17,7 @@ Inv-loop d part from size limit room base starts₀ ends₀ kinds₀ state₀ i�
 abbrev μ-loop : tie.MeasureT-loop
 μ-loop d part from size limit room base starts₀ ends₀ kinds₀ state₀ i₀ h₀ starts ends kinds state i h = length part - i
 
--- what the code knows once it has asked what stands ahead
+-- what is known after the call of `next_token`
 
 abbrev call : tie.After-next-token Inv-loop μ-loop → Call
 call u =

@@ -1,3 +1,4 @@
+-- `swar::before_flag` meets its contract: the trailing zeros of flags are eight for each zero byte before the first, and seven.
 use native.Mathlib.Omega.{arith}
 use lib.Count.{trailing-le}
 use Rattle.swar.proofs.WordReads.{zeros-word}

@@ -1,3 +1,4 @@
+-- `swar::eight_stops` meets its contract, by its test.
 use borrow.Author.Needs.{needs}
 use borrow.Author.Tests.{lt-ltb, le-ltb}
 use Rattle.model.specs.rules.Base.{if_then_else_}

@@ -1,3 +1,4 @@
+-- `swar::four` meets its contract: the four bytes of the slice, joined.
 use mathlib.Core.Path.{sym, _∙_}
 use native.Mathlib.Omega.{arith}
 use borrow.Author.Needs.{needs}

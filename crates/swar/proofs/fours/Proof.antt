@@ -1,3 +1,4 @@
+-- `swar::fours` meets its contract: the two groups have no bits in common.
 use mathlib.Core.Path.{ap₂, _∙_}
 use mathlib.Core.List.{_++_}
 use borrow.Author.Needs.{needs}

@@ -1,4 +1,4 @@
--- The sum fits, as no byte of the low bits is above 7F hex.
+-- `swar::from_20` meets its contract. The sum fits, since no byte of the low bits is above 7F hex.
 use native.Mathlib.Omega.{arith}
 use lib.Bits.{and-le-r}
 use Rattle.swar.proofs.ThresholdTests.{from-20-flags}

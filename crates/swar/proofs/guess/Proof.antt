@@ -1,4 +1,4 @@
--- The difference is not below 0, as no byte of the low bits is above 7F hex.
+-- `swar::guess` has no contract. The difference is not below 0, since no byte of the low bits is above 7F hex.
 use borrow.Author.Needs.{needs}
 use Rattle.swar.proofs.OrdinaryTest.{stop-fits}
 use Rattle.swar.proofs.guess.Statement.{statement}

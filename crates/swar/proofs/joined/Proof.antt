@@ -1,3 +1,4 @@
+-- `swar::joined` meets its contract: each byte is shifted above those before it, so that the disjunction adds.
 use native.Mathlib.Omega.{arith}
 use Rattle.swar.proofs.WordReads.{joined-word}
 use Rattle.swar.proofs.joined.Statement.{statement}

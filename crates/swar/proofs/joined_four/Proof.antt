@@ -1,3 +1,4 @@
+-- `swar::joined_four` meets its contract, as `swar::joined` does.
 use native.Mathlib.Omega.{arith}
 use Rattle.swar.proofs.WordReads.{joined-four}
 use Rattle.swar.proofs.joined_four.Statement.{statement}

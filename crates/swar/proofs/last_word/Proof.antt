@@ -1,3 +1,4 @@
+-- `swar::last_word` meets its contract: for each length of the span the bytes that are read cover it.
 use borrow.Author.Needs.{needs}
 use native.Mathlib.Omega.{arith}
 use Rattle.swar.proofs.Spans.{last-eight, last-fours, last-none, last-three}

@@ -1,4 +1,4 @@
--- The sum fits and the difference is not below 0, as no byte of the low bits is above 7F hex.
+-- `swar::no_digit` meets its contract. The sum fits and the difference is not below 0, since no byte of the low bits is above 7F hex.
 use native.Mathlib.Omega.{arith}
 use lib.Bits.{and-le-r}
 use Rattle.swar.proofs.Digits.{digit-flags}

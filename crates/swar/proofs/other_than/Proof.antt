@@ -1,4 +1,4 @@
--- The sum fits, as no byte of the low bits is above 7F hex.
+-- `swar::other_than` meets its contract. The sum fits, since no byte of the low bits is above 7F hex.
 use native.Mathlib.Omega.{arith}
 use Prim.Native.Nat.{_*_}
 use lib.Bits.{bitXor, and-le-r}

@@ -1,3 +1,4 @@
+-- `swar::three` meets its contract: three bytes of the slice and five spaces, joined.
 use Prim.Native.Nat.{ℕ, _<_}
 use lib.ListN.{getD}
 use native.Mathlib.Omega.{arith}

@@ -1,4 +1,4 @@
--- No difference is below 0, as no byte of the low bits is above 7F hex.
+-- `swar::unclean` meets its contract. No difference is below 0, since no byte of the low bits is above 7F hex.
 use native.Mathlib.Omega.{arith}
 use lib.Bits.{bitAnd, and-le-r, xor-lt}
 use borrow.Author.Needs.{needs}

@@ -1,3 +1,4 @@
+-- `swar::unclean_text` meets its contract. No sum leaves 64 bits, since no byte of the low bits is above 7F hex.
 use native.Mathlib.Omega.{arith}
 use Rattle.swar.proofs.TextBytes.{sum-fits, clean-flags}
 use Rattle.swar.proofs.unclean_text.Statement.{statement}

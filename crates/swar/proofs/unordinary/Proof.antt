@@ -1,4 +1,5 @@
--- No difference is below 0 and no sum leaves 64 bits, as no byte of the low bits is above 7F hex.
+-- `swar::unordinary` meets its contract. No difference is below 0 and no sum leaves 64 bits, since no byte of the low bits is above 7F
+-- hex.
 use native.Mathlib.Omega.{arith}
 use lib.Bits.{and-le-r}
 use borrow.Author.Needs.{needs}

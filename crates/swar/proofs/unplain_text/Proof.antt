@@ -1,3 +1,4 @@
+-- `swar::unplain_text` meets its contract. No sum leaves 64 bits, since no byte of the low bits is above 7F hex.
 use native.Mathlib.Omega.{arith}
 use Rattle.swar.proofs.TextBytes.{sum-fits, plain-flags}
 use Rattle.swar.proofs.unplain_text.Statement.{statement}

@@ -1,3 +1,4 @@
+-- `swar::word` meets its contract: the eight bytes of the slice, joined.
 use Prim.Native.Nat.{ℕ, _<_}
 use native.Mathlib.Omega.{arith}
 use lib.ListN.{getD}

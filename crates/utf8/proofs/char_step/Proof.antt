@@ -1,5 +1,4 @@
--- `utf8::char_step` meets its contract: each arm answers what its definition does, and a byte that is no ASCII goes to the table.
--- Assumes nothing.
+-- `utf8::char_step` meets its contract: each arm returns its definition's step, and a non-ASCII byte is looked up in the table.
 use mathlib.Core.Path.{sym, _∙_}
 use Prim.Native.Nat.{zero-le}
 use native.Mathlib.Omega.{arith}

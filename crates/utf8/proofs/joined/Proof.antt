@@ -1,5 +1,4 @@
--- `utf8::joined` meets its contract: the bits of the two numbers do not meet, so that they add.
--- Assumes nothing.
+-- `utf8::joined` meets its contract: the bits of the two numbers are disjoint, so that they add.
 use native.Mathlib.Omega.{arith}
 use Rattle.utf8.proofs.Codes.{ten-bits, joins-of}
 use Rattle.utf8.proofs.joined.Statement.{statement}

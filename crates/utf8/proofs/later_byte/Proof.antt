@@ -1,5 +1,4 @@
 -- `utf8::later_byte` meets its contract, by its two tests.
--- Assumes nothing.
 use borrow.Author.Needs.{needs}
 use borrow.Author.Tests.{le-leb, lt-leb}
 use Rattle.model.specs.rules.Base.{if_then_else_}

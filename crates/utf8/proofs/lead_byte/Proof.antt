@@ -1,5 +1,4 @@
--- `utf8::lead_byte` meets its contract: what the search finds from a row on is what it finds from the first.
--- Assumes nothing.
+-- `utf8::lead_byte` meets its contract. The invariant: the search from the current row has the result of the search from the first row.
 use mathlib.Core.Path.{_≡_, refl, sym, _∙_}
 use mathlib.Core.Logic.{⊎-elim}
 use Prim.Native.Nat.{_≤_, _-_}

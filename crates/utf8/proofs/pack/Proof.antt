@@ -1,5 +1,4 @@
--- `utf8::pack` meets its contract: at each length the tests say how many bits stand below the mark, so that it adds.
--- Assumes nothing.
+-- `utf8::pack` meets its contract: at each length the tests bound the bits below the tag, so that the tag adds.
 use mathlib.Core.Path.{_≡_, refl, sym, _∙_}
 use mathlib.Core.List.{[], _∷_}
 use Prim.Native.Nat.{_+_, _/_}

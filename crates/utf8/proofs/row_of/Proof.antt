@@ -1,5 +1,4 @@
--- `utf8::row_of` meets its contract: each name stands at its place in the definition's list.
--- Assumes nothing.
+-- `utf8::row_of` meets its contract: each name has its index in the definition's list.
 use mathlib.Core.Path.{sym}
 use lib.Dec.{lit<}
 use borrow.Author.Needs.{needs}

@@ -1,5 +1,4 @@
--- `utf8::second_byte` meets its contract: it goes by the entries of its row.
--- Assumes nothing.
+-- `utf8::second_byte` meets its contract, by the entries of its row.
 use mathlib.Core.Path.{_≡_, sym, _∙_}
 use mathlib.Core.Bool.{true}
 use lib.Dec.{leb}
@@ -14,7 +13,7 @@ use Rattle.utf8.proofs.Table.{sizes, lows, highs, second-at}
 use Rattle.utf8.proofs.second_byte.Statement.{statement}
 use Rattle.utf8.proofs.second_byte.Tie as tie
 
--- the definition's step, by the entries of the row that `row_of` answers
+-- the definition's step, by the entries of the row that `row_of` returns
 at-row : (c : tie.After-row-of)
     → innerStep (Second (c .before .args .l)) (c .before .args .b)
     ≡ (if within (getD lows (c .row-of .result) 0) (getD highs (c .row-of .result) 0) (c .before .args .b)

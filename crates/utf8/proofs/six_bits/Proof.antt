@@ -1,5 +1,4 @@
--- `utf8::six_bits` meets its contract: 0x80 is a mark above six bits.
--- Assumes nothing.
+-- `utf8::six_bits` meets its contract: 0x80 is a tag above six bits.
 use native.Mathlib.Omega.{arith}
 use Rattle.utf8.proofs.Codes.{marked}
 use Rattle.utf8.proofs.six_bits.Statement.{statement}

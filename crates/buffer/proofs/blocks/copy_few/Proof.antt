@@ -1,5 +1,4 @@
--- `buffer::blocks::copy_few` meets its contract: its stores, from the last to the first, are the text.
--- Assumes nothing.
+-- `buffer::blocks::copy_few` meets its contract: its stores, from the last to the first, write the text.
 use mathlib.Core.Path.{refl}
 use Prim.Native.Nat.{_-_, _/_}
 use native.Mathlib.Omega.{arith}

@@ -1,5 +1,4 @@
--- `buffer::blocks::copy_four` meets its contract: its stores, from the last to the first, are the text.
--- Assumes nothing.
+-- `buffer::blocks::copy_four` meets its contract: its stores, from the last to the first, write the block.
 use native.Mathlib.Omega.{arith}
 use lib.ListN.{length-set}
 use Rattle.buffer.proofs.Overlaps.{four-stored}

@@ -1,5 +1,4 @@
--- `buffer::blocks::copy_long` meets its contract. The invariant: what is still to be written is the rest of `src`.
--- Assumes nothing.
+-- `buffer::blocks::copy_long` meets its contract. The invariant: what remains to be written is the rest of `src`.
 use mathlib.Core.Path.{refl, ap, _∙_}
 use Prim.Native.Nat.{_+_, _-_, _≤_}
 use native.Mathlib.Omega.{arith}

@@ -1,5 +1,4 @@
--- `buffer::blocks::copy_short` meets its contract: four bytes and the last four, or few, or none.
--- Assumes nothing.
+-- `buffer::blocks::copy_short` meets its contract: the first and the last four bytes, or one to three, or none.
 use mathlib.Core.Path.{refl}
 use Prim.Native.Nat.{_-_}
 use native.Mathlib.Omega.{arith}

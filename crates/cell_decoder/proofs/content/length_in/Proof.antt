@@ -1,5 +1,4 @@
--- `cell_decoder::content::length_in` meets its contract: each spelling has its measure.
--- Assumes nothing.
+-- `cell_decoder::content::length_in` meets its contract: each encoding has its measure.
 use borrow.Author.Needs.{needs}
 use Rattle.cell_decoder.proofs.content.length_in.Statement.{statement}
 use Rattle.cell_decoder.proofs.content.length_in.Tie as tie

@@ -1,5 +1,5 @@
--- `cell_decoder::content::string_length` meets its contract. The invariant: the count with what the rest says is what the whole says.
--- Assumes nothing.
+-- `cell_decoder::content::string_length` meets its contract. The invariant: the count plus the length of the rest is the length of the
+-- whole.
 use mathlib.Core.Path.{_≡_, ap}
 use Prim.Native.Nat.{_+_, _-_, _<_}
 use native.Mathlib.Omega.{arith}

@@ -1,5 +1,5 @@
--- `cell_decoder::content::undoubled_length` meets its contract. The invariant: the count with what the rest takes is what the whole takes.
--- Assumes nothing.
+-- `cell_decoder::content::undoubled_length` meets its contract. The invariant: the count plus the length of the rest is the length of the
+-- whole.
 use mathlib.Core.Bool.{false}
 use mathlib.Core.List.{_∷_}
 use mathlib.Core.Logic.{⊎-elim}
@@ -34,7 +34,7 @@ returns-2 c =
     let a = at-loop .before .args in
     omega (arith, ap length (at-close (a .q) (a .raw .now) (at-loop .loop .i) (at-if1 .before .before .loop-test .taken) (at-if1 .if1 .taken) (omega arith) (c .if3 .taken)))
 
--- what a turn takes of the text: the byte, and of two quotes the second is passed over
+-- what a step takes of the text: the byte; of two quotes the second is skipped
 turn : (c : tie.Joined1 Inv-loop μ-loop)
     → let raw = c .before .before .before .before .args .raw .now in
     let q = c .before .before .before .before .args .q in

@@ -1,5 +1,4 @@
--- `cell_decoder::content::write_escape` meets its contract: the piece that stands there is written.
--- Assumes nothing.
+-- `cell_decoder::content::write_escape` meets its contract: the content of the escape is written.
 use mathlib.Core.Path.{sym}
 use native.Mathlib.Omega.{arith}
 use lib.ListN.{take}

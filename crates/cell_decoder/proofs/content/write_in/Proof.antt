@@ -1,5 +1,4 @@
--- `cell_decoder::content::write_in` meets its contract: each spelling has its writer.
--- Assumes nothing.
+-- `cell_decoder::content::write_in` meets its contract: each encoding has its writer.
 use mathlib.Core.Path.{_∙_}
 use native.Mathlib.Omega.{arith}
 use borrow.Author.Needs.{needs}

@@ -1,5 +1,5 @@
--- `cell_decoder::content::write_string` meets its contract. The invariant: what is still to be written is what the string says from the place on.
--- Assumes nothing.
+-- `cell_decoder::content::write_string` meets its contract. The invariant: what remains to be written is the string's content from here
+-- on.
 use mathlib.Core.List.{_∷_}
 use Prim.Native.Nat.{_+_, _-_}
 use native.Mathlib.Omega.{arith}
@@ -33,7 +33,7 @@ loop-again c =
     let at-loop = c .before .before .before .before .before .before .before .before in
     stepped _ _ (at-loop .loop .inv) (c .before .before .write-escape .ensures)
 
--- a byte that stands for itself comes next
+-- a verbatim byte comes next
 now-left : (c : tie.Else2 Inv-loop μ-loop)
     → let raw = c .before .before .before .before .before .before .before .args .raw .now in
     let l = c .before .before .before .before .loop in

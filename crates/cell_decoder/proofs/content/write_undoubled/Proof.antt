@@ -1,5 +1,4 @@
--- `cell_decoder::content::write_undoubled` meets its contract. The invariant: what is still to be written is the text from the place on.
--- Assumes nothing.
+-- `cell_decoder::content::write_undoubled` meets its contract. The invariant: what remains to be written is the text from here on.
 use mathlib.Core.Bool.{false}
 use mathlib.Core.List.{_∷_}
 use mathlib.Core.Logic.{⊎-elim}
@@ -36,7 +35,7 @@ returns-2 c =
     let a = at-loop .before .args in
     filled (rw (at-close (a .q) (a .raw .now) (at-loop .loop .i) (at-if1 .before .before .loop-test .taken) (at-if1 .if1 .taken) (omega arith) (c .if3 .taken)) at (at-loop .loop .inv))
 
--- what a turn takes of the text: the byte, and of two quotes the second is passed over
+-- what a step takes of the text: the byte; of two quotes the second is skipped
 turn : (c : tie.Joined1 Inv-loop μ-loop)
     → let raw = c .before .before .before .before .args .raw .now in
     let q = c .before .before .before .before .args .q in

@@ -1,5 +1,4 @@
 -- `cell_decoder::escape::hex_of` meets its contract, by its two tests; a byte that is no digit has a value too, at most 168.
--- Assumes nothing.
 use native.Mathlib.Omega.{arith}
 use borrow.Author.Needs.{needs}
 use Rattle.model.specs.rules.Base.{if_then_else_}

@@ -1,5 +1,5 @@
--- `cell_decoder::escape::low_at` meets its contract: each test that fails leaves nothing that joins, and the last leaves the surrogate.
--- Assumes nothing.
+-- `cell_decoder::escape::low_at` meets its contract: after each test that fails nothing joins, and after the last there is a low
+-- surrogate.
 use native.Mathlib.Omega.{arith}
 use borrow.Author.Needs.{needs}
 use Rattle.cell_decoder.specs.Strings.{UnitThere}
@@ -20,7 +20,7 @@ returns-3 c =
     let a = c .before .before .before .before .before .before .args in
     low-short (a .raw .now) (a .i) (omega arith) (c .before .before .if2 .left) (c .if3 .taken)
 
--- a \u escape stands there
+-- a \u escape is there
 there : (c : tie.After-unit-at) → UnitThere (c .before .before .before .before .before .before .before .args .raw .now) (c .before .before .before .before .before .before .before .args .i)
 there c = record { inside = omega arith; backslash = c .before .before .before .if2 .left; letter = c .before .if3 .left }
 

@@ -1,5 +1,4 @@
 -- `cell_decoder::escape::short_escape` meets its contract, by its tests.
--- Assumes nothing.
 use Rattle.model.specs.rules.Base.{if_then_else_}
 use Rattle.model.proofs.Tests.{tests}
 use Rattle.cell_decoder.proofs.escape.short_escape.Statement.{statement}

@@ -1,5 +1,4 @@
 -- `cell_decoder::escape::unescape_at` meets its contract, by the bytes after the backslash.
--- Assumes nothing.
 use native.Mathlib.Omega.{arith}
 use borrow.Author.Needs.{needs}
 use Rattle.cell_decoder.proofs.Strings.{proceeds-cut, proceeds-short, cut-backslash, cut-unit}

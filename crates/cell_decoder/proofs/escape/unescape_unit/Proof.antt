@@ -1,5 +1,4 @@
--- `cell_decoder::escape::unescape_unit` meets its contract: a code unit stands for itself, and two halves that follow each other for one code point.
--- Assumes nothing.
+-- `cell_decoder::escape::unescape_unit` meets its contract: a code unit alone is its own code point, and a surrogate pair is one.
 use borrow.Author.Needs.{needs}
 use Rattle.cell_decoder.proofs.Strings.{below, above, amid, goes-calm, goes-lone, goes-pair}
 use Rattle.cell_decoder.proofs.escape.unescape_unit.Statement.{statement}

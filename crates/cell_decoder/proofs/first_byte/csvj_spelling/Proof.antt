@@ -1,5 +1,4 @@
 -- `cell_decoder::first_byte::csvj_spelling` meets its contract, by its tests.
--- Assumes nothing.
 use Rattle.model.specs.rules.Base.{if_then_else_}
 use Rattle.cell_decoder.specs.FirstByte.{spellingBy}
 use Rattle.model.proofs.Tests.{tests}

@@ -1,5 +1,4 @@
 -- `cell_decoder::first_byte::doubled_or` meets its contract, by its test.
--- Assumes nothing.
 use Rattle.model.specs.rules.Base.{if_then_else_}
 use Rattle.model.proofs.Tests.{tests}
 use Rattle.cell_decoder.proofs.first_byte.doubled_or.Statement.{statement}

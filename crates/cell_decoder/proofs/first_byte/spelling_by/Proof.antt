@@ -1,5 +1,4 @@
--- `cell_decoder::first_byte::spelling_by` meets its contract: each arm answers what the definition does for its dialect.
--- Assumes nothing.
+-- `cell_decoder::first_byte::spelling_by` meets its contract: each arm returns the definition's result for its dialect.
 use borrow.Author.Needs.{needs}
 use Rattle.cell_decoder.proofs.FirstByte.{encoded-tdif, encoded-plus}
 use Rattle.cell_decoder.proofs.first_byte.spelling_by.Statement.{statement}

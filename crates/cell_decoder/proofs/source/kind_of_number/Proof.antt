@@ -1,5 +1,4 @@
--- `cell_decoder::source::kind_of_number` meets its contract.
--- Assumes nothing.
+-- `cell_decoder::source::kind_of_number` meets its contract, arm by arm.
 use mathlib.Core.Path.{sym, ap, _∙_}
 use borrow.Author.Needs.{needs}
 use Rattle.codes.specs.Named.{kindIn}

@@ -1,5 +1,4 @@
--- `cell_decoder::source::spelling_in` meets its contract: in a file the first byte says how the content is spelt.
--- Assumes nothing.
+-- `cell_decoder::source::spelling_in` meets its contract: in a file the first byte determines the encoding.
 use mathlib.Core.Path.{sym, ap, _∙_}
 use borrow.Author.Needs.{needs}
 use Rattle.cell_decoder.specs.FirstByte.{spellingBy, contentIn}

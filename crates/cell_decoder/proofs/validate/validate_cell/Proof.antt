@@ -1,5 +1,4 @@
--- `cell_decoder::validate::validate_cell` meets its contract: what the end of the run says is the definition's check.
--- Assumes nothing.
+-- `cell_decoder::validate::validate_cell` meets its contract: the check result of the run's end is the definition's.
 use mathlib.Core.Path.{sym, ap, _∙_}
 use lib.ListN.{length}
 use borrow.Author.Needs.{needs}

@@ -1,4 +1,4 @@
--- The invariant: clean bytes stand from `at` to here.
+-- `cell_fast::runs::quoted_run` meets its contract. The invariant: clean bytes lie from `at` to here.
 use Prim.Native.Nat.{_-_}
 use native.Mathlib.Omega.{arith}
 use borrow.Author.Needs.{needs}

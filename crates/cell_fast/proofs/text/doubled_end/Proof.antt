@@ -1,3 +1,4 @@
+-- `cell_fast::text::doubled_end` meets its contract: a byte that is no quote is text, and so are two quotes.
 use mathlib.Core.Path.{sym, _∙_}
 use native.Mathlib.Omega.{arith}
 use borrow.Author.Needs.{needs}

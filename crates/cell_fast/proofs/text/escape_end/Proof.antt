@@ -1,3 +1,4 @@
+-- `cell_fast::text::escape_end` meets its contract: a short escape, or one with four digits.
 use mathlib.Core.Path.{sym, _∙_}
 use native.Mathlib.Omega.{arith}
 use borrow.Author.Needs.{needs}

@@ -1,3 +1,4 @@
+-- `cell_fast::text::long_escape_end` meets its contract: the automaton's states after each of the six bytes.
 use mathlib.Core.Path.{sym, _∙_}
 use native.Mathlib.Omega.{arith}
 use borrow.Author.Needs.{needs}

@@ -1,3 +1,4 @@
+-- `cell_fast::text::pass` meets its contract: non-ASCII characters, an escape of CSVJ, or two quotes.
 use mathlib.Core.Path.{_≡_}
 use mathlib.Core.Bool.{false}
 use native.Mathlib.Omega.{arith}

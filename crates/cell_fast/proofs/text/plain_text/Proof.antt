@@ -1,4 +1,4 @@
--- The invariant: clean characters stand from `at` to here.
+-- `cell_fast::text::plain_text` meets its contract. The invariant: clean characters lie from `at` to here.
 use Prim.Native.Nat.{_-_}
 use native.Mathlib.Omega.{arith}
 use Rattle.cell_fast.specs.TextRuns.{TextRun, isOpen}

@@ -1,4 +1,5 @@
--- The invariant: the text between quotes goes from `at` to here, and is clean if that is said.
+-- `cell_fast::text::quoted_text` meets its contract. The invariant: the text inside the quotes lies from `at` to here, verbatim if
+-- `clean`.
 use Prim.Native.Nat.{_-_}
 use mathlib.Core.Bool.{true}
 use native.Mathlib.Omega.{arith}

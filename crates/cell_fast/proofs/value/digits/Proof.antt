@@ -1,4 +1,4 @@
--- The invariant: digits stand from `at` to here.
+-- `cell_fast::value::digits` meets its contract. The invariant: digits lie from `at` to here.
 use Prim.Native.Nat.{_-_}
 use native.Mathlib.Omega.{arith}
 use mathlib.Core.Path.{sym, _∙_}

@@ -1,3 +1,4 @@
+-- `cell_fast::value::false_end` meets its contract: four letters and the last.
 use native.Mathlib.Omega.{arith}
 use borrow.Author.Needs.{needs}
 use Rattle.cell_fast.proofs.BareValues.{false-ends}

@@ -1,3 +1,4 @@
+-- `cell_fast::value::fraction_end` meets its contract: at least one digit, or fallback.
 use borrow.Author.Needs.{needs}
 use Rattle.cell_fast.proofs.BareValues.{fraction-none, fraction-digits}
 use Rattle.cell_fast.proofs.value.fraction_end.Statement.{statement}

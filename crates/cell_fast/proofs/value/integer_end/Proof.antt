@@ -1,3 +1,4 @@
+-- `cell_fast::value::integer_end` meets its contract: a 0 alone, or digits.
 use borrow.Author.Needs.{needs}
 use Rattle.cell_fast.proofs.BareValues.{integer-zero, integer-digits}
 use Rattle.cell_fast.proofs.value.integer_end.Statement.{statement}

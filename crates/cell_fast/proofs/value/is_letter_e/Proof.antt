@@ -1,3 +1,4 @@
+-- `cell_fast::value::is_letter_e` meets its contract, by its tests.
 use Rattle.model.proofs.Tests.{tests}
 use Rattle.cell_fast.proofs.value.is_letter_e.Statement.{statement}
 use Rattle.cell_fast.proofs.value.is_letter_e.Tie as tie

@@ -1,3 +1,4 @@
+-- `cell_fast::value::is_number` meets its contract: digits up to the comma, or digits, a point and digits.
 use Prim.Native.Nat.{_+_, _≤_}
 use native.Mathlib.Omega.{arith}
 use mathlib.Core.Path.{_≡_}
@@ -10,7 +11,7 @@ use Rattle.cell_fast.proofs.BareValues.{comma-integer, comma-fraction}
 use Rattle.cell_fast.proofs.value.is_number.Statement.{statement}
 use Rattle.cell_fast.proofs.value.is_number.Tie as tie
 
--- an integer that begins with 0 has no more digits
+-- an integer that begins with 0 has no further digits (§3.5)
 zero-alone : (c : tie.Joined2) → let a = c .before .before .before .before .before .args in getD (a .s .now) (a .at) 0 ≡ 0x30 → c .before .before .before .word-digits .result ≤ a .at + 1
 zero-alone c e = ⊎-elim (λ w. w .1 .left) (λ w. absurd (w .left e)) (c .if2 .came)
 

@@ -1,3 +1,4 @@
+-- `cell_fast::value::null_end` meets its contract, by its tests of the two bytes.
 use native.Mathlib.Omega.{arith}
 use borrow.Author.Needs.{needs}
 use Rattle.cell_fast.proofs.BareValues.{tdif-null-ends}

@@ -1,3 +1,5 @@
+-- `cell_fast::value::number_end` meets its contract: an integer, or an integer and a fraction, before a byte that is not part of a
+-- number.
 use mathlib.Core.Path.{sym, _∙_}
 use native.Mathlib.Omega.{arith}
 use borrow.Author.Needs.{needs}

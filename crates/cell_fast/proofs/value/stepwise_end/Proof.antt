@@ -1,3 +1,4 @@
+-- `cell_fast::value::stepwise_end` meets its contract: the first byte decides between a number and the words.
 use native.Mathlib.Omega.{arith}
 use borrow.Author.Needs.{needs}
 use Rattle.model.specs.declared.Numeral.the-variants.{Minus}

@@ -1,3 +1,4 @@
+-- `cell_fast::value::value_end` meets its contract: the guess is tested by `is_number`, and otherwise `stepwise_end` finds the end.
 use borrow.Author.Needs.{needs}
 use Rattle.cell_fast.proofs.value.value_end.Statement.{statement}
 use Rattle.cell_fast.proofs.value.value_end.Tie as tie

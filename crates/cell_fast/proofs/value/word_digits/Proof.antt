@@ -1,3 +1,4 @@
+-- `cell_fast::value::word_digits` meets its contract: the bytes before the first flag are digits.
 use Prim.Native.Nat.{_≤_, _+_}
 use native.Mathlib.Omega.{arith}
 use borrow.Author.Needs.{needs}

@@ -1,3 +1,4 @@
+-- `cell_lexer::values::after_fraction` meets its contract, by its tests.
 use Rattle.model.specs.rules.Base.{if_then_else_}
 use Rattle.model.specs.rules.Cell.{numeralStep}
 use Rattle.model.proofs.Tests.{tests}

@@ -1,3 +1,4 @@
+-- `cell_lexer::values::after_hex` meets its contract, arm by arm.
 use Rattle.model.specs.rules.Base.{if_then_else_}
 use Rattle.model.proofs.Tests.{tests}
 use borrow.Author.Needs.{needs}

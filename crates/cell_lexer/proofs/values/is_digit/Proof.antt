@@ -1,3 +1,4 @@
+-- `cell_lexer::values::is_digit` meets its contract, by its tests.
 use Rattle.model.specs.rules.Base.{if_then_else_}
 use Rattle.model.proofs.Tests.{tests}
 use Rattle.cell_lexer.proofs.values.is_digit.Statement.{statement}

@@ -1,3 +1,4 @@
+-- `cell_lexer::values::numeral_step` meets its contract: each arm tests as the definition does in its state.
 use Rattle.model.specs.rules.Base.{if_then_else_}
 use Rattle.model.specs.rules.Cell.{numeralStep}
 use Rattle.model.proofs.Tests.{tests}

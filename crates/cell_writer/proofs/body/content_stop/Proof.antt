@@ -1,5 +1,4 @@
 -- `cell_writer::body::content_stop` meets its contract: a lone surrogate of a string, or a byte.
--- Assumes nothing.
 use mathlib.Core.Logic.{⊎-elim}
 use mathlib.Core.Bool.{true, false}
 use mathlib.Core.Path.{_≡_, sym, _∙_}

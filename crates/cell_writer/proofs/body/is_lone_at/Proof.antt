@@ -1,5 +1,4 @@
--- `cell_writer::body::is_lone_at` meets its contract: three bytes, of which the first two tell.
--- Assumes nothing.
+-- `cell_writer::body::is_lone_at` meets its contract: three bytes, of which the first two decide.
 use mathlib.Core.Path.{sym, _∙_}
 use borrow.Author.Needs.{needs}
 use Rattle.cell_writer.proofs.Bodies.{lone-cut, lone-by}

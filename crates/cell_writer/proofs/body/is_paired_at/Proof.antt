@@ -1,5 +1,4 @@
 -- `cell_writer::body::is_paired_at` meets its contract, by its tests.
--- Assumes nothing.
 use mathlib.Core.Path.{sym}
 use borrow.Author.Needs.{needs}
 use Rattle.cell_writer.proofs.Bodies.{pair-cut, pair-other, pair-at}

@@ -1,5 +1,4 @@
--- `cell_writer::body::stop_text` meets its contract, spelling by spelling.
--- Assumes nothing.
+-- `cell_writer::body::stop_text` meets its contract, encoding by encoding.
 use borrow.Author.Needs.{needs}
 use Rattle.cell_writer.proofs.Contents.{legible-doubled, legible-string}
 use Rattle.cell_writer.proofs.Bodies.{stops-nothing}

@@ -1,5 +1,4 @@
--- `cell_writer::body::unit_stop` meets its contract: the text of the unit that stands there.
--- Assumes nothing.
+-- `cell_writer::body::unit_stop` meets its contract: the text of the unit there.
 use native.Mathlib.Omega.{arith}
 use borrow.Author.Needs.{needs}
 use Rattle.cell_writer.proofs.Bodies.{stops-end, stops-unit}

@@ -1,6 +1,5 @@
--- `cell_writer::body::write_body` meets its contract. The invariant: what is still to be put is the text of the rest of the content, and a lone
--- surrogate was found or stands in that rest where the content holds one.
--- Assumes nothing.
+-- `cell_writer::body::write_body` meets its contract. The invariant: what remains to be written is the text of the rest of the content,
+-- and the content holds a lone surrogate exactly if one was found or the rest holds one.
 use mathlib.Core.Path.{_≡_, ap, _∙_}
 use mathlib.Core.Bool.{Bool, _||_}
 use mathlib.Core.List.{_++_}

@@ -1,5 +1,4 @@
--- `cell_writer::body::write_stop` meets its contract: the text that stands there is put.
--- Assumes nothing.
+-- `cell_writer::body::write_stop` meets its contract: the text of the stop is written.
 use mathlib.Core.Path.{sym}
 use lib.ListN.{take}
 use borrow.Author.Needs.{needs}

@@ -1,5 +1,4 @@
 -- `cell_writer::cell::is_quoted` meets its contract, target by target.
--- Assumes nothing.
 use borrow.Author.Needs.{needs}
 use Rattle.cell_writer.proofs.cell.is_quoted.Statement.{statement}
 use Rattle.cell_writer.proofs.cell.is_quoted.Tie as tie

@@ -1,5 +1,4 @@
--- `cell_writer::cell::word_for` meets its contract.
--- Assumes nothing.
+-- `cell_writer::cell::word_for` meets its contract, target by target.
 use mathlib.Core.Path.{refl}
 use borrow.Author.Needs.{needs}
 use Rattle.cell_writer.proofs.cell.word_for.Statement.{statement}

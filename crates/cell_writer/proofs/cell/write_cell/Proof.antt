@@ -1,5 +1,4 @@
--- `cell_writer::cell::write_cell` meets its contract, by how the target writes a cell of the kind.
--- Assumes nothing.
+-- `cell_writer::cell::write_cell` meets its contract, by the written form of the kind in the target.
 use mathlib.Core.Path.{_≡_, sym, ap, _∙_}
 use borrow.Author.Needs.{needs}
 use Rattle.model.specs.rules.Base.{Bytes}

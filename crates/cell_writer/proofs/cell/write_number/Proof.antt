@@ -1,5 +1,4 @@
 -- `cell_writer::cell::write_number` meets its contract: all bytes, or nothing.
--- Assumes nothing.
 use mathlib.Core.Path.{_≡_, refl, sym, ap}
 use mathlib.Core.List.{List, [], _∷_}
 use Prim.Native.Nat.{ℕ}
@@ -16,7 +15,7 @@ use Rattle.cell_writer.proofs.Cells.{written-nothing, written-long}
 use Rattle.cell_writer.proofs.cell.write_number.Statement.{statement}
 use Rattle.cell_writer.proofs.cell.write_number.Tie as tie
 
--- the places of the other spellings in the enum
+-- the other encodings' indices in the enum
 abbrev others : List ℕ
 others = 1 ∷ 2 ∷ 3 ∷ []
 

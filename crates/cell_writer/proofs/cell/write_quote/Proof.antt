@@ -1,5 +1,4 @@
 -- `cell_writer::cell::write_quote` meets its contract: the quote, or nothing.
--- Assumes nothing.
 use mathlib.Core.Path.{sym}
 use borrow.Author.Needs.{needs}
 use Rattle.buffer.proofs.WriteProgress.{room-as, emitted-as}

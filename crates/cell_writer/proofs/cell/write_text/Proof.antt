@@ -1,5 +1,4 @@
 -- `cell_writer::cell::write_text` meets its contract: a quote, the content between the quotes, and a quote.
--- Assumes nothing.
 use mathlib.Core.Path.{_≡_, sym, ap, _∙_}
 use mathlib.Core.Bool.{Bool}
 use mathlib.Core.List.{[], _++_, append-nil}
@@ -28,7 +27,7 @@ parts c =
     text-parts (a .t) (a .only) (a .first) (contentIn (a .c) (a .raw .now))
     ∙ ap (λ (q : Bool). quoteBy (a .t) q ++ (body (start c) ++ quoteBy (a .t) q)) (sym (c .is-quoted .ensures))
 
--- all of it comes
+-- all of it remains
 first : (c : tie.After-is-quoted)
     → let a = start c .args in
     let whole = quote c ++ (body (start c) ++ quote c) in
@@ -38,7 +37,7 @@ first c = emitting (start c .args .write) (room-as (sym (parts c)) (start c .pre
 write-quote-requires : tie.Need-write-quote-requires
 write-quote-requires c κs = let u = c .before in room-next (quote u) (body (start u) ++ quote u) (first u)
 
--- the content comes
+-- the content comes next
 second : (c : tie.After-write-quote)
     → let u = c .before .before in
     let a = start u .args in
@@ -51,7 +50,7 @@ write-body-requires c κs =
     let u = p .before .before in
     (start u .pre .0, room-next (body (start u)) (quote u) (second p))
 
--- the last quote comes
+-- the last quote comes next
 third : (c : tie.After-write-body)
     → let u = c .before .before .before .before .before .before in
     let a = start u .args in
@@ -60,7 +59,7 @@ third c =
     let p = c .before .before .before .before in
     put-next (body (start (p .before .before))) (second p) (c .write-body .ensures .0)
 
--- nothing is left
+-- nothing remains
 fourth : (c : tie.After-write-quote2)
     → let u = c .before .before .before .before .before .before .before .before .before .before in
     let a = start u .args in

@@ -1,5 +1,4 @@
--- `cell_writer::cell::write_word` meets its contract: the word is put.
--- Assumes nothing.
+-- `cell_writer::cell::write_word` meets its contract: the word is written.
 use mathlib.Core.Path.{_≡_, sym, ap, _∙_}
 use lib.ListN.{length, take}
 use borrow.Author.Needs.{needs}
@@ -7,7 +6,7 @@ use Rattle.buffer.proofs.WriteProgress.{taken-whole, room-as, emitted-as}
 use Rattle.cell_writer.proofs.cell.write_word.Statement.{statement}
 use Rattle.cell_writer.proofs.cell.write_word.Tie as tie
 
--- the word is as long as its size says
+-- the word has the length that its size says
 long : (c : tie.After-word-for) → length (take (c .word-for .result .size) (c .word-for .result .bytes)) ≡ c .word-for .result .size
 long c = let s = c .word-for .ensures in ap length (s .spells) ∙ sym (s .sized)
 

@@ -1,5 +1,4 @@
--- `cell_writer::escape::byte_text` meets its contract: a string or doubled text, by the target.
--- Assumes nothing.
+-- `cell_writer::escape::byte_text` meets its contract: a string's byte or a text's, by the target.
 use borrow.Author.Needs.{needs}
 use Rattle.model.specs.rules.Text.{jsonBody}
 use Rattle.cell_writer.proofs.escape.byte_text.Statement.{statement}

@@ -1,5 +1,4 @@
 -- `cell_writer::escape::control` meets its contract: a letter for each of five bytes, and digits for the others.
--- Assumes nothing.
 use mathlib.Core.Path.{_≡_}
 use mathlib.Core.List.{[], _∷_}
 use borrow.Author.Needs.{needs}

@@ -1,5 +1,4 @@
 -- `cell_writer::escape::double` meets its contract: a quote is written twice.
--- Assumes nothing.
 use mathlib.Core.Path.{refl}
 use borrow.Author.Needs.{needs}
 use Rattle.cell_writer.proofs.Units.{spells-as, doubled-quote, doubled-itself}

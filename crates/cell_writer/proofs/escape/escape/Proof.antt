@@ -1,5 +1,4 @@
 -- `cell_writer::escape::escape` meets its contract, by its tests.
--- Assumes nothing.
 use borrow.Author.Needs.{needs}
 use Rattle.cell_writer.proofs.Units.{spells-as, escaped-quote, escaped-backslash, escaped-itself}
 use Rattle.cell_writer.proofs.escape.escape.Statement.{statement}

@@ -1,5 +1,4 @@
 -- `cell_writer::escape::hex_digit` meets its contract, by its test.
--- Assumes nothing.
 use borrow.Author.Needs.{needs}
 use Rattle.model.specs.rules.Base.{if_then_else_}
 use Rattle.model.proofs.Tests.{tests}

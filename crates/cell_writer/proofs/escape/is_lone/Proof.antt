@@ -1,5 +1,4 @@
 -- `cell_writer::escape::is_lone` meets its contract, by its tests.
--- Assumes nothing.
 use mathlib.Core.Path.{sym}
 use native.Mathlib.Omega.{arith}
 use borrow.Author.Needs.{needs}

@@ -1,5 +1,4 @@
--- `cell_writer::escape::lone` meets its contract: three digits, from the bits that the definition takes.
--- Assumes nothing.
+-- `cell_writer::escape::lone` meets its contract: three digits, from the definition's bits.
 use mathlib.Core.Path.{ap, _∙_}
 use Prim.Native.Nat.{ℕ, _+_, _-_, _*_, _/_, _%_}
 use borrow.Author.Needs.{needs}

@@ -1,5 +1,4 @@
--- `cell_writer::escape::unit_text` meets its contract: a byte, a lone surrogate of a string, and all else as it stands.
--- Assumes nothing.
+-- `cell_writer::escape::unit_text` meets its contract: a byte, a lone surrogate of a string, or any other unit verbatim.
 use mathlib.Core.Logic.{⊎-elim}
 use mathlib.Core.Bool.{true, false}
 use mathlib.Core.Path.{_≡_, sym, ap, _∙_}

@@ -1,5 +1,4 @@
 -- `cell_writer::plain::is_plain` meets its contract: it tests as the definition does.
--- Assumes nothing.
 use Rattle.model.proofs.Tests.{tests}
 use Rattle.cell_writer.specs.PlainRuns.{isPlain}
 use Rattle.cell_writer.proofs.plain.is_plain.Statement.{statement}

@@ -1,5 +1,4 @@
--- `cell_writer::plain::plain_run` meets its contract.
--- Assumes nothing.
+-- `cell_writer::plain::plain_run` meets its contract: by words if the quotes are equal, and otherwise by bytes.
 use Prim.Native.Nat.{ℕ, _+_}
 use mathlib.Core.Path.{sym, ap, _∙_}
 use lib.ListN.{drop}

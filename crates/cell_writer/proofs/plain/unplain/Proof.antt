@@ -1,5 +1,4 @@
--- `cell_writer::plain::unplain` meets its contract.
--- Assumes nothing.
+-- `cell_writer::plain::unplain` meets its contract: the conjunction of five exact tests, inverted.
 use borrow.Author.Needs.{needs}
 use Rattle.cell_writer.proofs.PlainSteps.{plain-flags}
 use Rattle.cell_writer.proofs.plain.unplain.Statement.{statement}

@@ -1,5 +1,4 @@
--- `cell_writer::plain::word_steps` meets its contract. The invariant: what the run from `at` answers is what a run from here answers.
--- Assumes nothing.
+-- `cell_writer::plain::word_steps` meets its contract. The invariant: the end of the run from `at` is the end of the run from here.
 use mathlib.Core.Path.{_≡_, refl, sym, _∙_}
 use Prim.Native.Nat.{_+_, _-_, _≤_, _<_}
 use native.Mathlib.Omega.{arith}

@@ -1,5 +1,4 @@
--- `cell_writer::special::begins_with_bom` meets its contract, spelling by spelling.
--- Assumes nothing.
+-- `cell_writer::special::begins_with_bom` meets its contract, encoding by encoding.
 use borrow.Author.Needs.{needs}
 use Rattle.cell_writer.proofs.Contents.{legible-doubled, legible-string}
 use Rattle.cell_writer.proofs.special.begins_with_bom.Statement.{statement}

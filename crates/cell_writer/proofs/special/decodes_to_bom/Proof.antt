@@ -1,5 +1,4 @@
--- `cell_writer::special::decodes_to_bom` meets its contract: the room holds the content, whose first bytes are asked for.
--- Assumes nothing.
+-- `cell_writer::special::decodes_to_bom` meets its contract: the room holds the content, whose first bytes are tested.
 use mathlib.Core.Path.{ap, _∙_}
 use lib.ListN.{replicate}
 use borrow.Author.Needs.{needs}

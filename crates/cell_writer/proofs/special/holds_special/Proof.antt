@@ -1,5 +1,4 @@
--- `cell_writer::special::holds_special` meets its contract. The invariant: what the content holds is what the rest of it holds.
--- Assumes nothing.
+-- `cell_writer::special::holds_special` meets its contract. The invariant: the content needs quotes exactly if the rest of it does.
 use mathlib.Core.Path.{_≡_, sym, ap, _∙_}
 use Prim.Native.Nat.{_-_}
 use native.Mathlib.Omega.{arith}

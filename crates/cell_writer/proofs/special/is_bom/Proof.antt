@@ -1,5 +1,4 @@
 -- `cell_writer::special::is_bom` meets its contract, by its tests.
--- Assumes nothing.
 use mathlib.Core.Path.{sym}
 use borrow.Author.Needs.{needs}
 use Rattle.cell_writer.proofs.Quoted.{bom-short, mark-first, mark-second, mark-third}

@@ -1,5 +1,4 @@
 -- `cell_writer::special::is_quoted` meets its contract, by its tests.
--- Assumes nothing.
 use mathlib.Core.Logic.{⊎-elim}
 use mathlib.Core.Bool.{false, _&&_}
 use mathlib.Core.Path.{_≡_, sym, _∙_}

@@ -1,5 +1,4 @@
 -- `cell_writer::special::is_special` meets its contract, by its tests.
--- Assumes nothing.
 use mathlib.Core.Path.{sym, _∙_}
 use borrow.Author.Needs.{needs}
 use Rattle.cell_writer.proofs.Quoted.{by-quote, by-delimiter, by-cr, by-lf}

@@ -1,5 +1,4 @@
--- `cell_writer::special::is_special_unit` meets its contract: a unit of more than one byte has no byte of ASCII.
--- Assumes nothing.
+-- `cell_writer::special::is_special_unit` meets its contract: a unit of more than one byte has no ASCII byte.
 use mathlib.Core.Path.{sym, _∙_}
 use native.Mathlib.Omega.{arith}
 use borrow.Author.Needs.{needs}

@@ -1,5 +1,4 @@
--- `cell_writer::unit::byte_at` meets its contract.
--- Assumes nothing.
+-- `cell_writer::unit::byte_at` meets its contract: one verbatim byte.
 use borrow.Author.Needs.{needs}
 use Rattle.cell_writer.proofs.Contents.{itself-part}
 use Rattle.cell_writer.proofs.unit.byte_at.Statement.{statement}

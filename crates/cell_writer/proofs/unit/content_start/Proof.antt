@@ -1,5 +1,4 @@
--- `cell_writer::unit::content_start` meets its contract.
--- Assumes nothing.
+-- `cell_writer::unit::content_start` meets its contract, encoding by encoding.
 use borrow.Author.Needs.{needs}
 use Rattle.cell_writer.proofs.Contents.{nothing-end}
 use Rattle.cell_writer.proofs.unit.content_start.Statement.{statement}

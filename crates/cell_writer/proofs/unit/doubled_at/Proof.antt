@@ -1,5 +1,4 @@
--- `cell_writer::unit::doubled_at` meets its contract, by the bytes that stand there.
--- Assumes nothing.
+-- `cell_writer::unit::doubled_at` meets its contract, by the bytes there.
 use native.Mathlib.Omega.{arith}
 use mathlib.Core.List.{[]}
 use borrow.Author.Needs.{needs}

@@ -1,5 +1,4 @@
--- `cell_writer::unit::string_at` meets its contract, by the byte that stands there.
--- Assumes nothing.
+-- `cell_writer::unit::string_at` meets its contract, by the byte there.
 use mathlib.Core.List.{[]}
 use borrow.Author.Needs.{needs}
 use Rattle.cell_writer.proofs.Contents.{quote-part, escape-part, char-part}

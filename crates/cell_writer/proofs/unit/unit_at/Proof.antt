@@ -1,5 +1,4 @@
--- `cell_writer::unit::unit_at` meets its contract, spelling by spelling.
--- Assumes nothing.
+-- `cell_writer::unit::unit_at` meets its contract, encoding by encoding.
 use borrow.Author.Needs.{needs}
 use Rattle.cell_writer.proofs.Contents.{nothing-part}
 use Rattle.cell_writer.proofs.unit.unit_at.Statement.{statement}

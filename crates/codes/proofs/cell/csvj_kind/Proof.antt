@@ -1,4 +1,4 @@
--- `codes::cell::csvj_kind` meets its contract, by its tests.
+-- `codes::cell::csvj_kind` meets its contract, by its tests in the definition's order.
 use Rattle.model.specs.rules.Base.{if_then_else_}
 use Rattle.model.proofs.Tests.{tests}
 use Rattle.codes.specs.FirstByte.{kindBy}

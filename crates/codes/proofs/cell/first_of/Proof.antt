@@ -1,4 +1,4 @@
--- `codes::cell::first_of` meets its contract.
+-- `codes::cell::first_of` meets its contract: the default 0 is returned where there is no first byte.
 use borrow.Author.Needs.{needs}
 use Rattle.codes.proofs.FirstByte.{first-none}
 use Rattle.codes.proofs.cell.first_of.Statement.{statement}

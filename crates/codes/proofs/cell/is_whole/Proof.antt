@@ -1,4 +1,4 @@
--- `codes::cell::is_whole` meets its contract: each arm answers what the definition does for its state.
+-- `codes::cell::is_whole` meets its contract: each arm returns the definition's result for its state.
 use borrow.Author.Needs.{needs}
 use Rattle.model.specs.rules.Cell.{isWhole}
 use Rattle.codes.proofs.cell.is_whole.Statement.{statement}

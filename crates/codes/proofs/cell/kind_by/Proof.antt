@@ -1,4 +1,4 @@
--- `codes::cell::kind_by` meets its contract: each arm answers what the definition does for its dialect.
+-- `codes::cell::kind_by` meets its contract: each arm returns the definition's result for its dialect.
 use borrow.Author.Needs.{needs}
 use Rattle.codes.specs.FirstByte.{kindBy}
 use Rattle.codes.proofs.cell.kind_by.Statement.{statement}

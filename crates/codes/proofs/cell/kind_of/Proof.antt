@@ -1,4 +1,4 @@
--- `codes::cell::kind_of` meets its contract: the first byte says the kind.
+-- `codes::cell::kind_of` meets its contract: the first byte decides the kind.
 use mathlib.Core.Path.{ap, _∙_}
 use borrow.Author.Needs.{needs}
 use Rattle.codes.specs.FirstByte.{kindBy}

@@ -1,3 +1,4 @@
+-- `file_lexer::counted::counted` meets its contract, by its tests.
 use mathlib.Core.Path.{sym, _∙_}
 use mathlib.Core.Bool.{or-false, or-true}
 use Rattle.model.specs.rules.File.{quotesOpen, counts}

@@ -1,4 +1,4 @@
--- No state but `Inside` is within quotes.
+-- `file_lexer::counted::quotes_open` meets its contract: no state but `Inside` is within quotes.
 use mathlib.Core.Path.{_≡_, refl}
 use mathlib.Core.Bool.{false}
 use mathlib.Core.List.{List, [], _∷_}
@@ -14,7 +14,7 @@ use borrow.Author.Needs.{needs}
 use Rattle.file_lexer.proofs.counted.quotes_open.Statement.{statement}
 use Rattle.file_lexer.proofs.counted.quotes_open.Tie as tie
 
--- the places of the other states in the enum
+-- the other states' indices in the enum
 abbrev others : List ℕ
 others = 0 ∷ 1 ∷ 2 ∷ 3 ∷ 4 ∷ 5 ∷ 6 ∷ 7 ∷ 8 ∷ 9 ∷ 11 ∷ 12 ∷ []
 

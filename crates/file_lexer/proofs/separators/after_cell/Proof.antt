@@ -1,3 +1,4 @@
+-- `file_lexer::separators::after_cell` meets its contract, dialect by dialect.
 use Rattle.model.proofs.Tests.{tests}
 use borrow.Author.Needs.{needs}
 use Rattle.file_lexer.proofs.separators.after_cell.Statement.{statement}

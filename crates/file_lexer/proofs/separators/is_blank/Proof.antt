@@ -1,3 +1,4 @@
+-- `file_lexer::separators::is_blank` meets its contract, by its tests.
 use Rattle.model.specs.rules.Base.{if_then_else_}
 use Rattle.model.proofs.Tests.{tests}
 use Rattle.file_lexer.proofs.separators.is_blank.Statement.{statement}

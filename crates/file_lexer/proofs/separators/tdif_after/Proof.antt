@@ -1,3 +1,4 @@
+-- `file_lexer::separators::tdif_after` meets its contract, by its tests in the definition's order.
 use Rattle.model.specs.rules.Base.{if_then_else_}
 use Rattle.model.specs.rules.File.{afterCell}
 use Rattle.model.proofs.Tests.{tests}

@@ -1,3 +1,4 @@
+-- `record_scanner::limits::file_end` meets its contract: each arm is the definition's for its state.
 use Rattle.model.proofs.Tests.{tests}
 use Rattle.model.specs.rules.File.{fileEnd}
 use borrow.Author.Needs.{needs}

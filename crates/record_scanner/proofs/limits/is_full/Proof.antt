@@ -1,3 +1,4 @@
+-- `record_scanner::limits::is_full` meets its contract, by its test.
 use Rattle.model.proofs.Tests.{tests}
 use borrow.Author.Needs.{needs}
 use Rattle.record_scanner.proofs.limits.is_full.Statement.{statement}

@@ -1,3 +1,4 @@
+-- `record_scanner::limits::last_cell` meets its contract, dialect by dialect.
 use Rattle.model.proofs.Tests.{tests}
 use borrow.Author.Needs.{needs}
 use Rattle.record_scanner.proofs.limits.last_cell.Statement.{statement}

@@ -1,3 +1,4 @@
+-- `record_scanner::limits::plus_end` meets its contract, by its test.
 use Rattle.model.proofs.Tests.{tests}
 use Rattle.model.specs.rules.Base.{if_then_else_}
 use borrow.Author.Needs.{needs}

@@ -1,3 +1,4 @@
+-- `record_scanner::record_state::after_byte` meets its contract, arm by arm.
 use borrow.Author.Needs.{needs}
 use Rattle.model.proofs.Tests.{tests}
 use Rattle.record_scanner.specs.CurrentRecord.{oneMore}

@@ -1,3 +1,4 @@
+-- `record_scanner::record_state::one_more` meets its contract, by its test.
 use borrow.Author.Needs.{needs}
 use Rattle.model.proofs.Tests.{tests}
 use Rattle.model.specs.rules.Base.{if_then_else_}

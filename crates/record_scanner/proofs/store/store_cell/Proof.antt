@@ -1,3 +1,4 @@
+-- `record_scanner::store::store_cell` meets its contract: a store in each list, or none.
 use borrow.Author.Needs.{needs}
 use Rattle.record_scanner.proofs.StoreLaws.{not-stored, no-room, stored-there}
 use Rattle.record_scanner.proofs.store.store_cell.Statement.{statement}

@@ -1,4 +1,4 @@
--- No state but `Comment` is within a comment.
+-- `record_scanner::token::comment_end` meets its contract: no state but `Comment` is within a comment.
 use borrow.Author.Needs.{needs}
 use Prim.Native.Nat.{ℕ, _<_}
 use native.Mathlib.Omega.{arith}
@@ -17,7 +17,7 @@ use Rattle.record_scanner.specs.Tokens.{commentEnd}
 use Rattle.record_scanner.proofs.token.comment_end.Statement.{statement}
 use Rattle.record_scanner.proofs.token.comment_end.Tie as tie
 
--- the places of the other states in the enum
+-- the other states' indices in the enum
 abbrev others : List ℕ
 others = 0 ∷ 1 ∷ 2 ∷ 3 ∷ 4 ∷ 5 ∷ 6 ∷ 8 ∷ 9 ∷ 10 ∷ 11 ∷ 12 ∷ []
 

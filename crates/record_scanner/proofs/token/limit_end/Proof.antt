@@ -1,3 +1,4 @@
+-- `record_scanner::token::limit_end` meets its contract, by its test.
 use borrow.Author.Needs.{needs}
 use Rattle.record_scanner.proofs.TokenOutcomes.{many-free}
 use Rattle.record_scanner.proofs.token.limit_end.Statement.{statement}

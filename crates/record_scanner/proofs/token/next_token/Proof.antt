@@ -1,3 +1,4 @@
+-- `record_scanner::token::next_token` meets its contract, by the result of `dispatch` and the end of the cell.
 use mathlib.Core.Path.{sym, _∙_}
 use borrow.Author.Needs.{needs}
 use Rattle.record_scanner.proofs.TokenOutcomes.{met-skipped, met-byte, met-after, met-cell}

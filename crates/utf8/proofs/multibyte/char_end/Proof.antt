@@ -1,3 +1,4 @@
+-- `utf8::multibyte::char_end` meets its contract: ASCII ends the run, and other first bytes are split by length.
 use native.Mathlib.Omega.{arith}
 use borrow.Author.Needs.{needs}
 use Rattle.utf8.proofs.MultibyteRuns.{wide-none}

@@ -1,3 +1,4 @@
+-- `utf8::multibyte::is_later` meets its contract, by its two tests.
 use borrow.Author.Needs.{needs}
 use borrow.Author.Tests.{le-leb, lt-leb}
 use Rattle.utf8.proofs.multibyte.is_later.Statement.{statement}

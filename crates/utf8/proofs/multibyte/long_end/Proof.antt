@@ -1,3 +1,5 @@
+-- `utf8::multibyte::long_end` meets its contract: the row gives the length and the range of the second byte, and each later byte is
+-- tested.
 use native.Mathlib.Omega.{arith}
 use mathlib.Core.Path.{sym, _∙_}
 use borrow.Author.Needs.{needs}
@@ -6,7 +8,7 @@ use Rattle.utf8.proofs.MultibyteRuns.{wide-none, row-length, row-longes
 use Rattle.utf8.proofs.multibyte.long_end.Statement.{statement}
 use Rattle.utf8.proofs.multibyte.long_end.Tie as tie
 
--- the row has at least three bytes, and the last test left four
+-- the row has at least three bytes, and the last test excluded three
 returns-6 : tie.Need-returns-6
 returns-6 c =
     let u = c .before .before .before .before .before .before .before .before .before .before .before .before .before .before .before .before .before in

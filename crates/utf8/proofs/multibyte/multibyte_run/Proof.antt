@@ -1,4 +1,4 @@
--- The invariant: whole characters stand from `at` to here.
+-- `utf8::multibyte::multibyte_run` meets its contract. The invariant: whole characters lie from `at` to here.
 use Prim.Native.Nat.{_-_}
 use native.Mathlib.Omega.{arith}
 use Rattle.utf8.specs.Multibyte.{WideRun}

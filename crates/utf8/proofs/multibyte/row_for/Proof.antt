@@ -1,4 +1,5 @@
--- Each row begins behind the one before it, so the first row whose last byte is not below is the byte's.
+-- `utf8::multibyte::row_for` meets its contract: rows ascend without gaps, so the first row whose last first byte is not below b is b's
+-- row.
 use borrow.Author.Needs.{needs}
 use Rattle.utf8.specs.Multibyte.{no-row}
 use Rattle.utf8.proofs.MultibyteRuns.{row-e0, row-e1, row-ed, row-ee, row-f0, row-f1, row-f4}

@@ -1,3 +1,4 @@
+-- `utf8::multibyte::two_end` meets its contract, by its tests of the two bytes.
 use native.Mathlib.Omega.{arith}
 use borrow.Author.Needs.{needs}
 use Rattle.utf8.proofs.MultibyteRuns.{wide-none, run-two}
