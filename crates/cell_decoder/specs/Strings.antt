@@ -9,7 +9,7 @@ use Rattle.model.specs.rules.Utf8.{pack, isLow}
 use Rattle.model.specs.rules.Decode.{Unit16, unit, hexOf, between, units, textOf}
 use Rattle.cell_decoder.specs.Units.{Unit}
 
--- the bytes of a string from place i on, up to the closing quote
+-- the bytes of a string from offset i on, up to the closing quote
 abbrev pub stringFrom : Bytes → ℕ → Bytes
 stringFrom raw i = textOf (units between (drop i raw))
 
