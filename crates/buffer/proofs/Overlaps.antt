@@ -34,7 +34,8 @@ slice-four s i h =
     rw (n, e0, e1, e2, e3)
 
 slice-eight : (s : Bytes) (i : ℕ) → i + 8 ≤ length s
-    → slice s i (i + 8) ≡ getD s i 0 ∷ getD s (i + 1) 0 ∷ getD s (i + 2) 0 ∷ getD s (i + 3) 0 ∷ getD s (i + 4) 0 ∷ getD s (i + 5) 0 ∷ getD s (i + 6) 0 ∷ getD s (i + 7) 0 ∷ []
+    → slice s i (i + 8) ≡ getD s i 0 ∷ getD s (i + 1) 0 ∷ getD s (i + 2) 0 ∷ getD s (i + 3) 0 ∷ getD s (i + 4) 0 ∷ getD s (i + 5) 0 ∷ getD s
+    (i + 6) 0 ∷ getD s (i + 7) 0 ∷ []
 slice-eight s i h =
     let n : i + 8 - i ≡ 8 = omega arith in
     let e0 = drop-next s i (i + 1) (omega arith) (omega arith) in
@@ -52,7 +53,8 @@ module _ (l : Bytes) (o : ℕ) (s : Bytes) (i : ℕ) where
   abbrev at : ℕ → ℕ
   at k = getD s (i + k) 0
 
-  pub four-stored : o + 4 ≤ length l → i + 4 ≤ length s → set (set (set (set l (o + 3) (at 3)) (o + 2) (at 2)) (o + 1) (at 1)) o (getD s i 0) ≡ written l o (slice s i (i + 4))
+  pub four-stored : o + 4 ≤ length l → i + 4 ≤ length s
+      → set (set (set (set l (o + 3) (at 3)) (o + 2) (at 2)) (o + 1) (at 1)) o (getD s i 0) ≡ written l o (slice s i (i + 4))
   four-stored h k =
       let e3 = set-written l (o + 3) (at 3) (omega arith) in
       let e2 = before-written l (o + 2) (o + 3) (at 2) (at 3 ∷ []) (omega arith) (omega arith) in
@@ -61,7 +63,8 @@ module _ (l : Bytes) (o : ℕ) (s : Bytes) (i : ℕ) where
       rw (slice-four s i k, e3, e2, e1, e0)
 
   pub eight-stored : o + 8 ≤ length l → i + 8 ≤ length s
-      → set (set (set (set (set (set (set (set l (o + 7) (at 7)) (o + 6) (at 6)) (o + 5) (at 5)) (o + 4) (at 4)) (o + 3) (at 3)) (o + 2) (at 2)) (o + 1) (at 1)) o (getD s i 0) ≡ written l o (slice s i (i + 8))
+      → set (set (set (set (set (set (set (set l (o + 7) (at 7)) (o + 6) (at 6)) (o + 5) (at 5)) (o + 4) (at 4)) (o + 3) (at 3)) (o + 2)
+      (at 2)) (o + 1) (at 1)) o (getD s i 0) ≡ written l o (slice s i (i + 8))
   eight-stored h k =
       let e7 = set-written l (o + 7) (at 7) (omega arith) in
       let e6 = before-written l (o + 6) (o + 7) (at 6) (at 7 ∷ []) (omega arith) (omega arith) in
@@ -110,7 +113,8 @@ over-end d at w k v h j l =
     let here : length (take at d) ≡ at = length-take-le at d (omega arith) in
     let long : length p ≡ n = length-append (take at d) w ∙ ap (λ (x : ℕ). x + length w) here in
     let front : take (at + k) (take at d ++ (w ++ q)) ≡ take at d ++ take k w =
-    ap (λ (x : ℕ). take (x + k) (take at d ++ (w ++ q))) (sym here) ∙ take-append-add (take at d) (w ++ q) k ∙ ap (λ (x : Bytes). take at d ++ x) (take-append-le k w q h) in
+    ap (λ (x : ℕ). take (x + k) (take at d ++ (w ++ q))) (sym here) ∙ take-append-add (take at d) (w ++ q) k
+    ∙ ap (λ (x : Bytes). take at d ++ x) (take-append-le k w q h) in
     let past : at + k + length v ≡ length p + m = omega arith in
     let end : n + m ≡ at + length (take k w ++ v) = omega (arith, length-append (take k w) v, length-take-le k w h) in
     let back : drop (at + k + length v) (take at d ++ (w ++ q)) ≡ drop (at + length (take k w ++ v)) d =
@@ -129,7 +133,8 @@ first-block {old} {at} {src} h = let here : at + 0 ≡ at = omega arith in rw he
 -- the first i bytes of src are written
 module _ {old : Bytes} {at : ℕ} {src out : Bytes} {o : ℕ} (i : ℕ) (p : Writing old at src out o (drop i src)) (n : ℕ) where
   -- the next n follow
-  pub next-block : {new : Bytes} {r : ℕ} → i + n ≤ length src → o + n ≡ r → new ≡ written out o (slice src i (i + n)) → Writing old at src new r (drop (i + n) src)
+  pub next-block : {new : Bytes} {r : ℕ} → i + n ≤ length src → o + n ≡ r → new ≡ written out o (slice src i (i + n))
+      → Writing old at src new r (drop (i + n) src)
   next-block {r} h e f =
       let size : i + n - i ≡ n = omega arith in
       let left : length (drop i src) ≡ length src - i = length-drop i src in
@@ -139,7 +144,8 @@ module _ {old : Bytes} {at : ℕ} {src out : Bytes} {o : ℕ} (i : ℕ) (p : Wri
       rw (f, ← place) (put (slice src i (i + n)) (rw parts at p))
 
   -- the last n follow from k on, some of them again
-  pub last-block : {new : Bytes} (k : ℕ) → o ≡ at + i → k ≤ i → i ≤ length src → k + n ≡ length src → new ≡ written out (at + k) (slice src k (k + n)) → new ≡ written old at src
+  pub last-block : {new : Bytes} (k : ℕ) → o ≡ at + i → k ≤ i → i ≤ length src → k + n ≡ length src
+      → new ≡ written out (at + k) (slice src k (k + n)) → new ≡ written old at src
   last-block k e h j l f =
       let w : Bytes = p .w in
       let v : Bytes = drop k src in

@@ -14,7 +14,22 @@ use Rattle.model.specs.rules.Report.{MAXFILE}
 use Rattle.model.proofs.Tests.{split, impossible}
 use Rattle.buffer.proofs.BlockProgress.{written-more}
 use Rattle.buffer.specs.Writes.{written, measure, Room, WrittenAt}
-pub use Rattle.buffer.proofs.BlockProgress.{drop-next, taken-whole, length-written, written-nil, set-written, Writing, start, put, here, store, room-left, done, written-first, filled}
+pub use Rattle.buffer.proofs.BlockProgress.{
+  drop-next,
+  taken-whole,
+  length-written,
+  written-nil,
+  set-written,
+  Writing,
+  start,
+  put,
+  here,
+  store,
+  room-left,
+  done,
+  written-first,
+  filled,
+}
 
 -- ---- measured offsets
 
@@ -128,7 +143,8 @@ module _ {write : Bool} {old : Bytes} {at : ℕ} {whole out : Bytes} {o : ℕ} w
   pub room-rest : {rest : Bytes} → Emitting write old at whole out o rest → Room write o rest out
   room-rest {rest} p = room-next rest [] (rw append-nil p)
 
-  pub put-next : (v : Bytes) {rest new : Bytes} {r : ℕ} → Emitting write old at whole out o (v ++ rest) → WrittenAt write out o v new r → Emitting write old at whole new r rest
+  pub put-next : (v : Bytes) {rest new : Bytes} {r : ℕ} → Emitting write old at whole out o (v ++ rest) → WrittenAt write out o v new r
+      → Emitting write old at whole new r rest
   put-next v {rest} p q =
       let all : length whole ≡ length (p .w) + (length v + length rest) = rw length-append at (so-long p) in
       let both : Room write at (p .w ++ v) old =

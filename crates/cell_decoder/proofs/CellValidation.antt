@@ -64,7 +64,8 @@ columnIn WholeCell = 0
 columnIn (Unsound e i) = columnOf e
 
 pub no-column : (d : Dialect) (raw : Bytes) (e : Fault) (i : ℕ) → validateCell d raw ≡ Unsound e i → columnOf e ≡ 0
-no-column d raw e i j = ap columnIn (sym j ∙ validated d raw (cellRun d Fresh 0 (slice raw 0 (length raw))) refl) ∙ at-end (cellRun d Fresh 0 (slice raw 0 (length raw)))
+no-column d raw e i j =
+    ap columnIn (sym j ∙ validated d raw (cellRun d Fresh 0 (slice raw 0 (length raw))) refl) ∙ at-end (cellRun d Fresh 0 (slice raw 0 (length raw)))
   where
     at-end : (r : CellEnd) → columnIn (validatedBy d (length raw) r) ≡ 0
     at-end (Stopped c k) = refl

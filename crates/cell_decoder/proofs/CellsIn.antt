@@ -77,7 +77,9 @@ module _ (d : Dialect) (file : Bytes) where
       record {
         forward = forward;
         within = within;
-        spelt = in-file (stretch-short (v .from) (v .upto) forward within short) (sound-followed d (slice file (v .from) (v .upto)) sound) (number-kind (v .kind) ∙ kind);
+        spelt =
+            in-file (stretch-short (v .from) (v .upto) forward within short) (sound-followed d (slice file (v .from) (v .upto)) sound)
+            (number-kind (v .kind) ∙ kind);
       }
 
   -- cells of which each has its kind and content, and lies in its span
@@ -89,7 +91,8 @@ module _ (d : Dialect) (file : Bytes) where
     cells-are h (all-cons {x} {xs} p a) =
         ap (λ (w : Value). w ∷ cellsIn (File d) file (startsOf xs) (endsOf xs) (kindsOf xs)) (h x p) ∙ ap (λ (l : List Value). x ∷ l) (cells-are h a)
 
-    each-lies : ((v : Value) → P v → CellSpan (File d) file (v .from) (v .upto) (kindNumber (v .kind))) → {vs : List Value} → All P vs → (k : ℕ) → k < length (startsOf vs)
+    each-lies : ((v : Value) → P v → CellSpan (File d) file (v .from) (v .upto) (kindNumber (v .kind))) → {vs : List Value} → All P vs
+        → (k : ℕ) → k < length (startsOf vs)
         → CellSpan (File d) file (getD (startsOf vs) k 0) (getD (endsOf vs) k 0) (getD (kindsOf vs) k 0)
     each-lies h all-none k l = absurd (omega arith)
     each-lies h (all-cons {x} p a) zero l = h x p

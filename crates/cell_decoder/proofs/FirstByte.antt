@@ -42,6 +42,7 @@ pub encoded-tdif : (d : Dialect) (q b : ℕ) (r : Spelling) → d ≡ Tdif → q
 unfolding spellingBy
 encoded-tdif d q b r e f h = rw e (rw (f, e) at h)
 
-pub encoded-plus : (d : Dialect) (s : Settings) (q b : ℕ) (r : Spelling) → d ≡ CsvPlus s → q ≡ quoteOf d → r ≡ (if b is q then Doubled q else AsItStands) → r ≡ spellingBy d b
+pub encoded-plus : (d : Dialect) (s : Settings) (q b : ℕ) (r : Spelling) → d ≡ CsvPlus s → q ≡ quoteOf d
+    → r ≡ (if b is q then Doubled q else AsItStands) → r ≡ spellingBy d b
 unfolding spellingBy
 encoded-plus d s q b r e f h = rw e (rw (f, e) at h)

@@ -1,8 +1,8 @@
 pub mod Units
 pub mod Strings
-pub mod Doubled
+pub mod DoubledQuotes
 pub mod FirstByte
 pub mod CellValidation
-pub mod Answers
+pub mod DecoderAnswers
 pub mod Followed
 pub mod CellsIn

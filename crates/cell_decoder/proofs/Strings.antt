@@ -63,7 +63,8 @@ at-digits raw i j h n =
     let first : 0 * 0x10 + hexOf (getD raw i 0) ≡ hexOf (getD raw i 0) = omega arith in
     rw (← n)
     (ap (units (digits Four 0)) (four-digits raw i h)
-    ∙ ap (λ (u : ℕ). unit (((u * 0x10 + hexOf (getD raw (i + 1) 0)) * 0x10 + hexOf (getD raw (i + 2) 0)) * 0x10 + hexOf (getD raw (i + 3) 0)) ∷ units between (drop (i + 4) raw)) first)
+    ∙ ap (λ (u : ℕ). unit (((u * 0x10 + hexOf (getD raw (i + 1) 0)) * 0x10 + hexOf (getD raw (i + 2) 0)) * 0x10 + hexOf
+    (getD raw (i + 3) 0)) ∷ units between (drop (i + 4) raw)) first)
 
 cut-digits : (bs : Bytes) → length bs < 4 → units (digits Four 0) bs ≡ []
 unfolding units
@@ -138,7 +139,8 @@ low-other raw i h e = low-none raw i (rw (drop-next raw i (i + 1) h refl) (lone-
 pub low-short : (raw : Bytes) (i : ℕ) → i + 1 < length raw → getD raw i 0 ≡ BACKSLASH → (getD raw (i + 1) 0 ≡ 0x75 → ⊥) → LowAt raw i 0
 low-short raw i h e u =
     low-none raw i
-    (rw (at-backslash raw i (i + 1) (omega arith) refl e, at-short raw (i + 1) (i + 2) h (omega arith) u) (lone-byte (shortOf (getD raw (i + 1) 0)) (units between (drop (i + 2) raw))))
+    (rw (at-backslash raw i (i + 1) (omega arith) refl e, at-short raw (i + 1) (i + 2) h (omega arith) u)
+    (lone-byte (shortOf (getD raw (i + 1) 0)) (units between (drop (i + 2) raw))))
 
 low-not : (raw : Bytes) (i : ℕ) → UnitThere raw i → isLow (unitAt raw (i + 2)) ≡ false → LowAt raw i 0
 low-not raw i u e = low-none raw i (rw (at-unit raw i u) (lone-unit (unitAt raw (i + 2)) (units between (drop (i + 6) raw)) e))
@@ -161,7 +163,12 @@ low-above raw i u h = low-not raw i u (above 0xDC00 0xDFFF (unitAt raw (i + 2)) 
 pub low-there : (raw : Bytes) (i r : ℕ) → UnitThere raw i → r ≡ unitAt raw (i + 2) → 0xDC00 ≤ r → r ≤ 0xDFFF → LowAt raw i r
 low-there raw i r u e lo hi =
     record {
-      some = λ _. record { low = amid 0xDC00 0xDFFF r lo hi; inside = u .inside; there = at-unit raw i u ∙ ap (λ (n : ℕ). unit n ∷ units between (drop (i + 6) raw)) (sym e) };
+      some =
+          λ _. record {
+            low = amid 0xDC00 0xDFFF r lo hi;
+            inside = u .inside;
+            there = at-unit raw i u ∙ ap (λ (n : ℕ). unit n ∷ units between (drop (i + 6) raw)) (sym e);
+          };
       none = λ z. absurd (omega arith);
     }
 
@@ -227,14 +234,16 @@ module _ (raw : Bytes) (i h : ℕ) (u : UnitThere raw i) (e : h ≡ unitAt raw (
 
   -- no high surrogate
   pub goes-calm : isHigh h ≡ false → Packs h bytes size → next ≡ i + 6 → Proceeds raw i bytes size next
-  goes-calm c p n = rw n (proceeds-packed raw i h bytes size (i + 6) p (omega arith) (from-unit ∙ calm h (units between (drop (i + 6) raw)) c) (omega arith) (u .inside))
+  goes-calm c p n =
+      rw n (proceeds-packed raw i h bytes size (i + 6) p (omega arith) (from-unit ∙ calm h (units between (drop (i + 6) raw)) c) (omega arith) (u .inside))
 
   -- a high surrogate that no low one follows
   pub goes-lone : (l : ℕ) → LowAt raw (i + 6) l → l ≡ 0 → Packs h bytes size → next ≡ i + 6 → Proceeds raw i bytes size next
   goes-lone l w z p n = rw n (proceeds-packed raw i h bytes size (i + 6) p (omega arith) (from-unit ∙ w .none z h) (omega arith) (u .inside))
 
   -- a surrogate pair
-  pub goes-pair : (l v : ℕ) → isHigh h ≡ true → LowAt raw (i + 6) l → (l ≡ 0 → ⊥) → Joins h l v → Packs v bytes size → next ≡ i + 12 → Proceeds raw i bytes size next
+  pub goes-pair : (l v : ℕ) → isHigh h ≡ true → LowAt raw (i + 6) l → (l ≡ 0 → ⊥) → Joins h l v → Packs v bytes size → next ≡ i + 12
+      → Proceeds raw i bytes size next
   goes-pair l v t a z j p n =
       let w : LowThere raw (i + 6) l = a .some (omega arith) in
       let hs = within-true 0xD800 0xDBFF h t in
@@ -249,8 +258,10 @@ module _ (raw : Bytes) (i h : ℕ) (u : UnitThere raw i) (e : h ≡ unitAt raw (
       ∙ rw (at, whole))
       (omega arith) (rw at at (w .inside)))
 
-pub proceeds-length : {raw : Bytes} {i : ℕ} {bytes : Bytes} {size next : ℕ} → Proceeds raw i bytes size next → length (stringFrom raw i) ≡ size + length (stringFrom raw next)
-proceeds-length {raw} {i} {bytes} {size} {next} g = ap length (g .stands) ∙ length-append (take size bytes) (stringFrom raw next) ∙ ap (λ (n : ℕ). n + length (stringFrom raw next)) (g .sized)
+pub proceeds-length : {raw : Bytes} {i : ℕ} {bytes : Bytes} {size next : ℕ} → Proceeds raw i bytes size next
+    → length (stringFrom raw i) ≡ size + length (stringFrom raw next)
+proceeds-length {raw} {i} {bytes} {size} {next} g =
+    ap length (g .stands) ∙ length-append (take size bytes) (stringFrom raw next) ∙ ap (λ (n : ℕ). n + length (stringFrom raw next)) (g .sized)
 
 -- ---- the content of a string at an offset
 

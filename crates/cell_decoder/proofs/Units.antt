@@ -29,7 +29,8 @@ packed-unit u most =
     let a : 0x7F < u = leb-false u 0x7F e in
     split-on (leb u 0x7FF) (λ f. let h : u ≤ 0x7FF = leb-true u 0x7FF f in rw (packed-two u a h) (two _ _ (two-lead u h) (six-later u))) λ f.
     let b : 0x7FF < u = leb-false u 0x7FF f in
-    split-on (leb u 0xFFFF) (λ g. rw (packed-three u b (leb-true u 0xFFFF g)) (three (0xE0 + u / 0x1000) (0x80 + u / 0x40 % 0x40) (0x80 + u % 0x40) (omega arith) (six-later (u / 0x40)) (six-later u))) λ g.
+    split-on (leb u 0xFFFF) (λ g. rw (packed-three u b (leb-true u 0xFFFF g))
+    (three (0xE0 + u / 0x1000) (0x80 + u / 0x40 % 0x40) (0x80 + u % 0x40) (omega arith) (six-later (u / 0x40)) (six-later u))) λ g.
     rw (packed-four u (leb-false u 0xFFFF g) most) (four _ _ _ _ (four-lead u) (six-later (u / 0x1000)) (six-later (u / 0x40)) (six-later u))
 
 -- a code point of a single byte is ASCII

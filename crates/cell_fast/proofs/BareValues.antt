@@ -70,7 +70,8 @@ zero-first negative b e = rw e
 
 digit-first : {c : Cell} → BeginsNumber c → (b : ℕ) → ¬ (b ≡ 0x30) → isDigit b ≡ true → cellStep Csvj c b ≡ More (InNumber Integer)
 unfolding cellStep firstByte numeralStep if_then_else_
-digit-first unsigned b n e = let w = digit-range b e in let l : 0x30 ≤ b = w .0 in rw (ne-eqb b QUOTE (omega arith), ne-eqb b 0x2D (omega arith), ne-eqb b 0x30 n, e)
+digit-first unsigned b n e =
+    let w = digit-range b e in let l : 0x30 ≤ b = w .0 in rw (ne-eqb b QUOTE (omega arith), ne-eqb b 0x2D (omega arith), ne-eqb b 0x30 n, e)
 digit-first negative b n e = rw (ne-eqb b 0x30 n, e)
 
 point-first : (b : ℕ) → isDigit b ≡ true → cellStep Csvj (InNumber Point) b ≡ More (InNumber Fraction)
@@ -123,7 +124,8 @@ module _ (s : Bytes) (stop at : ℕ) (k : stop ≤ length s) where
       ends-here (y .comes c b) h k (y .next h ∙ rw (ne-eqb (getD s i 0) 0x2E p, e))
 
   -- or after its fraction
-  pub number-fraction : (i r : ℕ) → IntegerEnd s stop at i → i < stop → ¬ (i ≡ at) → getD s i 0 ≡ 0x2E → FractionEnd s stop (i + 1) r → r < stop → isLetterE (getD s r 0) ≡ false
+  pub number-fraction : (i r : ℕ) → IntegerEnd s stop at i → i < stop → ¬ (i ≡ at) → getD s i 0 ≡ 0x2E → FractionEnd s stop (i + 1) r
+      → r < stop → isLetterE (getD s r 0) ≡ false
       → (c : Cell) → BeginsNumber c → EndsFrom Csvj s stop c at r
   unfolding cellStep numeralStep afterInteger if_then_else_
   number-fraction i r x h n p z l e c b =
@@ -138,7 +140,8 @@ module _ (s : Bytes) (stop at : ℕ) (k : stop ≤ length s) where
 
 -- ---- numbers before a comma
 
-module _ (s : Bytes) (stop at : ℕ) (k : stop ≤ length s) (i : ℕ) (h : i < stop) (x : PassRun isDigit s at stop i) (n : ¬ (i ≡ at)) (zero : getD s at 0 ≡ 0x30 → i ≤ at + 1) where
+module _ (s : Bytes) (stop at : ℕ) (k : stop ≤ length s) (i : ℕ) (h : i < stop) (x : PassRun isDigit s at stop i) (n : ¬ (i ≡ at))
+    (zero : getD s at 0 ≡ 0x30 → i ≤ at + 1) where
   -- an integer with these digits
   integer-of : isDigit (getD s i 0) ≡ false → IntegerEnd s stop at i
   integer-of e =
@@ -156,7 +159,8 @@ module _ (s : Bytes) (stop at : ℕ) (k : stop ≤ length s) (i : ℕ) (h : i < 
       let point : ¬ (getD s i 0 ≡ 0x2E) = λ f. omega (arith, e, f) in
       number-integer s stop at k i (integer-of (rw e)) h n point (rw e) Fresh unsigned
 
-  pub comma-fraction : (end : ℕ) → getD s i 0 ≡ 0x2E → PassRun isDigit s (i + 1) stop end → ¬ (end ≡ i + 1) → end < stop → getD s end 0 ≡ 0x2C → EndsFrom Csvj s stop Fresh at end
+  pub comma-fraction : (end : ℕ) → getD s i 0 ≡ 0x2E → PassRun isDigit s (i + 1) stop end → ¬ (end ≡ i + 1) → end < stop
+      → getD s end 0 ≡ 0x2C → EndsFrom Csvj s stop Fresh at end
   comma-fraction end p y m l e =
       let digits : Digits s (i + 1) stop end = record { from = y .from; upto = y .upto; each = y .each; ends = λ _. rw e } in
       number-fraction s stop at k i end (integer-of (rw p)) h n p (fraction-digits s stop (i + 1) k end m digits) l (rw e) Fresh unsigned
@@ -170,7 +174,8 @@ letter d w b e = rw (eq-eqb b (letterOf w) e)
 module _ {s : Bytes} {stop at : ℕ} (k : stop ≤ length s) where
   -- four letters: the state after each
   letters-come : (d : Dialect) (w0 w1 w2 : Word) (t : Cell) {r : ℕ} → afterLetter w0 ≡ InWord w1 → afterLetter w1 ≡ InWord w2 → afterLetter w2 ≡ t
-      → cellStep d Fresh (getD s at 0) ≡ More (InWord w0) → FourLetters s at (letterOf w0) (letterOf w1) (letterOf w2) r → r ≤ stop → Results d s stop Fresh at t r
+      → cellStep d Fresh (getD s at 0) ≡ More (InWord w0) → FourLetters s at (letterOf w0) (letterOf w1) (letterOf w2) r → r ≤ stop
+      → Results d s stop Fresh at t r
   letters-come d w0 w1 w2 t {r} e1 e2 e3 e x h =
       let n : r ≡ at + 4 = x .place in
       let c1 = comes-byte (results-none d s stop Fresh at (omega arith)) (omega arith) k (InWord w0) (at + 1) refl e in

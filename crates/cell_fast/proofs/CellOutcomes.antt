@@ -32,7 +32,8 @@ use Rattle.cell_fast.specs.CellOutcome.{Results}
 pub results-none : (d : Dialect) (s : Bytes) (stop : ℕ) (c : Cell) (at : ℕ) → at ≤ stop → Results d s stop c at c at
 results-none d s stop c at h = record { from = omega arith; upto = h; rest = refl }
 
-pub results-on : {d : Dialect} {s : Bytes} {stop : ℕ} {c t u : Cell} {at i r : ℕ} → Results d s stop c at t i → Results d s stop t i u r → Results d s stop c at u r
+pub results-on : {d : Dialect} {s : Bytes} {stop : ℕ} {c t u : Cell} {at i r : ℕ} → Results d s stop c at t i → Results d s stop t i u r
+    → Results d s stop c at u r
 results-on {at} {i} {r} x y =
     let h : at ≤ i = x .from in
     let k : i ≤ r = y .from in
@@ -48,7 +49,8 @@ module _ {d : Dialect} {s : Bytes} {stop : ℕ} {c t : Cell} {at i : ℕ} (x : R
   pub ends-here : cellStep d t (getD s i 0) ≡ Stop → EndsFrom d s stop c at i
   ends-here e = record { cell = t; ran = x .rest ∙ rest-stops d t s i stop h k e }
 
-pub results-ends : {d : Dialect} {s : Bytes} {stop : ℕ} {c t : Cell} {at i end : ℕ} → Results d s stop c at t i → EndsFrom d s stop t i end → EndsFrom d s stop c at end
+pub results-ends : {d : Dialect} {s : Bytes} {stop : ℕ} {c t : Cell} {at i end : ℕ} → Results d s stop c at t i → EndsFrom d s stop t i end
+    → EndsFrom d s stop c at end
 results-ends x y = record { cell = y .cell; ran = x .rest ∙ y .ran }
 
 -- ---- the result of the fast path
@@ -64,7 +66,8 @@ value-found f = record { ends = f; content = λ h e. impossible e }
 
 module _ (d : Dialect) (f : Char → Cell) (passes : ℕ → Bool)
     (step : (c c′ : Char) (b : ℕ) → passes b ≡ true → charStep c b ≡ On c′ → cellStep d (f c) b ≡ More (f c′)) where
-  list-comes : (xs ys : Bytes) (c c′ : Char) (i : ℕ) → allPass passes xs ≡ true → charsFrom c xs ≡ On c′ → cellRun d (f c) i (xs ++ ys) ≡ cellRun d (f c′) (i + length xs) ys
+  list-comes : (xs ys : Bytes) (c c′ : Char) (i : ℕ) → allPass passes xs ≡ true → charsFrom c xs ≡ On c′
+      → cellRun d (f c) i (xs ++ ys) ≡ cellRun d (f c′) (i + length xs) ys
   unfolding cellRun allPass charsFrom
   list-comes [] ys c c′ i e h =
       let z : c ≡ c′ = cc in

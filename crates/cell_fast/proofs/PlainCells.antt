@@ -30,7 +30,8 @@ use Rattle.cell_fast.proofs.CellOutcomes.{ends-here}
 use Rattle.cell_fast.proofs.TextRuns.{text-clean, plain-results}
 
 -- two states in which a byte has the same effect end at the same offset
-same-end : {d : Dialect} {s : Bytes} {stop at end : ℕ} (c t : Cell) → at < stop → stop ≤ length s → cellStep d c (getD s at 0) ≡ cellStep d t (getD s at 0) → EndsFrom d s stop t at end → EndsFrom d s stop c at end
+same-end : {d : Dialect} {s : Bytes} {stop at end : ℕ} (c t : Cell) → at < stop → stop ≤ length s
+    → cellStep d c (getD s at 0) ≡ cellStep d t (getD s at 0) → EndsFrom d s stop t at end → EndsFrom d s stop c at end
 same-end {d} {s} {stop} {at} {end} c t h k same x = go (cellStep d t (getD s at 0)) refl
   where
     go : (o : CellStep) → cellStep d t (getD s at 0) ≡ o → EndsFrom d s stop c at end

@@ -134,6 +134,8 @@ quoted-found {d} {s} {at} {stop} {i} {clean} h k e x y =
     let l : at + 1 ≤ i = x .comes .from in
     let m : i + 1 < stop = y .followed in
     let last : slice s i (i + 1) ≡ quoteOf d ∷ [] = one-byte s i (omega arith) ∙ ap (λ (b : ℕ). b ∷ []) (y .quote) in
-    let inside : slice s (at + 1) (i + 1) ≡ slice s (at + 1) i ++ (quoteOf d ∷ []) = part-join s (at + 1) i (i + 1) l (omega arith) ∙ ap (λ (r : Bytes). slice s (at + 1) i ++ r) last in
-    let cut : slice s at (i + 1) ≡ quoteOf d ∷ (slice s (at + 1) i ++ (quoteOf d ∷ [])) = part-next s at (i + 1) (omega arith) (omega arith) ∙ λ j. e j ∷ inside j in
+    let inside : slice s (at + 1) (i + 1) ≡ slice s (at + 1) i ++ (quoteOf d ∷ []) =
+    part-join s (at + 1) i (i + 1) l (omega arith) ∙ ap (λ (r : Bytes). slice s (at + 1) i ++ r) last in
+    let cut : slice s at (i + 1) ≡ quoteOf d ∷ (slice s (at + 1) i ++ (quoteOf d ∷ [])) =
+    part-next s at (i + 1) (omega arith) (omega arith) ∙ λ j. e j ∷ inside j in
     record { ends = λ _. whole; content = λ _ c. rw cut (quoted (slice s (at + 1) i) (x .content c)) }

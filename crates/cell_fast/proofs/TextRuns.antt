@@ -61,10 +61,12 @@ ascii-chars passes low (b ∷ bs) e =
     chars-on Whole Whole b bs (ascii-whole b (low b (x .0))) ∙ ascii-chars passes low bs (x .1)
 
 -- ASCII bytes
-pub low-text : {passes : ℕ → Bool} {s : Bytes} {at stop r : ℕ} → ((b : ℕ) → passes b ≡ true → b ≤ 0x7F) → PassRun passes s at stop r → TextRun passes s at stop r
+pub low-text : {passes : ℕ → Bool} {s : Bytes} {at stop r : ℕ} → ((b : ℕ) → passes b ≡ true → b ≤ 0x7F) → PassRun passes s at stop r
+    → TextRun passes s at stop r
 low-text {passes} {s} {at} {stop} {r} low x = record { from = x .from; upto = x .upto; each = x .each; whole = ascii-chars passes low (slice s at r) (x .each) }
 
-pub text-weaker : {passes : ℕ → Bool} {s : Bytes} {at stop r : ℕ} (other : ℕ → Bool) → ((b : ℕ) → passes b ≡ true → other b ≡ true) → TextRun passes s at stop r → TextRun other s at stop r
+pub text-weaker : {passes : ℕ → Bool} {s : Bytes} {at stop r : ℕ} (other : ℕ → Bool) → ((b : ℕ) → passes b ≡ true → other b ≡ true)
+    → TextRun passes s at stop r → TextRun other s at stop r
 text-weaker {passes} {s} {at} {stop} {r} other f x =
     record { from = x .from; upto = x .upto; each = all-weaker passes other f (slice s at r) (x .each); whole = x .whole }
 
@@ -124,7 +126,8 @@ plain-step d (Within i) c′ b e h = rw h
 pub quoted-results : (d : Dialect) {s : Bytes} {at stop r : ℕ} → TextRun (isClean (quoteOf d)) s at stop r → stop ≤ length s → InQuotes d s stop at r
 quoted-results d x k = text-comes d Quoted (isClean (quoteOf d)) (quoted-step d) x k
 
-pub plain-results : (d : Dialect) {s : Bytes} {at stop r : ℕ} → TextRun (isOpen (delimiterOf d) (quoteOf d)) s at stop r → stop ≤ length s → Results d s stop (Plain Whole) at (Plain Whole) r
+pub plain-results : (d : Dialect) {s : Bytes} {at stop r : ℕ} → TextRun (isOpen (delimiterOf d) (quoteOf d)) s at stop r → stop ≤ length s
+    → Results d s stop (Plain Whole) at (Plain Whole) r
 plain-results d x k = text-comes d Plain (isOpen (delimiterOf d) (quoteOf d)) (plain-step d) x k
 
 -- ---- what stops a run inside quotes and is part of the text
@@ -140,7 +143,8 @@ ascii-passed h x = record { comes = x; clean = λ l. absurd (omega arith) }
 
 -- ---- the text inside quotes
 
-clean-join : (quote : ℕ) (s : Bytes) (at i r : ℕ) → at ≤ i → i ≤ r → allPass (isClean quote) (slice s at i) ≡ true → allPass (isClean quote) (slice s i r) ≡ true → allPass (isClean quote) (slice s at r) ≡ true
+clean-join : (quote : ℕ) (s : Bytes) (at i r : ℕ) → at ≤ i → i ≤ r → allPass (isClean quote) (slice s at i) ≡ true
+    → allPass (isClean quote) (slice s i r) ≡ true → allPass (isClean quote) (slice s at r) ≡ true
 clean-join quote s at i r h k x y = rw (part-join s at i r h k) (all-join (isClean quote) (slice s at i) (slice s i r) x y)
 
 pub quoted-none : (d : Dialect) (s : Bytes) (stop at : ℕ) (clean : Bool) → at ≤ stop → QuotedText d s stop at at clean
@@ -169,14 +173,16 @@ module _ {d : Dialect} {s : Bytes} {stop at i r : ℕ} {clean : Bool} (x : Quote
   quoted-other-on y = record { comes = results-on (x .comes) (y .comes); content = λ e. impossible e }
 
 -- a clean run alone
-pub quoted-run : (d : Dialect) (q : ℕ) {s : Bytes} {at stop r : ℕ} → q ≡ quoteOf d → stop ≤ length s → PassRun (cleanAscii q q) s at stop r → QuotedText d s stop at r true
+pub quoted-run : (d : Dialect) (q : ℕ) {s : Bytes} {at stop r : ℕ} → q ≡ quoteOf d → stop ≤ length s → PassRun (cleanAscii q q) s at stop r
+    → QuotedText d s stop at r true
 quoted-run d q {s} {at} {stop} {r} e k x =
     let h : at ≤ r = x .from in
     let l : r ≤ stop = x .upto in
     quoted-run-on (quoted-none d s stop at true (omega arith)) q e k x
 
 -- then the text after it
-pub quoted-join : {d : Dialect} {s : Bytes} {stop at i r : ℕ} {clean : Bool} → QuotedText d s stop at i true → QuotedText d s stop i r clean → QuotedText d s stop at r clean
+pub quoted-join : {d : Dialect} {s : Bytes} {stop at i r : ℕ} {clean : Bool} → QuotedText d s stop at i true → QuotedText d s stop i r clean
+    → QuotedText d s stop at r clean
 quoted-join {d} {s} {stop} {at} {i} {r} x y =
     record {
       comes = results-on (x .comes) (y .comes);

@@ -1,7 +1,6 @@
 // Runs of clean ASCII, eight bytes to a step: a slice, an offset and the stops go in, the end of the run comes out (`PassRun` of
-// specs/TextRuns.antt).
-//
-// The runs inside quotes and outside are two functions: each has one call site, where the compiler inlines it with its stops.
+// specs/TextRuns.antt). Inside quotes both stops are the quote, and outside they are the delimiter and the quote; the compiler inlines the
+// run at both call sites.
 ghost use Prim.Native.Nat.{_≤_};
 ghost use lib.ListN.{length};
 ghost use Rattle.swar.specs.Words.{cleanAscii};
@@ -35,23 +34,7 @@ fn single_steps(s: &[u8], at: usize, stop: usize, p: u8, q: u8) -> usize
     i
 }
 
-// The end of the clean ASCII inside quotes.
-pub fn quoted_run(s: &[u8], at: usize, stop: usize, q: u8) -> usize
-    requires { ⌜ (at ≤ stop) × (stop ≤ length (now s)) ⌝ }
-    ensures { λ r. ⌜ PassRun (cleanAscii q q) (now (s .entry)) at stop r ⌝ }
-{
-    let mut i = at;
-    while 8 <= stop - i {
-        let flags = swar::unclean(swar::word(s, i), q, q);
-        if flags != 0 {
-            return i + swar::before_flag(flags);
-        }
-        i += 8;
-    }
-    single_steps(s, i, stop, q, q)
-}
-
-// The same by whole words alone.
+// The end of the clean ASCII inside quotes, by whole words alone.
 pub fn clean_words(s: &[u8], at: usize, stop: usize, q: u8) -> usize
     requires { ⌜ (at ≤ stop) × (stop ≤ length (now s)) ⌝ }
     ensures { λ r. ⌜ PassRun (cleanAscii q q) (now (s .entry)) at stop r ⌝ }
@@ -66,8 +49,8 @@ pub fn clean_words(s: &[u8], at: usize, stop: usize, q: u8) -> usize
     i
 }
 
-// The end of the clean ASCII outside quotes, where the delimiter p ends it too.
-pub fn plain_run(s: &[u8], at: usize, stop: usize, p: u8, q: u8) -> usize
+// The end of the clean ASCII from `at` other than p and q.
+pub fn clean_run(s: &[u8], at: usize, stop: usize, p: u8, q: u8) -> usize
     requires { ⌜ (at ≤ stop) × (stop ≤ length (now s)) ⌝ }
     ensures { λ r. ⌜ PassRun (cleanAscii p q) (now (s .entry)) at stop r ⌝ }
 {

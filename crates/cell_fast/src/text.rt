@@ -104,7 +104,7 @@ pub fn quoted_text(d: Dialect, s: &[u8], at: usize, stop: usize, q: u8) -> TextE
     let mut i = at;
     let mut clean = true;
     loop {
-        i = runs::quoted_run(s, i, stop, q);
+        i = runs::clean_run(s, i, stop, q, q);
         if stop <= i {
             return TextEnd { end: i, clean };
         }
@@ -126,7 +126,7 @@ pub fn plain_text(s: &[u8], at: usize, stop: usize, p: u8, q: u8) -> usize
 {
     let mut i = at;
     loop {
-        i = runs::plain_run(s, i, stop, p, q);
+        i = runs::clean_run(s, i, stop, p, q);
         if stop <= i {
             return i;
         }

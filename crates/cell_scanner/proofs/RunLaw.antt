@@ -27,10 +27,48 @@ use Rattle.model.specs.rules.Base.{Bytes, if_then_else_}
 use Rattle.model.specs.rules.Dialect.{quoteOf}
 use Rattle.model.specs.rules.File.{inCell, fileStep}
 use Rattle.model.specs.rules.Report.{MAXFILE, MAXRECORD}
-use Rattle.model.specs.rules.Records.{Rec, Read, between-records, nothingRead, Progress, going, stopped, closing, validated, complete, move, recordFault, fileFull, recordFull, readByte, readFrom, readBytes}
+use Rattle.model.specs.rules.Records.{
+  Rec,
+  Read,
+  between-records,
+  nothingRead,
+  Progress,
+  going,
+  stopped,
+  closing,
+  validated,
+  complete,
+  move,
+  recordFault,
+  fileFull,
+  recordFull,
+  readByte,
+  readFrom,
+  readBytes,
+}
 use Rattle.model.proofs.Tests.{split}
 use Rattle.model.proofs.file_laws.ReadAppend.{read-append}
-use Rattle.model.proofs.file_laws.FileSteps.{Grown, g-inside, g-plain1, g-plain2, Opens, o-after, o-wanting, o-fresh, Transition, refuses, outside, passes, adds, blanks, parts, turns, ends, ends-cr, step-transition}
+use Rattle.model.proofs.file_laws.FileSteps.{
+  Grown,
+  g-inside,
+  g-plain1,
+  g-plain2,
+  Opens,
+  o-after,
+  o-wanting,
+  o-fresh,
+  Transition,
+  refuses,
+  outside,
+  passes,
+  adds,
+  blanks,
+  parts,
+  turns,
+  ends,
+  ends-cr,
+  step-transition,
+}
 use Rattle.cell_scanner.specs.declared.RunStop.{RunStop}
 use Rattle.cell_scanner.specs.declared.RunStop.the-variants.{At, Fallback}
 use Rattle.model.specs.rules.Api.{slice}
@@ -69,14 +107,16 @@ all-ordinary p q b xs e = go (ordinary p q b) e
     go false h = absurd (omega arith)
 
 module _ (d : Dialect) (target : Option Target) where
-  of-cell : (c : Cell) (r : Read) (b : ℕ) → fileStep d (r .state) b ≡ To (r .state) OfCell → r .offset < MAXFILE → r .size < MAXRECORD → readByte d target r b ≡ going (ranAt (in-cell c) r (b ∷ []))
+  of-cell : (c : Cell) (r : Read) (b : ℕ) → fileStep d (r .state) b ≡ To (r .state) OfCell → r .offset < MAXFILE → r .size < MAXRECORD
+      → readByte d target r b ≡ going (ranAt (in-cell c) r (b ∷ []))
   unfolding readByte fileFull recordFull move ranAt if_then_else_
   of-cell c r b e h k =
       let n : suc (r .offset) ≡ r .offset + 1 = omega arith in
       let m : suc (r .size) ≡ r .size + 1 = omega arith in
       rw (lt-leb MAXFILE (r .offset) h, lt-leb MAXRECORD (r .size) k, e) (cc)
 
-  of-comment : (t : Char) (r : Read) (b : ℕ) → fileStep d (r .state) b ≡ To (r .state) Outside → r .offset < MAXFILE → r .size < MAXRECORD → readByte d target r b ≡ going (ranAt (in-comment t) r (b ∷ []))
+  of-comment : (t : Char) (r : Read) (b : ℕ) → fileStep d (r .state) b ≡ To (r .state) Outside → r .offset < MAXFILE → r .size < MAXRECORD
+      → readByte d target r b ≡ going (ranAt (in-comment t) r (b ∷ []))
   unfolding readByte fileFull recordFull move ranAt if_then_else_
   of-comment t r b e h k =
       let n : suc (r .offset) ≡ r .offset + 1 = omega arith in
@@ -85,7 +125,8 @@ module _ (d : Dialect) (target : Option Target) where
   -- an ordinary byte is read as a run of one byte
   abbrev One : Place → (p q : ℕ) → FileState → Type 0
   One k p q f =
-      (r : Read) (b : ℕ) (xs : Bytes) → r .state ≡ f → ranAt k r [] ≡ r → ordinary p q b ≡ true → InLimits (ranAt k r (b ∷ xs)) → readByte d target r b ≡ going (ranAt k r (b ∷ []))
+      (r : Read) (b : ℕ) (xs : Bytes) → r .state ≡ f → ranAt k r [] ≡ r → ordinary p q b ≡ true → InLimits (ranAt k r (b ∷ xs)) → readByte d
+      target r b ≡ going (ranAt k r (b ∷ []))
 
   one-of-cell : (c : Cell) (q : ℕ) → runStop d c ≡ At q → One (in-cell c) (quoteOf d) q (Inside c)
   unfolding fileStep inCell ranAt
@@ -101,7 +142,8 @@ module _ (d : Dialect) (target : Option Target) where
       let k : 0 ≡ r .size = ap (λ (x : Read). x .size) s in
       of-comment Whole r b (rw g (comment-step d b o)) (omega arith) (omega arith)
 
-  many : (k : Place) (p q : ℕ) (f : FileState) → One k p q f → (xs : Bytes) → leading p q xs ≡ length xs → (r : Read) → r .state ≡ f → ranAt k r [] ≡ r → InLimits (ranAt k r xs) → readFrom d target (going r) xs ≡ going (ranAt k r xs)
+  many : (k : Place) (p q : ℕ) (f : FileState) → One k p q f → (xs : Bytes) → leading p q xs ≡ length xs → (r : Read) → r .state ≡ f
+      → ranAt k r [] ≡ r → InLimits (ranAt k r xs) → readFrom d target (going r) xs ≡ going (ranAt k r xs)
   unfolding readFrom
   many k p q f one [] e r g s l = ap going (sym s)
   many k p q f one (b ∷ xs) e r g s l =
@@ -115,16 +157,19 @@ module _ (d : Dialect) (target : Option Target) where
   none k [] e r s = ap going (sym s)
   none k (b ∷ xs) e r s = absurd (omega arith)
 
-  in-cell-run : (c : Cell) (x : RunStop) → runStop d c ≡ x → (r : Read) (xs : Bytes) → r .state ≡ Inside c → ranAt (in-cell c) r [] ≡ r → runLength d x xs ≡ length xs → InLimits (ranAt (in-cell c) r xs) → readFrom d target (going r) xs ≡ going (ranAt (in-cell c) r xs)
+  in-cell-run : (c : Cell) (x : RunStop) → runStop d c ≡ x → (r : Read) (xs : Bytes) → r .state ≡ Inside c → ranAt (in-cell c) r [] ≡ r
+      → runLength d x xs ≡ length xs → InLimits (ranAt (in-cell c) r xs) → readFrom d target (going r) xs ≡ going (ranAt (in-cell c) r xs)
   in-cell-run c (At q) h r xs g s e l = many (in-cell c) (quoteOf d) q (Inside c) (one-of-cell c q h) xs e r g s l
   in-cell-run c Fallback h r xs g s e l = none (in-cell c) xs e r s
 
-  in-comment-run : (t : Char) (r : Read) (xs : Bytes) → r .state ≡ Comment t → ranAt (in-comment t) r [] ≡ r → runAt d (in-comment t) xs ≡ length xs → InLimits (ranAt (in-comment t) r xs) → readFrom d target (going r) xs ≡ going (ranAt (in-comment t) r xs)
+  in-comment-run : (t : Char) (r : Read) (xs : Bytes) → r .state ≡ Comment t → ranAt (in-comment t) r [] ≡ r
+      → runAt d (in-comment t) xs ≡ length xs → InLimits (ranAt (in-comment t) r xs) → readFrom d target (going r) xs ≡ going (ranAt (in-comment t) r xs)
   unfolding runAt
   in-comment-run Whole r xs g s e l = many (in-comment Whole) 0 0 (Comment Whole) one-of-comment xs e r g s l
   in-comment-run (Within i) r xs g s e l = none (in-comment (Within i)) xs e r s
 
-  in-state-run : (f : FileState) (r : Read) (xs : Bytes) → r .state ≡ f → ranAt (placeIn f) r [] ≡ r → runAt d (placeIn f) xs ≡ length xs → InLimits (ranAt (placeIn f) r xs) → readFrom d target (going r) xs ≡ going (ranAt (placeIn f) r xs)
+  in-state-run : (f : FileState) (r : Read) (xs : Bytes) → r .state ≡ f → ranAt (placeIn f) r [] ≡ r → runAt d (placeIn f) xs ≡ length xs
+      → InLimits (ranAt (placeIn f) r xs) → readFrom d target (going r) xs ≡ going (ranAt (placeIn f) r xs)
   unfolding runAt
   in-state-run Top r xs g s e l = none elsewhere xs e r s
   in-state-run Begin r xs g s e l = none elsewhere xs e r s
@@ -151,7 +196,8 @@ leading-take p q zero bs h = refl
 leading-take p q (suc n) [] h = refl
 leading-take p q (suc n) (b ∷ bs) h = go (ordinary p q b) h (leading-take p q n bs)
   where
-    go : (t : Bool) → suc n ≤ (if t then suc (leading p q bs) else 0) → (n ≤ leading p q bs → leading p q (take n bs) ≡ length (take n bs)) → (if t then suc (leading p q (take n bs)) else 0) ≡ suc (length (take n bs))
+    go : (t : Bool) → suc n ≤ (if t then suc (leading p q bs) else 0) → (n ≤ leading p q bs → leading p q (take n bs) ≡ length (take n bs))
+        → (if t then suc (leading p q (take n bs)) else 0) ≡ suc (length (take n bs))
     go true k ih = ap suc (ih (omega arith))
     go false k ih = absurd (omega arith)
 
@@ -172,7 +218,8 @@ run-take d (in-comment (Within i)) n bs h = take-none n bs h
 run-take d elsewhere n bs h = take-none n bs h
 
 module _ (d : Dialect) (target : Option Target) where
-  pub rest : (r : Read) (n : ℕ) (bs : Bytes) → Lies r → n ≤ runIn d (r .state) bs → InLimits (ran r (take n bs)) → readFrom d target (going r) bs ≡ readFrom d target (going (ran r (take n bs))) (drop n bs)
+  pub rest : (r : Read) (n : ℕ) (bs : Bytes) → Lies r → n ≤ runIn d (r .state) bs → InLimits (ran r (take n bs))
+      → readFrom d target (going r) bs ≡ readFrom d target (going (ran r (take n bs))) (drop n bs)
   rest r n bs s h l =
       ap (readFrom d target (going r)) (sym (take-append-drop n bs))
       ∙ read-append d target (going r) (take n bs) (drop n bs)
@@ -203,7 +250,8 @@ run-fewer d elsewhere n bs = omega arith
 
 module _ (d : Dialect) (target : Option Target) (r : Read) (s : Bytes) (at stop m : ℕ) where
   -- reading the slice from `at` equals reading it from m, where the run that begins at `at` ends before `stop`
-  pub rest-of-slice : Lies r → m ≡ at + runIn d (r .state) (slice s at stop) → InLimits (ran r (slice s at m)) → readFrom d target (going r) (drop at s) ≡ readFrom d target (going (ran r (slice s at m))) (drop m s)
+  pub rest-of-slice : Lies r → m ≡ at + runIn d (r .state) (slice s at stop) → InLimits (ran r (slice s at m))
+      → readFrom d target (going r) (drop at s) ≡ readFrom d target (going (ran r (slice s at m))) (drop m s)
   rest-of-slice w e l =
       let h : runIn d (r .state) (slice s at stop) ≤ runIn d (r .state) (drop at s) = run-fewer d (placeIn (r .state)) (stop - at) (drop at s) in
       let n : m - at ≤ runIn d (r .state) (drop at s) = omega arith in
@@ -238,11 +286,14 @@ recording (in-cell c) r w =
     let n : r .offset + 0 ≡ r .offset = omega arith in
     let m : r .size + 0 ≡ r .size = omega arith in
     let l : r .raw ++ [] ≡ r .raw = append-nil (r .raw) in
-    let e : ranAt (in-cell c) r [] ≡ record { done = r .done; state = r .state; offset = r .offset; start = r .start; size = r .size; opened = r .opened; raw = r .raw; cells = r .cells } = cc in
+    let e : ranAt (in-cell c) r [] ≡ record { done = r .done; state = r .state; offset = r .offset; start = r .start; size = r .size; opened = r .opened; raw = r .raw; cells = r .cells } =
+    cc in
     e
 recording elsewhere r w = refl
 
-resting : (k : Place) (rs : List Rec) (f : FileState) (o s : ℕ) → ranAt k (record { done = rs; state = f; offset = o; start = s; size = 0; opened = o; raw = []; cells = [] }) [] ≡ record { done = rs; state = f; offset = o; start = s; size = 0; opened = o; raw = []; cells = [] }
+resting : (k : Place) (rs : List Rec) (f : FileState) (o s : ℕ)
+    → ranAt k (record { done = rs; state = f; offset = o; start = s; size = 0; opened = o; raw = []; cells = [] }) [] ≡ record
+    { done = rs; state = f; offset = o; start = s; size = 0; opened = o; raw = []; cells = [] }
 unfolding ranAt
 resting (in-cell c) rs f o s = let n : o + 0 ≡ o = omega arith in cc
 resting (in-comment t) rs f o s = let n : o + 0 ≡ o = omega arith in cc

@@ -133,12 +133,15 @@ comment-step d b e =
 
 -- ---- the rest of a cell
 
-run-list : (d : Dialect) (c : Cell) (q : ℕ) → runStop d c ≡ At q → (i : ℕ) (bs : Bytes) → cellRun d c i bs ≡ cellRun d c (i + leading (quoteOf d) q bs) (drop (leading (quoteOf d) q bs) bs)
+run-list : (d : Dialect) (c : Cell) (q : ℕ) → runStop d c ≡ At q → (i : ℕ) (bs : Bytes)
+    → cellRun d c i bs ≡ cellRun d c (i + leading (quoteOf d) q bs) (drop (leading (quoteOf d) q bs) bs)
 unfolding leading cellRun if_then_else_
 run-list d c q e i [] = refl
 run-list d c q e i (b ∷ bs) = go (ordinary (quoteOf d) q b) refl (run-list d c q e (suc i) bs)
   where
-    go : (t : Bool) → ordinary (quoteOf d) q b ≡ t → cellRun d c (suc i) bs ≡ cellRun d c (suc i + leading (quoteOf d) q bs) (drop (leading (quoteOf d) q bs) bs) → cellRun d c i (b ∷ bs) ≡ cellRun d c (i + leading (quoteOf d) q (b ∷ bs)) (drop (leading (quoteOf d) q (b ∷ bs)) (b ∷ bs))
+    go : (t : Bool) → ordinary (quoteOf d) q b ≡ t
+        → cellRun d c (suc i) bs ≡ cellRun d c (suc i + leading (quoteOf d) q bs) (drop (leading (quoteOf d) q bs) bs)
+        → cellRun d c i (b ∷ bs) ≡ cellRun d c (i + leading (quoteOf d) q (b ∷ bs)) (drop (leading (quoteOf d) q (b ∷ bs)) (b ∷ bs))
     go true h ih =
         let n : suc i + leading (quoteOf d) q bs ≡ i + suc (leading (quoteOf d) q bs) = omega arith in
         rw (h, run-step d c q b e h, cellRun) (ih ∙ ap (λ (k : ℕ). cellRun d c k (drop (leading (quoteOf d) q bs) bs)) n)
@@ -157,11 +160,15 @@ drop-part s i n stop =
 
 module _ (d : Dialect) (c : Cell) (s : Bytes) (i stop : ℕ) where
   -- the rest of the cell is the same from the end of a run
-  pub run-rest : cellRun d c i (slice s i stop) ≡ cellRun d c (i + runLength d (runStop d c) (slice s i stop)) (slice s (i + runLength d (runStop d c) (slice s i stop)) stop)
+  pub run-rest : cellRun d c i (slice s i stop) ≡ cellRun d c (i + runLength d (runStop d c) (slice s i stop))
+      (slice s (i + runLength d (runStop d c) (slice s i stop)) stop)
   run-rest = go (runStop d c) refl
     where
-      go : (r : RunStop) → runStop d c ≡ r → cellRun d c i (slice s i stop) ≡ cellRun d c (i + runLength d r (slice s i stop)) (slice s (i + runLength d r (slice s i stop)) stop)
-      go (At q) e = run-list d c q e i (slice s i stop) ∙ ap (λ (l : Bytes). cellRun d c (i + leading (quoteOf d) q (slice s i stop)) l) (drop-part s i (leading (quoteOf d) q (slice s i stop)) stop)
+      go : (r : RunStop) → runStop d c ≡ r
+          → cellRun d c i (slice s i stop) ≡ cellRun d c (i + runLength d r (slice s i stop)) (slice s (i + runLength d r (slice s i stop)) stop)
+      go (At q) e =
+          run-list d c q e i (slice s i stop)
+          ∙ ap (λ (l : Bytes). cellRun d c (i + leading (quoteOf d) q (slice s i stop)) l) (drop-part s i (leading (quoteOf d) q (slice s i stop)) stop)
       go Fallback e = let n : i ≡ i + 0 = omega arith in ap (λ (k : ℕ). cellRun d c k (slice s k stop)) n
 
   module _ (h : i < stop) (k : stop ≤ length s) where

@@ -75,6 +75,7 @@ pub record RunLaw (d : Dialect) (target : Option Target) : Type 0 where
   -- the law: xs is a run or a prefix of one, and ends within the limits
   pub run : (r : Read) (xs : Bytes) → Lies r → runIn d (r .state) xs ≡ length xs → InLimits (ran r xs) → readFrom d target (going r) xs ≡ going (ran r xs)
   -- so a reader may skip the first n bytes of a run
-  pub rest : (r : Read) (n : ℕ) (bs : Bytes) → Lies r → n ≤ runIn d (r .state) bs → InLimits (ran r (take n bs)) → readFrom d target (going r) bs ≡ readFrom d target (going (ran r (take n bs))) (drop n bs)
+  pub rest : (r : Read) (n : ℕ) (bs : Bytes) → Lies r → n ≤ runIn d (r .state) bs → InLimits (ran r (take n bs))
+      → readFrom d target (going r) bs ≡ readFrom d target (going (ran r (take n bs))) (drop n bs)
   -- every state that reading reaches
   pub stands : (bs : Bytes) (r : Read) → readBytes d target bs ≡ going r → Lies r

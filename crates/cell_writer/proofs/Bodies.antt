@@ -23,7 +23,17 @@ use Rattle.cell_writer.specs.Contents.{contentFrom, sourceQuote, Decoded
 use Rattle.cell_writer.specs.Bodies.{Stops}
 use Rattle.cell_writer.specs.PlainRuns.{plainRun}
 use Rattle.cell_writer.proofs.PlainRuns.{text-run, lone-run}
-use Rattle.cell_writer.proofs.Units.{body-append, doubled-append, text-append, surrogate-append, no-surrogate, surrogate-by, lone-append, paired-begins, begins-paired}
+use Rattle.cell_writer.proofs.Units.{
+  body-append,
+  doubled-append,
+  text-append,
+  surrogate-append,
+  no-surrogate,
+  surrogate-by,
+  lone-append,
+  paired-begins,
+  begins-paired,
+}
 use Rattle.cell_writer.proofs.Contents.{content-part, part-apart}
 
 begins-short : (bs : Bytes) → length bs < 3 → beginsLone bs ≡ false
@@ -94,10 +104,14 @@ module _ (c : Bytes) (i : ℕ) (h : i < length c) where
     pub lone-second : 0xA0 ≤ getD c (i + 1) 0
     lone-second = leb-true 0xA0 (getD c (i + 1) 0) (and-true (getD c i 0 is 0xED) (leb 0xA0 (getD c (i + 1) 0)) is-there .1)
 
-    pub stops-lone : (t : Dialect) {bytes : Bytes} {size : ℕ} → isCsvj t ≡ true → Spells (surrogate (getD c (i + 1) 0) (getD c (i + 2) 0)) bytes size → Stops AsItStands t c i bytes size (i + 3) true
+    pub stops-lone : (t : Dialect) {bytes : Bytes} {size : ℕ} → isCsvj t ≡ true
+        → Spells (surrogate (getD c (i + 1) 0) (getD c (i + 2) 0)) bytes size → Stops AsItStands t c i bytes size (i + 3) true
     stops-lone Csvj j p =
         record {
-          stands = ap jsonBody (three-at lone-inside) ∙ surrogate-append (getD c i 0) (getD c (i + 1) 0) (getD c (i + 2) 0) (drop (i + 3) c) is-there ∙ ap (λ (l : Bytes). l ++ jsonBody (drop (i + 3) c)) (sym (p .spells));
+          stands =
+              ap jsonBody (three-at lone-inside)
+              ∙ surrogate-append (getD c i 0) (getD c (i + 1) 0) (getD c (i + 2) 0) (drop (i + 3) c) is-there
+              ∙ ap (λ (l : Bytes). l ++ jsonBody (drop (i + 3) c)) (sym (p .spells));
           sized = ap length (p .spells) ∙ sym (p .sized);
           on = omega arith;
           inside = lone-inside;
@@ -107,15 +121,18 @@ module _ (c : Bytes) (i : ℕ) (h : i < length c) where
     stops-lone (CsvPlus s) j p = impossible j
 
   -- a byte is there
-  first-text : (t : Dialect) → (isCsvj t ≡ true → beginsLone (drop i c) ≡ false) → bodyText t (drop i c) ≡ bodyText t (getD c i 0 ∷ []) ++ bodyText t (drop (i + 1) c)
-  first-text Csvj e = let d = drop-next c i (i + 1) h refl in ap jsonBody d ∙ body-append (getD c i 0 ∷ []) (drop (i + 1) c) (one (getD c i 0)) (λ _. rw d at (e refl))
+  first-text : (t : Dialect) → (isCsvj t ≡ true → beginsLone (drop i c) ≡ false)
+      → bodyText t (drop i c) ≡ bodyText t (getD c i 0 ∷ []) ++ bodyText t (drop (i + 1) c)
+  first-text Csvj e =
+      let d = drop-next c i (i + 1) h refl in ap jsonBody d ∙ body-append (getD c i 0 ∷ []) (drop (i + 1) c) (one (getD c i 0)) (λ _. rw d at (e refl))
   first-text Tdif e = ap (bodyText Tdif) (drop-next c i (i + 1) h refl) ∙ doubled-append QUOTE (getD c i 0 ∷ []) (drop (i + 1) c)
   first-text (CsvPlus s) e = ap (bodyText (CsvPlus s)) (drop-next c i (i + 1) h refl) ∙ doubled-append (quoteOf (CsvPlus s)) (getD c i 0 ∷ []) (drop (i + 1) c)
 
   byte-tells : holdsLone (drop i c) ≡ (paired (drop i c) || holdsLone (drop (i + 1) c))
   byte-tells = rw (drop-next c i (i + 1) h refl) (first-reports (getD c i 0) (drop (i + 1) c))
 
-  pub stops-byte : (t : Dialect) {bytes : Bytes} {size : ℕ} {lone : Bool} → (isCsvj t ≡ true → beginsLone (drop i c) ≡ false) → Spells (bodyText t (getD c i 0 ∷ [])) bytes size → lone ≡ paired (drop i c)
+  pub stops-byte : (t : Dialect) {bytes : Bytes} {size : ℕ} {lone : Bool} → (isCsvj t ≡ true → beginsLone (drop i c) ≡ false)
+      → Spells (bodyText t (getD c i 0 ∷ [])) bytes size → lone ≡ paired (drop i c)
       → Stops AsItStands t c i bytes size (i + 1) lone
   stops-byte t e p l =
       record {
@@ -126,7 +143,8 @@ module _ (c : Bytes) (i : ℕ) (h : i < length c) where
         tells = rw l byte-tells;
       }
 
-pub stops-nothing : {t : Dialect} {c : Bytes} {i : ℕ} {bytes : Bytes} {size next : ℕ} {lone : Bool} → Stops AsItStands t c i bytes size next lone → Stops Nothing t c i bytes size next lone
+pub stops-nothing : {t : Dialect} {c : Bytes} {i : ℕ} {bytes : Bytes} {size next : ℕ} {lone : Bool}
+    → Stops AsItStands t c i bytes size next lone → Stops Nothing t c i bytes size next lone
 stops-nothing p = record { stands = p .stands; sized = p .sized; on = p .on; inside = p .inside; tells = p .tells }
 
 -- ---- in a cell that is decoded
@@ -137,7 +155,8 @@ module _ {c : Spelling} {raw : Bytes} {i : ℕ} {unit : Bytes} {size next : ℕ}
       let same : contentFrom c raw i ≡ contentFrom c raw next = p .stands ∙ ap (λ (n : ℕ). take n unit ++ contentFrom c raw next) e in
       record { stands = ap (bodyText t) same; sized = refl; on = p .on; inside = p .inside; tells = ap holdsLone same }
 
-  pub stops-unit : (t : Dialect) {bytes : Bytes} {n : ℕ} {lone : Bool} → Decoded c raw → (size ≡ 0 → ⊥) → Spells (bodyText t (take size unit)) bytes n → lone ≡ isLone (take size unit)
+  pub stops-unit : (t : Dialect) {bytes : Bytes} {n : ℕ} {lone : Bool} → Decoded c raw → (size ≡ 0 → ⊥)
+      → Spells (bodyText t (take size unit)) bytes n → lone ≡ isLone (take size unit)
       → Stops c t raw i bytes n next lone
   stops-unit t d z s l =
       let u : Bytes = take size unit in
@@ -146,7 +165,8 @@ module _ {c : Spelling} {raw : Bytes} {i : ℕ} {unit : Bytes} {size next : ℕ}
       let apart : length u ≡ 1 → paired (u ++ rest) ≡ false = λ e. ap paired (sym (p .stands)) ∙ part-apart d p (sym (p .sized) ∙ e) in
       record {
         stands =
-            ap (bodyText t) (p .stands) ∙ text-append t u rest some (λ e. paired-begins (u ++ rest) (apart e)) ∙ ap (λ (w : Bytes). w ++ bodyText t rest) (sym (s .spells));
+            ap (bodyText t) (p .stands) ∙ text-append t u rest some (λ e. paired-begins (u ++ rest) (apart e))
+            ∙ ap (λ (w : Bytes). w ++ bodyText t rest) (sym (s .spells));
         sized = ap length (s .spells) ∙ sym (s .sized);
         on = p .on;
         inside = p .inside;

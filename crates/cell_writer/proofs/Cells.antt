@@ -33,7 +33,7 @@ use Rattle.cell_writer.specs.declared.cell.WrittenForm.the-variants.{AsT
 use Rattle.cell_writer.specs.Units.{bodyText}
 use Rattle.cell_writer.specs.Contents.{Legible, has-none, as-it-lies, decoded, by-doubled, by-string}
 use Rattle.cell_writer.specs.Cells.{isQuoted, quoteBy, textCell, numberIn, writtenAs, wordFor}
-use Rattle.cell_writer.proofs.Quoted.{cell-by}
+use Rattle.cell_writer.proofs.QuoteDecision.{cell-by}
 
 -- ---- a text: a quote, the body and a quote
 
@@ -59,10 +59,12 @@ plus-parts : (s : Settings) (bs : Bytes) (q only first : Bool) → hasQuotes s o
 unfolding quotedText if_then_else_
 plus-parts s bs true only first e = refl
 plus-parts s bs false only first e =
-    let f : holds (special s) bs ≡ false = first-false (holds (special s) bs) (only && isEmpty bs) (first-false (holds (special s) bs || only && isEmpty bs) (first && beginsBom bs) e) in
+    let f : holds (special s) bs ≡ false =
+    first-false (holds (special s) bs) (only && isEmpty bs) (first-false (holds (special s) bs || only && isEmpty bs) (first && beginsBom bs) e) in
     sym (append-nil (doubled (quoteOf (CsvPlus s)) bs) ∙ nothing-doubled s bs f)
 
-pub text-parts : (t : Dialect) (only first : Bool) (bs : Bytes) → let q = quoteBy t (isQuoted t only first bs) in textCell t only first bs ≡ q ++ (bodyText t bs ++ q)
+pub text-parts : (t : Dialect) (only first : Bool) (bs : Bytes)
+    → let q = quoteBy t (isQuoted t only first bs) in textCell t only first bs ≡ q ++ (bodyText t bs ++ q)
 unfolding jsonCell quotedText
 text-parts Csvj only first bs = refl
 text-parts Tdif only first bs = refl
@@ -202,7 +204,8 @@ encoded-quote Tdif b q =
 encoded-quote (CsvPlus s) b q =
     let P : Spelling → Type 0 = λ (c : Spelling). c ≡ Doubled q → q ≤ 0x7F in
     let m : quoteOf (CsvPlus s) ≤ 0x7F = quote-ascii (CsvPlus s) in
-    split P (b is quoteOf (CsvPlus s)) (λ _ e. let f : quoteOf (CsvPlus s) ≡ q = same-quote e in omega arith) λ _ e. let z : _≡_ {A = ℕ} 0 1 = cc in absurd (omega arith)
+    split P (b is quoteOf (CsvPlus s)) (λ _ e. let f : quoteOf (CsvPlus s) ≡ q = same-quote e in omega arith) λ _ e. let z : _≡_ {A = ℕ} 0 1 =
+    cc in absurd (omega arith)
 
 pub encoded-legible : {src : Source} {k : Kind} {raw : Bytes} → Encoded src k raw → Legible (spellingIn src raw) raw
 encoded-legible (in-file {d} {raw} h j e) =
@@ -223,7 +226,8 @@ number-in-csvj (b ∷ bs) e = split-on (b is QUOTE) (λ p. no-text (rw p at e)) 
 number-content : (d : Dialect) (raw : Bytes) → Number ≡ kindOf d raw → contentOf d raw ≡ numberIn (spellingBy d (getD raw 0 0)) raw
 unfolding kindOf
 number-content Csvj raw e = number-in-csvj raw e
-number-content Tdif raw e = split (λ (k : Kind). Number ≡ k → contentOf Tdif raw ≡ numberIn (spellingBy Tdif (getD raw 0 0)) raw) _ (λ _ f. no-text f) (λ _ f. no-null f) e
+number-content Tdif raw e =
+    split (λ (k : Kind). Number ≡ k → contentOf Tdif raw ≡ numberIn (spellingBy Tdif (getD raw 0 0)) raw) _ (λ _ f. no-text f) (λ _ f. no-null f) e
 number-content (CsvPlus s) raw e = no-text e
 
 pub encoded-number : {src : Source} {k : Kind} {raw : Bytes} → Encoded src k raw → k ≡ Number → contentBy src raw ≡ numberIn (spellingIn src raw) raw

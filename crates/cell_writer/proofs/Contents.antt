@@ -19,7 +19,7 @@ use Rattle.cell_decoder.specs.FirstByte.{contentIn}
 use Rattle.cell_decoder.specs.Followed.{EdFollows, EdFollowed}
 use Rattle.cell_decoder.specs.declared.first_byte.Spelling.{Spelling}
 use Rattle.cell_decoder.specs.declared.first_byte.Spelling.the-variants.{Nothing, AsItStands, Doubled, Escaped}
-use Rattle.cell_decoder.proofs.Doubled as undoubled
+use Rattle.cell_decoder.proofs.DoubledQuotes as undoubled
 use Rattle.cell_decoder.proofs.Strings.{string-end, string-quote, string-byte}
 use Rattle.cell_writer.specs.PlainRuns.{plainRun}
 use Rattle.cell_writer.specs.Units.{paired}
@@ -58,7 +58,8 @@ module _ (raw : Bytes) (i j p q r : ℕ) (k : j ≡ i + plainRun p q r (drop i r
 
 -- ---- units
 
-part-byte : (c : Spelling) (raw : Bytes) (i b next : ℕ) (more : Bytes) → contentFrom c raw i ≡ b ∷ contentFrom c raw next → i < next → next ≤ length raw → getD raw (next - 1) 0 ≡ b
+part-byte : (c : Spelling) (raw : Bytes) (i b next : ℕ) (more : Bytes) → contentFrom c raw i ≡ b ∷ contentFrom c raw next → i < next
+    → next ≤ length raw → getD raw (next - 1) 0 ≡ b
     → Part c raw i (b ∷ more) 1 next
 part-byte c raw i b next more e h k f =
     record { stands = e; on = h; inside = k; few = omega arith; sized = refl; unit = λ _. one b; single = λ _ g. f ∙ g }
@@ -134,7 +135,8 @@ decoded-ed (by-doubled h l e) = e
 decoded-ed (by-string l e) = e
 
 -- a byte from 80 hex on is verbatim
-high-byte : {c : Spelling} {raw : Bytes} (i : ℕ) → Decoded c raw → i < length raw → 0x80 ≤ getD raw i 0 → contentFrom c raw i ≡ getD raw i 0 ∷ contentFrom c raw (i + 1)
+high-byte : {c : Spelling} {raw : Bytes} (i : ℕ) → Decoded c raw → i < length raw → 0x80 ≤ getD raw i 0
+    → contentFrom c raw i ≡ getD raw i 0 ∷ contentFrom c raw (i + 1)
 high-byte {raw} i (by-doubled {q} h l e) k m = undoubled.at-other q raw i k λ f. omega arith
 high-byte {raw} i (by-string l e) k m = string-byte raw i k (λ f. omega arith) λ f. omega arith
 
@@ -156,13 +158,16 @@ ed-apart {c} {raw} i d e =
     (λ f.
     let l : i + 1 < length raw = ltb-true (i + 1) (length raw) f in
     let w : EdFollows raw i = decoded-ed d i l e in
-    ap (λ (bs : Bytes). paired (0xED ∷ bs)) (high-byte (i + 1) d l (w .least)) ∙ paired-low 0xED (getD raw (i + 1) 0) (contentFrom c raw (i + 1 + 1)) (w .most)) λ f.
+    ap (λ (bs : Bytes). paired (0xED ∷ bs)) (high-byte (i + 1) d l (w .least))
+    ∙ paired-low 0xED (getD raw (i + 1) 0) (contentFrom c raw (i + 1 + 1)) (w .most)) λ f.
     ap (λ (bs : Bytes). paired (0xED ∷ bs)) (content-end c raw (i + 1) (ltb-false (i + 1) (length raw) f))
 
-pub part-apart : {c : Spelling} {raw : Bytes} {i : ℕ} {bytes : Bytes} {size next : ℕ} → Decoded c raw → Part c raw i bytes size next → size ≡ 1 → paired (contentFrom c raw i) ≡ false
+pub part-apart : {c : Spelling} {raw : Bytes} {i : ℕ} {bytes : Bytes} {size next : ℕ} → Decoded c raw → Part c raw i bytes size next
+    → size ≡ 1 → paired (contentFrom c raw i) ≡ false
 part-apart {c} {raw} {i} {bytes} {size} {next} d p e =
     let b : ℕ = getD bytes 0 0 in
-    let whole : contentFrom c raw i ≡ b ∷ contentFrom c raw next = p .stands ∙ ap (λ (l : Bytes). l ++ contentFrom c raw next) (first-one bytes size e (p .sized)) in
+    let whole : contentFrom c raw i ≡ b ∷ contentFrom c raw next =
+    p .stands ∙ ap (λ (l : Bytes). l ++ contentFrom c raw next) (first-one bytes size e (p .sized)) in
     split-on (b is 0xED)
     (λ f.
     let back : next - 1 + 1 ≡ next = omega (arith, p .on) in

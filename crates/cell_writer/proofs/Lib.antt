@@ -3,5 +3,5 @@ pub mod PlainRuns
 pub mod Units
 pub mod Contents
 pub mod Bodies
-pub mod Quoted
+pub mod QuoteDecision
 pub mod Cells

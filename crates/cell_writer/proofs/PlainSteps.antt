@@ -1,20 +1,19 @@
 -- Laws of the steps of a run, by a byte and by a word, and of the word test.
 use mathlib.Core.Path.{_≡_, refl, sym, ap, _∙_}
 use mathlib.Core.Bool.{Bool, true, false, not, _&&_, _||_}
-use mathlib.Core.List.{[], _∷_, _++_}
+use mathlib.Core.List.{[], _∷_}
 use Prim.Native.Nat.{ℕ, _+_, _-_, _≤_, _<_}
 use native.Mathlib.Omega.{arith}
 use lib.Bits.{bitAnd, bitXor}
 use lib.Dec.{ltb, leb}
-use lib.ListN.{length, drop, getD, drop-of-length-le, take-append-drop}
-use lib.Seq.{drop-drop}
+use lib.ListN.{length, drop, getD, drop-of-length-le}
 use borrow.Author.Tests.{le-leb, lt-leb, ltb-true, ltb-false}
 use Rattle.model.specs.rules.Api.{slice}
 use Rattle.model.specs.rules.Base.{Bytes, if_then_else_, _is_, BACKSLASH}
 use Rattle.model.proofs.Tests.{split-on}
 use Rattle.swar.specs.Words.{bytesOf, Word, Flags, zeroBytes, isByte, isBelow}
 use Rattle.swar.proofs.Flags.{flags-same, flags-both, flags-other}
-use Rattle.swar.proofs.FlaggedPrefix.{word-passes, word-stops}
+use Rattle.swar.proofs.FlaggedPrefix.{rest-passes, rest-stops}
 use Rattle.buffer.proofs.WriteProgress.{drop-next}
 use Rattle.cell_writer.specs.PlainRuns.{isPlain, plainRun}
 
@@ -38,7 +37,8 @@ module _ (p q : ℕ) where
   plain-none b = simp (not-either, not-below) (and-again (leb 0x20 b && not (b is BACKSLASH) && not (b is 0xED) && not (b is p)) (not (b is q)))
 
   -- a byte that each of these words flags is plain
-  pub plain-flags : {w from-20 no-backslash no-ed no-first no-second : ℕ} → Flags (isBelow 0x20) w from-20 → Flags (isByte BACKSLASH) w no-backslash → Flags (isByte 0xED) w no-ed
+  pub plain-flags : {w from-20 no-backslash no-ed no-first no-second : ℕ} → Flags (isBelow 0x20) w from-20
+      → Flags (isByte BACKSLASH) w no-backslash → Flags (isByte 0xED) w no-ed
       → Flags (isByte p) w no-first → Flags (isByte q) w no-second
       → Flags (isPlain p q q) w (bitXor (bitAnd (bitAnd (bitAnd (bitAnd from-20 no-backslash) no-ed) no-first) no-second) 0x8080808080808080)
   plain-flags a b c d e = flags-same (flags-other (flags-both (flags-both (flags-both (flags-both a b) c) d) e)) plain-none
@@ -73,15 +73,12 @@ module _ (p q r : ℕ) (s : Bytes) (i : ℕ) where
 
   -- the word at i, and its flags
   module _ {w flags : ℕ} (is-word : Word (slice s i (i + 8)) w) (told : Flags (isPlain p q r) w flags) where
-    word-next : drop i s ≡ slice s i (i + 8) ++ drop (i + 8) s
-    word-next = let m : i + 8 - i ≡ 8 = omega arith in sym (take-append-drop 8 (drop i s)) ∙ rw (m, drop-drop)
-
     -- no flag: the run passes the word
     pub word-on : flags ≡ 0 → i + plainRun p q r (drop i s) ≡ (i + 8) + plainRun p q r (drop (i + 8) s)
     unfolding plainRun
-    word-on e = let on = word-passes is-word told (drop (i + 8) s) e in rw word-next (omega arith)
+    word-on e = let on = rest-passes s i is-word told e in omega arith
 
     -- a flag: the run ends before it
     pub word-ends : ¬ (flags ≡ 0) → (zeroBytes (bytesOf 8 flags) ≡ plainRun p q r (drop i s)) × (plainRun p q r (drop i s) < 8)
     unfolding plainRun
-    word-ends e = rw word-next (word-stops is-word told (drop (i + 8) s) e)
+    word-ends e = rest-stops s i is-word told e

@@ -42,7 +42,16 @@ module _ (b : ℕ) where
       → escaped b ≡ BACKSLASH ∷ 0x75 ∷ 0x30 ∷ 0x30 ∷ hexDigit (b / 0x10) ∷ hexDigit (b % 0x10) ∷ []
   unfolding if_then_else_
   escaped-code h k l m n o =
-      rw (ne-eqb b QUOTE (λ e. omega arith), ne-eqb b BACKSLASH (λ e. omega arith), lt-leb 0x20 b h, ne-eqb b 0x08 k, ne-eqb b 0x09 l, ne-eqb b 0x0A m, ne-eqb b 0x0C n, ne-eqb b 0x0D o)
+      rw (
+        ne-eqb b QUOTE (λ e. omega arith),
+        ne-eqb b BACKSLASH (λ e. omega arith),
+        lt-leb 0x20 b h,
+        ne-eqb b 0x08 k,
+        ne-eqb b 0x09 l,
+        ne-eqb b 0x0A m,
+        ne-eqb b 0x0C n,
+        ne-eqb b 0x0D o,
+      )
 
 -- ---- a byte of text with doubled quotes
 
@@ -153,15 +162,28 @@ string-lies u (one b) h e = absurd (h refl)
 string-lies u (two a b g k) h e = rw (high-escaped a (g .least), high-escaped b (k .least))
 string-lies u (three a b c g k m) h e = rw (e, high-escaped a g, high-escaped b (k .least), high-escaped c (m .least))
 string-lies u (four a b c d g k m n) h e =
-    rw (no-surrogate a b (g .other), no-surrogate b c (λ z. omega (arith, k .most)), high-escaped a (g .least), high-escaped b (k .least), high-escaped c (m .least), high-escaped d (n .least))
+    rw (
+      no-surrogate a b (g .other),
+      no-surrogate b c (λ z. omega (arith, k .most)),
+      high-escaped a (g .least),
+      high-escaped b (k .least),
+      high-escaped c (m .least),
+      high-escaped d (n .least),
+    )
 
 doubled-lies : (q : ℕ) (u : Bytes) → q ≤ 0x7F → Unit u → (length u ≡ 1 → ⊥) → doubled q u ≡ u
 unfolding doubled if_then_else_
 doubled-lies q u l (one b) h = absurd (h refl)
 doubled-lies q u l (two a b g k) h = rw (ne-eqb a q (λ z. omega (arith, g .least)), ne-eqb b q (λ z. omega (arith, k .least)))
-doubled-lies q u l (three a b c g k m) h = rw (ne-eqb a q (λ z. omega arith), ne-eqb b q (λ z. omega (arith, k .least)), ne-eqb c q (λ z. omega (arith, m .least)))
+doubled-lies q u l (three a b c g k m) h =
+    rw (ne-eqb a q (λ z. omega arith), ne-eqb b q (λ z. omega (arith, k .least)), ne-eqb c q (λ z. omega (arith, m .least)))
 doubled-lies q u l (four a b c d g k m n) h =
-    rw (ne-eqb a q (λ z. omega (arith, g .least)), ne-eqb b q (λ z. omega (arith, k .least)), ne-eqb c q (λ z. omega (arith, m .least)), ne-eqb d q (λ z. omega (arith, n .least)))
+    rw (
+      ne-eqb a q (λ z. omega (arith, g .least)),
+      ne-eqb b q (λ z. omega (arith, k .least)),
+      ne-eqb c q (λ z. omega (arith, m .least)),
+      ne-eqb d q (λ z. omega (arith, n .least)),
+    )
 
 pub stands : (t : Dialect) (u : Bytes) → Unit u → (length u ≡ 1 → ⊥) → (isCsvj t ≡ true → isLone u ≡ false) → bodyText t u ≡ u
 stands Csvj u x h e = string-lies u x h (e refl)
@@ -235,7 +257,8 @@ body-append u bs (three a b c g k m) h =
     (λ e. surrogate-append a b c bs e ∙ ap (λ (l : Bytes). l ++ jsonBody bs) (sym (three-lone a b c e)))
     (λ e. first-append a (b ∷ c ∷ []) bs (λ (l : Bytes). body-byte a (b ∷ c ∷ l) e) (later-two b c bs k m))
 body-append u bs (four a b c d g k m n) h =
-    first-append a (b ∷ c ∷ d ∷ []) bs (λ (l : Bytes). body-lead a (b ∷ c ∷ d ∷ l) g) (first-append b (c ∷ d ∷ []) bs (λ (l : Bytes). body-later b (c ∷ d ∷ l) k) (later-two c d bs m n))
+    first-append a (b ∷ c ∷ d ∷ []) bs (λ (l : Bytes). body-lead a (b ∷ c ∷ d ∷ l) g)
+    (first-append b (c ∷ d ∷ []) bs (λ (l : Bytes). body-later b (c ∷ d ∷ l) k) (later-two c d bs m n))
 
 pub text-append : (t : Dialect) (u bs : Bytes) → Unit u → (length u ≡ 1 → beginsLone (u ++ bs) ≡ false) → bodyText t (u ++ bs) ≡ bodyText t u ++ bodyText t bs
 text-append Csvj u bs x h = body-append u bs x h

@@ -22,7 +22,8 @@ pub record Stops (c : Spelling) (t : Dialect) (raw : Bytes) (i : ℕ) (bytes : B
   pub tells : holdsLone (contentFrom c raw i) ≡ (lone || holdsLone (contentFrom c raw next))
 
 -- a part w of the text was read from i to `read` and written or measured from o to r
-pub record Stepped (c : Spelling) (t : Dialect) (raw : Bytes) (i : ℕ) (write : Bool) (old : Bytes) (o : ℕ) (new : Bytes) (read r : ℕ) (lone : Bool) : Type 0 where
+pub record Stepped (c : Spelling) (t : Dialect) (raw : Bytes) (i : ℕ) (write : Bool) (old : Bytes) (o : ℕ) (new : Bytes) (read r : ℕ)
+    (lone : Bool) : Type 0 where
   pub w : Bytes
   pub stands : bodyText t (contentFrom c raw i) ≡ w ++ bodyText t (contentFrom c raw read)
   pub on : i < read

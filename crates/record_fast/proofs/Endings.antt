@@ -28,7 +28,9 @@ pub after-delimiter : (d : Dialect) → afterCell d true (delimiterOf d) ≡ To 
 unfolding afterCell if_then_else_
 after-delimiter Csvj = refl
 after-delimiter Tdif = refl
-after-delimiter (CsvPlus s) = let e : (delimiterByte (s .delimiter) is delimiterByte (s .delimiter)) ≡ true = eq-eqb (delimiterByte (s .delimiter)) (delimiterByte (s .delimiter)) refl in rw e
+after-delimiter (CsvPlus s) =
+    let e : (delimiterByte (s .delimiter) is delimiterByte (s .delimiter)) ≡ true = eq-eqb (delimiterByte (s .delimiter)) (delimiterByte (s .delimiter)) refl in
+    rw e
 
 -- no delimiter is a line break
 no-lf : (x : Delimiter) → (LF is delimiterByte x) ≡ false

@@ -38,7 +38,8 @@ pub data FirstCellAt (first : FileState) (part : Bytes) (from : ℕ) : ℕ → T
 -- what ends a record after its last cell, if it is found: one byte, or CR and LF
 pub data RecordEndSound (d : Dialect) (part : Bytes) (e stop : ℕ) : RecordEnd → Type 0 where
   at-once : {f : FileState} → afterCell d true (getD part e 0) ≡ To f (Ends true) → RecordEndSound d part e stop (closing.After f (e + 1))
-  by-pair : e + 1 < stop → afterCell d true (getD part e 0) ≡ To Cr (Tail true) → getD part (e + 1) 0 ≡ LF → RecordEndSound d part e stop (closing.After Begin (e + 2))
+  by-pair : e + 1 < stop → afterCell d true (getD part e 0) ≡ To Cr (Tail true) → getD part (e + 1) 0 ≡ LF
+      → RecordEndSound d part e stop (closing.After Begin (e + 2))
   nowhere : RecordEndSound d part e stop closing.Fallback
 
 -- ---- records
@@ -59,12 +60,14 @@ pub record Clean (d : Dialect) (part : Bytes) (room base n : ℕ) (starts ends :
   pub each : (k : ℕ) → k < n → base + k < room → CleanCell d (slice part (getD starts (base + k) 0) (getD ends (base + k) 0))
 
 -- soundness of the fast path: a record that is found is the scanner's. On fallback its first cells may be in the lists
-pub data FastScanSound (d : Dialect) (limit : ℕ) (part : Bytes) (from : ℕ) (f : FileState) (room base : ℕ) (starts₀ ends₀ kinds₀ starts ends kinds : List ℕ) : FastScan → Type 0 where
+pub data FastScanSound (d : Dialect) (limit : ℕ) (part : Bytes) (from : ℕ) (f : FileState) (room base : ℕ)
+    (starts₀ ends₀ kinds₀ starts ends kinds : List ℕ) : FastScan → Type 0 where
   is-found :
       {start cells next : ℕ} {g : FileState} {clean : Bool} (cs : List RawCell) →
       nextFound d limit part from f ≡ record { answer = reached.Completed start cells g next; cells = cs } →
       ScanInBounds (length part) from limit base (reached.Completed start cells g next) → StoredCells d room base cs starts₀ ends₀ kinds₀ starts ends kinds →
-      (clean ≡ true → Clean d part room base cells starts ends) → FastScanSound d limit part from f room base starts₀ ends₀ kinds₀ starts ends kinds (Record start cells g next clean)
+      (clean ≡ true → Clean d part room base cells starts ends) → FastScanSound d limit part from f room base starts₀ ends₀ kinds₀ starts
+      ends kinds (Record start cells g next clean)
   is-fallback :
       (cs more : List RawCell) → nextFound d limit part from f .cells ≡ cs ++ more → StoredCells d room base cs starts₀ ends₀ kinds₀ starts ends kinds →
       FastScanSound d limit part from f room base starts₀ ends₀ kinds₀ starts ends kinds Fallback

@@ -2,7 +2,7 @@
 // or fallback, after which the scanner begins at the same offset. The contract is one-sided (`FastScanSound` of specs/FastScan.antt).
 //
 // The loop holds numbers alone and finds each cell's end by `cell_fast`: no state of the file is built for a cell, which in the scanner
-// takes twice the time. The proof uses the scanner's own laws, one step for each cell (proofs/Rows.antt).
+// takes twice the time. The proof uses the scanner's own laws, one step for each cell (proofs/FastScanInvariant.antt).
 ghost use mathlib.Core.Path.{_≡_};
 ghost use mathlib.Core.Bool.{true, _&&_};
 ghost use Prim.Native.Nat.{_≤_, _<_};

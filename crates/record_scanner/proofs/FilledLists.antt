@@ -23,7 +23,8 @@ stored-from-none k [] old = refl
 stored-from-none k (x ∷ xs) old = rw (le-ltb k 0 (omega arith)) (stored-from-none (suc k) xs old)
 
 -- with room for all they lie one after the other
-pub stored-from-all : (room k : ℕ) (xs old : List ℕ) → k + length xs ≤ room → room ≤ length old → storedFrom room k xs old ≡ take k old ++ (xs ++ drop (k + length xs) old)
+pub stored-from-all : (room k : ℕ) (xs old : List ℕ) → k + length xs ≤ room → room ≤ length old
+    → storedFrom room k xs old ≡ take k old ++ (xs ++ drop (k + length xs) old)
 unfolding storedFrom storeAt if_then_else_
 stored-from-all room k [] old h l = let e : k + 0 ≡ k = omega arith in rw e (sym (take-append-drop k old))
 stored-from-all room k (x ∷ xs) old h l =

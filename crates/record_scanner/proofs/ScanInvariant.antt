@@ -13,7 +13,23 @@ use Rattle.model.specs.rules.Base.{if_then_else_, Bytes}
 use Rattle.model.specs.rules.Decode.{kindNumber, kindOf}
 use Rattle.model.specs.rules.Report.{MAXFILE, MAXRECORD}
 use Rattle.model.specs.rules.File.{afterCell, counts}
-use Rattle.model.specs.laws.Scans.{RawCell, Scan, ScanResult, pends, fails, closingRaw, scanStep, scan, inRecord, fresh, bytesIn, SizedTo, sized-pends, sized-fails, sized-completes}
+use Rattle.model.specs.laws.Scans.{
+  RawCell,
+  Scan,
+  ScanResult,
+  pends,
+  fails,
+  closingRaw,
+  scanStep,
+  scan,
+  inRecord,
+  fresh,
+  bytesIn,
+  SizedTo,
+  sized-pends,
+  sized-fails,
+  sized-completes,
+}
 use Rattle.model.proofs.Tests.{impossible}
 use Rattle.model.proofs.piece_laws.ScanSize.{scan-size}
 use Rattle.model.specs.rules.Api.{slice}
@@ -57,7 +73,8 @@ abbrev numberOf : Dialect → RawCell → ℕ
 numberOf d c = kindNumber (kindOf d (c .bytes))
 
 -- the cell that ends is stored after the others
-pub closing-written : (φ : RawCell → ℕ) (room base n : ℕ) (old : List ℕ) (k : Bool) (s : Scan) → length (s .cells) ≡ n → storeIf k room (base + n) (φ (cellHere s)) (storedFrom room base (map φ (s .cells)) old) ≡ storedFrom room base (map φ (closingRaw k s)) old
+pub closing-written : (φ : RawCell → ℕ) (room base n : ℕ) (old : List ℕ) (k : Bool) (s : Scan) → length (s .cells) ≡ n
+    → storeIf k room (base + n) (φ (cellHere s)) (storedFrom room base (map φ (s .cells)) old) ≡ storedFrom room base (map φ (closingRaw k s)) old
 unfolding storeIf if_then_else_
 closing-written φ room base n old true s e =
     let l : length (map φ (s .cells)) ≡ n = length-map (s .cells) φ ∙ e in
@@ -150,13 +167,35 @@ module _ (call : Call) where
     pub place : InPart f i h cs
     pub lists : Holds cs starts ends kinds
 
-  pub begins : from ≤ length part → from ≤ limit → base ≤ from → size ≤ MAXRECORD → limit ≤ MAXFILE → Scanning first from (record { start = from; size = size; opened = from; cells = 0 }) starts₀ ends₀ kinds₀
+  pub begins : from ≤ length part → from ≤ limit → base ≤ from → size ≤ MAXRECORD → limit ≤ MAXFILE
+      → Scanning first from (record { start = from; size = size; opened = from; cells = 0 }) starts₀ ends₀ kinds₀
   unfolding storedFrom
   begins l m b z low =
       record {
         cs = [];
-        same = ap (λ (raw : Bytes). foundIn d limit (record { state = first; offset = from; start = from; size = size; opened = from; raw = raw; cells = [] }) (drop from part)) (sym (part-end part from));
-        place = record { onward = omega arith; inside = l; under = m; counted = refl; few = omega arith; low = low; sized = omega arith; started = omega arith; opened = omega arith; rest = λ _. refl };
+        same =
+            ap (λ (raw : Bytes). foundIn d limit (record {
+              state = first;
+              offset = from;
+              start = from;
+              size = size;
+              opened = from;
+              raw = raw;
+              cells = [];
+            }) (drop from part)) (sym (part-end part from));
+        place =
+            record {
+              onward = omega arith;
+              inside = l;
+              under = m;
+              counted = refl;
+              few = omega arith;
+              low = low;
+              sized = omega arith;
+              started = omega arith;
+              opened = omega arith;
+              rest = λ _. refl;
+            };
         lists = record { at-starts = refl; at-ends = refl; at-kinds = refl };
       }
 
@@ -177,28 +216,42 @@ module _ (call : Call) where
     PutKinds p xs = storeIf (closesCell p) room (base + h .cells) (kindNumber (kindOf d (slice part (h .opened) i))) xs
 
     -- the lists hold the record's cells after a byte, whether it ends one or not
-    put-closing : (k : Bool) {starts ends kinds : List ℕ} → Holds cs starts ends kinds → Holds (closingRaw k Here) (storeIf k room (base + h .cells) (h .opened) starts) (storeIf k room (base + h .cells) i ends) (storeIf k room (base + h .cells) (kindNumber (kindOf d (slice part (h .opened) i))) kinds)
+    put-closing : (k : Bool) {starts ends kinds : List ℕ} → Holds cs starts ends kinds
+        → Holds (closingRaw k Here) (storeIf k room (base + h .cells) (h .opened) starts) (storeIf k room (base + h .cells) i ends)
+        (storeIf k room (base + h .cells) (kindNumber (kindOf d (slice part (h .opened) i))) kinds)
     put-closing k y =
         record {
-          at-starts = ap (λ (xs : List ℕ). storeIf k room (base + h .cells) (h .opened) xs) (y .at-starts) ∙ closing-written fromOf room base (h .cells) starts₀ k Here (q .counted);
-          at-ends = ap (λ (xs : List ℕ). storeIf k room (base + h .cells) i xs) (y .at-ends) ∙ closing-written uptoOf room base (h .cells) ends₀ k Here (q .counted);
-          at-kinds = ap (λ (xs : List ℕ). storeIf k room (base + h .cells) (kindNumber (kindOf d (slice part (h .opened) i))) xs) (y .at-kinds) ∙ closing-written (numberOf d) room base (h .cells) kinds₀ k Here (q .counted);
+          at-starts =
+              ap (λ (xs : List ℕ). storeIf k room (base + h .cells) (h .opened) xs) (y .at-starts)
+              ∙ closing-written fromOf room base (h .cells) starts₀ k Here (q .counted);
+          at-ends =
+              ap (λ (xs : List ℕ). storeIf k room (base + h .cells) i xs) (y .at-ends) ∙ closing-written uptoOf room base (h .cells) ends₀ k Here (q .counted);
+          at-kinds =
+              ap (λ (xs : List ℕ). storeIf k room (base + h .cells) (kindNumber (kindOf d (slice part (h .opened) i))) xs) (y .at-kinds)
+              ∙ closing-written (numberOf d) room base (h .cells) kinds₀ k Here (q .counted);
         }
 
     -- no cell ends, and none was complete
-    put-none : {starts ends kinds : List ℕ} → cs ≡ [] → Holds cs starts ends kinds → Holds [] (storeIf false room (base + h .cells) (h .opened) starts) (storeIf false room (base + h .cells) i ends) (storeIf false room (base + h .cells) (kindNumber (kindOf d (slice part (h .opened) i))) kinds)
+    put-none : {starts ends kinds : List ℕ} → cs ≡ [] → Holds cs starts ends kinds
+        → Holds [] (storeIf false room (base + h .cells) (h .opened) starts) (storeIf false room (base + h .cells) i ends)
+        (storeIf false room (base + h .cells) (kindNumber (kindOf d (slice part (h .opened) i))) kinds)
     unfolding storeIf if_then_else_
     put-none {starts = starts} {ends = ends} {kinds = kinds} e y = subst (λ (ws : List RawCell). Holds ws starts ends kinds) e y
 
-    put-same : {starts ends kinds : List ℕ} → Holds cs starts ends kinds → Holds cs (storeIf false room (base + h .cells) (h .opened) starts) (storeIf false room (base + h .cells) i ends) (storeIf false room (base + h .cells) (kindNumber (kindOf d (slice part (h .opened) i))) kinds)
+    put-same : {starts ends kinds : List ℕ} → Holds cs starts ends kinds
+        → Holds cs (storeIf false room (base + h .cells) (h .opened) starts) (storeIf false room (base + h .cells) i ends)
+        (storeIf false room (base + h .cells) (kindNumber (kindOf d (slice part (h .opened) i))) kinds)
     unfolding storeIf if_then_else_
     put-same y = y
 
     module _ (g : FileState) (l : i < length part) (m : i < limit) where
-      goes-on : (p : ByteRole) → endsRecord p ≡ false → Whole ≡ steppedAt d limit part f i h cs (To g p) → Whole ≡ foundIn d limit (scanAt part g (i + 1) (stateAfterByte p i h) (cellsNext p Here)) (drop (i + 1) part)
+      goes-on : (p : ByteRole) → endsRecord p ≡ false → Whole ≡ steppedAt d limit part f i h cs (To g p)
+          → Whole ≡ foundIn d limit (scanAt part g (i + 1) (stateAfterByte p i h) (cellsNext p Here)) (drop (i + 1) part)
       goes-on p e w = w ∙ goes-to d limit part p f g i h cs (q .opened) l e
 
-      pub on : (p : ByteRole) → Calm f (getD part i 0) (To g p) → endsRecord p ≡ false → Whole ≡ steppedAt d limit part f i h cs (To g p) → {starts ends kinds : List ℕ} → Holds cs starts ends kinds → Scanning g (i + 1) (stateAfterByte p i h) (PutStarts p starts) (PutEnds p ends) (PutKinds p kinds)
+      pub on : (p : ByteRole) → Calm f (getD part i 0) (To g p) → endsRecord p ≡ false → Whole ≡ steppedAt d limit part f i h cs (To g p)
+          → {starts ends kinds : List ℕ} → Holds cs starts ends kinds
+          → Scanning g (i + 1) (stateAfterByte p i h) (PutStarts p starts) (PutEnds p ends) (PutKinds p kinds)
       on Outside (leaves o) e w y =
           let b : base + h .cells ≤ i = q .few in
           let w′ : from ≤ i = q .onward in
@@ -246,7 +299,8 @@ module _ (call : Call) where
     pub at-kinds : kinds ≡ storedFrom room base (rawKinds d (Whole .cells)) kinds₀
     pub bounds : ScanInBounds (length part) from limit base e
 
-  gives : (n : Found) {starts ends kinds : List ℕ} → Whole ≡ n → Holds (n .cells) starts ends kinds → ScanInBounds (length part) from limit base (n .answer) → Out (n .answer) starts ends kinds
+  gives : (n : Found) {starts ends kinds : List ℕ} → Whole ≡ n → Holds (n .cells) starts ends kinds
+      → ScanInBounds (length part) from limit base (n .answer) → Out (n .answer) starts ends kinds
   gives n w y b =
       record {
         answer = ap (λ (x : Found). x .answer) (sym w);
@@ -266,7 +320,8 @@ module _ (call : Call) where
         let n : drop i part ≡ getD part i 0 ∷ drop (i + 1) part = rw (add-one, drop-cons part i 0) in
         gives (foundOf (fails FileTooLong There)) (y .same ∙ rw (n, scan, le-leb limit i m)) (y .lists) l
 
-    pub too-long-record : i < length part → i < limit → (leb MAXRECORD (h .size) && counts f (getD part i 0)) ≡ true → Out (reached.Failed RecordTooLong i) starts ends kinds
+    pub too-long-record : i < length part → i < limit → (leb MAXRECORD (h .size) && counts f (getD part i 0)) ≡ true
+        → Out (reached.Failed RecordTooLong i) starts ends kinds
     unfolding scan if_then_else_
     too-long-record l m e =
         let n : drop i part ≡ getD part i 0 ∷ drop (i + 1) part = rw (add-one, drop-cons part i 0) in
@@ -284,7 +339,8 @@ module _ (call : Call) where
     pending l z =
         let w : Whole ≡ foundOf (pends There) = ended l in
         let held : 0 + 0 ≤ size = omega arith in
-        let all : sizeIn (Whole .answer) ≤ MAXRECORD = size-found (scan-size d limit (fresh first size from) (drop from part) (record { held = held; limit = z })) in
+        let all : sizeIn (Whole .answer) ≤ MAXRECORD =
+        size-found (scan-size d limit (fresh first size from) (drop from part) (record { held = held; limit = z })) in
         let s : h .size ≤ MAXRECORD = subst (λ (x : Found). sizeIn (x .answer) ≤ MAXRECORD) w all in
         let c : length (y .cs) ≡ h .cells = y .place .counted in
         let n : i ≤ length part = y .place .inside in
@@ -292,28 +348,48 @@ module _ (call : Call) where
         let t : h .start ≤ i = y .place .started in
         let o : h .opened ≤ i = y .place .opened in
         let b : base + h .cells ≤ i = y .place .few in
-        let bounds : CurrentInBounds (length part) limit base f h = record { under = omega arith; size = s; start = omega arith; opened = omega arith; few = omega arith; between = λ e. sym c ∙ ap length (y .place .rest (between-outer f e)) } in
-        let e : reached.NeedInput f (currentOf There) ≡ reached.NeedInput f h = ap (λ (m : ℕ). reached.NeedInput f (record { start = h .start; size = h .size; opened = h .opened; cells = m })) c in
+        let bounds : CurrentInBounds (length part) limit base f h =
+        record {
+          under = omega arith;
+          size = s;
+          start = omega arith;
+          opened = omega arith;
+          few = omega arith;
+          between = λ e. sym c ∙ ap length (y .place .rest (between-outer f e));
+        } in
+        let e : reached.NeedInput f (currentOf There) ≡ reached.NeedInput f h =
+        ap (λ (m : ℕ). reached.NeedInput f (record { start = h .start; size = h .size; opened = h .opened; cells = m })) c in
         subst (λ (x : ScanOutcome). Out x starts ends kinds) e
         (gives (foundOf (pends There)) w (y .lists) (subst (λ (x : ScanOutcome). ScanInBounds (length part) from limit base x) (sym e) bounds))
 
   -- a byte that ends its record, or that is refused
-  module _ {f : FileState} {i : ℕ} {h : RecordState} {cs : List RawCell} (q : InPart f i h cs) (l : i < length part) (m : i < limit) {starts ends kinds : List ℕ} (y : Holds cs starts ends kinds) where
+  module _ {f : FileState} {i : ℕ} {h : RecordState} {cs : List RawCell} (q : InPart f i h cs) (l : i < length part) (m : i < limit)
+      {starts ends kinds : List ℕ} (y : Holds cs starts ends kinds) where
     refused : (x : ByteFault) → Whole ≡ steppedAt d limit part f i h cs (Reject x) → Out (reached.Failed (Byte x) i) starts ends kinds
     refused x w = gives (record { answer = reached.Failed (Byte x) i; cells = cs }) (w ∙ refuses d limit part x f i h cs) y l
 
-    ends-here : (g : FileState) (k : Bool) → Whole ≡ steppedAt d limit part f i h cs (To g (Ends k)) → Out (reached.Completed (h .start) (oneMore k (h .cells)) g (i + 1)) (storeIf k room (base + h .cells) (h .opened) starts) (storeIf k room (base + h .cells) i ends) (storeIf k room (base + h .cells) (kindNumber (kindOf d (slice part (h .opened) i))) kinds)
+    ends-here : (g : FileState) (k : Bool) → Whole ≡ steppedAt d limit part f i h cs (To g (Ends k))
+        → Out (reached.Completed (h .start) (oneMore k (h .cells)) g (i + 1)) (storeIf k room (base + h .cells) (h .opened) starts)
+        (storeIf k room (base + h .cells) i ends) (storeIf k room (base + h .cells) (kindNumber (kindOf d (slice part (h .opened) i))) kinds)
     unfolding scanStep
     ends-here g k w =
         let r : Scan = scanAt part f i h cs in
         let n : length (closingRaw k r) ≡ oneMore k (h .cells) = closing-counts k r (h .cells) (q .counted) in
         let z : suc i ≡ i + 1 = sym (add-one i) in
-        let v : Whole ≡ record { answer = reached.Completed (h .start) (oneMore k (h .cells)) g (i + 1); cells = closingRaw k r } = w ∙ ap (λ (m : ℕ). record { answer = reached.Completed (h .start) m g (suc i); cells = closingRaw k r }) n ∙ ap (λ (o : ℕ). record { answer = reached.Completed (h .start) (oneMore k (h .cells)) g o; cells = closingRaw k r }) z in
+        let v : Whole ≡ record { answer = reached.Completed (h .start) (oneMore k (h .cells)) g (i + 1); cells = closingRaw k r } =
+        w ∙ ap (λ (m : ℕ). record { answer = reached.Completed (h .start) m g (suc i); cells = closingRaw k r }) n
+        ∙ ap (λ (o : ℕ). record { answer = reached.Completed (h .start) (oneMore k (h .cells)) g o; cells = closingRaw k r }) z in
         let t : h .start ≤ i = q .started in
         let w′ : from ≤ i = q .onward in
-        gives (record { answer = reached.Completed (h .start) (oneMore k (h .cells)) g (i + 1); cells = closingRaw k r }) v (put-closing q k y) (omega arith, omega arith, omega arith, omega arith, one-more-few k base (h .cells) i (q .few))
+        gives (record {
+          answer = reached.Completed (h .start) (oneMore k (h .cells)) g (i + 1);
+          cells = closingRaw k r;
+        }) v (put-closing q k y) (omega arith, omega arith, omega arith, omega arith, one-more-few k base (h .cells) i (q .few))
 
-    ends-record : (g : FileState) (p : ByteRole) → endsRecord p ≡ true → Whole ≡ steppedAt d limit part f i h cs (To g p) → Out (reached.Completed (stateAfterByte p i h .start) (stateAfterByte p i h .cells) g (i + 1)) (storeIf (closesCell p) room (base + h .cells) (h .opened) starts) (storeIf (closesCell p) room (base + h .cells) i ends) (storeIf (closesCell p) room (base + h .cells) (kindNumber (kindOf d (slice part (h .opened) i))) kinds)
+    ends-record : (g : FileState) (p : ByteRole) → endsRecord p ≡ true → Whole ≡ steppedAt d limit part f i h cs (To g p)
+        → Out (reached.Completed (stateAfterByte p i h .start) (stateAfterByte p i h .cells) g (i + 1))
+        (storeIf (closesCell p) room (base + h .cells) (h .opened) starts) (storeIf (closesCell p) room (base + h .cells) i ends)
+        (storeIf (closesCell p) room (base + h .cells) (kindNumber (kindOf d (slice part (h .opened) i))) kinds)
     ends-record g Outside e w = impossible e
     ends-record g Passed e w = impossible e
     ends-record g OfCell e w = impossible e
@@ -323,7 +399,8 @@ module _ (call : Call) where
 
   -- ---- tokens of more than one byte
 
-  pub grows-to : {f : FileState} {i j : ℕ} {h : RecordState} {cs : List RawCell} → i ≤ j → j ≤ length part → j ≤ limit → InPart f i h cs → InPart f j (extendedBy h (j - i)) cs
+  pub grows-to : {f : FileState} {i j : ℕ} {h : RecordState} {cs : List RawCell} → i ≤ j → j ≤ length part → j ≤ limit → InPart f i h cs
+      → InPart f j (extendedBy h (j - i)) cs
   grows-to {i = i} {j = j} {h = h} l m n q =
       let b : base + h .cells ≤ i = q .few in
       let w′ : from ≤ i = q .onward in
@@ -332,7 +409,10 @@ module _ (call : Call) where
       let o : h .opened ≤ i = q .opened in
       record { onward = omega arith; inside = m; under = n; counted = q .counted; few = omega arith; low = q .low; sized = omega arith; started = omega arith; opened = omega arith; rest = q .rest }
 
-  pub still-open : {f : FileState} {c : Cell} {i j : ℕ} {h : RecordState} {starts ends kinds : List ℕ} (y : Scanning f i h starts ends kinds) → i < j → j ≤ length part → j ≤ limit → Whole ≡ foundIn d limit (scanAt part (Inside c) j (extendedBy h (j - i)) (y .cs)) (drop j part) → Scanning (Inside c) j (extendedBy h (j - i)) starts ends kinds
+  pub still-open : {f : FileState} {c : Cell} {i j : ℕ} {h : RecordState} {starts ends kinds : List ℕ}
+      (y : Scanning f i h starts ends kinds) → i < j → j ≤ length part → j ≤ limit
+      → Whole ≡ foundIn d limit (scanAt part (Inside c) j (extendedBy h (j - i)) (y .cs)) (drop j part)
+      → Scanning (Inside c) j (extendedBy h (j - i)) starts ends kinds
   still-open {i = i} {j = j} {h = h} y l m n w =
       let b : base + h .cells ≤ i = y .place .few in
       let w′ : from ≤ i = y .place .onward in
@@ -341,7 +421,10 @@ module _ (call : Call) where
       let o : h .opened ≤ i = y .place .opened in
       record { cs = y .cs; same = w; place = record { onward = omega arith; inside = m; under = n; counted = y .place .counted; few = omega arith; low = y .place .low; sized = omega arith; started = omega arith; opened = omega arith; rest = λ t. impossible t }; lists = y .lists }
 
-  pub skipped : {f : FileState} {i j : ℕ} {h : RecordState} {starts ends kinds : List ℕ} (y : Scanning f i h starts ends kinds) → outer f ≡ true → i < j → j ≤ length part → j ≤ limit → Whole ≡ foundIn d limit (scanAt part f j (stateAfterByte Outside (j - 1) h) []) (drop j part) → Scanning f j (stateAfterByte Outside (j - 1) h) starts ends kinds
+  pub skipped : {f : FileState} {i j : ℕ} {h : RecordState} {starts ends kinds : List ℕ} (y : Scanning f i h starts ends kinds)
+      → outer f ≡ true → i < j → j ≤ length part → j ≤ limit
+      → Whole ≡ foundIn d limit (scanAt part f j (stateAfterByte Outside (j - 1) h) []) (drop j part)
+      → Scanning f j (stateAfterByte Outside (j - 1) h) starts ends kinds
   skipped {i = i} {j = j} {h = h} {starts = ss} {ends = es} {kinds = ks} y o l m n w =
       let b : base + h .cells ≤ i = y .place .few in
       let w′ : from ≤ i = y .place .onward in
@@ -350,7 +433,8 @@ module _ (call : Call) where
 
   -- ---- lengths
 
-  pub lengths : {cs : List RawCell} {starts ends kinds : List ℕ} → Holds cs starts ends kinds → (length starts ≡ length starts₀) × (length ends ≡ length ends₀) × (length kinds ≡ length kinds₀)
+  pub lengths : {cs : List RawCell} {starts ends kinds : List ℕ} → Holds cs starts ends kinds
+      → (length starts ≡ length starts₀) × (length ends ≡ length ends₀) × (length kinds ≡ length kinds₀)
   lengths {cs = cs} y = (
     ap length (y .at-starts) ∙ length-stored-from room base (map fromOf cs) starts₀,
     ap length (y .at-ends) ∙ length-stored-from room base (map uptoOf cs) ends₀,
@@ -358,7 +442,10 @@ module _ (call : Call) where
   )
 
   -- also after a cell was stored or not
-  pub put-lengths : {cs : List RawCell} {starts ends kinds starts′ ends′ kinds′ : List ℕ} → Holds cs starts ends kinds → (closes : Bool) (m x y z : ℕ) → (starts′ ≡ storeIf closes room m x starts) × ((ends′ ≡ storeIf closes room m y ends) × (kinds′ ≡ storeIf closes room m z kinds)) → (length starts′ ≡ length starts₀) × (length ends′ ≡ length ends₀) × (length kinds′ ≡ length kinds₀)
+  pub put-lengths : {cs : List RawCell} {starts ends kinds starts′ ends′ kinds′ : List ℕ} → Holds cs starts ends kinds
+      → (closes : Bool) (m x y z : ℕ)
+      → (starts′ ≡ storeIf closes room m x starts) × ((ends′ ≡ storeIf closes room m y ends) × (kinds′ ≡ storeIf closes room m z kinds))
+      → (length starts′ ≡ length starts₀) × (length ends′ ≡ length ends₀) × (length kinds′ ≡ length kinds₀)
   put-lengths {starts = ss} {ends = es} {kinds = ks} y closes m x u z put =
       let n : (length ss ≡ length starts₀) × (length es ≡ length ends₀) × (length ks ≡ length kinds₀) = lengths y in (
         ap length (put .0) ∙ length-stored-if closes room m x ss ∙ n .0,
@@ -397,43 +484,59 @@ module _ (call : Call) where
         let w : Whole ≡ metNext d limit part f i h (a .scanning .cs) (Is s) = comes-to ∙ ap (λ (x : Token). metNext d limit part f i h (a .scanning .cs) x) q in
         record { cs = a .scanning .cs; whole = w; place = a .scanning .place; lists = a .scanning .lists; calm = subst (λ (x : Step). Calm f (getD part i 0) x) (sym n) (step-calm d f (getD part i 0)); inside = a .inside; under = a .under }
 
-    pub by-cell : (closes : Bool) (j : ℕ) → met ≡ AfterCell closes j → (g : RecordState) → g ≡ extendedBy h (j - i) → (s : Step) → s ≡ afterCell d closes (getD part j 0) → Stepping f j g s starts ends kinds
+    pub by-cell : (closes : Bool) (j : ℕ) → met ≡ AfterCell closes j → (g : RecordState) → g ≡ extendedBy h (j - i) → (s : Step)
+        → s ≡ afterCell d closes (getD part j 0) → Stepping f j g s starts ends kinds
     unfolding metNext
     by-cell closes j q g eg s es =
         let n : TokenInBounds d limit part f i (AfterCell closes j) = subst (λ (x : Token). TokenInBounds d limit part f i x) q (a .lies) in
-        let w : Whole ≡ metNext d limit part f i h (a .scanning .cs) (AfterCell closes j) = comes-to ∙ ap (λ (x : Token). metNext d limit part f i h (a .scanning .cs) x) q in
+        let w : Whole ≡ metNext d limit part f i h (a .scanning .cs) (AfterCell closes j) =
+        comes-to ∙ ap (λ (x : Token). metNext d limit part f i h (a .scanning .cs) x) q in
         let k : j < length part = n .1 in
         let u : j < limit = n .2 in
         subst (λ (x : RecordState). Stepping f j x s starts ends kinds) (sym eg)
         (subst (λ (x : Step). Stepping f j (extendedBy h (j - i)) x starts ends kinds) (sym es)
-        (record { cs = a .scanning .cs; whole = w; place = grows-to (n .0) (omega arith) (omega arith) (a .scanning .place); lists = a .scanning .lists; calm = after-calm f (getD part j 0) d closes; inside = k; under = u }))
+        (record {
+          cs = a .scanning .cs;
+          whole = w;
+          place = grows-to (n .0) (omega arith) (omega arith) (a .scanning .place);
+          lists = a .scanning .lists;
+          calm = after-calm f (getD part j 0) d closes;
+          inside = k;
+          under = u;
+        }))
 
     pub by-skip : (j : ℕ) → met ≡ Skipped j → (g : RecordState) → g ≡ stateAfterByte Outside (j - 1) h → Scanning f j g starts ends kinds
     unfolding metNext
     by-skip j q g eg =
         let n : TokenInBounds d limit part f i (Skipped j) = subst (λ (x : Token). TokenInBounds d limit part f i x) q (a .lies) in
-        let w : Whole ≡ metNext d limit part f i h (a .scanning .cs) (Skipped j) = comes-to ∙ ap (λ (x : Token). metNext d limit part f i h (a .scanning .cs) x) q in
+        let w : Whole ≡ metNext d limit part f i h (a .scanning .cs) (Skipped j) =
+        comes-to ∙ ap (λ (x : Token). metNext d limit part f i h (a .scanning .cs) x) q in
         subst (λ (x : RecordState). Scanning f j x starts ends kinds) (sym eg) (skipped (a .scanning) (n .0) (n .1) (n .2) (n .3) w)
 
     pub by-open : (c : Cell) (j : ℕ) → met ≡ Open c j → (g : RecordState) → g ≡ extendedBy h (j - i) → Scanning (Inside c) j g starts ends kinds
     unfolding metNext
     by-open c j q g eg =
         let n : TokenInBounds d limit part f i (Open c j) = subst (λ (x : Token). TokenInBounds d limit part f i x) q (a .lies) in
-        let w : Whole ≡ metNext d limit part f i h (a .scanning .cs) (Open c j) = comes-to ∙ ap (λ (x : Token). metNext d limit part f i h (a .scanning .cs) x) q in
+        let w : Whole ≡ metNext d limit part f i h (a .scanning .cs) (Open c j) =
+        comes-to ∙ ap (λ (x : Token). metNext d limit part f i h (a .scanning .cs) x) q in
         subst (λ (x : RecordState). Scanning (Inside c) j x starts ends kinds) (sym eg) (still-open (a .scanning) (n .0) (n .1) (n .2) w)
 
     pub by-refusal : (x : ByteFault) (j : ℕ) → met ≡ Refused x j → Out (reached.Failed (Byte x) j) starts ends kinds
     unfolding metNext
     by-refusal x j q =
         let n : j < length part = subst (λ (t : Token). TokenInBounds d limit part f i t) q (a .lies) in
-        gives (record { answer = reached.Failed (Byte x) j; cells = a .scanning .cs }) (comes-to ∙ ap (λ (t : Token). metNext d limit part f i h (a .scanning .cs) t) q) (a .scanning .lists) n
+        gives (record {
+          answer = reached.Failed (Byte x) j;
+          cells = a .scanning .cs;
+        }) (comes-to ∙ ap (λ (t : Token). metNext d limit part f i h (a .scanning .cs) t) q) (a .scanning .lists) n
 
     -- its bounds
     pub lies-cell : (closes : Bool) (j : ℕ) → met ≡ AfterCell closes j → (i ≤ j) × (j < length part) × (j < limit)
     lies-cell closes j q = subst (λ (x : Token). TokenInBounds d limit part f i x) q (a .lies)
 
     pub lies-skip : (j : ℕ) → met ≡ Skipped j → (i < j) × (j ≤ length part) × (j ≤ limit)
-    lies-skip j q = let n : TokenInBounds d limit part f i (Skipped j) = subst (λ (x : Token). TokenInBounds d limit part f i x) q (a .lies) in (n .1, n .2, n .3)
+    lies-skip j q =
+        let n : TokenInBounds d limit part f i (Skipped j) = subst (λ (x : Token). TokenInBounds d limit part f i x) q (a .lies) in (n .1, n .2, n .3)
 
     pub lies-open : (c : Cell) (j : ℕ) → met ≡ Open c j → (i < j) × (j ≤ length part) × (j ≤ limit)
     lies-open c j q = subst (λ (x : Token). TokenInBounds d limit part f i x) q (a .lies)
@@ -443,7 +546,11 @@ module _ (call : Call) where
     pub step-refused : (x : ByteFault) → s ≡ Reject x → Out (reached.Failed (Byte x) i) starts ends kinds
     step-refused x q = refused (y .place) (y .inside) (y .under) (y .lists) x (y .whole ∙ ap (λ (t : Step). steppedAt d limit part f i h (y .cs) t) q)
 
-    module _ (g : FileState) (p : ByteRole) (q : s ≡ To g p) (closes : Bool) (c : closes ≡ closesCell p) (starts′ ends′ kinds′ : List ℕ) (put : (starts′ ≡ storeIf closes room (base + h .cells) (h .opened) starts) × ((ends′ ≡ storeIf closes room (base + h .cells) i ends) × (kinds′ ≡ storeIf closes room (base + h .cells) (kindNumber (kindOf d (slice part (h .opened) i))) kinds))) (h′ : RecordState) (eh : h′ ≡ stateAfterByte p i h) (over : Bool) (eo : over ≡ endsRecord p) where
+    module _ (g : FileState) (p : ByteRole) (q : s ≡ To g p) (closes : Bool) (c : closes ≡ closesCell p) (starts′ ends′ kinds′ : List ℕ)
+        (put : (starts′ ≡ storeIf closes room (base + h .cells) (h .opened)
+        starts) × ((ends′ ≡ storeIf closes room (base + h .cells) i ends) × (kinds′ ≡ storeIf closes room (base + h .cells)
+        (kindNumber (kindOf d (slice part (h .opened) i)))
+        kinds))) (h′ : RecordState) (eh : h′ ≡ stateAfterByte p i h) (over : Bool) (eo : over ≡ endsRecord p) where
       stepped-to : Whole ≡ steppedAt d limit part f i h (y .cs) (To g p)
       stepped-to = y .whole ∙ ap (λ (t : Step). steppedAt d limit part f i h (y .cs) t) q
 
@@ -468,14 +575,16 @@ module _ (call : Call) where
 
   -- ---- no overflow
 
-  pub small-sum : {f : FileState} {i : ℕ} {h : RecordState} {s : Step} {starts ends kinds : List ℕ} → Stepping f i h s starts ends kinds → base + h .cells < 2 ^ 64
+  pub small-sum : {f : FileState} {i : ℕ} {h : RecordState} {s : Step} {starts ends kinds : List ℕ} → Stepping f i h s starts ends kinds
+      → base + h .cells < 2 ^ 64
   small-sum {i = i} {h = h} y =
       let b : base + h .cells ≤ i = y .place .few in
       let u : i < limit = y .under in
       let v : limit ≤ MAXFILE = y .place .low in
       omega arith
 
-  pub small-step : {f : FileState} {i : ℕ} {h : RecordState} {s : Step} {starts ends kinds : List ℕ} → Stepping f i h s starts ends kinds → (i + 1 < 2 ^ 64) × (h .size + 1 < 2 ^ 64) × (h .cells + 1 < 2 ^ 64)
+  pub small-step : {f : FileState} {i : ℕ} {h : RecordState} {s : Step} {starts ends kinds : List ℕ} → Stepping f i h s starts ends kinds
+      → (i + 1 < 2 ^ 64) × (h .size + 1 < 2 ^ 64) × (h .cells + 1 < 2 ^ 64)
   small-step {i = i} {h = h} y =
       let b : base + h .cells ≤ i = y .place .few in
       let z : h .size ≤ MAXRECORD + i = y .place .sized in

@@ -15,7 +15,8 @@ unfolding storeIf if_then_else_
 not-stored closes room k x old e = rw e
 
 -- by equal tests
-pub same-stored : (closes closes′ : Bool) (room k x : ℕ) (old new : List ℕ) → closes ≡ closes′ → new ≡ storeIf closes room k x old → new ≡ storeIf closes′ room k x old
+pub same-stored : (closes closes′ : Bool) (room k x : ℕ) (old new : List ℕ) → closes ≡ closes′ → new ≡ storeIf closes room k x old
+    → new ≡ storeIf closes′ room k x old
 same-stored closes closes′ room k x old new e q = q ∙ ap (λ (b : Bool). storeIf b room k x old) e
 
 pub no-room : (closes : Bool) (room k x : ℕ) (old : List ℕ) → closes ≡ true → room ≤ k → old ≡ storeIf closes room k x old
@@ -47,7 +48,8 @@ still-room room k n xs old new e l = rw (e, length-stored-from room k xs old) l
 
 -- ---- one more at the end
 
-pub stored-from-snoc : (room k : ℕ) (xs : List ℕ) (x : ℕ) (old : List ℕ) → storedFrom room k (xs ++ (x ∷ [])) old ≡ storeAt room (k + length xs) x (storedFrom room k xs old)
+pub stored-from-snoc : (room k : ℕ) (xs : List ℕ) (x : ℕ) (old : List ℕ)
+    → storedFrom room k (xs ++ (x ∷ [])) old ≡ storeAt room (k + length xs) x (storedFrom room k xs old)
 unfolding storedFrom
 stored-from-snoc room k [] x old = let e : k ≡ k + 0 = omega arith in ap (λ (n : ℕ). storeAt room n x old) e
 stored-from-snoc room k (y ∷ ys) x old =

@@ -79,7 +79,8 @@ commentEnd Cr part limit i = i
 
 -- scanning from i, whose byte is not one too many, has that result
 pub record TokenCorrect (d : Dialect) (limit : ℕ) (part : Bytes) (f : FileState) (i size : ℕ) (m : Token) : Type 0 where
-  pub comes : (h : RecordState) (cs : List RawCell) → h .size ≡ size → h .opened ≤ i → (leb MAXRECORD (h .size) && counts f (getD part i 0)) ≡ false → foundIn d limit (scanAt part f i h cs) (drop i part) ≡ metNext d limit part f i h cs m
+  pub comes : (h : RecordState) (cs : List RawCell) → h .size ≡ size → h .opened ≤ i
+      → (leb MAXRECORD (h .size) && counts f (getD part i 0)) ≡ false → foundIn d limit (scanAt part f i h cs) (drop i part) ≡ metNext d limit part f i h cs m
 
 -- reading is between records, in the byte order mark, in a comment or in the blanks before a record: there is no current cell
 abbrev pub outer : FileState → Bool

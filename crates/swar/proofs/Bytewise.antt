@@ -93,7 +93,8 @@ pub add-bytes : {bs : Bytes} {v w : ℕ} {f g : ℕ → ℕ} → Bytewise bs v f
     → ((b : ℕ) → b < 0x100 → f b + g b < 0x100) → Bytewise bs (v + w) (λ b. f b + g b)
 add-bytes {bs} {v} {w} {f} {g} x y fits = record { word = ap₂ _+_ (x .word) (y .word) ∙ sums f g bs; byte = fits }
 
-differences : (f g : ℕ → ℕ) → ((b : ℕ) → b < 0x100 → g b ≤ f b) → {bs : Bytes} → AllBytes bs → wordOf (map (λ b. f b - g b) bs) + wordOf (map g bs) ≡ wordOf (map f bs)
+differences : (f g : ℕ → ℕ) → ((b : ℕ) → b < 0x100 → g b ≤ f b) → {bs : Bytes} → AllBytes bs
+    → wordOf (map (λ b. f b - g b) bs) + wordOf (map g bs) ≡ wordOf (map f bs)
 unfolding wordOf
 differences f g le no-bytes = refl
 differences f g le (and-byte {b} {bs} h hs) =

@@ -21,7 +21,8 @@ none-exact passes (b ∷ bs) = go (passes b) (none-exact passes bs)
         split-on (n is 0) (λ t. let e = eqb-true n 0 t in eq-eqb (0 + 0x100 * n) 0 (omega arith) ∙ sym t)
         λ t. let e = eqb-false n 0 t in ne-eqb (0 + 0x100 * n) 0 (omega arith) ∙ sym t
 
-    go : (t : Bool) → (wordOf (map (flagOf passes) bs) is 0) ≡ allPass passes bs → (((if t then 0 else 0x80) + 0x100 * wordOf (map (flagOf passes) bs)) is 0) ≡ (t && allPass passes bs)
+    go : (t : Bool) → (wordOf (map (flagOf passes) bs) is 0) ≡ allPass passes bs
+        → (((if t then 0 else 0x80) + 0x100 * wordOf (map (flagOf passes) bs)) is 0) ≡ (t && allPass passes bs)
     go true ih = scaled (wordOf (map (flagOf passes) bs)) ∙ ih
     go false ih = ne-eqb (0x80 + 0x100 * wordOf (map (flagOf passes) bs)) 0 (omega arith)
 
@@ -30,7 +31,8 @@ unfolding flagOf
 flag-byte passes b = split (λ (n : ℕ). n < 0x100) _ (λ _. omega arith) λ _. omega arith
 
 -- from the bytes to the word, and back
-pub flags-from : {passes : ℕ → Bool} {w flags : ℕ} {f : ℕ → ℕ} → Bytewise (bytesOf 8 w) flags f → ((b : ℕ) → b < 0x100 → f b ≡ flagOf passes b) → Flags passes w flags
+pub flags-from : {passes : ℕ → Bool} {w flags : ℕ} {f : ℕ → ℕ} → Bytewise (bytesOf 8 w) flags f
+    → ((b : ℕ) → b < 0x100 → f b ≡ flagOf passes b) → Flags passes w flags
 flags-from {passes} {w} {flags} {f} x same =
     let bytewise : flags ≡ wordOf (map (flagOf passes) (bytesOf 8 w)) = x .word ∙ rw (same-bytes f (flagOf passes) same (all-bytes 8 w)) in
     record { bytewise = bytewise; exact = rw bytewise (none-exact passes (bytesOf 8 w)) }

@@ -4,8 +4,8 @@ pub mod TopDigit
 pub mod Flags
 pub mod OrdinaryTest
 pub mod FlagAlgebra
-pub mod Clean
-pub mod Digits
+pub mod CleanTest
+pub mod DigitTest
 pub mod ThresholdTests
 pub mod WordReads
 pub mod FlaggedPrefix

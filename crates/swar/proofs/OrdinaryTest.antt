@@ -77,7 +77,8 @@ module _ (p q b : ℕ) (h : b < 0x100) (hp : p < 0x80) (hq : q < 0x80) where
         at-7f = record { byte = omega arith; digit = omega arith };
       }
 
-  some-tops : Tops p q b (b / 0x80) ((0x80 - bitXor (bitAnd b 0x7F) p) / 0x80) ((0x80 - bitXor (bitAnd b 0x7F) q) / 0x80) ((0x9F - bitAnd b 0x7F) / 0x80) ((bitAnd b 0x7F + 0x01) / 0x80)
+  some-tops : Tops p q b (b / 0x80) ((0x80 - bitXor (bitAnd b 0x7F) p) / 0x80) ((0x80 - bitXor (bitAnd b 0x7F) q) / 0x80)
+      ((0x9F - bitAnd b 0x7F) / 0x80) ((bitAnd b 0x7F + 0x01) / 0x80)
   some-tops =
       let x : bitAnd b 0x7F ≡ b % 0x80 = test-low in
       record { at-not-ascii = any-top _ h; at-first = any-top _ (omega arith); at-second = any-top _ (omega arith); at-below-20 = any-top _ (omega arith); at-7f = any-top _ (omega arith) }
@@ -122,7 +123,8 @@ abbrev pub testWord : (w first second : ℕ) → ℕ
 testWord w first second =
     bitAnd
     (bitOr
-    (bitOr (bitOr (bitOr w (0x8080808080808080 - bitXor (bitAnd w 0x7F7F7F7F7F7F7F7F) first)) (0x8080808080808080 - bitXor (bitAnd w 0x7F7F7F7F7F7F7F7F) second))
+    (bitOr (bitOr (bitOr w (0x8080808080808080 - bitXor (bitAnd w 0x7F7F7F7F7F7F7F7F) first))
+    (0x8080808080808080 - bitXor (bitAnd w 0x7F7F7F7F7F7F7F7F) second))
     (0x9F9F9F9F9F9F9F9F - bitAnd w 0x7F7F7F7F7F7F7F7F))
     (bitAnd w 0x7F7F7F7F7F7F7F7F + 0x0101010101010101))
     0x8080808080808080
@@ -134,7 +136,8 @@ module _ (w : ℕ) (h : w < 0x100 ^ 8) where
   low-small : (b : ℕ) → bitAnd b 0x7F < 0x80
   low-small b = mask-lt b 7
 
-  pub stop-bits : (c : ℕ) → c < 0x80 → Bytewise (bytesOf 8 w) (0x8080808080808080 - bitXor (bitAnd w 0x7F7F7F7F7F7F7F7F) (c * ONES)) (λ b. 0x80 - bitXor (bitAnd b 0x7F) c)
+  pub stop-bits : (c : ℕ) → c < 0x80
+      → Bytewise (bytesOf 8 w) (0x8080808080808080 - bitXor (bitAnd w 0x7F7F7F7F7F7F7F7F) (c * ONES)) (λ b. 0x80 - bitXor (bitAnd b 0x7F) c)
   stop-bits c k =
       sub-bytes (all-bytes 8 w) (eight-times w 0x80 (omega arith)) (xor-bytes (all-bytes 8 w) low-bits (eight-times w c (omega arith)))
       λ b l. fits b
@@ -157,7 +160,8 @@ module _ (w : ℕ) (h : w < 0x100 ^ 8) where
   test-bytes : (p q : ℕ) → p < 0x80 → q < 0x80 → Bytewise (bytesOf 8 w) (testWord w (p * ONES) (q * ONES)) (testOf p q)
   test-bytes p q hp hq =
       let hs = all-bytes 8 w in
-      and-bytes hs (or-bytes hs (or-bytes hs (or-bytes hs (or-bytes hs (itself w h) (stop-bits p hp)) (stop-bits q hq)) below-bits) last-bits) (eight-times w 0x80 (omega arith))
+      and-bytes hs (or-bytes hs (or-bytes hs (or-bytes hs (or-bytes hs (itself w h) (stop-bits p hp)) (stop-bits q hq)) below-bits)
+      last-bits) (eight-times w 0x80 (omega arith))
 
 -- ---- stops that need not be ASCII
 
@@ -177,7 +181,8 @@ ordinary-ascii : (p q b : ℕ) → ordinary (asciiStop p) (asciiStop q) b ≡ or
 unfolding ordinary
 ordinary-ascii p q b = go (within 0x20 0x7E b) refl
   where
-    go : (t : Bool) → within 0x20 0x7E b ≡ t → (within 0x20 0x7E b && not (b is asciiStop p) && not (b is asciiStop q)) ≡ (within 0x20 0x7E b && not (b is p) && not (b is q))
+    go : (t : Bool) → within 0x20 0x7E b ≡ t
+        → (within 0x20 0x7E b && not (b is asciiStop p) && not (b is asciiStop q)) ≡ (within 0x20 0x7E b && not (b is p) && not (b is q))
     go true e = let k = within-true 0x20 0x7E b e in let m : b ≤ 0x7E = k .1 in rw (ascii-same p b (k .0) (omega arith), ascii-same q b (k .0) (omega arith))
     go false e = rw e
 
@@ -191,11 +196,14 @@ stop-fits w p first e =
 
 -- ---- the contract of the test
 
-pub flags : (w p q first second : ℕ) → w < 0x100 ^ 8 → first ≡ asciiStop p * ONES → second ≡ asciiStop q * ONES → Flags (ordinary p q) w (testWord w first second)
+pub flags : (w p q first second : ℕ) → w < 0x100 ^ 8 → first ≡ asciiStop p * ONES → second ≡ asciiStop q * ONES
+    → Flags (ordinary p q) w (testWord w first second)
 unfolding flagOf
 flags w p q first second h ep eq =
     let ap = ascii-small p in
     let aq = ascii-small q in
-    let tested : Bytewise (bytesOf 8 w) (testWord w first second) (testOf (asciiStop p) (asciiStop q)) = rw (ep, eq) (test-bytes w h (asciiStop p) (asciiStop q) ap aq) in
-    let byte : (b : ℕ) → b < 0x100 → testOf (asciiStop p) (asciiStop q) b ≡ flagOf (ordinary p q) b = λ b k. test-flag (asciiStop p) (asciiStop q) b k ap aq ∙ rw (ordinary-ascii p q b) in
+    let tested : Bytewise (bytesOf 8 w) (testWord w first second) (testOf (asciiStop p) (asciiStop q)) =
+    rw (ep, eq) (test-bytes w h (asciiStop p) (asciiStop q) ap aq) in
+    let byte : (b : ℕ) → b < 0x100 → testOf (asciiStop p) (asciiStop q) b ≡ flagOf (ordinary p q) b =
+    λ b k. test-flag (asciiStop p) (asciiStop q) b k ap aq ∙ rw (ordinary-ascii p q b) in
     flags-from tested byte

@@ -54,7 +54,8 @@ module _ (passes : ℕ → Bool) where
 
   -- and back
   pub in-all : {s : Bytes} {i j : ℕ} → AllIn passes s i j → j ≤ length s → allPass passes (slice s i j) ≡ true
-  in-all {s} {i} {j} x l = all-from (slice s i j) λ k h. let len = part-length s i j l in rw (part-at s i j k (omega arith)) (x .each (i + k) (omega arith) (omega arith))
+  in-all {s} {i} {j} x l =
+      all-from (slice s i j) λ k h. let len = part-length s i j l in rw (part-at s i j k (omega arith)) (x .each (i + k) (omega arith) (omega arith))
 
   -- for the whole list
   pub in-whole : {s : Bytes} → AllIn passes s 0 (length s) → allPass passes s ≡ true
@@ -85,7 +86,8 @@ module _ {passes : ℕ → Bool} {s : Bytes} {from i w flags : ℕ} (x : AllIn p
   pub in-word : i + 8 ≤ length s → Word (slice s i (i + 8)) w → AllIn passes s from (i + 8)
   in-word h is-word =
       record {
-        each = λ k l m. split-on (ltb k i) (λ t. x .each k l (ltb-true k i t)) λ t. part-all passes s i (i + 8) h (word-all is-word told e) k (ltb-false k i t) m;
+        each =
+            λ k l m. split-on (ltb k i) (λ t. x .each k l (ltb-true k i t)) λ t. part-all passes s i (i + 8) h (word-all is-word told e) k (ltb-false k i t) m;
       }
 
   -- and the last bytes
@@ -95,6 +97,25 @@ module _ {passes : ℕ → Bool} {s : Bytes} {from i w flags : ℕ} (x : AllIn p
       record {
         each = λ k l m. split-on (ltb k i) (λ t. x .each k l (ltb-true k i t)) λ t. let n = ltb-false k i t in is-last .each passes all k l m (omega arith);
       }
+
+-- ---- a loop that checks a span by words: what it has checked at i, and one law for each step
+
+pub record CheckedTo (passes : ℕ → Bool) (s : Bytes) (from upto i : ℕ) : Type 0 where
+  pub begins : from ≤ i
+  pub inside : i ≤ upto
+  pub each : AllIn passes s from i
+
+pub check-starts : {passes : ℕ → Bool} (s : Bytes) {from upto : ℕ} → from ≤ upto → CheckedTo passes s from upto from
+check-starts s {from} h = record { begins = omega arith; inside = h; each = in-none s from }
+
+module _ {passes : ℕ → Bool} {s : Bytes} {from upto i w flags : ℕ} (x : CheckedTo passes s from upto i) (told : Flags passes w flags) where
+  pub check-word : upto ≤ length s → i + 8 ≤ upto → Word (slice s i (i + 8)) w → flags ≡ 0 → CheckedTo passes s from upto (i + 8)
+  check-word l h is-word e =
+      let b : from ≤ i = x .begins in
+      record { begins = omega arith; inside = h; each = in-word (x .each) told e (omega arith) is-word }
+
+  pub check-last : upto ≤ i + 8 → LastBytes s from upto w → (flags is 0) ≡ true → AllIn passes s from upto
+  check-last h is-last e = in-last (x .each) told (eqb-true flags 0 e) h is-last
 
 -- ---- what the word of the last bytes holds
 
@@ -119,7 +140,8 @@ module _ (s : Bytes) (from upto w : ℕ) (o : from ≤ upto) (inside : upto ≤ 
   pub last-none : upto - from ≡ 0 → LastBytes s from upto w
   last-none h = record { each = λ passes e k l m r. absurd (omega arith) }
 
-  pub last-three : {rest : Bytes} → upto - from < 4 → ¬ (upto - from ≡ 0) → bytesOf 8 w ≡ getD s from 0 ∷ getD s (from + (upto - from) / 2) 0 ∷ getD s (upto - 1) 0 ∷ rest → LastBytes s from upto w
+  pub last-three : {rest : Bytes} → upto - from < 4 → ¬ (upto - from ≡ 0)
+      → bytesOf 8 w ≡ getD s from 0 ∷ getD s (from + (upto - from) / 2) 0 ∷ getD s (upto - 1) 0 ∷ rest → LastBytes s from upto w
   unfolding allPass
   last-three {rest} h n b =
       record {

@@ -60,7 +60,8 @@ module _ (w : ℕ) (h : w < 0x100 ^ 8) where
   sum-bytes : (flip k : ℕ) → flip < 0x80 → k ≤ 0x7F → Bytewise (bytesOf 8 w) (sumWord (flip * ONES) (k * ONES) w) (sumOf flip k)
   sum-bytes flip k f g =
       let hs = all-bytes 8 w in
-      add-bytes (xor-bytes hs (and-bytes hs (itself w h) (eight-times w 0x7F (omega arith))) (eight-times w flip (omega arith))) (eight-times w k (omega arith)) λ b l. fits b
+      add-bytes (xor-bytes hs (and-bytes hs (itself w h) (eight-times w 0x7F (omega arith))) (eight-times w flip (omega arith)))
+      (eight-times w k (omega arith)) λ b l. fits b
     where
       fits : (b : ℕ) → sumOf flip k b < 0x100
       fits b = let x : bitXor (bitAnd b 0x7F) flip < 0x80 = xor-lt 7 (bitAnd b 0x7F) flip (mask-lt b 7) f in omega arith
@@ -75,16 +76,20 @@ module _ (w : ℕ) (h : w < 0x100 ^ 8) where
   no-ed = sum-bytes 0x6D 0x7F (omega arith) (omega arith)
 
   -- the top bit alone, inverted
-  turned : {v : ℕ} {f : ℕ → ℕ} → Bytewise (bytesOf 8 w) v f → Bytewise (bytesOf 8 w) (bitXor (bitAnd v 0x8080808080808080) 0x8080808080808080) (λ b. bitXor (bitAnd (f b) 0x80) 0x80)
+  turned : {v : ℕ} {f : ℕ → ℕ} → Bytewise (bytesOf 8 w) v f
+      → Bytewise (bytesOf 8 w) (bitXor (bitAnd v 0x8080808080808080) 0x8080808080808080) (λ b. bitXor (bitAnd (f b) 0x80) 0x80)
   turned x = let hs = all-bytes 8 w in xor-bytes hs (and-bytes hs x (eight-times w 0x80 (omega arith))) (eight-times w 0x80 (omega arith))
 
-  pub clean-flags : Flags (isClean QUOTE) w (bitXor (bitAnd (bitOr (bitAnd (sumWord 0x0202020202020202 0x5F5F5F5F5F5F5F5F w) (sumWord 0x5C5C5C5C5C5C5C5C 0x7F7F7F7F7F7F7F7F w)) w) 0x8080808080808080) 0x8080808080808080)
+  pub clean-flags : Flags (isClean QUOTE) w
+      (bitXor (bitAnd (bitOr (bitAnd (sumWord 0x0202020202020202 0x5F5F5F5F5F5F5F5F w) (sumWord 0x5C5C5C5C5C5C5C5C 0x7F7F7F7F7F7F7F7F w)) w)
+      0x8080808080808080) 0x8080808080808080)
   clean-flags = let hs = all-bytes 8 w in flags-from (turned (or-bytes hs (and-bytes hs no-mark no-backslash) (itself w h))) clean-byte
 
   pub plain-flags : Flags plainText w
       (bitXor
       (bitAnd
-      (bitOr (bitAnd (bitAnd (sumWord 0x0202020202020202 0x5F5F5F5F5F5F5F5F w) (sumWord 0x5C5C5C5C5C5C5C5C 0x7F7F7F7F7F7F7F7F w)) (bitXor w 0xFFFFFFFFFFFFFFFF)) (bitAnd (sumWord 0x6D6D6D6D6D6D6D6D 0x7F7F7F7F7F7F7F7F w) w))
+      (bitOr (bitAnd (bitAnd (sumWord 0x0202020202020202 0x5F5F5F5F5F5F5F5F w) (sumWord 0x5C5C5C5C5C5C5C5C 0x7F7F7F7F7F7F7F7F w))
+      (bitXor w 0xFFFFFFFFFFFFFFFF)) (bitAnd (sumWord 0x6D6D6D6D6D6D6D6D 0x7F7F7F7F7F7F7F7F w) w))
       0x8080808080808080)
       0x8080808080808080)
   plain-flags =

@@ -21,7 +21,8 @@ next-byte : (s : Bytes) (i j : ℕ) → j ≡ suc i → i < length s → drop i 
 next-byte s i j e h = rw e (drop-cons s i 0 h)
 
 word-bytes : (s : Bytes) (i : ℕ) → i + 8 ≤ length s
-    → slice s i (i + 8) ≡ getD s i 0 ∷ getD s (i + 1) 0 ∷ getD s (i + 2) 0 ∷ getD s (i + 3) 0 ∷ getD s (i + 4) 0 ∷ getD s (i + 5) 0 ∷ getD s (i + 6) 0 ∷ getD s (i + 7) 0 ∷ []
+    → slice s i (i + 8) ≡ getD s i 0 ∷ getD s (i + 1) 0 ∷ getD s (i + 2) 0 ∷ getD s (i + 3) 0 ∷ getD s (i + 4) 0 ∷ getD s (i + 5) 0 ∷ getD s
+    (i + 6) 0 ∷ getD s (i + 7) 0 ∷ []
 word-bytes s i h =
     let n : i + 8 - i ≡ 8 = omega arith in
     let e0 = next-byte s i (i + 1) (omega arith) (omega arith) in
@@ -35,18 +36,21 @@ word-bytes s i h =
     rw (n, e0, e1, e2, e3, e4, e5, e6, e7)
 
 pub word-read : (s : Bytes) (i w : ℕ) → i + 8 ≤ length s → ((j : ℕ) → getD s j 0 < 0x100)
-    → w ≡ wordOf (getD s i 0 ∷ getD s (i + 1) 0 ∷ getD s (i + 2) 0 ∷ getD s (i + 3) 0 ∷ getD s (i + 4) 0 ∷ getD s (i + 5) 0 ∷ getD s (i + 6) 0 ∷ getD s (i + 7) 0 ∷ [])
+    → w ≡ wordOf (getD s i 0 ∷ getD s (i + 1) 0 ∷ getD s (i + 2) 0 ∷ getD s (i + 3) 0 ∷ getD s (i + 4) 0 ∷ getD s (i + 5) 0 ∷ getD s (i + 6)
+    0 ∷ getD s (i + 7) 0 ∷ [])
     → Word (slice s i (i + 8)) w
 word-read s i w h byte e =
     let same = word-bytes s i h in
     let all =
-    and-byte (byte i) (and-byte (byte (i + 1)) (and-byte (byte (i + 2)) (and-byte (byte (i + 3)) (and-byte (byte (i + 4)) (and-byte (byte (i + 5)) (and-byte (byte (i + 6)) (and-byte (byte (i + 7)) no-bytes)))))))
+    and-byte (byte i) (and-byte (byte (i + 1)) (and-byte (byte (i + 2))
+    (and-byte (byte (i + 3)) (and-byte (byte (i + 4)) (and-byte (byte (i + 5)) (and-byte (byte (i + 6)) (and-byte (byte (i + 7)) no-bytes)))))))
     in
     record { value = e ∙ ap wordOf (sym same); bytes = ap (bytesOf 8) e ∙ bytes-back all ∙ sym same }
 
 -- eight bytes joined, each above those before it
 pub joined-word : (b0 b1 b2 b3 b4 b5 b6 b7 : ℕ) → b0 < 0x100 → b1 < 0x100 → b2 < 0x100 → b3 < 0x100 → b4 < 0x100 → b5 < 0x100 → b6 < 0x100
-    → bitOr (bitOr (bitOr (bitOr (bitOr (bitOr (bitOr b0 (b1 * 0x100)) (b2 * 0x10000)) (b3 * 0x1000000)) (b4 * 0x100000000)) (b5 * 0x10000000000)) (b6 * 0x1000000000000)) (b7 * 0x100000000000000)
+    → bitOr (bitOr (bitOr (bitOr (bitOr (bitOr (bitOr b0 (b1 * 0x100)) (b2 * 0x10000)) (b3 * 0x1000000)) (b4 * 0x100000000))
+    (b5 * 0x10000000000)) (b6 * 0x1000000000000)) (b7 * 0x100000000000000)
     ≡ wordOf (b0 ∷ b1 ∷ b2 ∷ b3 ∷ b4 ∷ b5 ∷ b6 ∷ b7 ∷ [])
 unfolding wordOf
 joined-word b0 b1 b2 b3 b4 b5 b6 b7 h0 h1 h2 h3 h4 h5 h6 =
@@ -55,8 +59,12 @@ joined-word b0 b1 b2 b3 b4 b5 b6 b7 h0 h1 h2 h3 h4 h5 h6 =
     let e3 = or-shifted-r b3 24 (bitOr (bitOr b0 (b1 * 0x100)) (b2 * 0x10000)) (omega arith) in
     let e4 = or-shifted-r b4 32 (bitOr (bitOr (bitOr b0 (b1 * 0x100)) (b2 * 0x10000)) (b3 * 0x1000000)) (omega arith) in
     let e5 = or-shifted-r b5 40 (bitOr (bitOr (bitOr (bitOr b0 (b1 * 0x100)) (b2 * 0x10000)) (b3 * 0x1000000)) (b4 * 0x100000000)) (omega arith) in
-    let e6 = or-shifted-r b6 48 (bitOr (bitOr (bitOr (bitOr (bitOr b0 (b1 * 0x100)) (b2 * 0x10000)) (b3 * 0x1000000)) (b4 * 0x100000000)) (b5 * 0x10000000000)) (omega arith) in
-    let e7 = or-shifted-r b7 56 (bitOr (bitOr (bitOr (bitOr (bitOr (bitOr b0 (b1 * 0x100)) (b2 * 0x10000)) (b3 * 0x1000000)) (b4 * 0x100000000)) (b5 * 0x10000000000)) (b6 * 0x1000000000000)) (omega arith) in
+    let e6 =
+    or-shifted-r b6 48 (bitOr (bitOr (bitOr (bitOr (bitOr b0 (b1 * 0x100)) (b2 * 0x10000)) (b3 * 0x1000000)) (b4 * 0x100000000))
+    (b5 * 0x10000000000)) (omega arith) in
+    let e7 =
+    or-shifted-r b7 56 (bitOr (bitOr (bitOr (bitOr (bitOr (bitOr b0 (b1 * 0x100)) (b2 * 0x10000)) (b3 * 0x1000000)) (b4 * 0x100000000))
+    (b5 * 0x10000000000)) (b6 * 0x1000000000000)) (omega arith) in
     omega arith
 
 -- ---- four bytes

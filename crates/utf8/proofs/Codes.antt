@@ -19,7 +19,8 @@ marked a k u = or-shifted-r a k (bitAnd u (2 ^ k - 1)) (mask-lt u k) ∙ ap (λ 
 -- ---- the bytes of a code point
 
 -- four bytes that begin with those of u, followed by zeros
-pub packs-of : (u : ℕ) (bytes : Bytes) (size : ℕ) → packed u ≡ take size bytes → size ≡ length (take size bytes) → bytes ≡ take 4 (take size bytes ++ zeros) → Packs u bytes size
+pub packs-of : (u : ℕ) (bytes : Bytes) (size : ℕ) → packed u ≡ take size bytes → size ≡ length (take size bytes)
+    → bytes ≡ take 4 (take size bytes ++ zeros) → Packs u bytes size
 packs-of u bytes size e l z = record { packs = sym e; sized = l ∙ ap length (sym e); padded = z ∙ ap (λ (bs : Bytes). take 4 (bs ++ zeros)) (sym e) }
 
 pub packed-one : (u : ℕ) → u ≤ 0x7F → packed u ≡ u ∷ []

@@ -120,8 +120,12 @@ module _ (l : Lead) (a b : ℕ) (first : charStep Whole a ≡ On (Within (Second
       let second : charStep (Within (Second l)) b ≡ On (Within Last) = second-step l b low high ∙ rw n in
       let last : charStep (Within Last) c ≡ On Whole = later-step c later .1 in
       record {
-        high = high-on a (b ∷ c ∷ []) (first-high a (Second l) first) (high-on b (c ∷ []) (inner-high (Second l) b (Within Last) second) (high-on c [] (inner-high Last c Whole last) refl));
-        whole = chars-on Whole (Within (Second l)) a (b ∷ c ∷ []) first ∙ chars-on (Within (Second l)) (Within Last) b (c ∷ []) second ∙ chars-on (Within Last) Whole c [] last;
+        high =
+            high-on a (b ∷ c ∷ []) (first-high a (Second l) first)
+            (high-on b (c ∷ []) (inner-high (Second l) b (Within Last) second) (high-on c [] (inner-high Last c Whole last) refl));
+        whole =
+            chars-on Whole (Within (Second l)) a (b ∷ c ∷ []) first ∙ chars-on (Within (Second l)) (Within Last) b (c ∷ []) second
+            ∙ chars-on (Within Last) Whole c [] last;
       }
 
   wide-four : (c e : ℕ) → rowOf l .size ≡ 4 → within 0x80 0xBF c ≡ true → within 0x80 0xBF e ≡ true → WideText (a ∷ b ∷ c ∷ e ∷ [])
@@ -133,7 +137,8 @@ module _ (l : Lead) (a b : ℕ) (first : charStep Whole a ≡ On (Within (Second
       record {
         high =
             high-on a (b ∷ c ∷ e ∷ []) (first-high a (Second l) first)
-            (high-on b (c ∷ e ∷ []) (inner-high (Second l) b (Within LastTwo) second) (high-on c (e ∷ []) (inner-high LastTwo c (Within Last) third) (high-on e [] (inner-high Last e Whole last) refl)));
+            (high-on b (c ∷ e ∷ []) (inner-high (Second l) b (Within LastTwo) second)
+            (high-on c (e ∷ []) (inner-high LastTwo c (Within Last) third) (high-on e [] (inner-high Last e Whole last) refl)));
         whole =
             chars-on Whole (Within (Second l)) a (b ∷ c ∷ e ∷ []) first
             ∙ chars-on (Within (Second l)) (Within LastTwo) b (c ∷ e ∷ []) second
@@ -252,7 +257,9 @@ module _ (s : Bytes) (i stop : ℕ) (inside : stop ≤ length s) where
       let e1 = part-next s (i + 1) (i + 2) (i + 4) (omega arith) (omega arith) (omega arith) in
       let e2 = part-next s (i + 2) (i + 3) (i + 4) (omega arith) (omega arith) (omega arith) in
       let e3 = part-next s (i + 3) (i + 4) (i + 4) (omega arith) (omega arith) (omega arith) in
-      e0 ∙ ap (λ (l : Bytes). getD s i 0 ∷ l) (e1 ∙ ap (λ (l : Bytes). getD s (i + 1) 0 ∷ l) (e2 ∙ ap (λ (l : Bytes). getD s (i + 2) 0 ∷ l) (e3 ∙ rw (part-none s (i + 4)))))
+      e0
+      ∙ ap (λ (l : Bytes). getD s i 0 ∷ l) (e1 ∙ ap (λ (l : Bytes). getD s (i + 1) 0 ∷ l)
+      (e2 ∙ ap (λ (l : Bytes). getD s (i + 2) 0 ∷ l) (e3 ∙ rw (part-none s (i + 4)))))
 
   pub run-two : i + 2 ≤ stop → 0xC2 ≤ getD s i 0 → getD s i 0 ≤ 0xDF → 0x80 ≤ getD s (i + 1) 0 → getD s (i + 1) 0 ≤ 0xBF → WideRun s i stop (i + 2)
   unfolding rowOf

@@ -21,4 +21,6 @@ measured-requires : tie.Need-measured-requires
 measured-requires c κs = c .before .before .pre .measured (c .if1 .left)
 
 pub emit-byte-spec : {M : Type 1} → statement M
-emit-byte-spec = tie.close (tie.spec slice-write-out (λ c. search (needs, c .before .before .pre .inside (c .if1 .taken))) (λ c. search needs) returns measured-requires returns-2)
+emit-byte-spec =
+    tie.close (tie.spec slice-write-out (λ c. search (needs, c .before .before .pre .inside (c .if1 .taken))) (λ c. search needs) returns
+    measured-requires returns-2)

@@ -11,11 +11,13 @@ use Rattle.cell_decoder.proofs.content_length.Tie as tie
 
 -- the encoding that was returned is that of the cell
 spelt : (c : tie.After-spelling-by)
-    → contentIn (c .spelling-by .result) (c .before .before .before .args .raw .now) ≡ contentOf (c .before .before .before .args .d) (c .before .before .before .args .raw .now)
+    → contentIn (c .spelling-by .result) (c .before .before .before .args .raw .now) ≡ contentOf (c .before .before .before .args .d)
+    (c .before .before .before .args .raw .now)
 spelt c =
     let start = c .before .before .before in
     let raw = start .args .raw .now in
-    ap (λ (s : Spelling). contentIn s raw) (c .spelling-by .ensures ∙ ap (spellingBy (start .args .d)) (c .before .first-of .ensures)) ∙ content-first (start .args .d) raw
+    ap (λ (s : Spelling). contentIn s raw) (c .spelling-by .ensures ∙ ap (spellingBy (start .args .d)) (c .before .first-of .ensures))
+    ∙ content-first (start .args .d) raw
 
 pub content-length-spec : {M : Type 1} → statement M
 content-length-spec =

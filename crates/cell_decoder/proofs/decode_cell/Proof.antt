@@ -1,7 +1,7 @@
 -- `cell_decoder::decode_cell` meets its contract: the check decides, and a refusal names its fault.
 use mathlib.Core.Path.{sym, _∙_}
 use borrow.Author.Needs.{needs}
-use Rattle.cell_decoder.proofs.Answers.{sound, unsound}
+use Rattle.cell_decoder.proofs.DecoderAnswers.{sound, unsound}
 use Rattle.cell_decoder.proofs.decode_cell.Statement.{statement}
 use Rattle.cell_decoder.proofs.decode_cell.Tie as tie
 
@@ -11,7 +11,8 @@ returns c =
     let told = c .before .before .before .before in
     let validated = told .before .before in
     let a = validated .before .before .before .args in
-    sound (a .d) (a .raw .now) (a .room .now) (called .result) (called .last .1 .1 .0) (sym (validated .validate-cell .ensures) ∙ told .enum-told .given .1) (called .ensures)
+    sound (a .d) (a .raw .now) (a .room .now) (called .result) (called .last .1 .1 .0)
+    (sym (validated .validate-cell .ensures) ∙ told .enum-told .given .1) (called .ensures)
 
 returns-2 : tie.Need-returns-2
 returns-2 c =

@@ -1,7 +1,7 @@
 -- `cell_decoder::decode_sound` meets its contract: content that fits is written, and other content is refused.
 use native.Mathlib.Omega.{arith}
 use borrow.Author.Needs.{needs}
-use Rattle.cell_decoder.proofs.Answers.{too-long, fits}
+use Rattle.cell_decoder.proofs.DecoderAnswers.{too-long, fits}
 use Rattle.cell_decoder.proofs.decode_sound.Statement.{statement}
 use Rattle.cell_decoder.proofs.decode_sound.Tie as tie
 
@@ -16,7 +16,8 @@ returns-2 c =
     let tested = c .before .before .before .before .before in
     let measured = tested .before in
     let a = measured .before .before .before .args in
-    fits (a .d) (a .raw .now) (a .room .now) _ _ _ (omega (arith, measured .content-length .ensures, tested .if1 .left)) (measured .content-length .ensures) (c .kind-of .ensures) (c .before .before .before .write-content .ensures)
+    fits (a .d) (a .raw .now) (a .room .now) _ _ _ (omega (arith, measured .content-length .ensures, tested .if1 .left))
+    (measured .content-length .ensures) (c .kind-of .ensures) (c .before .before .before .write-content .ensures)
 
 pub decode-sound-spec : {M : Type 1} → statement M
 decode-sound-spec =

@@ -11,11 +11,13 @@ use Rattle.cell_decoder.proofs.write_content.Tie as tie
 
 -- the encoding that was returned is that of the cell
 spelt : (c : tie.After-spelling-by)
-    → contentIn (c .spelling-by .result) (c .before .before .before .before .args .raw .now) ≡ contentOf (c .before .before .before .before .args .d) (c .before .before .before .before .args .raw .now)
+    → contentIn (c .spelling-by .result) (c .before .before .before .before .args .raw .now) ≡ contentOf
+    (c .before .before .before .before .args .d) (c .before .before .before .before .args .raw .now)
 spelt c =
     let start = c .before .before .before .before in
     let raw = start .args .raw .now in
-    ap (λ (s : Spelling). contentIn s raw) (c .spelling-by .ensures ∙ ap (spellingBy (start .args .d)) (c .before .first-of .ensures)) ∙ content-first (start .args .d) raw
+    ap (λ (s : Spelling). contentIn s raw) (c .spelling-by .ensures ∙ ap (spellingBy (start .args .d)) (c .before .first-of .ensures))
+    ∙ content-first (start .args .d) raw
 
 returns : tie.Need-returns
 returns c =
@@ -25,4 +27,5 @@ returns c =
 
 pub write-content-spec : {M : Type 1} → statement M
 write-content-spec =
-    tie.close (tie.spec (λ c κs. search needs) (λ c κs. search needs) (λ c κs. rw (spelt (c .before)) (c .before .before .before .before .before .pre)) (λ c. search needs) returns)
+    tie.close (tie.spec (λ c κs. search needs) (λ c κs. search needs)
+    (λ c κs. rw (spelt (c .before)) (c .before .before .before .before .before .pre)) (λ c. search needs) returns)

@@ -36,7 +36,8 @@ returns-3 c =
 opened : (c : tie.At-match-came) → let a = c .before .before .args in getD (a .s .now) (a .at) 0 ≡ a .q
 opened c =
     let u = c .before .before in
-    ⊎-elim (λ w. w .3 .left ∙ sym (u .pre .3 ∙ ap quoteOf (w .1 .given .1))) (⊎-elim (λ w. w .3 .left ∙ sym (u .pre .3 ∙ ap quoteOf (w .1 .given .1))) λ w. w .3 .left) (c .match .came)
+    ⊎-elim (λ w. w .3 .left ∙ sym (u .pre .3 ∙ ap quoteOf (w .1 .given .1)))
+    (⊎-elim (λ w. w .3 .left ∙ sym (u .pre .3 ∙ ap quoteOf (w .1 .given .1))) λ w. w .3 .left) (c .match .came)
 
 pub cell-end-spec : {M : Type 1} → statement M
 cell-end-spec =

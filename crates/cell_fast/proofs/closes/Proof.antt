@@ -22,13 +22,15 @@ returns-4 : tie.Need-returns-4
 returns-4 c e =
     let u = c .before .before .before .before .before .before in
     let doubles : isCsvj (u .args .d) ≡ false = rw (c .before .enum-told2 .given .1) in
-    quote-closes (u .args .s .now) (u .args .stop) (u .args .i) (u .pre .1) (u .args .d) doubles (omega arith) (c .before .before .before .before .if1 .left ∙ u .pre .2) (λ f. eqb-false _ _ (not-true _ e) (f ∙ sym (u .pre .2)))
+    quote-closes (u .args .s .now) (u .args .stop) (u .args .i) (u .pre .1) (u .args .d) doubles (omega arith)
+    (c .before .before .before .before .if1 .left ∙ u .pre .2) (λ f. eqb-false _ _ (not-true _ e) (f ∙ sym (u .pre .2)))
 
 returns-5 : tie.Need-returns-5
 returns-5 c e =
     let u = c .before .before .before .before .before .before in
     let doubles : isCsvj (u .args .d) ≡ false = rw (c .before .enum-told3 .given .1) in
-    quote-closes (u .args .s .now) (u .args .stop) (u .args .i) (u .pre .1) (u .args .d) doubles (omega arith) (c .before .before .before .before .if1 .left ∙ u .pre .2) (λ f. eqb-false _ _ (not-true _ e) (f ∙ sym (u .pre .2)))
+    quote-closes (u .args .s .now) (u .args .stop) (u .args .i) (u .pre .1) (u .args .d) doubles (omega arith)
+    (c .before .before .before .before .if1 .left ∙ u .pre .2) (λ f. eqb-false _ _ (not-true _ e) (f ∙ sym (u .pre .2)))
 
 pub closes-spec : {M : Type 1} → statement M
 closes-spec =

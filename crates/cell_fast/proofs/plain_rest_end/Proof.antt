@@ -16,7 +16,8 @@ returns c d m ep eq =
     let u = c .before .before .before .before .before .before in
     let a = u .args in
     let i = c .before .before .before .before .plain-text .result in
-    let run : TextRun (isOpen (delimiterOf d) (quoteOf d)) (a .s .now) (a .at) (a .stop) i = rw (ep, eq) at (c .before .before .before .before .plain-text .ensures) in
+    let run : TextRun (isOpen (delimiterOf d) (quoteOf d)) (a .s .now) (a .at) (a .stop) i =
+    rw (ep, eq) at (c .before .before .before .before .plain-text .ensures) in
     let end : isEnd (delimiterOf d) (getD (a .s .now) i 0) ≡ true = rw ep at (sym (c .before .is-end .ensures) ∙ c .if2 .taken) in
     plain-found d m (u .pre .0) (u .pre .1) (λ e. u .pre .4 (e ∙ sym eq)) run (c .before .before .before .if1 .taken) end
 

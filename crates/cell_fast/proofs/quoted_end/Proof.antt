@@ -12,8 +12,12 @@ returns : tie.Need-returns
 returns c =
     let g = c .before .before .before .before .before .before in
     let u = g .before .before .before .before .before in
-    let passed = pass-zeros (g .before .before .before .clean-words .ensures) (omega arith) (g .before .word .ensures) (c .before .before .before .before .unclean .ensures) (g .guess .result) (c .before .before .if3 .taken ∙ c .before .before .before .before-flag .ensures) .1 in
-    quoted-found (u .pre .0) (u .pre .1) (u .pre .3 ∙ u .pre .2) (quoted-run (u .args .d) (u .args .q) (u .pre .2) (u .pre .1) passed) (c .before .closes .ensures (c .if4 .taken))
+    let passed =
+    pass-zeros (g .before .before .before .clean-words .ensures) (omega arith) (g .before .word .ensures)
+    (c .before .before .before .before .unclean .ensures) (g .guess .result)
+    (c .before .before .if3 .taken ∙ c .before .before .before .before-flag .ensures) .1 in
+    quoted-found (u .pre .0) (u .pre .1) (u .pre .3 ∙ u .pre .2) (quoted-run (u .args .d) (u .args .q) (u .pre .2) (u .pre .1) passed)
+    (c .before .closes .ensures (c .if4 .taken))
 
 pub quoted-end-spec : {M : Type 1} → statement M
 quoted-end-spec =
@@ -32,4 +36,5 @@ quoted-end-spec =
     (λ c. search needs)
     returns
     (λ c κs. search needs)
-    (λ c. let u = c .before .before .before .before in c .quoted-rest-end .ensures (u .args .at) (u .pre .0) (u .pre .3) (c .before .before .clean-words .ensures)))
+    (λ c. let u = c .before .before .before .before in c .quoted-rest-end .ensures (u .args .at) (u .pre .0) (u .pre .3)
+    (c .before .before .clean-words .ensures)))

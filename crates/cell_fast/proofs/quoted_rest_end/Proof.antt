@@ -11,7 +11,8 @@ use Rattle.cell_fast.proofs.quoted_rest_end.Tie as tie
 returns : tie.Need-returns
 returns c at h e run =
     let u = c .before .before .before .before .before in
-    quoted-found h (u .pre .1) (e ∙ u .pre .2) (quoted-join (quoted-run (u .args .d) (u .args .q) (u .pre .2) (u .pre .1) run) (c .before .before .before .quoted-text .ensures)) (c .before .closes .ensures (c .if2 .taken))
+    quoted-found h (u .pre .1) (e ∙ u .pre .2) (quoted-join (quoted-run (u .args .d) (u .args .q) (u .pre .2) (u .pre .1) run)
+    (c .before .before .before .quoted-text .ensures)) (c .before .closes .ensures (c .if2 .taken))
 
 pub quoted-rest-end-spec : {M : Type 1} → statement M
 quoted-rest-end-spec =

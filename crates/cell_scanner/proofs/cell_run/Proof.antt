@@ -9,8 +9,11 @@ use Rattle.cell_scanner.proofs.cell_run.Tie as tie
 
 returns : tie.Need-returns
 returns c =
-    let at = c .before .before .before .before .before .before .before .args in
-    let e : runStop (at .d) (at .c) ≡ At (c .before .before .before .q .given .0 .0) = sym (c .before .before .before .before .before .run-stop .ensures) ∙ c .before .before .before .q .given .1 in
+    let at-run-stop = c .before .before .before .before .before in
+    let start = at-run-stop .before .before in
+    let at = start .args in
+    let e : runStop (at .d) (at .c) ≡ At (c .before .before .before .q .given .0 .0) =
+    sym (at-run-stop .run-stop .ensures) ∙ c .before .before .before .q .given .1 in
     c .run .ensures ∙ rw (e, c .before .quote-of .ensures)
 
 returns-2 : tie.Need-returns-2

@@ -27,7 +27,9 @@ returns c =
     let u = c .before .before .before .before .before in
     let a = u .before .before .args in
     let i = u .loop .i in
-    let ends = run-ends (a .s .now) i (a .stop) (a .p) (a .q) _ _ (omega arith) (c .before .before .before .word .ensures) (c .before .before .unordinary .ensures) (c .before .if1 .taken) in
+    let ends =
+    run-ends (a .s .now) i (a .stop) (a .p) (a .q) _ _ (omega arith) (c .before .before .before .word .ensures)
+    (c .before .before .unordinary .ensures) (c .before .if1 .taken) in
     let rest : c .before-flag .result ≡ leading (a .p) (a .q) (slice (a .s .now) i (a .stop)) = c .before-flag .ensures ∙ ends .0 in
     let less : leading (a .p) (a .q) (slice (a .s .now) i (a .stop)) < 8 = ends .1 in
     (omega arith, omega arith)
@@ -37,7 +39,9 @@ loop-again c =
     let u = c .before .before .before .before in
     let a = u .before .before .args in
     let i = u .loop .i in
-    let on = run-goes-on (a .s .now) i (a .stop) (a .p) (a .q) _ _ (omega arith) (c .before .before .word .ensures) (c .before .unordinary .ensures) (c .if1 .left) in
+    let on =
+    run-goes-on (a .s .now) i (a .stop) (a .p) (a .q) _ _ (omega arith) (c .before .before .word .ensures)
+    (c .before .unordinary .ensures) (c .if1 .left) in
     (omega arith, u .loop .inv .1, omega arith, omega arith)
 
 returns-2 : tie.Need-returns-2 Inv-loop μ-loop

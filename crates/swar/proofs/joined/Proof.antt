@@ -7,7 +7,8 @@ use Rattle.swar.proofs.joined.Tie as tie
 returns : tie.Need-returns
 returns c =
     let a = c .args in
-    joined-word (a .b0) (a .b1) (a .b2) (a .b3) (a .b4) (a .b5) (a .b6) (a .b7) (omega arith) (omega arith) (omega arith) (omega arith) (omega arith) (omega arith) (omega arith)
+    joined-word (a .b0) (a .b1) (a .b2) (a .b3) (a .b4) (a .b5) (a .b6) (a .b7) (omega arith) (omega arith) (omega arith) (omega arith)
+    (omega arith) (omega arith) (omega arith)
 
 pub joined-spec : {M : Type 1} → statement M
 joined-spec =

@@ -1,7 +1,7 @@
 -- `swar::no_digit` meets its contract. The sum fits and the difference is not below 0, since no byte of the low bits is above 7F hex.
 use native.Mathlib.Omega.{arith}
 use lib.Bits.{and-le-r}
-use Rattle.swar.proofs.Digits.{digit-flags}
+use Rattle.swar.proofs.DigitTest.{digit-flags}
 use Rattle.swar.proofs.no_digit.Statement.{statement}
 use Rattle.swar.proofs.no_digit.Tie as tie
 

@@ -3,7 +3,7 @@ use native.Mathlib.Omega.{arith}
 use lib.Bits.{bitAnd, and-le-r, xor-lt}
 use borrow.Author.Needs.{needs}
 use Rattle.swar.proofs.OrdinaryTest.{stop-fits}
-use Rattle.swar.proofs.Clean.{clean-flags}
+use Rattle.swar.proofs.CleanTest.{clean-flags}
 use Rattle.swar.proofs.unclean.Statement.{statement}
 use Rattle.swar.proofs.unclean.Tie as tie
 
@@ -24,7 +24,8 @@ sub-below-20 c = omega (arith, and-le-r (c .before .before .args .w) 0x7F7F7F7F7
 returns : tie.Need-returns
 returns c =
     let a = c .before .before .args in
-    clean-flags (a .w) (a .p) (a .q) (c .before .eight-stops .result) (c .eight-stops2 .result) (omega arith) (c .before .eight-stops .ensures) (c .eight-stops2 .ensures)
+    clean-flags (a .w) (a .p) (a .q) (c .before .eight-stops .result) (c .eight-stops2 .result) (omega arith)
+    (c .before .eight-stops .ensures) (c .eight-stops2 .ensures)
 
 pub unclean-spec : {M : Type 1} → statement M
 unclean-spec = tie.close (tie.spec (λ c κs. search needs) sub-is-first (λ c κs. search needs) sub-is-second sub-is-backslash sub-below-20 returns)

@@ -22,7 +22,8 @@ add-is-7f c = omega (arith, and-le-r (c .before .before .args .w) 0x7F7F7F7F7F7F
 returns : tie.Need-returns
 returns c =
     let a = c .before .before .args in
-    flags (a .w) (a .p) (a .q) (c .before .eight-stops .result) (c .eight-stops2 .result) (omega arith) (c .before .eight-stops .ensures) (c .eight-stops2 .ensures)
+    flags (a .w) (a .p) (a .q) (c .before .eight-stops .result) (c .eight-stops2 .result) (omega arith) (c .before .eight-stops .ensures)
+    (c .eight-stops2 .ensures)
 
 pub unordinary-spec : {M : Type 1} → statement M
 unordinary-spec = tie.close (tie.spec (λ c κs. search needs) sub-is-first (λ c κs. search needs) sub-is-second sub-below-20 add-is-7f returns)

@@ -20,7 +20,9 @@ returns-2 c = c .lead-byte .ensures ∙ rw (c .before .before .enum-told .given 
 
 returns-3 : tie.Need-returns-3
 unfolding charStep
-returns-3 c = c .second-byte .ensures ∙ rw (c .before .before .before .before .before .c .given .1, c .before .before .i .given .1)
+returns-3 c =
+    let at-c = c .before .before .before .before .before in
+    c .second-byte .ensures ∙ rw (at-c .c .given .1, c .before .before .i .given .1)
 
 returns-4 : tie.Need-returns-4
 unfolding charStep innerStep

@@ -33,8 +33,11 @@ loop-again : tie.Need-loop-again Inv-loop μ-loop
 unfolding rowOf leads if_then_else_
 loop-again c =
     let l = c .before .before in
-    let at = lead-at (l .loop .row) (l .before .args .b) (omega arith) in
-    (omega arith, rw add-one (l .loop .inv .1 ∙ at ∙ ⊎-elim (λ t. simp (le-leb _ _ (t .0 .taken), lt-leb _ _ (t .1 .left))) (λ t. simp (lt-leb _ _ (t .left))) (c .if1 .came)))
+    let at = lead-at (l .loop .row) (l .before .args .b) (omega arith) in (
+      omega arith,
+      rw add-one (l .loop .inv .1 ∙ at ∙ ⊎-elim (λ t. simp (le-leb _ _ (t .0 .taken), lt-leb _ _ (t .1 .left)))
+          (λ t. simp (lt-leb _ _ (t .left))) (c .if1 .came)),
+    )
 
 returns-2 : tie.Need-returns-2 Inv-loop μ-loop
 unfolding leads leadByte

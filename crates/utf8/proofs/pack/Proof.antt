@@ -20,15 +20,18 @@ returns-2 c =
 
 returns-3 : tie.Need-returns-3
 returns-3 c =
-    let u = c .before .before .before .before .before .args .u in
+    let start = c .before .before .before .before .before in
+    let u = start .args .u in
     let lead : bitOr (u / 0x1000) 0xE0 ≡ 0xE0 + u / 0x1000 = or-shifted-r 14 4 (u / 0x1000) (omega arith) in
     packs-of u _ 3
-    (packed-three u (c .before .before .before .if2 .left) (c .before .before .if3 .taken) ∙ sym (λ i. lead i ∷ c .before .six-bits2 .ensures i ∷ c .six-bits3 .ensures i ∷ []))
+    (packed-three u (c .before .before .before .if2 .left) (c .before .before .if3 .taken) ∙
+    sym (λ i. lead i ∷ c .before .six-bits2 .ensures i ∷ c .six-bits3 .ensures i ∷ []))
     refl refl
 
 returns-4 : tie.Need-returns-4
 returns-4 c =
-    let u = c .before .before .before .before .before .before .before .args .u in
+    let start = c .before .before .before .before .before .before .before in
+    let u = start .args .u in
     let lead : bitOr (u / 0x40000) 0xF0 ≡ 0xF0 + u / 0x40000 = or-shifted-r 30 3 (u / 0x40000) (omega arith) in
     packs-of u _ 4
     (packed-four u (c .before .before .before .before .if3 .left) (c .before .before .before .if4 .taken)

@@ -51,7 +51,12 @@ returns-4 c =
     let row = c .before .before .before .before .row-of .result in
     sym
     (at-row (c .before .before .before .before)
-    ∙ simp (from-low (c .before .before .before), to-high (c .before .before), ne-eqb (getD sizes row 0) 2 (c .before .if3 .left), eq-eqb (getD sizes row 0) 3 (c .if4 .taken)))
+    ∙ simp (
+      from-low (c .before .before .before),
+      to-high (c .before .before),
+      ne-eqb (getD sizes row 0) 2 (c .before .if3 .left),
+      eq-eqb (getD sizes row 0) 3 (c .if4 .taken),
+    ))
 
 returns-5 : tie.Need-returns-5
 unfolding leads rowOf if_then_else_
@@ -59,7 +64,12 @@ returns-5 c =
     let row = c .before .before .before .before .row-of .result in
     sym
     (at-row (c .before .before .before .before)
-    ∙ simp (from-low (c .before .before .before), to-high (c .before .before), ne-eqb (getD sizes row 0) 2 (c .before .if3 .left), ne-eqb (getD sizes row 0) 3 (c .if4 .left)))
+    ∙ simp (
+      from-low (c .before .before .before),
+      to-high (c .before .before),
+      ne-eqb (getD sizes row 0) 2 (c .before .if3 .left),
+      ne-eqb (getD sizes row 0) 3 (c .if4 .left),
+    ))
 
 pub second-byte-spec : {M : Type 1} → statement M
 second-byte-spec =

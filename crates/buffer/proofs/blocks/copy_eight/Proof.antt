@@ -6,7 +6,9 @@ use Rattle.buffer.proofs.blocks.copy_eight.Statement.{statement}
 use Rattle.buffer.proofs.blocks.copy_eight.Tie as tie
 
 returns : tie.Need-returns
-returns c = let u = c .before .before .before .before .before .before .before .before in eight-stored (u .args .out .now) (u .args .o) (u .args .src .now) (u .args .i) (u .pre .0) (u .pre .1)
+returns c =
+    let u = c .before .before .before .before .before .before .before .before in
+    eight-stored (u .args .out .now) (u .args .o) (u .args .src .now) (u .args .i) (u .pre .0) (u .pre .1)
 
 pub copy-eight-spec : {M : Type 1} → statement M
 copy-eight-spec =

@@ -8,7 +8,10 @@ use Rattle.buffer.proofs.blocks.copy_few.Statement.{statement}
 use Rattle.buffer.proofs.blocks.copy_few.Tie as tie
 
 returns : tie.Need-returns
-returns c = let u = c .before .before .before in few-stored (u .args .out .now) (u .args .at) (u .args .src .now) (length (u .args .src .now) / 2) (length (u .args .src .now) - 1) refl refl (u .pre .0) (u .pre .1) (u .pre .2)
+returns c =
+    let u = c .before .before .before in
+    few-stored (u .args .out .now) (u .args .at) (u .args .src .now) (length (u .args .src .now) / 2) (length (u .args .src .now) - 1) refl
+    refl (u .pre .0) (u .pre .1) (u .pre .2)
 
 pub copy-few-spec : {M : Type 1} → statement M
 copy-few-spec =

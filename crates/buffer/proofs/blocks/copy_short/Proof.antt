@@ -15,7 +15,8 @@ returns c =
     let u = f .before .before .before .before .before in
     let a = u .args in
     let first = next-block 0 (start (a .out .now) (a .at) (a .src .now) (u .pre .1)) 4 (f .before .before .if1 .taken) refl (f .copy-four .ensures) in
-    last-block 4 first 4 (length (a .src .now) - 4) refl (omega (arith, u .pre .0)) (f .before .before .if1 .taken) (omega (arith, f .before .before .if1 .taken)) (c .before .before .copy-four2 .ensures)
+    last-block 4 first 4 (length (a .src .now) - 4) refl (omega (arith, u .pre .0)) (f .before .before .if1 .taken)
+    (omega (arith, f .before .before .if1 .taken)) (c .before .before .copy-four2 .ensures)
 
 returns-3 : tie.Need-returns-3
 returns-3 c = let a = c .before .before .before .before .args in no-block (a .out .now) (a .at) (a .src .now) (c .if2 .left)

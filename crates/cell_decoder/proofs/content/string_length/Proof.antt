@@ -33,8 +33,13 @@ loop-again c = (omega (arith, c .before .unescape-at .ensures .on), omega (arith
 loop-again-2 : tie.Need-loop-again-2 Inv-loop μ-loop
 loop-again-2 c =
     let at-loop-test = c .before .before .before in
-    let a = at-loop-test .before .before .before .args in
-    (omega arith, omega (arith, ap length (string-byte (a .raw .now) (at-loop-test .before .loop .i) (at-loop-test .loop-test .taken) (c .before .if1 .left) (c .if2 .left))))
+    let a = at-loop-test .before .before .before .args in (
+      omega arith,
+      omega (
+        arith,
+        ap length (string-byte (a .raw .now) (at-loop-test .before .loop .i) (at-loop-test .loop-test .taken) (c .before .if1 .left) (c .if2 .left)),
+      ),
+    )
 
 returns-2 : tie.Need-returns-2 Inv-loop μ-loop
 returns-2 c = omega (arith, ap length (string-end (c .before .before .before .args .raw .now) (c .before .loop .i) (c .loop-test .left)))

@@ -8,7 +8,7 @@ use Prim.Native.Nat.{_+_, _-_, _<_, _≤_}
 use native.Mathlib.Omega.{arith}
 use lib.ListN.{length, drop, getD}
 use Rattle.model.specs.rules.Decode.{undouble}
-use Rattle.cell_decoder.proofs.Doubled.{at-end, at-other, at-double, at-close, at-last}
+use Rattle.cell_decoder.proofs.DoubledQuotes.{at-end, at-other, at-double, at-close, at-last}
 use Rattle.cell_decoder.proofs.content.undoubled_length.Statement.{statement}
 use Rattle.cell_decoder.proofs.content.undoubled_length.Tie as tie
 
@@ -25,14 +25,22 @@ returns : tie.Need-returns Inv-loop μ-loop
 returns c =
     let at-loop-test = c .before .before .before in
     let a = at-loop-test .before .before .args in
-    omega (arith, ap length (at-last (a .q) (a .raw .now) (at-loop-test .before .loop .i) (at-loop-test .loop-test .taken) (c .before .if1 .taken) (c .if2 .taken)))
+    omega (
+      arith,
+      ap length (at-last (a .q) (a .raw .now) (at-loop-test .before .loop .i) (at-loop-test .loop-test .taken)
+          (c .before .if1 .taken) (c .if2 .taken)),
+    )
 
 returns-2 : tie.Need-returns-2 Inv-loop μ-loop
 returns-2 c =
     let at-if1 = c .before .before .before in
     let at-loop = at-if1 .before .before .before in
     let a = at-loop .before .args in
-    omega (arith, ap length (at-close (a .q) (a .raw .now) (at-loop .loop .i) (at-if1 .before .before .loop-test .taken) (at-if1 .if1 .taken) (omega arith) (c .if3 .taken)))
+    omega (
+      arith,
+      ap length (at-close (a .q) (a .raw .now) (at-loop .loop .i) (at-if1 .before .before .loop-test .taken)
+          (at-if1 .if1 .taken) (omega arith) (c .if3 .taken)),
+    )
 
 -- what a step takes of the text: the byte; of two quotes the second is skipped
 turn : (c : tie.Joined1 Inv-loop μ-loop)

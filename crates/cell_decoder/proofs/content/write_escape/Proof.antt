@@ -9,7 +9,8 @@ use Rattle.cell_decoder.proofs.content.write_escape.Statement.{statemen
 use Rattle.cell_decoder.proofs.content.write_escape.Tie as tie
 
 array-share-prefix-bytes : tie.Need-array-share-prefix-bytes
-array-share-prefix-bytes c = taken-whole (c .before .before .unescape-at .result .size) (c .before .before .unescape-at .result .bytes) (c .before .before .unescape-at .ensures .sized)
+array-share-prefix-bytes c =
+    taken-whole (c .before .before .unescape-at .result .size) (c .before .before .unescape-at .result .bytes) (c .before .before .unescape-at .ensures .sized)
 
 slice-aggregate-copy : tie.Need-slice-aggregate-copy
 slice-aggregate-copy c = sym (c .before .before .before .unescape-at .ensures .sized)
@@ -22,9 +23,10 @@ copy-requires c κs =
 
 returns : tie.Need-returns
 returns c =
-    let g = c .before .before .before .before .before .before .unescape-at .ensures in
+    let at-unescape-at = c .before .before .before .before .before .before in
+    let g = at-unescape-at .unescape-at .ensures in
     let p = c .before .before .copy .ensures in
-    let w = take (c .before .before .before .before .before .before .unescape-at .result .size) (c .before .before .before .before .before .before .unescape-at .result .bytes) in
+    let w = take (at-unescape-at .unescape-at .result .size) (at-unescape-at .unescape-at .result .bytes) in
     record { w = w; stands = g .stands; on = omega (arith, g .on); inside = g .inside; place = p .0; text = p .1 }
 
 pub write-escape-spec : {M : Type 1} → statement M

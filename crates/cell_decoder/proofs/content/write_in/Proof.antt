@@ -7,7 +7,9 @@ use Rattle.cell_decoder.proofs.content.write_in.Statement.{statement}
 use Rattle.cell_decoder.proofs.content.write_in.Tie as tie
 
 copy-requires : tie.Need-copy-requires
-copy-requires c κs = let h = rw (c .before .enum-told2 .given .1) at (c .before .before .before .before .before .pre) in omega arith
+copy-requires c κs =
+    let start = c .before .before .before .before .before in
+    let h = rw (c .before .enum-told2 .given .1) at (start .pre) in omega arith
 
 write-undoubled-requires : tie.Need-write-undoubled-requires
 write-undoubled-requires c κs =
@@ -21,7 +23,9 @@ returns-2 c =
     rw (at-enum-told2 .enum-told2 .given .1) (c .before .before .copy .ensures .1 ∙ written-first (a .out .now) (a .raw .now))
 
 returns-3 : tie.Need-returns-3
-returns-3 c = rw (c .before .before .before .before .before .s .given .1) (c .before .before .write-undoubled .ensures)
+returns-3 c =
+    let at-s = c .before .before .before .before .before in
+    rw (at-s .s .given .1) (c .before .before .write-undoubled .ensures)
 
 returns-4 : tie.Need-returns-4
 returns-4 c = rw (c .before .before .before .before .enum-told3 .given .1) (c .before .before .write-string .ensures)
@@ -36,7 +40,7 @@ write-in-spec =
     (λ c. search needs)
     write-undoubled-requires
     (λ c. search needs)
-    (λ c κs. rw (c .before .enum-told3 .given .1) at (c .before .before .before .before .before .pre))
+    (λ c κs. let start = c .before .before .before .before .before in rw (c .before .enum-told3 .given .1) at (start .pre))
     (λ c. rw (c .enum-told .given .1))
     (λ c. search needs)
     returns-2

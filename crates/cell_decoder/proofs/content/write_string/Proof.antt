@@ -26,7 +26,9 @@ returns c =
     filled (rw (string-quote (a .raw .now) (at-loop .loop .i) (c .before .before .loop-test .taken) (c .if1 .taken)) at (at-loop .loop .inv))
 
 write-escape-requires : tie.Need-write-escape-requires Inv-loop μ-loop
-write-escape-requires c κs = ((omega arith, c .before .if2 .taken), omega (arith, room-left (c .before .before .before .before .before .loop .inv)))
+write-escape-requires c κs =
+    let at-loop = c .before .before .before .before .before in
+    ((omega arith, c .before .if2 .taken), omega (arith, room-left (at-loop .loop .inv)))
 
 loop-again : tie.Need-loop-again Inv-loop μ-loop
 loop-again c =
@@ -37,11 +39,13 @@ loop-again c =
 now-left : (c : tie.Else2 Inv-loop μ-loop)
     → let raw = c .before .before .before .before .before .before .before .args .raw .now in
     let l = c .before .before .before .before .loop in
-    Writing (c .before .before .before .before .before .before .before .args .out .now) 0 (stringFrom raw 1) (l .out) (l .o) (getD raw (l .i) 0 ∷ stringFrom raw (l .i + 1))
+    Writing (c .before .before .before .before .before .before .before .args .out .now) 0 (stringFrom raw 1) (l .out) (l .o)
+    (getD raw (l .i) 0 ∷ stringFrom raw (l .i + 1))
 now-left c =
     let at-loop-test = c .before .before .before in
     let at-loop = at-loop-test .before in
-    rw (string-byte (at-loop .before .before .before .args .raw .now) (at-loop .loop .i) (at-loop-test .loop-test .taken) (c .before .if1 .left) (c .if2 .left)) at (at-loop .loop .inv)
+    rw (string-byte (at-loop .before .before .before .args .raw .now) (at-loop .loop .i) (at-loop-test .loop-test .taken)
+    (c .before .if1 .left) (c .if2 .left)) at (at-loop .loop .inv)
 
 slice-write-out : tie.Need-slice-write-out Inv-loop μ-loop
 slice-write-out c = here (now-left c)

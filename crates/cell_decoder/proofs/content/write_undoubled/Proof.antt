@@ -7,7 +7,7 @@ use Prim.Native.Nat.{_+_, _-_, _<_, _≤_}
 use native.Mathlib.Omega.{arith}
 use lib.ListN.{length, drop, getD}
 use Rattle.model.specs.rules.Decode.{undouble}
-use Rattle.cell_decoder.proofs.Doubled.{at-end, at-other, at-double, at-close, at-last}
+use Rattle.cell_decoder.proofs.DoubledQuotes.{at-end, at-other, at-double, at-close, at-last}
 use Rattle.buffer.proofs.WriteProgress.{Writing, start, here, store, filled}
 use Rattle.cell_decoder.proofs.content.write_undoubled.Statement.{statement}
 use Rattle.cell_decoder.proofs.content.write_undoubled.Tie as tie
@@ -26,14 +26,16 @@ returns c =
     let at-loop-test = c .before .before .before in
     let at-loop = at-loop-test .before in
     let a = at-loop .before .args in
-    filled (rw (at-last (a .q) (a .raw .now) (at-loop .loop .i) (at-loop-test .loop-test .taken) (c .before .if1 .taken) (c .if2 .taken)) at (at-loop .loop .inv))
+    filled (rw (at-last (a .q) (a .raw .now) (at-loop .loop .i) (at-loop-test .loop-test .taken) (c .before .if1 .taken) (c .if2 .taken)) at
+    (at-loop .loop .inv))
 
 returns-2 : tie.Need-returns-2 Inv-loop μ-loop
 returns-2 c =
     let at-if1 = c .before .before .before in
     let at-loop = at-if1 .before .before .before in
     let a = at-loop .before .args in
-    filled (rw (at-close (a .q) (a .raw .now) (at-loop .loop .i) (at-if1 .before .before .loop-test .taken) (at-if1 .if1 .taken) (omega arith) (c .if3 .taken)) at (at-loop .loop .inv))
+    filled (rw (at-close (a .q) (a .raw .now) (at-loop .loop .i) (at-if1 .before .before .loop-test .taken) (at-if1 .if1 .taken)
+    (omega arith) (c .if3 .taken)) at (at-loop .loop .inv))
 
 -- what a step takes of the text: the byte; of two quotes the second is skipped
 turn : (c : tie.Joined1 Inv-loop μ-loop)
@@ -55,7 +57,8 @@ now-left : (c : tie.Joined1 Inv-loop μ-loop)
     → let raw = c .before .before .before .before .args .raw .now in
     let q = c .before .before .before .before .args .q in
     let l = c .before .before .before .loop in
-    Writing (c .before .before .before .before .args .out .now) 0 (undouble q false (drop 1 raw)) (l .out) (l .o) (getD raw (l .i) 0 ∷ undouble q false (drop (c .if1 .i + 1) raw))
+    Writing (c .before .before .before .before .args .out .now) 0 (undouble q false (drop 1 raw)) (l .out) (l .o)
+    (getD raw (l .i) 0 ∷ undouble q false (drop (c .if1 .i + 1) raw))
 now-left c = rw (turn c .0) at (c .before .before .before .loop .inv)
 
 slice-write-out : tie.Need-slice-write-out Inv-loop μ-loop
@@ -65,7 +68,9 @@ loop-again : tie.Need-loop-again Inv-loop μ-loop
 loop-again c = store (now-left (c .before))
 
 returns-3 : tie.Need-returns-3 Inv-loop μ-loop
-returns-3 c = filled (rw (at-end (c .before .before .args .q) false (c .before .before .args .raw .now) (c .before .loop .i) (c .loop-test .left)) at (c .before .loop .inv))
+returns-3 c =
+    filled (rw (at-end (c .before .before .args .q) false (c .before .before .args .raw .now) (c .before .loop .i) (c .loop-test .left)) at
+    (c .before .loop .inv))
 
 pub write-undoubled-spec : {M : Type 1} → statement M
 write-undoubled-spec =
@@ -79,7 +84,7 @@ write-undoubled-spec =
     (λ c. c .before .before .before .before .loop .inv .long)
     returns
     (λ c. omega arith)
-    (λ c. c .before .before .before .before .before .before .loop .inv .long)
+    (λ c. let at-loop = c .before .before .before .before .before .before in at-loop .loop .inv .long)
     returns-2
     slice-write-out
     (λ c. omega (arith, here (now-left c), now-left c .long))

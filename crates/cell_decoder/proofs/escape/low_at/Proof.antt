@@ -17,23 +17,27 @@ returns-2 c =
 
 returns-3 : tie.Need-returns-3
 returns-3 c =
-    let a = c .before .before .before .before .before .before .args in
+    let start = c .before .before .before .before .before .before in
+    let a = start .args in
     low-short (a .raw .now) (a .i) (omega arith) (c .before .before .if2 .left) (c .if3 .taken)
 
 -- a \u escape is there
-there : (c : tie.After-unit-at) → UnitThere (c .before .before .before .before .before .before .before .args .raw .now) (c .before .before .before .before .before .before .before .args .i)
+there : (c : tie.After-unit-at)
+    → UnitThere (c .before .before .before .before .before .before .before .args .raw .now) (c .before .before .before .before .before .before .before .args .i)
 there c = record { inside = omega arith; backslash = c .before .before .before .if2 .left; letter = c .before .if3 .left }
 
 returns-4 : tie.Need-returns-4
 returns-4 c =
-    let raw = c .before .before .before .before .before .before .before .before .args .raw .now in
-    let i = c .before .before .before .before .before .before .before .before .args .i in
+    let start = c .before .before .before .before .before .before .before .before in
+    let raw = start .args .raw .now in
+    let i = start .args .i in
     low-below raw i (there (c .before)) (omega (arith, c .before .unit-at .ensures .0))
 
 returns-5 : tie.Need-returns-5
 returns-5 c =
-    let raw = c .before .before .before .before .before .before .before .before .before .args .raw .now in
-    let i = c .before .before .before .before .before .before .before .before .before .args .i in
+    let start = c .before .before .before .before .before .before .before .before .before in
+    let raw = start .args .raw .now in
+    let i = start .args .i in
     low-above raw i (there (c .before .before)) (omega (arith, c .before .before .unit-at .ensures .0))
 
 returns-6 : tie.Need-returns-6

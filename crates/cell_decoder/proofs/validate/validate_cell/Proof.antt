@@ -13,19 +13,22 @@ returns c =
     let at-c = c .before .before .before in
     let at-cell-end = at-c .before .before in
     let a = at-cell-end .before .before .args in
-    sym (validated (a .d) (a .raw .now) (at-cell-end .cell-end .result) (at-cell-end .cell-end .ensures) ∙ ap (validatedBy (a .d) (length (a .raw .now))) (at-c .c .given .1) ∙ rw (← c .before .is-whole .ensures, c .if1 .taken))
+    sym (validated (a .d) (a .raw .now) (at-cell-end .cell-end .result) (at-cell-end .cell-end .ensures) ∙
+    ap (validatedBy (a .d) (length (a .raw .now))) (at-c .c .given .1) ∙ rw (← c .before .is-whole .ensures, c .if1 .taken))
 
 returns-2 : tie.Need-returns-2
 returns-2 c =
     let at-cell-end = c .before .before .before in
     let a = at-cell-end .before .before .args in
-    sym (validated (a .d) (a .raw .now) (at-cell-end .cell-end .result) (at-cell-end .cell-end .ensures) ∙ ap (validatedBy (a .d) (length (a .raw .now))) (c .before .at .given .1))
+    sym (validated (a .d) (a .raw .now) (at-cell-end .cell-end .result) (at-cell-end .cell-end .ensures) ∙
+    ap (validatedBy (a .d) (length (a .raw .now))) (c .before .at .given .1))
 
 returns-3 : tie.Need-returns-3
 returns-3 c =
     let at-cell-end = c .before .before .before in
     let a = at-cell-end .before .before .args in
-    sym (validated (a .d) (a .raw .now) (at-cell-end .cell-end .result) (at-cell-end .cell-end .ensures) ∙ ap (validatedBy (a .d) (length (a .raw .now))) (c .before .e .given .1))
+    sym (validated (a .d) (a .raw .now) (at-cell-end .cell-end .result) (at-cell-end .cell-end .ensures) ∙
+    ap (validatedBy (a .d) (length (a .raw .now))) (c .before .e .given .1))
 
 returns-4 : tie.Need-returns-4
 unfolding if_then_else_
@@ -33,7 +36,8 @@ returns-4 c =
     let at-c = c .before .before .before in
     let at-cell-end = at-c .before .before in
     let a = at-cell-end .before .before .args in
-    sym (validated (a .d) (a .raw .now) (at-cell-end .cell-end .result) (at-cell-end .cell-end .ensures) ∙ ap (validatedBy (a .d) (length (a .raw .now))) (at-c .c .given .1) ∙ rw (← c .before .is-whole .ensures, c .if1 .left))
+    sym (validated (a .d) (a .raw .now) (at-cell-end .cell-end .result) (at-cell-end .cell-end .ensures) ∙
+    ap (validatedBy (a .d) (length (a .raw .now))) (at-c .c .given .1) ∙ rw (← c .before .is-whole .ensures, c .if1 .left))
 
 pub validate-cell-spec : {M : Type 1} → statement M
 validate-cell-spec =

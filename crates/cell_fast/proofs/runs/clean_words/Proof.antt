@@ -18,7 +18,8 @@ loop-holds : tie.Need-loop-holds Inv-loop μ-loop
 loop-holds c = let u = c .before in pass-none (u .args .s .now) (u .args .at) (u .args .stop) (u .pre .0)
 
 loop-again : tie.Need-loop-again Inv-loop μ-loop
-loop-again c = pass-word (c .before .before .before .before .loop .inv) (omega arith) (c .before .before .word .ensures) (c .before .unclean .ensures) (c .if1 .left)
+loop-again c =
+    pass-word (c .before .before .before .before .loop .inv) (omega arith) (c .before .before .word .ensures) (c .before .unclean .ensures) (c .if1 .left)
 
 pub clean-words-spec : {M : Type 1} → statement M
 clean-words-spec =

@@ -19,10 +19,13 @@ loop-holds c = pass-none (c .args .s .now) (c .args .at) (c .args .stop) (c .pre
 
 loop-again : tie.Need-loop-again Inv-loop μ-loop
 loop-again c =
-    let u = c .before .before .before .before .before .before .before in
+    let at-test = c .before .before .before .before .before .before in
+    let u = at-test .before in
     let a = u .before .args in
-    let clean = clean-byte (a .p) (a .q) (getD (a .s .now) (u .loop .i) 0) (c .before .before .before .before .if1 .left) (c .before .before .before .if2 .left) (c .before .before .if3 .left) (c .before .if4 .left) (c .if5 .left) in
-    pass-byte (u .loop .inv) (c .before .before .before .before .before .before .loop-test .taken) (u .before .pre .1) clean
+    let clean =
+    clean-byte (a .p) (a .q) (getD (a .s .now) (u .loop .i) 0) (c .before .before .before .before .if1 .left)
+    (c .before .before .before .if2 .left) (c .before .before .if3 .left) (c .before .if4 .left) (c .if5 .left) in
+    pass-byte (u .loop .inv) (at-test .loop-test .taken) (u .before .pre .1) clean
 
 pub single-steps-spec : {M : Type 1} → statement M
 single-steps-spec =
@@ -34,9 +37,9 @@ single-steps-spec =
     (λ c. omega arith)
     (λ c. c .before .before .before .loop .inv)
     (λ c. c .before .before .before .before .loop .inv)
-    (λ c. c .before .before .before .before .before .loop .inv)
-    (λ c. c .before .before .before .before .before .before .loop .inv)
-    (λ c. c .before .before .before .before .before .before .before .loop .inv)
+    (λ c. let at-loop = c .before .before .before .before .before in at-loop .loop .inv)
+    (λ c. let at-loop = c .before .before .before .before .before .before in at-loop .loop .inv)
+    (λ c. let at-loop = c .before .before .before .before .before .before .before in at-loop .loop .inv)
     (λ c. omega arith)
     (λ c. omega arith)
     loop-again

@@ -15,10 +15,15 @@ returns : tie.Need-returns
 returns c = let u = c .before .before .before .before in wide-passed (u .args .d) (u .pre .1) (c .multibyte-run .ensures)
 
 returns-2 : tie.Need-returns-2
-returns-2 c = rw (c .before .before .before .enum-told .given .1) (ascii-passed (c .before .before .before .before .before .if1 .left) (c .escape-end .ensures))
+returns-2 c =
+    let at-if1 = c .before .before .before .before .before in
+    rw (c .before .before .before .enum-told .given .1) (ascii-passed (at-if1 .if1 .left) (c .escape-end .ensures))
 
 returns-3 : tie.Need-returns-3
-returns-3 c = let a = c .before .before .before .before .before .before .before .args in ascii-passed (c .before .before .before .before .if1 .left) (results-none (a .d) (a .s .now) (a .stop) (Quoted Whole) (a .i) (omega arith))
+returns-3 c =
+    let start = c .before .before .before .before .before .before .before in
+    let a = start .args in
+    ascii-passed (c .before .before .before .before .if1 .left) (results-none (a .d) (a .s .now) (a .stop) (Quoted Whole) (a .i) (omega arith))
 
 returns-4 : tie.Need-returns-4
 returns-4 c =

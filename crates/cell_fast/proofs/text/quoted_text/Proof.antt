@@ -18,20 +18,25 @@ loop-holds : tie.Need-loop-holds Inv-loop μ-loop
 loop-holds c = let u = c .before in quoted-none (u .args .d) (u .args .s .now) (u .args .stop) (u .args .at) true (u .pre .0)
 
 -- after a run
-after-run : (c : tie.After-quoted-run Inv-loop μ-loop) → let a = c .before .before .before .args in QuotedText (a .d) (a .s .now) (a .stop) (a .at) (c .quoted-run .result) (c .before .loop .clean)
-after-run c = let u = c .before .before .before in quoted-run-on (c .before .loop .inv) (u .args .q) (u .pre .2) (u .pre .1) (c .quoted-run .ensures)
+after-run : (c : tie.After-clean-run Inv-loop μ-loop)
+    → let a = c .before .before .before .args in QuotedText (a .d) (a .s .now) (a .stop) (a .at) (c .clean-run .result) (c .before .loop .clean)
+after-run c = let u = c .before .before .before in quoted-run-on (c .before .loop .inv) (u .args .q) (u .pre .2) (u .pre .1) (c .clean-run .ensures)
 
 loop-less : tie.Need-loop-less Inv-loop μ-loop
 loop-less c = omega arith
 
 loop-again : tie.Need-loop-again Inv-loop μ-loop
-loop-again c = quoted-other-on (after-run (c .before .before .before .before .before)) (c .before .before .before .pass .ensures)
+loop-again c =
+    let point = c .before .before .before .before .before in
+    quoted-other-on (after-run (point)) (c .before .before .before .pass .ensures)
 
 loop-less-2 : tie.Need-loop-less-2 Inv-loop μ-loop
 loop-less-2 c = omega arith
 
 loop-again-2 : tie.Need-loop-again-2 Inv-loop μ-loop
-loop-again-2 c = quoted-clean-on (after-run (c .before .before .before .before .before)) (c .if3 .left) (c .before .before .before .pass .ensures)
+loop-again-2 c =
+    let point = c .before .before .before .before .before in
+    quoted-clean-on (after-run (point)) (c .if3 .left) (c .before .before .before .pass .ensures)
 
 pub quoted-text-spec : {M : Type 1} → statement M
 quoted-text-spec =

@@ -25,7 +25,10 @@ returns c =
     record { from = x .from; upto = x .upto; each = x .each; ends = λ _. sym (c .before .is-digit .ensures) ∙ not-true _ (c .if1 .taken) }
 
 loop-again : tie.Need-loop-again Inv-loop μ-loop
-loop-again c = pass-byte (c .before .before .before .before .loop .inv) (c .before .before .before .loop-test .taken) (c .before .before .before .before .before .before .pre .1) (sym (c .before .is-digit .ensures) ∙ not-false _ (c .if1 .left))
+loop-again c =
+    let start = c .before .before .before .before .before .before in
+    pass-byte (c .before .before .before .before .loop .inv) (c .before .before .before .loop-test .taken) (start .pre .1)
+    (sym (c .before .is-digit .ensures) ∙ not-false _ (c .if1 .left))
 
 returns-2 : tie.Need-returns-2 Inv-loop μ-loop
 returns-2 c =

@@ -8,7 +8,9 @@ returns : tie.Need-returns
 returns c = let u = c .before .before .before in integer-zero (u .args .s .now) (u .args .stop) (u .args .at) (u .pre .1) (u .pre .0) (c .if1 .taken)
 
 returns-2 : tie.Need-returns-2
-returns-2 c = let u = c .before .before .before .before in integer-digits (u .args .s .now) (u .args .stop) (u .args .at) (u .pre .1) (c .digits .result) (c .before .if1 .left) (c .digits .ensures)
+returns-2 c =
+    let u = c .before .before .before .before in
+    integer-digits (u .args .s .now) (u .args .stop) (u .args .at) (u .pre .1) (c .digits .result) (c .before .if1 .left) (c .digits .ensures)
 
 pub integer-end-spec : {M : Type 1} → statement M
 integer-end-spec = tie.close (tie.spec (λ c. search needs) (λ c. search needs) returns (λ c κs. search needs) returns-2)

@@ -9,4 +9,5 @@ pub after-hex-spec : {M : Type 1} → statement M
 unfolding if_then_else_
 after-hex-spec =
     tie.close
-    (tie.spec (λ c. search needs) (λ c. search needs) (λ c. search needs) (λ c. search needs) (λ c. search (tests, c .enum-told .given .1)) (λ c. search (tests, c .enum-told2 .given .1)) (λ c. search (tests, c .enum-told3 .given .1)) (λ c. search (tests, c .enum-told4 .given .1)))
+    (tie.spec (λ c. search needs) (λ c. search needs) (λ c. search needs) (λ c. search needs) (λ c. search (tests, c .enum-told .given .1))
+    (λ c. search (tests, c .enum-told2 .given .1)) (λ c. search (tests, c .enum-told3 .given .1)) (λ c. search (tests, c .enum-told4 .given .1)))

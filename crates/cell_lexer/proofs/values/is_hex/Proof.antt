@@ -15,4 +15,10 @@ is-hex-spec =
     (λ c κs. search needs)
     (λ c. search (tests, ← c .before .is-upper-hex .ensures, c .if2 .taken, ← c .before .before .before .is-digit .ensures, c .before .before .if1 .left))
     (λ c κs. search needs)
-    (λ c. search (tests, ← c .before .before .is-upper-hex .ensures, c .before .if2 .left, ← c .before .before .before .before .is-digit .ensures, c .before .before .before .if1 .left)))
+    (λ c. search (
+      tests,
+      ← c .before .before .is-upper-hex .ensures,
+      c .before .if2 .left,
+      ← c .before .before .before .before .is-digit .ensures,
+      c .before .before .before .if1 .left,
+    )))

@@ -34,7 +34,8 @@ returns : tie.Need-returns
 returns c =
     let w = c .before .before .before .before in
     let u = w .before .before .before .before .before in
-    stops-lone (u .args .content .now) (u .args .i) (u .pre) (there w) (u .args .t) (sym (w .before .before .before .is-csvj .ensures) ∙ w .before .before .if1 .taken) (c .before .lone .ensures)
+    stops-lone (u .args .content .now) (u .args .i) (u .pre) (there w) (u .args .t)
+    (sym (w .before .before .before .is-csvj .ensures) ∙ w .before .before .if1 .taken) (c .before .lone .ensures)
 
 returns-2 : tie.Need-returns-2
 returns-2 c =
@@ -42,7 +43,8 @@ returns-2 c =
     let u = j .before .before .before in
     let none : isCsvj (u .args .t) ≡ true → beginsLone (drop (u .args .i) (u .args .content .now)) ≡ false =
     ⊎-elim (λ w e. sym (w .1 .ensures) ∙ w .2 .left) (λ w e. impossible (sym (w .left) ∙ j .before .is-csvj .ensures ∙ e)) (j .if1 .came) in
-    stops-byte (u .args .content .now) (u .args .i) (u .pre) (u .args .t) none (c .before .byte-text .ensures) (c .before .before .before .is-paired-at .ensures)
+    stops-byte (u .args .content .now) (u .args .i) (u .pre) (u .args .t) none (c .before .byte-text .ensures)
+    (c .before .before .before .is-paired-at .ensures)
 
 pub content-stop-spec : {M : Type 1} → statement M
 content-stop-spec =

@@ -12,7 +12,9 @@ returns-2 : tie.Need-returns-2
 returns-2 c = let u = c .before .before .before in sym (pair-other (u .args .content .now) (u .args .i) (u .pre) (c .before .before .if1 .left) (c .if2 .taken))
 
 returns-3 : tie.Need-returns-3
-returns-3 c = let u = c .before .before .before .before in sym (pair-at (u .args .content .now) (u .args .i) (u .pre) (c .before .before .before .if1 .left) (c .before .if2 .left))
+returns-3 c =
+    let u = c .before .before .before .before in
+    sym (pair-at (u .args .content .now) (u .args .i) (u .pre) (c .before .before .before .if1 .left) (c .before .if2 .left))
 
 pub is-paired-at-spec : {M : Type 1} → statement M
 is-paired-at-spec =

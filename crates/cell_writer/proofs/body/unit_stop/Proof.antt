@@ -15,7 +15,8 @@ returns-2 : tie.Need-returns-2
 returns-2 c =
     let u = c .before .before .before .before .before in
     let start = u .before .before in
-    stops-unit (u .unit-at .ensures) (start .args .t) (start .pre .1) (c .before .before .before .if1 .left) (c .before .unit-text .ensures) (c .before .before .is-lone .ensures)
+    stops-unit (u .unit-at .ensures) (start .args .t) (start .pre .1) (c .before .before .before .if1 .left) (c .before .unit-text .ensures)
+    (c .before .before .is-lone .ensures)
 
 pub unit-stop-spec : {M : Type 1} → statement M
 unit-stop-spec = tie.close (tie.spec (λ c κs. search needs) returns (λ c κs. c .before .before .unit-at .ensures .few) unit-text-requires returns-2)

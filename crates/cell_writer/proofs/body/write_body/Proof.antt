@@ -19,7 +19,8 @@ use Rattle.cell_writer.proofs.body.write_body.Tie as tie
 
 abbrev Inv-loop : tie.InvT-loop
 Inv-loop c t raw out₀ at write p q i₀ o₀ lone₀ out i o lone =
-    Emitting write out₀ at (bodyText t (contentIn c raw)) out o (bodyText t (contentFrom c raw i)) × (holdsLone (contentIn c raw) ≡ (lone || holdsLone (contentFrom c raw i)))
+    Emitting write out₀ at (bodyText t (contentIn c raw)) out o
+    (bodyText t (contentFrom c raw i)) × (holdsLone (contentIn c raw) ≡ (lone || holdsLone (contentFrom c raw i)))
 
 abbrev μ-loop : tie.MeasureT-loop
 μ-loop c t raw out₀ at write p q i₀ o₀ lone₀ out i o lone = length raw - i
@@ -41,7 +42,8 @@ run-next c =
     let a = u .before .before .before .before .before .before .args in
     let source = u .before .before .quote-in in
     let target = u .before .before .before .quote-of in
-    rw (text-part (a .raw .now) (u .loop .i) (c .plain-run .result) (target .result) (source .result) (a .c) (source .ensures) (c .plain-run .ensures) (a .t) (target .ensures)) at (u .loop .inv .0)
+    rw (text-part (a .raw .now) (u .loop .i) (c .plain-run .result) (target .result) (source .result) (a .c) (source .ensures)
+    (c .plain-run .ensures) (a .t) (target .ensures)) at (u .loop .inv .0)
 
 -- a run holds no lone surrogate
 run-tells : (c : tie.After-plain-run Inv-loop μ-loop)
@@ -54,27 +56,31 @@ run-tells c =
     let source = u .before .before .quote-in in
     let target = u .before .before .before .quote-of in
     u .loop .inv .1
-    ∙ ap (λ (x : Bool). u .loop .lone || x) (lone-part (a .raw .now) (u .loop .i) (c .plain-run .result) (target .result) (source .result) (a .c) (source .ensures) (c .plain-run .ensures))
+    ∙ ap (λ (x : Bool). u .loop .lone || x) (lone-part (a .raw .now) (u .loop .i) (c .plain-run .result) (target .result) (source .result)
+    (a .c) (source .ensures) (c .plain-run .ensures))
 
 part-emit-end : tie.Need-part-emit-end Inv-loop μ-loop
 part-emit-end c =
     let p = c .before in
     let u = p .before .before in
     let a = u .before .before .before .before .before .before .args in
-    part-inside (a .raw .now) (u .loop .i) (p .plain-run .result) (u .before .before .before .quote-of .result) (u .before .before .quote-in .result) (u .before .before .quote-in .result) (p .plain-run .ensures) (omega (arith, p .before .loop-test .taken))
+    part-inside (a .raw .now) (u .loop .i) (p .plain-run .result) (u .before .before .before .quote-of .result)
+    (u .before .before .quote-in .result) (u .before .before .quote-in .result) (p .plain-run .ensures) (omega (arith, p .before .loop-test .taken))
 
 emit-requires : tie.Need-emit-requires Inv-loop μ-loop
 emit-requires c κs =
     let p = c .before .before in
     let l = p .before .before .loop in
     let a = p .before .before .before .before .before .before .before .before .args in
-    room-next (take (p .plain-run .result - l .i) (drop (l .i) (a .raw .now))) (bodyText (a .t) (contentFrom (a .c) (a .raw .now) (p .plain-run .result))) (run-next p)
+    room-next (take (p .plain-run .result - l .i) (drop (l .i) (a .raw .now)))
+    (bodyText (a .t) (contentFrom (a .c) (a .raw .now) (p .plain-run .result))) (run-next p)
 
 -- what stopped it comes next
 stop-next : (c : tie.After-slice-known2 Inv-loop μ-loop)
     → let p = c .before .before .before .before .before in
     let a = p .before .before .before .before .before .before .before .before .args in
-    Emitting (a .write) (a .out .now) (a .at) (bodyText (a .t) (contentIn (a .c) (a .raw .now))) (c .before .before .emit .last .0) (c .before .before .emit .result) (bodyText (a .t) (contentFrom (a .c) (a .raw .now) (p .plain-run .result)))
+    Emitting (a .write) (a .out .now) (a .at) (bodyText (a .t) (contentIn (a .c) (a .raw .now))) (c .before .before .emit .last .0)
+    (c .before .before .emit .result) (bodyText (a .t) (contentFrom (a .c) (a .raw .now) (p .plain-run .result)))
 stop-next c =
     let p = c .before .before .before .before .before in
     let u = p .before .before in
@@ -109,13 +115,15 @@ loop-again c =
     let p = at-stop .before .before .before .before .before in
     let a = p .before .before .before .before .before .before .before .before .args in (
       put-next (t .w) (rw (t .stands) at (stop-next at-stop)) (t .put),
-      lone-step (p .before .before .loop .lone) (x .result .lone) (holdsLone (contentFrom (a .c) (a .raw .now) (x .result .read))) (run-tells p) (t .tells) (c .either .ensures),
+      lone-step (p .before .before .loop .lone) (x .result .lone) (holdsLone (contentFrom (a .c) (a .raw .now) (x .result .read)))
+          (run-tells p) (t .tells) (c .either .ensures),
     )
 
 returns-2 : tie.Need-returns-2 Inv-loop μ-loop
 returns-2 c =
+    let start = c .before .before .before .before .before .before .before in
     let l = c .before .loop in
-    let a = c .before .before .before .before .before .before .before .args in (
+    let a = start .args in (
       put-whole (rw (text-end (a .t) (content-end (a .c) (a .raw .now) (l .i) (c .loop-test .left))) at (l .inv .0)),
       lone-done (l .lone) (l .inv .1) (lone-end (content-end (a .c) (a .raw .now) (l .i) (c .loop-test .left))),
     )

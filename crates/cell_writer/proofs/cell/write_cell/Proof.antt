@@ -9,7 +9,19 @@ use Rattle.cell_decoder.specs.FirstByte.{contentIn}
 use Rattle.cell_decoder.specs.declared.first_byte.Spelling.{Spelling}
 use Rattle.cell_writer.specs.declared.cell.WrittenForm.the-variants.{AsNumber}
 use Rattle.cell_writer.specs.Cells.{valueOf, textCell, numberIn, writtenAs, wordFor}
-use Rattle.cell_writer.proofs.Cells.{encoded-legible, encoded-number, legible-as, number-way, text-way, cell-as-text, cell-as-number, cell-as-word, number-no-text, word-no-text, written-long}
+use Rattle.cell_writer.proofs.Cells.{
+  encoded-legible,
+  encoded-number,
+  legible-as,
+  number-way,
+  text-way,
+  cell-as-text,
+  cell-as-number,
+  cell-as-word,
+  number-no-text,
+  word-no-text,
+  written-long,
+}
 use Rattle.cell_writer.proofs.cell.write_cell.Statement.{statement}
 use Rattle.cell_writer.proofs.cell.write_cell.Tie as tie
 
@@ -51,7 +63,8 @@ as-number c =
     let a = start .args in
     let way : AsNumber ≡ writtenAs (a .t) (a .kind) = sym (c .before .enum-told2 .given .1) ∙ asked .form-in .ensures in
     ap (λ (s : Spelling). numberIn s (a .raw .now)) (c .spelling-in2 .ensures .1)
-    ∙ sym (cell-as-number (a .only) (a .first) (a .t) (valueOf (a .src) (a .kind) (a .raw .now)) way ∙ encoded-number (start .pre .0) (number-way (a .t) (a .kind) way))
+    ∙ sym (cell-as-number (a .only) (a .first) (a .t) (valueOf (a .src) (a .kind) (a .raw .now)) way ∙ encoded-number (start .pre .0)
+    (number-way (a .t) (a .kind) way))
 
 write-number-requires : tie.Need-write-number-requires
 write-number-requires c κs = let u = c .before in room-as (as-number u) (u .before .before .before .before .before .before .pre .1)
@@ -60,8 +73,10 @@ returns-2 : tie.Need-returns-2
 returns-2 c =
     let u = c .before .before .before .before in
     let asked = u .before .before .before in
-    let a = asked .before .before .before .args in
-    (emitted-as (sym (as-number u)) (c .before .before .write-number .ensures), λ e f. number-no-text (sym (u .before .enum-told2 .given .1) ∙ text-way (a .t) (a .kind) (asked .form-in .result) (asked .form-in .ensures) e f))
+    let a = asked .before .before .before .args in (
+      emitted-as (sym (as-number u)) (c .before .before .write-number .ensures),
+      λ e f. number-no-text (sym (u .before .enum-told2 .given .1) ∙ text-way (a .t) (a .kind) (asked .form-in .result) (asked .form-in .ensures) e f),
+    )
 
 -- ---- a word
 
@@ -78,8 +93,10 @@ returns-3 : tie.Need-returns-3
 returns-3 c =
     let u = c .before .before .before .before in
     let asked = u .before .before in
-    let a = asked .before .before .before .args in
-    (emitted-as (sym (as-word u)) (c .before .before .write-word .ensures), λ e f. word-no-text (sym (u .enum-told3 .given .1) ∙ text-way (a .t) (a .kind) (asked .form-in .result) (asked .form-in .ensures) e f))
+    let a = asked .before .before .before .args in (
+      emitted-as (sym (as-word u)) (c .before .before .write-word .ensures),
+      λ e f. word-no-text (sym (u .enum-told3 .given .1) ∙ text-way (a .t) (a .kind) (asked .form-in .result) (asked .form-in .ensures) e f),
+    )
 
 pub write-cell-spec : {M : Type 1} → statement M
 write-cell-spec =
@@ -94,9 +111,12 @@ write-cell-spec =
     write-number-requires
     (λ c. search needs)
     write-word-requires
-    (λ c. let start = c .before .before .before .before .before .before .before .before .before .before in written-long (start .args .write) (start .pre .1) (returns c .0))
+    (λ c. let start = c .before .before .before .before .before .before .before .before .before .before in written-long (start .args .write)
+    (start .pre .1) (returns c .0))
     returns
-    (λ c. let start = c .before .before .before .before .before .before .before .before .before .before in written-long (start .args .write) (start .pre .1) (returns-2 c .0))
+    (λ c. let start = c .before .before .before .before .before .before .before .before .before .before in written-long (start .args .write)
+    (start .pre .1) (returns-2 c .0))
     returns-2
-    (λ c. let start = c .before .before .before .before .before .before .before .before .before in written-long (start .args .write) (start .pre .1) (returns-3 c .0))
+    (λ c. let start = c .before .before .before .before .before .before .before .before .before in written-long (start .args .write)
+    (start .pre .1) (returns-3 c .0))
     returns-3)

@@ -39,7 +39,8 @@ returns c =
 returns-2 : tie.Need-returns-2
 returns-2 c =
     let start = c .before .before .before .before .before .before .before in
-    emitted-as (sym (as-it-stands (start .args .c) (start .args .raw .now) (c .before .before .before .before .match .keys2))) (c .before .before .emit .ensures)
+    emitted-as (sym (as-it-stands (start .args .c) (start .args .raw .now) (c .before .before .before .before .match .keys2)))
+    (c .before .before .emit .ensures)
 
 same-length : tie.Need-same-length
 same-length c = let start = c .before .before .before .before .before .before .before in written-long (start .args .write) (start .pre) (returns-2 c)

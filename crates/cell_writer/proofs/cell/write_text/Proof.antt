@@ -21,7 +21,8 @@ abbrev quote : tie.After-is-quoted → Bytes
 quote c = quoteBy (start c .args .t) (c .is-quoted .result)
 
 -- the cell by its parts
-parts : (c : tie.After-is-quoted) → let a = start c .args in textCell (a .t) (a .only) (a .first) (contentIn (a .c) (a .raw .now)) ≡ quote c ++ (body (start c) ++ quote c)
+parts : (c : tie.After-is-quoted)
+    → let a = start c .args in textCell (a .t) (a .only) (a .first) (contentIn (a .c) (a .raw .now)) ≡ quote c ++ (body (start c) ++ quote c)
 parts c =
     let a = start c .args in
     text-parts (a .t) (a .only) (a .first) (contentIn (a .c) (a .raw .now))
@@ -41,7 +42,8 @@ write-quote-requires c κs = let u = c .before in room-next (quote u) (body (sta
 second : (c : tie.After-write-quote)
     → let u = c .before .before in
     let a = start u .args in
-    Emitting (a .write) (a .out .now) (a .o) (quote u ++ (body (start u) ++ quote u)) (c .write-quote .last .1 .1 .0) (c .write-quote .result) (body (start u) ++ quote u)
+    Emitting (a .write) (a .out .now) (a .o) (quote u ++ (body (start u) ++ quote u)) (c .write-quote .last .1 .1 .0)
+    (c .write-quote .result) (body (start u) ++ quote u)
 second c = let u = c .before .before in put-next (quote u) (first u) (c .write-quote .ensures)
 
 write-body-requires : tie.Need-write-body-requires

@@ -13,6 +13,7 @@ escape-spec =
     (λ c κs. search needs)
     (λ c. spells-as (escaped-backslash _ (c .before .if2 .taken)) (c .short2 .ensures))
     (λ c κs. search needs)
-    (λ c. spells-as (escaped-itself _ (c .before .before .before .if1 .left) (c .before .before .if2 .left) (c .before .if3 .taken)) (c .verbatim-byte .ensures))
+    (λ c. spells-as (escaped-itself _ (c .before .before .before .if1 .left) (c .before .before .if2 .left) (c .before .if3 .taken))
+    (c .verbatim-byte .ensures))
     (λ c κs. search needs)
     (λ c. search needs))

@@ -11,7 +11,8 @@ returns : tie.Need-returns
 returns c =
     let u = c .before .before .before in
     let low : ℕ = (u .before .args .b - 0x80) % 0x40 in
-    lone-spells (u .hex-digit .ensures) (c .before .hex-digit2 .ensures ∙ ap (λ (n : ℕ). hexDigit (low % 4 * 4 + n / 0x10)) (c .before .before .later-bits .ensures)) (c .hex-digit3 .ensures)
+    lone-spells (u .hex-digit .ensures) (c .before .hex-digit2 .ensures ∙ ap (λ (n : ℕ). hexDigit (low % 4 * 4 + n / 0x10))
+    (c .before .before .later-bits .ensures)) (c .hex-digit3 .ensures)
 
 pub lone-spec : {M : Type 1} → statement M
 lone-spec =

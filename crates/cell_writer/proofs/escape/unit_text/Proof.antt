@@ -29,7 +29,8 @@ returns-2 c =
     let start = at-is-csvj .before .before in
     let a = start .args in
     spells-as
-    (lone-text (a .t2) (a .size) (omega (arith, start .pre .0)) (a .t) (sym (at-is-csvj .is-csvj .ensures) ∙ c .before .before .before .if2 .taken) (sym (c .before .before .is-lone .ensures) ∙ c .before .if3 .taken))
+    (lone-text (a .t2) (a .size) (omega (arith, start .pre .0)) (a .t)
+    (sym (at-is-csvj .is-csvj .ensures) ∙ c .before .before .before .if2 .taken) (sym (c .before .before .is-lone .ensures) ∙ c .before .if3 .taken))
     (c .lone .ensures)
 
 returns-3 : tie.Need-returns-3
@@ -37,7 +38,8 @@ returns-3 c =
     let start = c .before .before .before in
     let a = start .args in
     let some : length (take (a .size) (a .t2)) ≡ 1 → ⊥ = λ e. c .before .before .if1 .left (omega (arith, e, length-take (a .size) (a .t2), start .pre .0)) in
-    let none : isCsvj (a .t) ≡ true → isLone (take (a .size) (a .t2)) ≡ false = ⊎-elim (λ w j. sym (w .1 .ensures) ∙ w .2 .left) (λ w j. impossible (sym (w .left) ∙ c .before .is-csvj .ensures ∙ j)) (c .if2 .came) in
+    let none : isCsvj (a .t) ≡ true → isLone (take (a .size) (a .t2)) ≡ false =
+    ⊎-elim (λ w j. sym (w .1 .ensures) ∙ w .2 .left) (λ w j. impossible (sym (w .left) ∙ c .before .is-csvj .ensures ∙ j)) (c .if2 .came) in
     spells-as (stands (a .t) (take (a .size) (a .t2)) (start .pre .1) some none) (four-spell (a .t2) (a .size) (omega arith) (start .pre .0))
 
 pub unit-text-spec : {M : Type 1} → statement M

@@ -18,14 +18,18 @@ abbrev μ-loop : tie.MeasureT-loop
 loop-again : tie.Need-loop-again Inv-loop μ-loop
 loop-again c =
     let u = c .before .before .before .before in
-    let a = u .before .before .args in
-    (omega arith, u .loop .inv .1 ∙ run-on (a .p) (a .q) (a .r) (a .s .now) (u .loop .i) (c .before .before .before .loop-test .taken) (sym (c .before .is-plain .ensures) ∙ c .if1 .taken))
+    let a = u .before .before .args in (
+      omega arith,
+      u .loop .inv .1 ∙ run-on (a .p) (a .q) (a .r) (a .s .now) (u .loop .i) (c .before .before .before .loop-test .taken)
+          (sym (c .before .is-plain .ensures) ∙ c .if1 .taken),
+    )
 
 returns : tie.Need-returns Inv-loop μ-loop
 returns c =
     let u = c .before .before .before .before in
     let a = u .before .before .args in
-    sym (u .loop .inv .1 ∙ run-stops (a .p) (a .q) (a .r) (a .s .now) (u .loop .i) (c .before .before .before .loop-test .taken) (sym (c .before .is-plain .ensures) ∙ c .if1 .left))
+    sym (u .loop .inv .1 ∙ run-stops (a .p) (a .q) (a .r) (a .s .now) (u .loop .i) (c .before .before .before .loop-test .taken)
+    (sym (c .before .is-plain .ensures) ∙ c .if1 .left))
 
 returns-2 : tie.Need-returns-2 Inv-loop μ-loop
 returns-2 c =

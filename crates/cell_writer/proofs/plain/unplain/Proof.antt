@@ -11,7 +11,8 @@ returns c =
     let backslash = ed .before in
     let below = backslash .before in
     let a = below .before .args in
-    plain-flags (a .p) (a .q) (below .from-20 .ensures) (backslash .other-than .ensures) (ed .other-than2 .ensures) (first .other-than3 .ensures) (c .other-than4 .ensures)
+    plain-flags (a .p) (a .q) (below .from-20 .ensures) (backslash .other-than .ensures) (ed .other-than2 .ensures)
+    (first .other-than3 .ensures) (c .other-than4 .ensures)
 
 pub unplain-spec : {M : Type 1} → statement M
 unplain-spec =

@@ -23,7 +23,9 @@ ends-here : (c : tie.After-before-flag Inv-loop μ-loop)
 ends-here c =
     let u = c .before .before .before .before .before in
     let a = u .before .before .args in
-    let ends = word-ends (a .p) (a .q) (a .q) (a .s .now) (u .loop .i) (c .before .before .before .word .ensures) (c .before .before .unplain .ensures) (c .before .if1 .taken) in
+    let ends =
+    word-ends (a .p) (a .q) (a .q) (a .s .now) (u .loop .i) (c .before .before .before .word .ensures)
+    (c .before .before .unplain .ensures) (c .before .if1 .taken) in
     let same : c .before-flag .result ≡ plainRun (a .p) (a .q) (a .q) (drop (u .loop .i) (a .s .now)) = c .before-flag .ensures ∙ ends .0 in
     let less : plainRun (a .p) (a .q) (a .q) (drop (u .loop .i) (a .s .now)) < 8 = ends .1 in
     (same, omega arith)
@@ -37,8 +39,11 @@ returns c = let ends = ends-here c in omega arith
 loop-again : tie.Need-loop-again Inv-loop μ-loop
 loop-again c =
     let u = c .before .before .before .before in
-    let a = u .before .before .args in
-    (omega arith, u .loop .inv .1 ∙ word-on (a .p) (a .q) (a .q) (a .s .now) (u .loop .i) (c .before .before .word .ensures) (c .before .unplain .ensures) (c .if1 .left))
+    let a = u .before .before .args in (
+      omega arith,
+      u .loop .inv .1 ∙ word-on (a .p) (a .q) (a .q) (a .s .now) (u .loop .i) (c .before .before .word .ensures)
+          (c .before .unplain .ensures) (c .if1 .left),
+    )
 
 returns-2 : tie.Need-returns-2 Inv-loop μ-loop
 returns-2 c = c .single-steps .ensures ∙ sym (c .before .before .loop .inv .1)

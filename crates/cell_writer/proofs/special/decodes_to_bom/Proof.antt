@@ -7,7 +7,7 @@ use Rattle.model.specs.rules.Report.{MAXRECORD}
 use Rattle.model.specs.rules.Text.{beginsBom}
 use Rattle.cell_decoder.specs.FirstByte.{contentIn}
 use Rattle.cell_writer.proofs.Contents.{decoded-short}
-use Rattle.cell_writer.proofs.Quoted.{Held, held}
+use Rattle.cell_writer.proofs.QuoteDecision.{Held, held}
 use Rattle.cell_writer.proofs.special.decodes_to_bom.Statement.{statement}
 use Rattle.cell_writer.proofs.special.decodes_to_bom.Tie as tie
 
@@ -17,8 +17,11 @@ zeros = replicate MAXRECORD 0
 abbrev content : tie.Start → Bytes
 content c = contentIn (c .args .c) (c .args .raw .now)
 
-holds : (c : tie.After-length-in) → Held (content (c .before .before .before .before .before)) (c .before .before .write-in .last .1 .1 .0) (c .length-in .result)
-holds c = held (content (c .before .before .before .before .before)) zeros _ _ (c .before .before .write-in .ensures) (c .length-in .ensures)
+holds : (c : tie.After-length-in)
+    → Held (content (c .before .before .before .before .before)) (c .before .before .write-in .last .1 .1 .0) (c .length-in .result)
+holds c =
+    let point = c .before .before .before .before .before in
+    held (content (point)) zeros _ _ (c .before .before .write-in .ensures) (c .length-in .ensures)
 
 pub decodes-to-bom-spec : {M : Type 1} → statement M
 decodes-to-bom-spec =

@@ -8,7 +8,7 @@ use Rattle.model.specs.rules.Base.{holds}
 use Rattle.model.specs.rules.Text.{special}
 use Rattle.cell_decoder.specs.FirstByte.{contentIn}
 use Rattle.cell_writer.specs.Contents.{contentFrom}
-use Rattle.cell_writer.proofs.Quoted.{special-on, special-end, special-there, special-next}
+use Rattle.cell_writer.proofs.QuoteDecision.{special-on, special-end, special-there, special-next}
 use Rattle.cell_writer.proofs.special.holds_special.Statement.{statement}
 use Rattle.cell_writer.proofs.special.holds_special.Tie as tie
 
@@ -30,7 +30,8 @@ passed c =
     let a = u .before .before .before .before .before .before .args in
     let r = u .before .before in
     u .loop .inv
-    ∙ special-on (a .s) (a .c) (a .raw .now) (u .loop .i) (c .plain-run .result) (r .before .before .quote-of .result) (r .before .quote-in .result) (r .delimiter-of .result)
+    ∙ special-on (a .s) (a .c) (a .raw .now) (u .loop .i) (c .plain-run .result) (r .before .before .quote-of .result)
+    (r .before .quote-in .result) (r .delimiter-of .result)
     (r .before .before .quote-of .ensures) (r .before .quote-in .ensures) (r .delimiter-of .ensures) (c .plain-run .ensures)
 
 returns : tie.Need-returns Inv-loop μ-loop
@@ -63,7 +64,8 @@ loop-again c =
 
 returns-3 : tie.Need-returns-3 Inv-loop μ-loop
 returns-3 c =
-    let a = c .before .before .before .before .before .before .before .args in
+    let start = c .before .before .before .before .before .before .before in
+    let a = start .args in
     sym (c .before .loop .inv ∙ special-end (a .s) (a .c) (a .raw .now) (c .before .loop .i) (c .loop-test .left))
 
 pub holds-special-spec : {M : Type 1} → statement M

@@ -1,7 +1,7 @@
 -- `cell_writer::special::is_bom` meets its contract, by its tests.
 use mathlib.Core.Path.{sym}
 use borrow.Author.Needs.{needs}
-use Rattle.cell_writer.proofs.Quoted.{bom-short, mark-first, mark-second, mark-third}
+use Rattle.cell_writer.proofs.QuoteDecision.{bom-short, mark-first, mark-second, mark-third}
 use Rattle.cell_writer.proofs.special.is_bom.Statement.{statement}
 use Rattle.cell_writer.proofs.special.is_bom.Tie as tie
 

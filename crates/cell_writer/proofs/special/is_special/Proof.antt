@@ -1,7 +1,7 @@
 -- `cell_writer::special::is_special` meets its contract, by its tests.
 use mathlib.Core.Path.{sym, _∙_}
 use borrow.Author.Needs.{needs}
-use Rattle.cell_writer.proofs.Quoted.{by-quote, by-delimiter, by-cr, by-lf}
+use Rattle.cell_writer.proofs.QuoteDecision.{by-quote, by-delimiter, by-cr, by-lf}
 use Rattle.cell_writer.proofs.special.is_special.Statement.{statement}
 use Rattle.cell_writer.proofs.special.is_special.Tie as tie
 

@@ -12,4 +12,5 @@ returns-3 : tie.Need-returns-3
 returns-3 c = let u = c .before .before .before .before in char-part (u .args .raw .now) (u .args .i) (u .pre) _ (c .before .if1 .left) (c .if2 .left)
 
 pub string-at-spec : {M : Type 1} → statement M
-string-at-spec = tie.close (tie.spec (λ c. search needs) returns (λ c κs. search needs) (λ c. escape-part (c .unescape-at .ensures)) (λ c. search needs) returns-3)
+string-at-spec =
+    tie.close (tie.spec (λ c. search needs) returns (λ c κs. search needs) (λ c. escape-part (c .unescape-at .ensures)) (λ c. search needs) returns-3)

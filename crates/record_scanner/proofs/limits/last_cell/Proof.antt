@@ -7,4 +7,5 @@ use Rattle.record_scanner.proofs.limits.last_cell.Tie as tie
 pub last-cell-spec : {M : Type 1} → statement M
 last-cell-spec =
     tie.close
-    (tie.spec (λ c. search needs) (λ c. search needs) (λ c. search needs) (λ c κs. search needs) (λ c. search needs) (λ c. search needs) (λ c. search (tests, ← c .plus-end .ensures, c .before .before .d .given .1)))
+    (tie.spec (λ c. search needs) (λ c. search needs) (λ c. search needs) (λ c κs. search needs) (λ c. search needs) (λ c. search needs)
+    (λ c. search (tests, ← c .plus-end .ensures, c .before .before .d .given .1)))

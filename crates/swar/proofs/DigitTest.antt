@@ -59,7 +59,9 @@ digit-same b =
     λ t. let m = ltb-false b 0x80 t in rw (t, lt-leb b 0x39 (omega arith), and-false (leb 0x30 b))
 
 pub digit-flags : (w : ℕ) → w < 0x100 ^ 8
-    → Flags isDigit w (bitAnd (bitOr (bitOr w (bitAnd w 0x7F7F7F7F7F7F7F7F + 0x4646464646464646)) (0xAFAFAFAFAFAFAFAF - bitAnd w 0x7F7F7F7F7F7F7F7F)) 0x8080808080808080)
+    → Flags isDigit w (bitAnd (bitOr (bitOr w (bitAnd w 0x7F7F7F7F7F7F7F7F + 0x4646464646464646))
+    (0xAFAFAFAFAFAFAFAF - bitAnd w 0x7F7F7F7F7F7F7F7F)) 0x8080808080808080)
 digit-flags w h =
-    let tells : FlagsBytes w _ (λ b. ltb b 0x80 && leb (bitAnd b 0x7F) 0x39 && leb 0x30 (bitAnd b 0x7F)) = flag-both (flag-both (flag-ascii w h) (tell-upto-39 w h)) (tell-from-30 w h) in
+    let tells : FlagsBytes w _ (λ b. ltb b 0x80 && leb (bitAnd b 0x7F) 0x39 && leb 0x30 (bitAnd b 0x7F)) =
+    flag-both (flag-both (flag-ascii w h) (tell-upto-39 w h)) (tell-from-30 w h) in
     flags-same (flag-flags tells) digit-same

@@ -34,17 +34,20 @@ module _ (d : Dialect) (raw old : Bytes) where
   unfolding if_then_else_
   too-long e h f = rw (lt-ltb (length old) (length (contentOf d raw)) h) (refused e (refusal 10) old f)
 
-  pub fits : (n : ℕ) (k : Kind) (new : Bytes) → length (contentOf d raw) ≤ length old → n ≡ length (contentOf d raw) → k ≡ kindOf d raw → new ≡ over (contentOf d raw) old
+  pub fits : (n : ℕ) (k : Kind) (new : Bytes) → length (contentOf d raw) ≤ length old → n ≡ length (contentOf d raw) → k ≡ kindOf d raw
+      → new ≡ over (contentOf d raw) old
       → Decodes (soundCell d raw (length old)) (Content n k) old new
   unfolding if_then_else_
   fits n k new h en ek eo = rw (le-ltb (length old) (length (contentOf d raw)) h) (rw (en, ek) refl, eo)
 
   -- ---- any raw bytes
 
-  pub sound : (r : Decoded) (new : Bytes) → validateCell d raw ≡ WholeCell → Decodes (soundCell d raw (length old)) r old new → Decodes (anyCell d raw (length old)) r old new
+  pub sound : (r : Decoded) (new : Bytes) → validateCell d raw ≡ WholeCell → Decodes (soundCell d raw (length old)) r old new
+      → Decodes (anyCell d raw (length old)) r old new
   sound r new j p = rw j p
 
-  pub unsound : (f : Fault) (o : ℕ) (e : Report) → validateCell d raw ≡ Unsound f o → e ≡ report (numberOf f) 0 (columnOf f) o → Decodes (anyCell d raw (length old)) (Refused e) old old
+  pub unsound : (f : Fault) (o : ℕ) (e : Report) → validateCell d raw ≡ Unsound f o → e ≡ report (numberOf f) 0 (columnOf f) o
+      → Decodes (anyCell d raw (length old)) (Refused e) old old
   unsound f o e j h = rw j (refused e (report (numberOf f) 0 0 o) old (h ∙ ap (λ (n : ℕ). report (numberOf f) 0 n o) (no-column d raw f o j)))
 
 -- ---- the call

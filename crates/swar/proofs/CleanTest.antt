@@ -23,7 +23,12 @@ stop-top x c false h k e = stop-missed x c h k (eqb-false x c e)
 
 module _ (w : ℕ) (h : w < 0x100 ^ 8) where
   tell-stop : (c : ℕ) → c < 0x80 → FlagsBytes w (0x8080808080808080 - bitXor (bitAnd w 0x7F7F7F7F7F7F7F7F) (c * ONES)) (λ b. not (bitAnd b 0x7F is c))
-  tell-stop c k = record { each = λ b. 0x80 - bitXor (bitAnd b 0x7F) c; word = stop-bits w h c k; told = λ b l. stop-top (bitAnd b 0x7F) c (bitAnd b 0x7F is c) (small b) k refl }
+  tell-stop c k =
+      record {
+        each = λ b. 0x80 - bitXor (bitAnd b 0x7F) c;
+        word = stop-bits w h c k;
+        told = λ b l. stop-top (bitAnd b 0x7F) c (bitAnd b 0x7F is c) (small b) k refl;
+      }
     where
       small : (b : ℕ) → bitAnd b 0x7F < 0x80
       small b = omega (arith, and-le-r b 0x7F)
@@ -64,9 +69,11 @@ cleanWord w first second =
     (0x9F9F9F9F9F9F9F9F - bitAnd w 0x7F7F7F7F7F7F7F7F))
     0x8080808080808080
 
-pub clean-flags : (w p q first second : ℕ) → w < 0x100 ^ 8 → first ≡ asciiStop p * ONES → second ≡ asciiStop q * ONES → Flags (cleanAscii p q) w (cleanWord w first second)
+pub clean-flags : (w p q first second : ℕ) → w < 0x100 ^ 8 → first ≡ asciiStop p * ONES → second ≡ asciiStop q * ONES
+    → Flags (cleanAscii p q) w (cleanWord w first second)
 clean-flags w p q first second h ep eq =
     let tells : FlagsBytes w _ (λ b. together p q b (bitAnd b 0x7F)) =
-    flag-both (flag-both (flag-both (flag-both (flag-ascii w h) (tell-stop w h (asciiStop p) (ascii-small p))) (tell-stop w h (asciiStop q) (ascii-small q))) (tell-stop w h 0x5C (omega arith))) (tell-from-20 w h)
+    flag-both (flag-both (flag-both (flag-both (flag-ascii w h) (tell-stop w h (asciiStop p) (ascii-small p)))
+    (tell-stop w h (asciiStop q) (ascii-small q))) (tell-stop w h 0x5C (omega arith))) (tell-from-20 w h)
     in
     rw (ep, eq) (flags-same (flag-flags tells) (clean-same p q))

@@ -179,6 +179,7 @@ module _ (s : Settings) (only first : Bool) (c : Bytes) where
   not-empty h = rw (some c h) (and-false only)
 
 -- by this test CSV+ writes a cell in quotes
-pub cell-by : (s : Settings) (only first : Bool) (c : Bytes) → csvPlusCell s only first c ≡ (if hasQuotes s only first c then quotedText (quoteOf (CsvPlus s)) c else c)
+pub cell-by : (s : Settings) (only first : Bool) (c : Bytes)
+    → csvPlusCell s only first c ≡ (if hasQuotes s only first c then quotedText (quoteOf (CsvPlus s)) c else c)
 unfolding csvPlusCell
 cell-by s only first c = refl

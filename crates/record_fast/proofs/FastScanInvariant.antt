@@ -27,7 +27,25 @@ use Rattle.model.specs.rules.Cell.{firstByte, cellStep}
 use Rattle.model.specs.rules.File.{isBlank, afterCell, inCell, beginRecord, fileStep, counts}
 use Rattle.model.specs.rules.Decode.{kindNumber, kindOf}
 use Rattle.model.specs.rules.Report.{MAXFILE, MAXRECORD}
-use Rattle.model.specs.laws.Scans.{RawCell, Scan, ScanResult, pends, fails, completes, scan, fresh, Buffered, joined, joinedTo, joinedCell, joinedPlace, joinedRaw, Holds, current, nothing-current}
+use Rattle.model.specs.laws.Scans.{
+  RawCell,
+  Scan,
+  ScanResult,
+  pends,
+  fails,
+  completes,
+  scan,
+  fresh,
+  Buffered,
+  joined,
+  joinedTo,
+  joinedCell,
+  joinedPlace,
+  joinedRaw,
+  Holds,
+  current,
+  nothing-current,
+}
 use Rattle.model.specs.rules.Api.{slice}
 use Rattle.model.proofs.Tests.{split, split-on, impossible, same-byte, and-true}
 use Rattle.model.proofs.piece_laws.View.{view}
@@ -48,7 +66,23 @@ use Rattle.record_scanner.proofs.StoreLaws.{not-stored, length-stored-if}
 use Rattle.record_scanner.proofs.TokenOutcomes.{metOf, cell-results, cell-lies, byte-results}
 use Rattle.record_scanner.proofs.ScanInvariant.{Call, Scanning, Asked, Stepping, Out, begins, by-byte, by-cell, step-on, step-over, lengths}
 use Rattle.cell_fast.specs.Ends.{EndsFrom, CleanCell}
-use Rattle.record_fast.specs.FastScan.{FirstCellAt, here, after-cr, after-pair, unknown, nextFound, StoredCells, Clean, FastScanSound, is-found, is-fallback, RecordEndSound, at-once, by-pair, nowhere}
+use Rattle.record_fast.specs.FastScan.{
+  FirstCellAt,
+  here,
+  after-cr,
+  after-pair,
+  unknown,
+  nextFound,
+  StoredCells,
+  Clean,
+  FastScanSound,
+  is-found,
+  is-fallback,
+  RecordEndSound,
+  at-once,
+  by-pair,
+  nowhere,
+}
 use Rattle.record_fast.specs.declared.FastScan.the-variants.{Record, Fallback}
 use Rattle.record_fast.specs.declared.RecordEnd.the-variants as closing
 use Rattle.record_fast.proofs.Endings.{nextCell, after-delimiter}
@@ -120,7 +154,9 @@ pub record Bounds (part-length limit start stop : ℕ) : Type 0 where
 module _ (call : Call) where
   open Call call using (d, part, first, limit, from, room, base, starts₀, ends₀, kinds₀)
 
-  module _ {start stop : ℕ} (w : Bounds (length part) limit start stop) {at n : ℕ} (past : start ≤ at) (on : at < stop) {f : FileState} (o : Opening d (getD part at 0) f) {starts ends kinds : List ℕ} (y : Scanning call f at (hand start at n) starts ends kinds) {e : ℕ} (ends-at : EndsFrom d part stop Fresh at e) where
+  module _ {start stop : ℕ} (w : Bounds (length part) limit start stop) {at n : ℕ} (past : start ≤ at) (on : at < stop) {f : FileState}
+      (o : Opening d (getD part at 0) f) {starts ends kinds : List ℕ} (y : Scanning call f at (hand start at n) starts ends kinds) {e : ℕ}
+      (ends-at : EndsFrom d part stop Fresh at e) where
     free : Free (length part) limit at (at - start) stop
     free =
         let a : stop ≤ length part = w .inside in
@@ -131,7 +167,8 @@ module _ (call : Call) where
     begins-cell : inCell d Fresh (getD part at 0) ≡ fileStep d f (getD part at 0)
     begins-cell =
         opens d (getD part at 0) f o
-        λ q. let z : cell-end.Refused Syntax at ≡ cell-end.Stopped (ends-at .cell) e = sym (rest-refused d Fresh part at stop on (w .inside) Syntax q) ∙ ends-at .ran in
+        λ q. let z : cell-end.Refused Syntax at ≡ cell-end.Stopped (ends-at .cell)
+        e = sym (rest-refused d Fresh part at stop on (w .inside) Syntax q) ∙ ends-at .ran in
         let x : _≡_ {A = ℕ} 0 1 = cc in omega arith
 
     met : metOf stop (cellRun d Fresh at (slice part at stop)) ≡ AfterCell true e
@@ -149,7 +186,9 @@ module _ (call : Call) where
           under = omega arith;
           fits = rw (lt-leb MAXRECORD (at - start) small);
           lies = subst (λ (m : Token). TokenInBounds d limit part f at m) met (cell-lies d limit Fresh part f at (at - start) stop free);
-          comes = subst (λ (m : Token). TokenCorrect d limit part f at (at - start) m) met (cell-results d limit part f Fresh at (at - start) stop free begins-cell);
+          comes =
+              subst (λ (m : Token). TokenCorrect d limit part f at (at - start) m) met
+              (cell-results d limit part f Fresh at (at - start) stop free begins-cell);
         }
 
     -- the byte after the cell takes its step
@@ -164,7 +203,8 @@ module _ (call : Call) where
 
 -- the cell from `at` up to e, stored at index base + n of each list
 pub record Writes (d : Dialect) (part : Bytes) (room base n at e : ℕ) (starts ends kinds starts′ ends′ kinds′ : List ℕ) : Type 0 where
-  pub put : (starts′ ≡ storeIf true room (base + n) at starts) × ((ends′ ≡ storeIf true room (base + n) e ends) × (kinds′ ≡ storeIf true room (base + n) (kindNumber (kindOf d (slice part at e))) kinds))
+  pub put : (starts′ ≡ storeIf true room (base + n) at starts) ×
+      ((ends′ ≡ storeIf true room (base + n) e ends) × (kinds′ ≡ storeIf true room (base + n) (kindNumber (kindOf d (slice part at e))) kinds))
 
 stored-here : (room k x : ℕ) (old : List ℕ) → k < room → room ≤ length old → getD (storeIf true room k x old) k 0 ≡ x
 unfolding storeIf storeAt if_then_else_
@@ -178,7 +218,9 @@ stored-other room k x j old l =
     λ _. refl
 
 -- one verbatim cell more
-more-clean : {d : Dialect} {part : Bytes} {room base n at e : ℕ} {starts ends kinds starts′ ends′ kinds′ : List ℕ} → room ≤ length starts → room ≤ length ends → Clean d part room base n starts ends → CleanCell d (slice part at e) → Writes d part room base n at e starts ends kinds starts′ ends′ kinds′ → Clean d part room base (n + 1) starts′ ends′
+more-clean : {d : Dialect} {part : Bytes} {room base n at e : ℕ} {starts ends kinds starts′ ends′ kinds′ : List ℕ} → room ≤ length starts
+    → room ≤ length ends → Clean d part room base n starts ends → CleanCell d (slice part at e)
+    → Writes d part room base n at e starts ends kinds starts′ ends′ kinds′ → Clean d part room base (n + 1) starts′ ends′
 more-clean {d} {part} {room} {base} {n} {at} {e} {starts} {ends} {kinds} {starts′} {ends′} {kinds′} ls le c x y =
     record {
       quotes = c .quotes;
@@ -189,15 +231,19 @@ more-clean {d} {part} {room} {base} {n} {at} {e} {starts} {ends} {kinds} {starts
           (λ q.
           let j : k < n = ltb-true k n q in
           let z : base + k < base + n = omega arith in
-          let a : getD starts′ (base + k) 0 ≡ getD starts (base + k) 0 = ap (λ (xs : List ℕ). getD xs (base + k) 0) (p .0) ∙ stored-other room (base + n) at (base + k) starts z in
-          let b : getD ends′ (base + k) 0 ≡ getD ends (base + k) 0 = ap (λ (xs : List ℕ). getD xs (base + k) 0) (p .1 .0) ∙ stored-other room (base + n) e (base + k) ends z in
+          let a : getD starts′ (base + k) 0 ≡ getD starts (base + k) 0 =
+          ap (λ (xs : List ℕ). getD xs (base + k) 0) (p .0) ∙ stored-other room (base + n) at (base + k) starts z in
+          let b : getD ends′ (base + k) 0 ≡ getD ends (base + k) 0 =
+          ap (λ (xs : List ℕ). getD xs (base + k) 0) (p .1 .0) ∙ stored-other room (base + n) e (base + k) ends z in
           rw (a, b) (c .each k j m))
           λ q.
           let h : n ≤ k = ltb-false k n q in
           let i : base + k ≡ base + n = omega arith in
           let g : base + n < room = omega arith in
-          let a : getD starts′ (base + k) 0 ≡ at = ap (λ (j : ℕ). getD starts′ j 0) i ∙ ap (λ (xs : List ℕ). getD xs (base + n) 0) (p .0) ∙ stored-here room (base + n) at starts g ls in
-          let b : getD ends′ (base + k) 0 ≡ e = ap (λ (j : ℕ). getD ends′ j 0) i ∙ ap (λ (xs : List ℕ). getD xs (base + n) 0) (p .1 .0) ∙ stored-here room (base + n) e ends g le in
+          let a : getD starts′ (base + k) 0 ≡ at =
+          ap (λ (j : ℕ). getD starts′ j 0) i ∙ ap (λ (xs : List ℕ). getD xs (base + n) 0) (p .0) ∙ stored-here room (base + n) at starts g ls in
+          let b : getD ends′ (base + k) 0 ≡ e =
+          ap (λ (j : ℕ). getD ends′ j 0) i ∙ ap (λ (xs : List ℕ). getD xs (base + n) 0) (p .1 .0) ∙ stored-here room (base + n) e ends g le in
           rw (a, b) x;
     }
 
@@ -221,7 +267,8 @@ begins-on first part from start (after-cr e q) l = omega arith
 begins-on first part from start (after-pair e k q) l = omega arith
 begins-on first part from start unknown l = l
 
-module _ (d : Dialect) (part : Bytes) (limit from room base : ℕ) (starts₀ ends₀ kinds₀ : List ℕ) (l : from ≤ length part) (m : from ≤ limit) (b : base ≤ from) (low : limit ≤ MAXFILE) where
+module _ (d : Dialect) (part : Bytes) (limit from room base : ℕ) (starts₀ ends₀ kinds₀ : List ℕ) (l : from ≤ length part) (m : from ≤ limit)
+    (b : base ≤ from) (low : limit ≤ MAXFILE) where
   abbrev From : FileState → Call
   From first = callOf d part first limit from room base starts₀ ends₀ kinds₀
 
@@ -233,22 +280,42 @@ module _ (d : Dialect) (part : Bytes) (limit from room base : ℕ) (starts₀ en
       (begins (From first) l m b (omega arith) low)
 
   -- the LF of a CRLF is skipped
-  after-lf : from < length part → from < limit → getD part from 0 ≡ LF → Scanning (From Ended) Begin (from + 1) (hand (from + 1) (from + 1) 0) starts₀ ends₀ kinds₀
+  after-lf : from < length part → from < limit → getD part from 0 ≡ LF
+      → Scanning (From Ended) Begin (from + 1) (hand (from + 1) (from + 1) 0) starts₀ ends₀ kinds₀
   unfolding fileStep if_then_else_
   after-lf i u q =
       let k : Call = From Ended in
       let s : To Begin Passed ≡ fileStep d Ended (getD part from 0) = rw q in
       let z : from - from ≡ 0 = omega arith in
-      let a : Asked k Ended from (hand from from 0) starts₀ ends₀ kinds₀ (Is (To Begin Passed)) = record { scanning = at-from Ended; inside = i; under = u; fits = rw z; lies = s; comes = byte-results d limit part Ended from (from - from) i u (To Begin Passed) s } in
+      let a : Asked k Ended from (hand from from 0) starts₀ ends₀ kinds₀ (Is (To Begin Passed)) =
+      record {
+        scanning = at-from Ended;
+        inside = i;
+        under = u;
+        fits = rw z;
+        lies = s;
+        comes = byte-results d limit part Ended from (from - from) i u (To Begin Passed) s;
+      } in
       let v = by-byte k a (To Begin Passed) refl in
       let x : 0 ≡ from + 1 - (from + 1) = omega arith in
-      step-on k v Begin Passed refl false refl starts₀ ends₀ kinds₀ (not-stored false room (base + 0) from starts₀ refl, (not-stored false room (base + 0) from ends₀ refl, not-stored false room (base + 0) _ kinds₀ refl)) (hand (from + 1) (from + 1) 0) (ap (λ (n : ℕ). record { start = from + 1; size = n; opened = from + 1; cells = 0 }) (sym x)) false refl refl
+      step-on k v Begin Passed refl false refl starts₀ ends₀ kinds₀ (
+        not-stored false room (base + 0) from starts₀ refl,
+        (not-stored false room (base + 0) from ends₀ refl, not-stored false room (base + 0) _ kinds₀ refl),
+      ) (hand (from + 1)
+      (from + 1) 0) (ap (λ (n : ℕ). record { start = from + 1; size = n; opened = from + 1; cells = 0 }) (sym x)) false refl refl
 
-  pub rest-begins : (first : FileState) {start : ℕ} → FirstCellAt first part from start → start < length part → start < limit → Rest (From first) start start 0 starts₀ ends₀ kinds₀
-  rest-begins first (here e) i u = record { state = first; opening = subst (λ (f : FileState). Opening d (getD part from 0) f) (sym e) at-begin; scanning = at-from first }
-  rest-begins first (after-cr e q) i u = record { state = first; opening = subst (λ (f : FileState). Opening d (getD part from 0) f) (sym e) (at-ended q); scanning = at-from first }
+  pub rest-begins : (first : FileState) {start : ℕ} → FirstCellAt first part from start → start < length part → start < limit
+      → Rest (From first) start start 0 starts₀ ends₀ kinds₀
+  rest-begins first (here e) i u =
+      record { state = first; opening = subst (λ (f : FileState). Opening d (getD part from 0) f) (sym e) at-begin; scanning = at-from first }
+  rest-begins first (after-cr e q) i u =
+      record { state = first; opening = subst (λ (f : FileState). Opening d (getD part from 0) f) (sym e) (at-ended q); scanning = at-from first }
   rest-begins first (after-pair e k q) i u =
-      subst (λ (f : FileState). Rest (From f) (from + 1) (from + 1) 0 starts₀ ends₀ kinds₀) (sym e) (record { state = Begin; opening = at-begin; scanning = after-lf k (omega arith) q })
+      subst (λ (f : FileState). Rest (From f) (from + 1) (from + 1) 0 starts₀ ends₀ kinds₀) (sym e) (record {
+        state = Begin;
+        opening = at-begin;
+        scanning = after-lf k (omega arith) q;
+      })
   rest-begins first unknown i u = absurd (omega arith)
 
 module _ (d : Dialect) (part : Bytes) (limit from room base : ℕ) (starts₀ ends₀ kinds₀ : List ℕ) (start stop : ℕ) where
@@ -261,9 +328,11 @@ module _ (d : Dialect) (part : Bytes) (limit from room base : ℕ) (starts₀ en
     pub long : (length starts ≡ length starts₀) × (length ends ≡ length ends₀) × (length kinds ≡ length kinds₀)
     pub roomy : (room ≤ length starts₀) × (room ≤ length ends₀) × (room ≤ length kinds₀)
     pub cleans : clean ≡ true → Clean d part room base n starts ends
-    pub rest : (first : FileState) → FirstCellAt first part from start → Rest (callOf d part first limit from room base starts₀ ends₀ kinds₀) start at n starts ends kinds
+    pub rest : (first : FileState) → FirstCellAt first part from start
+        → Rest (callOf d part first limit from room base starts₀ ends₀ kinds₀) start at n starts ends kinds
 
-  module _ {clean : Bool} {at n : ℕ} {starts ends kinds : List ℕ} (r : Row clean at n starts ends kinds) (on : at < stop) {e : ℕ} (ends-at : EndsFrom d part stop Fresh at e) where
+  module _ {clean : Bool} {at n : ℕ} {starts ends kinds : List ℕ} (r : Row clean at n starts ends kinds) (on : at < stop) {e : ℕ}
+      (ends-at : EndsFrom d part stop Fresh at e) where
     pub cell-lies-in : (first : FileState) → FirstCellAt first part from start → (at ≤ e) × (e < length part) × (e < limit)
     cell-lies-in first b =
         let y = r .rest first b in
@@ -271,7 +340,9 @@ module _ (d : Dialect) (part : Bytes) (limit from room base : ℕ) (starts₀ en
         cell-in (callOf d part first limit from room base starts₀ ends₀ kinds₀) (r .bounds) (r .past) on (y .opening) (y .scanning) ends-at
 
     -- after a delimiter the next cell begins
-    pub next-cell : e < stop → getD part e 0 ≡ delimiterOf d → {tells : Bool} → (tells ≡ true → CleanCell d (slice part at e)) → {starts′ ends′ kinds′ : List ℕ} → Writes d part room base n at e starts ends kinds starts′ ends′ kinds′ → at ≤ e → Row (clean && tells) (e + 1) (n + 1) starts′ ends′ kinds′
+    pub next-cell : e < stop → getD part e 0 ≡ delimiterOf d → {tells : Bool} → (tells ≡ true → CleanCell d (slice part at e))
+        → {starts′ ends′ kinds′ : List ℕ} → Writes d part room base n at e starts ends kinds starts′ ends′ kinds′ → at ≤ e
+        → Row (clean && tells) (e + 1) (n + 1) starts′ ends′ kinds′
     unfolding oneMore if_then_else_
     next-cell before q {tells} x {starts′} {ends′} {kinds′} y l =
         let i : stop ≤ length part = r .bounds .inside in
@@ -301,7 +372,8 @@ module _ (d : Dialect) (part : Bytes) (limit from room base : ℕ) (starts₀ en
               let t = after k (r .bounds) p on (g .opening) (g .scanning) ends-at in
               let s : afterCell d true (getD part e 0) ≡ To (nextCell d) (Between true) = ap (λ (c : ℕ). afterCell d true c) q ∙ after-delimiter d in
               let sized : e + 1 - start ≡ at - start + (e - at) + 1 = omega arith in
-              let h : hand start (e + 1) (n + 1) ≡ stateAfterByte (Between true) e (extendedBy (hand start at n) (e - at)) = ap (λ (m : ℕ). record { start = start; size = m; opened = e + 1; cells = n + 1 }) sized in
+              let h : hand start (e + 1) (n + 1) ≡ stateAfterByte (Between true) e (extendedBy (hand start at n) (e - at)) =
+              ap (λ (m : ℕ). record { start = start; size = m; opened = e + 1; cells = n + 1 }) sized in
               record {
                 state = nextCell d;
                 opening = next-opens d (getD part (e + 1) 0);
@@ -315,26 +387,40 @@ module _ (d : Dialect) (part : Bytes) (limit from room base : ℕ) (starts₀ en
         next-opens (CsvPlus z) b = at-fresh
 
   -- the scanner's outcome is found
-  found : {first : FileState} {s m next : ℕ} {g : FileState} {clean : Bool} {starts ends kinds : List ℕ} → Out (callOf d part first limit from room base starts₀ ends₀ kinds₀) (reached.Completed s m g next) starts ends kinds → (clean ≡ true → Clean d part room base m starts ends) → FastScanSound d limit part from first room base starts₀ ends₀ kinds₀ starts ends kinds (Record s m g next clean)
+  found : {first : FileState} {s m next : ℕ} {g : FileState} {clean : Bool} {starts ends kinds : List ℕ}
+      → Out (callOf d part first limit from room base starts₀ ends₀ kinds₀) (reached.Completed s m g next) starts ends kinds
+      → (clean ≡ true → Clean d part room base m starts ends)
+      → FastScanSound d limit part from first room base starts₀ ends₀ kinds₀ starts ends kinds (Record s m g next clean)
   found {first} {s} {m} {next} {g} o c =
       let cs : List RawCell = nextFound d limit part from first .cells in
-      is-found cs (ap (λ (a : ScanOutcome). record { answer = a; cells = cs }) (sym (o .answer))) (o .bounds) (record { at-starts = o .at-starts; at-ends = o .at-ends; at-kinds = o .at-kinds }) c
+      is-found cs (ap (λ (a : ScanOutcome). record {
+        answer = a;
+        cells = cs;
+      }) (sym (o .answer))) (o .bounds) (record { at-starts = o .at-starts; at-ends = o .at-ends; at-kinds = o .at-kinds }) c
 
-  module _ {clean : Bool} {at n : ℕ} {starts ends kinds : List ℕ} (r : Row clean at n starts ends kinds) (on : at < stop) {e : ℕ} (ends-at : EndsFrom d part stop Fresh at e) (l : at ≤ e) where
-    all-clean : {tells : Bool} → (tells ≡ true → CleanCell d (slice part at e)) → {starts′ ends′ kinds′ : List ℕ} → Writes d part room base n at e starts ends kinds starts′ ends′ kinds′ → (clean && tells) ≡ true → Clean d part room base (n + 1) starts′ ends′
+  module _ {clean : Bool} {at n : ℕ} {starts ends kinds : List ℕ} (r : Row clean at n starts ends kinds) (on : at < stop) {e : ℕ}
+      (ends-at : EndsFrom d part stop Fresh at e) (l : at ≤ e) where
+    all-clean : {tells : Bool} → (tells ≡ true → CleanCell d (slice part at e)) → {starts′ ends′ kinds′ : List ℕ}
+        → Writes d part room base n at e starts ends kinds starts′ ends′ kinds′ → (clean && tells) ≡ true → Clean d part room base (n + 1) starts′ ends′
     all-clean {tells} x y c =
         let z = and-true clean tells c in
         more-clean (rw (r .long .0) (r .roomy .0)) (rw (r .long .1) (r .roomy .1)) (r .cleans (z .0)) (x (z .1)) y
 
     -- the LF after a CR
-    asked-lf : (first : FileState) {h : RecordState} {starts′ ends′ kinds′ : List ℕ} → Scanning (callOf d part first limit from room base starts₀ ends₀ kinds₀) Cr (e + 1) h starts′ ends′ kinds′ → e + 1 < length part → e + 1 < limit → getD part (e + 1) 0 ≡ LF → Asked (callOf d part first limit from room base starts₀ ends₀ kinds₀) Cr (e + 1) h starts′ ends′ kinds′ (Is (To Begin (Ends false)))
+    asked-lf : (first : FileState) {h : RecordState} {starts′ ends′ kinds′ : List ℕ}
+        → Scanning (callOf d part first limit from room base starts₀ ends₀ kinds₀) Cr (e + 1) h starts′ ends′ kinds′ → e + 1 < length part
+        → e + 1 < limit → getD part (e + 1) 0 ≡ LF
+        → Asked (callOf d part first limit from room base starts₀ ends₀ kinds₀) Cr (e + 1) h starts′ ends′ kinds′ (Is (To Begin (Ends false)))
     unfolding fileStep counts if_then_else_
     asked-lf first {h} w i u q =
         let s : To Begin (Ends false) ≡ fileStep d Cr (getD part (e + 1) 0) = rw q in
         record { scanning = w; inside = i; under = u; fits = rw q (no-and (leb MAXRECORD (h .size))); lies = s; comes = byte-results d limit part Cr (e + 1) (h .size) i u (To Begin (Ends false)) s }
 
     -- after an ending the record is complete
-    pub last-cell : e < stop → {f : FileState} {next : ℕ} → RecordEndSound d part e stop (closing.After f next) → {tells : Bool} → (tells ≡ true → CleanCell d (slice part at e)) → {starts′ ends′ kinds′ : List ℕ} → Writes d part room base n at e starts ends kinds starts′ ends′ kinds′ → (first : FileState) → FirstCellAt first part from start → FastScanSound d limit part from first room base starts₀ ends₀ kinds₀ starts′ ends′ kinds′ (Record start (n + 1) f next (clean && tells))
+    pub last-cell : e < stop → {f : FileState} {next : ℕ} → RecordEndSound d part e stop (closing.After f next) → {tells : Bool}
+        → (tells ≡ true → CleanCell d (slice part at e)) → {starts′ ends′ kinds′ : List ℕ}
+        → Writes d part room base n at e starts ends kinds starts′ ends′ kinds′ → (first : FileState) → FirstCellAt first part from start
+        → FastScanSound d limit part from first room base starts₀ ends₀ kinds₀ starts′ ends′ kinds′ (Record start (n + 1) f next (clean && tells))
     unfolding oneMore if_then_else_
     last-cell before {f} (at-once s) {tells} x {starts′} {ends′} {kinds′} y first b =
         let k : Call = callOf d part first limit from room base starts₀ ends₀ kinds₀ in
@@ -352,7 +438,11 @@ module _ (d : Dialect) (part : Bytes) (limit from room base : ℕ) (starts₀ en
         let w = step-on k t Cr (Tail true) s true refl starts′ ends′ kinds′ (y .put) h refl false refl refl in
         let a : Asked k Cr (e + 1) h starts′ ends′ kinds′ (Is (To Begin (Ends false))) = asked-lf first w (omega arith) (omega arith) z in
         let v = by-byte k a (To Begin (Ends false)) refl in
-        let o = step-over k v Begin (Ends false) refl false refl starts′ ends′ kinds′ (not-stored false room (base + (n + 1)) (e + 1) starts′ refl, (not-stored false room (base + (n + 1)) (e + 1) ends′ refl, not-stored false room (base + (n + 1)) _ kinds′ refl)) _ refl true refl refl in
+        let o =
+        step-over k v Begin (Ends false) refl false refl starts′ ends′ kinds′ (
+          not-stored false room (base + (n + 1)) (e + 1) starts′ refl,
+          (not-stored false room (base + (n + 1)) (e + 1) ends′ refl, not-stored false room (base + (n + 1)) _ kinds′ refl),
+        ) _ refl true refl refl in
         let two : e + 1 + 1 ≡ e + 2 = omega arith in
         found (subst (λ (j : ℕ). Out k (reached.Completed start (n + 1) Begin j) starts′ ends′ kinds′) two o) (all-clean x y)
 
@@ -375,7 +465,8 @@ module _ (d : Dialect) (part : Bytes) (limit from room base : ℕ) (starts₀ en
   holds at-fresh e c = current refl
   holds (at-wanting x) e c = current refl
 
-  pub odd : {clean : Bool} {at n : ℕ} {starts ends kinds : List ℕ} → Row clean at n starts ends kinds → (first : FileState) → FirstCellAt first part from start → FastScanSound d limit part from first room base starts₀ ends₀ kinds₀ starts ends kinds Fallback
+  pub odd : {clean : Bool} {at n : ℕ} {starts ends kinds : List ℕ} → Row clean at n starts ends kinds → (first : FileState)
+      → FirstCellAt first part from start → FastScanSound d limit part from first room base starts₀ ends₀ kinds₀ starts ends kinds Fallback
   unfolding joinedPlace joinedRaw if_then_else_
   odd {at = at} {n = n} r first b =
       let g = r .rest first b in
@@ -384,13 +475,17 @@ module _ (d : Dialect) (part : Bytes) (limit from room base : ℕ) (starts₀ en
       let k : Buffered = record { start = start; opened = at; raw = []; cells = cs } in
       let s : Scan = record { state = g .state; offset = at; start = at; size = at - start; opened = at; raw = []; cells = [] } in
       let same : joined k at s ≡ scanAt part (g .state) at (hand start at n) cs = rw (same-byte at, append-nil cs, part-end part at) in
-      let seen : scan d limit (joined k at s) (drop at part) ≡ joinedTo k at (scan d limit s (drop at part)) = view d limit k at s (drop at part) (holds (g .opening) refl (y .place .rest)) (omega arith) in
+      let seen : scan d limit (joined k at s) (drop at part) ≡ joinedTo k at (scan d limit s (drop at part)) =
+      view d limit k at s (drop at part) (holds (g .opening) refl (y .place .rest)) (omega arith) in
       is-fallback cs (further k at (scan d limit s (drop at part)))
-      (ap (λ (x : Found). x .cells) (y .same) ∙ ap (λ (x : Scan). foundIn d limit x (drop at part) .cells) (sym same) ∙ ap (λ (w : ScanResult). foundOf w .cells) seen ∙ joined-further k at (scan d limit s (drop at part)))
+      (ap (λ (x : Found). x .cells) (y .same) ∙ ap (λ (x : Scan). foundIn d limit x (drop at part) .cells) (sym same) ∙
+      ap (λ (w : ScanResult). foundOf w .cells) seen ∙ joined-further k at (scan d limit s (drop at part)))
       (record { at-starts = y .lists .at-starts; at-ends = y .lists .at-ends; at-kinds = y .lists .at-kinds })
 
   -- the first cell begins
-  pub row-begins : from ≤ length part → from ≤ limit → base ≤ from → limit ≤ MAXFILE → (room ≤ length starts₀) × (room ≤ length ends₀) × (room ≤ length kinds₀) → Bounds (length part) limit start stop → from ≤ start → start ≤ stop → start < length part → start < limit → {clean : Bool} → (clean ≡ true → quoteOf d ≡ QUOTE) → Row clean start 0 starts₀ ends₀ kinds₀
+  pub row-begins : from ≤ length part → from ≤ limit → base ≤ from → limit ≤ MAXFILE
+      → (room ≤ length starts₀) × (room ≤ length ends₀) × (room ≤ length kinds₀) → Bounds (length part) limit start stop → from ≤ start
+      → start ≤ stop → start < length part → start < limit → {clean : Bool} → (clean ≡ true → quoteOf d ≡ QUOTE) → Row clean start 0 starts₀ ends₀ kinds₀
   row-begins l m b low roomy w past to-stop inside under q =
       record {
         bounds = w;
