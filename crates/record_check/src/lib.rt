@@ -11,6 +11,7 @@ ghost use Rattle.model.specs.rules.Text.{Value};
 ghost use Rattle.model.specs.rules.Records.{headerFault, dataFault};
 ghost use Rattle.cell_decoder.specs.Sources.{cellsIn, Cells};
 ghost use Rattle.record_check.specs.Kinds.{notTextFrom};
+ghost use Rattle.record_check.specs.SourceFault.{sourceFault};
 use crate::names::Repeat;
 use cell_decoder::source;
 use cell_decoder::source::Source;
@@ -75,4 +76,27 @@ pub fn data(columns: usize, cells: usize) -> CheckResult
         return CheckResult::Faulty(Fault::CellCount);
     }
     CheckResult::Sound
+}
+
+// ---- records of a source
+
+// The source's checks of a record: of a header by d's rule for names, of a data record under a header of `columns` columns.
+pub fn check(
+    src: Source,
+    d: Dialect,
+    s: &[u8],
+    starts: &[usize],
+    ends: &[usize],
+    kinds: &[u8],
+    header: bool,
+    columns: usize,
+) -> CheckResult
+    requires { ⌜ Cells src (now s) (now starts) (now ends) (now kinds) ⌝ }
+    ensures { λ r. ⌜ r ≡ sourceFault d header columns
+        (cellsIn src (now (s .entry)) (now (starts .entry)) (now (ends .entry)) (now (kinds .entry))) ⌝ }
+{
+    if header {
+        return self::header(src, d, s, starts, ends, kinds);
+    }
+    data(columns, starts.len())
 }
