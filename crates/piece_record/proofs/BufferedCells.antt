@@ -3,7 +3,7 @@ use Prim.Native.Nat.{ℕ, zero, suc, _+_, _-_, _≤_, _<_}
 use native.Mathlib.Omega.{arith}
 use mathlib.Core.Path.{_≡_, refl, sym, ap, ap₂, _∙_}
 use mathlib.Core.Bool.{true}
-use mathlib.Core.List.{List, [], _∷_, _++_, append-nil}
+use mathlib.Core.List.{List, [], _∷_}
 use lib.ListN.{length, take, drop, getD, length-take, length-drop}
 use lib.Dec.{ltb}
 use borrow.Author.Tests.{ltb-true, ltb-false}
@@ -16,13 +16,11 @@ use Rattle.model.specs.laws.Places.{valuesIn}
 use Rattle.model.specs.declared.Kind.{Kind}
 use Rattle.model.specs.declared.Kind.the-variants.{Text, Number, True, False, Null}
 use Rattle.model.proofs.Tests.{split-on, impossible}
-use Rattle.buffer.specs.Writes.{Room, WrittenAt}
-use Rattle.buffer.proofs.WriteProgress.{Emitting, emitting, room-next, room-rest, put-next, put-whole}
+use Rattle.buffer.specs.Writes.{Room}
 use Rattle.cell_decoder.specs.declared.source.Source.{Source}
 use Rattle.cell_decoder.specs.declared.source.Source.the-variants.{File}
 use Rattle.cell_decoder.specs.Followed.{EdFollows, EdFollowed}
 use Rattle.cell_decoder.specs.Sources.{kindFrom, cellsIn, Encoded, in-file, Cells}
-use Rattle.cell_decoder.proofs.CellsIn.{cells-length}
 use Rattle.piece_state.specs.CurrentRecord.{SpansIn, kindsAt}
 use Rattle.model.specs.declared.Dialect.{Dialect}
 use Rattle.piece_state.specs.Sound.{InOrder, order-end, order-next}
@@ -178,29 +176,10 @@ cells-buffered d s ends short h w =
       };
     }
 
--- ---- a text and what follows it
+-- ---- room for a text
 
 pub whole-room : {out : Bytes} {o : ℕ} (w : Bytes) → o + length w ≤ length out → Room true o w out
 whole-room w h = record { measured = λ e. impossible (sym e); inside = λ _. h }
-
-module _ {out : Bytes} {o : ℕ} (w v : Bytes) (h : o + length (w ++ v) ≤ length out) where
-  both-room : Emitting true out o (w ++ v) out o (w ++ v)
-  both-room = emitting true (whole-room (w ++ v) h)
-
-  pub first-room : Room true o w out
-  first-room = room-next w v both-room
-
-  module _ {mid : Bytes} {m : ℕ} (p : WrittenAt true out o w mid m) where
-    pub then-room : Room true m v mid
-    then-room = room-rest (put-next w both-room p)
-
-    pub both-put : {new : Bytes} {r : ℕ} → WrittenAt true mid m v new r → WrittenAt true out o (w ++ v) new r
-    both-put q = put-whole (put-next v (rw append-nil (put-next w both-room p)) q)
-
--- ---- how many cells lists show
-
-pub cells-count : {src : Source} {s : Bytes} {starts ends kinds : List ℕ} → Cells src s starts ends kinds → length (cellsIn src s starts ends kinds) ≡ length starts
-cells-count {src} {s} {starts} {ends} {kinds} h = cells-length src s starts ends kinds (h .with-ends) (h .with-kinds)
 
 -- ---- the lists that the code makes
 

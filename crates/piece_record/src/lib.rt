@@ -5,21 +5,14 @@
 // bounds, and a record that fails is dropped.
 ghost use mathlib.Core.Path.{_≡_};
 ghost use mathlib.Core.Bool.{true, false};
-ghost use mathlib.Core.List.{_++_};
-ghost use Prim.Native.Nat.{_+_, _≤_};
+ghost use Prim.Native.Nat.{_≤_};
 ghost use lib.ListN.{length, take};
-ghost use Rattle.model.specs.declared.CheckResult.the-variants.{Sound};
-ghost use Rattle.model.specs.rules.Base.{if_then_else_, _is_};
 ghost use Rattle.model.specs.rules.Dialect.{into};
-ghost use Rattle.model.specs.rules.Text.{recordText, ending};
 ghost use Rattle.model.specs.rules.Report.{MAXFILE, MAXRECORD, MAXCOLUMNS};
-ghost use Rattle.model.specs.rules.Records.{headerFault, dataFault};
-ghost use Rattle.buffer.specs.Writes.{written};
 ghost use Rattle.cell_decoder.specs.declared.source.Source.the-variants.{File};
 ghost use Rattle.cell_decoder.specs.Followed.{EdFollowed};
 ghost use Rattle.cell_decoder.specs.Sources.{cellsIn, Cells};
 ghost use Rattle.piece_state.specs.Sound.{InOrder};
-ghost use Rattle.cell_fast.specs.Ends.{CleanIn};
 ghost use Rattle.piece_record.specs.Completion.{faultAt, textAt, startsBy, endOf, HoldsNoEd, FinishSound, CompleteSound};
 use cell_decoder::source::Source;
 use model::CheckResult;
@@ -27,8 +20,6 @@ use model::Dialect;
 use model::Fault;
 use piece_state::cells;
 use piece_state::place::Place;
-use record_target::TargetCheck;
-use record_writer::record;
 
 // What becomes of a complete record.
 pub enum RecordResult {
@@ -37,102 +28,6 @@ pub enum RecordResult {
     Refused(Fault),
     // Its cells can't be spelt, or its text has no room: no calls made this state.
     Invalid,
-}
-
-// The source's checks of the record, after so many others and under a header of so many columns.
-fn check_source(
-    d: Dialect,
-    s: &[u8],
-    starts: &[usize],
-    ends: &[usize],
-    kinds: &[u8],
-    records: usize,
-    columns: usize,
-) -> CheckResult
-    requires { ⌜ Cells (File d) (now s) (now starts) (now ends) (now kinds) ⌝ }
-    ensures { λ r. ⌜ r ≡ (if records is 0 then headerFault d (cellsIn (File d) (now (s .entry)) (now (starts .entry)) (now (ends .entry)) (now (kinds .entry))) else dataFault columns (cellsIn (File d) (now (s .entry)) (now (starts .entry)) (now (ends .entry)) (now (kinds .entry)))) ⌝ }
-{
-    if records == 0 {
-        return record_check::header(Source::File(d), d, s, starts, ends, kinds);
-    }
-    record_check::data(columns, starts.len())
-}
-
-// The source's checks of the record, and then the target's.
-fn check_record(
-    d: Dialect,
-    t: Dialect,
-    s: &[u8],
-    starts: &[usize],
-    ends: &[usize],
-    kinds: &[u8],
-    p: Place,
-    clean: bool,
-) -> TargetCheck
-    requires { ⌜ Cells (File d) (now s) (now starts) (now ends) (now kinds) ⌝ }
-    requires { ⌜ (clean ≡ true → CleanIn d (now s) (now starts) (now ends)) ⌝ }
-    requires { ⌜ p .written ≤ MAXFILE ⌝ }
-    ensures { λ r. ⌜ r .verdict ≡ faultAt d (into t) p (cellsIn (File d) (now (s .entry)) (now (starts .entry)) (now (ends .entry)) (now (kinds .entry))) ⌝ }
-    ensures { λ r. ⌜ (r .verdict ≡ Sound → r .length ≡ length (textAt (into t) p (cellsIn (File d) (now (s .entry)) (now (starts .entry)) (now (ends .entry)) (now (kinds .entry))))) ⌝ }
-{
-    match check_source(d, s, starts, ends, kinds, p.records, p.columns) {
-        CheckResult::Faulty(e) => TargetCheck {
-            verdict: CheckResult::Faulty(e),
-            length: 0,
-        },
-        CheckResult::Sound => {
-            if p.records == 0 {
-                return record_target::check(
-                    Source::File(d),
-                    t,
-                    s,
-                    starts,
-                    ends,
-                    kinds,
-                    true,
-                    p.written,
-                );
-            }
-            record_target::check_data(d, t, s, starts, ends, kinds, clean, p.written)
-        }
-    }
-}
-
-// Its text and ending, at o.
-fn write_record(
-    d: Dialect,
-    t: Dialect,
-    s: &[u8],
-    starts: &[usize],
-    ends: &[usize],
-    kinds: &[u8],
-    header: bool,
-    clean: bool,
-    out: &mut [u8],
-    o: usize,
-) -> usize
-    requires { ⌜ Cells (File d) (now s) (now starts) (now ends) (now kinds) ⌝ }
-    requires { ⌜ (clean ≡ true → CleanIn d (now s) (now starts) (now ends)) ⌝ }
-    requires { ⌜ o + length (recordText (into t) header (cellsIn (File d) (now s) (now starts) (now ends) (now kinds)) ++ ending t) ≤ length (now out) ⌝ }
-    ensures { λ r. ⌜ r ≡ o + length (recordText (into t) header (cellsIn (File d) (now (s .entry)) (now (starts .entry)) (now (ends .entry)) (now (kinds .entry))) ++ ending t) ⌝ }
-    ensures { λ r. ⌜ now (out .exit) ≡ written (now (out .entry)) o (recordText (into t) header (cellsIn (File d) (now (s .entry)) (now (starts .entry)) (now (ends .entry)) (now (kinds .entry))) ++ ending t) ⌝ }
-{
-    if !header {
-        return record_target::write_data(d, t, s, starts, ends, kinds, clean, out, o);
-    }
-    let x = record::write_record(
-        Source::File(d),
-        t,
-        s,
-        starts,
-        ends,
-        kinds,
-        header,
-        out,
-        o,
-        true,
-    );
-    record::write_ending(t, out, x.end, true)
 }
 
 // A record whose cells may be spelt.
@@ -151,8 +46,20 @@ fn finish(
     requires { ⌜ (p .written ≤ MAXFILE) × (o ≤ length (now out)) ⌝ }
     ensures { λ r. ⌜ FinishSound (faultAt d (into t) p (cellsIn (File d) (now (s .entry)) (now (starts .entry)) (now (ends .entry)) (now (kinds .entry)))) (textAt (into t) p (cellsIn (File d) (now (s .entry)) (now (starts .entry)) (now (ends .entry)) (now (kinds .entry)))) o (now (out .entry)) (now (out .exit)) r ⌝ }
 {
-    let clean = record_writer::clean::is_clean(d, s, starts, ends);
-    let r = check_record(d, t, s, starts, ends, kinds, p, clean);
+    let header = p.records == 0;
+    let clean = record_writer::clean::is_clean_record(d, s, starts, ends, header);
+    let r = record_target::check_record(
+        d,
+        t,
+        s,
+        starts,
+        ends,
+        kinds,
+        header,
+        clean,
+        p.columns,
+        p.written,
+    );
     let v = r.verdict;
     match v {
         CheckResult::Faulty(e) => RecordResult::Refused(e),
@@ -160,14 +67,14 @@ fn finish(
             if out.len() - o < r.length {
                 return RecordResult::Invalid;
             }
-            RecordResult::Written(write_record(
-                d,
+            RecordResult::Written(record_writer::line::write_line(
+                Source::File(d),
                 t,
                 s,
                 starts,
                 ends,
                 kinds,
-                p.records == 0,
+                header,
                 clean,
                 out,
                 o,

@@ -11,7 +11,7 @@ ghost use Rattle.model.specs.declared.CheckResult.the-variants.{Sound, Faulty};
 ghost use Rattle.model.specs.rules.Base.{Bytes, isEmpty};
 ghost use Rattle.model.specs.rules.Dialect.{isCsvj, into};
 ghost use Rattle.model.specs.rules.Text.{Value, recordText, ending};
-ghost use Rattle.model.specs.rules.Records.{uncarriedFrom, clashFault, targetFault};
+ghost use Rattle.model.specs.rules.Records.{_orElse_, uncarriedFrom, clashFault, targetFault};
 ghost use Rattle.model.specs.rules.Report.{MAXFILE, MAXRECORD};
 ghost use mathlib.Core.Bool.{true, false};
 ghost use Rattle.buffer.specs.Writes.{measure, Room, WrittenAt};
@@ -19,6 +19,8 @@ ghost use Rattle.cell_fast.specs.Ends.{CleanIn};
 ghost use Rattle.cell_decoder.specs.declared.source.Source.the-variants.{File};
 ghost use Rattle.cell_decoder.specs.Sources.{cellsIn, Cells};
 ghost use Rattle.record_check.specs.Keys.{NamesIn};
+ghost use Rattle.record_check.specs.SourceFault.{sourceFault};
+ghost use Rattle.record_writer.specs.CleanRecord.{CleanRecord};
 ghost use Rattle.record_target.specs.Sized.{Sized};
 use cell_decoder::source::Source;
 use codes::MAX_FILE;
@@ -26,7 +28,9 @@ use codes::MAX_RECORD;
 use model::CheckResult;
 use model::Dialect;
 use model::Fault;
+use model::Report;
 use record_check::names::Repeat;
+use record_writer::line;
 use record_writer::record;
 use record_writer::record::RecordText;
 
@@ -34,6 +38,13 @@ pub struct TargetCheck {
     pub verdict: CheckResult,
     // Where there is no fault, how long the record's text is with its ending.
     pub length: usize,
+}
+
+// The records of a file or a table, checked and measured.
+pub enum Measurement {
+    // How long their text is.
+    Accepted { length: usize },
+    Refused(Report),
 }
 
 fn refused(fault: Fault) -> TargetCheck
@@ -64,7 +75,7 @@ fn lacks_cells(t: Dialect, header: bool, cells: usize) -> bool
     }
 }
 
-// How long the record's text is, and the first cell that the target can't carry.
+// How long the record's text is, and the first cell that the target can't represent.
 fn measure(
     src: Source,
     t: Dialect,
@@ -73,13 +84,16 @@ fn measure(
     ends: &[usize],
     kinds: &[u8],
     header: bool,
+    clean: bool,
 ) -> RecordText
     requires { ⌜ Cells src (now s) (now starts) (now ends) (now kinds) ⌝ }
-    ensures { λ r. ⌜ r .end ≡ measure (length (recordText (into t) header (cellsIn src (now (s .entry)) (now (starts .entry)) (now (ends .entry)) (now (kinds .entry))))) ⌝ }
+    requires { ⌜ (clean ≡ true → CleanRecord (now s) (now starts) (now ends) src header) ⌝ }
+    ensures { λ r. ⌜ r .end ≡ measure (length
+        (recordText (into t) header (cellsIn src (now (s .entry)) (now (starts .entry)) (now (ends .entry)) (now (kinds .entry))))) ⌝ }
     ensures { λ r. ⌜ r .carries ≡ uncarriedFrom t 1 (cellsIn src (now (s .entry)) (now (starts .entry)) (now (ends .entry)) (now (kinds .entry))) ⌝ }
 {
     let mut nothing = [0u8; 1];
-    record::write_record(
+    line::write_text(
         src,
         t,
         s,
@@ -87,6 +101,7 @@ fn measure(
         ends,
         kinds,
         header,
+        clean,
         &mut nothing,
         0,
         false,
@@ -146,7 +161,81 @@ fn check_size(t: Dialect, end: usize, written: usize) -> TargetCheck
 
 // ---- records
 
-// What the target says of a record whose cells stand in these lists, after so many bytes of output.
+// The target's checks of a record whose cells lie in these spans, after `written` bytes of output. `clean`: a data record of a file whose
+// cells are verbatim, for which the fast path measures.
+pub fn check_target(
+    src: Source,
+    t: Dialect,
+    s: &[u8],
+    starts: &[usize],
+    ends: &[usize],
+    kinds: &[u8],
+    header: bool,
+    clean: bool,
+    written: usize,
+) -> TargetCheck
+    requires { ⌜ Cells src (now s) (now starts) (now ends) (now kinds) ⌝ }
+    requires { ⌜ (clean ≡ true → CleanRecord (now s) (now starts) (now ends) src header) ⌝ }
+    requires { ⌜ written ≤ MAXFILE ⌝ }
+    ensures { λ r. ⌜ r .verdict ≡ targetFault (into t) header written
+        (cellsIn src (now (s .entry)) (now (starts .entry)) (now (ends .entry)) (now (kinds .entry))) ⌝ }
+    ensures { λ r. ⌜ (r .verdict ≡ Sound → r .length ≡ length (recordText (into t) header
+        (cellsIn src (now (s .entry)) (now (starts .entry)) (now (ends .entry)) (now (kinds .entry))) ++ ending t)) ⌝ }
+{
+    if lacks_cells(t, header, starts.len()) {
+        return refused(Fault::NoCells);
+    }
+    let x = measure(src, t, s, starts, ends, kinds, header, clean);
+    let carries = x.carries;
+    if let CheckResult::Faulty(e) = carries {
+        return refused(e);
+    }
+    if let CheckResult::Faulty(e) = name_clash(src, t, s, starts, ends, header) {
+        return refused(e);
+    }
+    check_size(t, x.end, written)
+}
+
+// The checks of a record of a file in dialect d, under a header of `columns` columns: the source's, and then the target's.
+pub fn check_record(
+    d: Dialect,
+    t: Dialect,
+    s: &[u8],
+    starts: &[usize],
+    ends: &[usize],
+    kinds: &[u8],
+    header: bool,
+    clean: bool,
+    columns: usize,
+    written: usize,
+) -> TargetCheck
+    requires { ⌜ Cells (File d) (now s) (now starts) (now ends) (now kinds) ⌝ }
+    requires { ⌜ (clean ≡ true → CleanRecord (now s) (now starts) (now ends) (File d) header) ⌝ }
+    requires { ⌜ written ≤ MAXFILE ⌝ }
+    ensures { λ r. ⌜ r .verdict ≡ (
+        sourceFault d header columns (cellsIn (File d) (now (s .entry)) (now (starts .entry)) (now (ends .entry)) (now (kinds .entry)))
+        orElse targetFault (into t) header written
+        (cellsIn (File d) (now (s .entry)) (now (starts .entry)) (now (ends .entry)) (now (kinds .entry)))) ⌝ }
+    ensures { λ r. ⌜ (r .verdict ≡ Sound → r .length ≡ length (recordText (into t) header
+        (cellsIn (File d) (now (s .entry)) (now (starts .entry)) (now (ends .entry)) (now (kinds .entry))) ++ ending t)) ⌝ }
+{
+    let src = Source::File(d);
+    if let CheckResult::Faulty(e) = record_check::check(
+        src,
+        d,
+        s,
+        starts,
+        ends,
+        kinds,
+        header,
+        columns,
+    ) {
+        return refused(e);
+    }
+    check_target(src, t, s, starts, ends, kinds, header, clean, written)
+}
+
+// The target's checks of a record that is not known to be clean.
 pub fn check(
     src: Source,
     t: Dialect,
@@ -163,43 +252,10 @@ pub fn check(
     ensures { λ r. ⌜ (r .verdict ≡ Sound
         → r .length ≡ length (recordText (into t) header (cellsIn src (now (s .entry)) (now (starts .entry)) (now (ends .entry)) (now (kinds .entry))) ++ ending t)) ⌝ }
 {
-    if lacks_cells(t, header, starts.len()) {
-        return refused(Fault::NoCells);
-    }
-    let x = measure(src, t, s, starts, ends, kinds, header);
-    let carries = x.carries;
-    if let CheckResult::Faulty(e) = carries {
-        return refused(e);
-    }
-    if let CheckResult::Faulty(e) = name_clash(src, t, s, starts, ends, header) {
-        return refused(e);
-    }
-    check_size(t, x.end, written)
+    check_target(src, t, s, starts, ends, kinds, header, false, written)
 }
 
-// ---- data records of a file
-
-// How long the record's text is, and the first cell that the target can't carry. `clean`: each cell is a text whose content stands in it
-// as it is.
-fn measure_data(
-    d: Dialect,
-    t: Dialect,
-    s: &[u8],
-    starts: &[usize],
-    ends: &[usize],
-    kinds: &[u8],
-    clean: bool,
-) -> RecordText
-    requires { ⌜ Cells (File d) (now s) (now starts) (now ends) (now kinds) ⌝ }
-    requires { ⌜ (clean ≡ true → CleanIn d (now s) (now starts) (now ends)) ⌝ }
-    ensures { λ r. ⌜ r .end ≡ measure (length (recordText (into t) false (cellsIn (File d) (now (s .entry)) (now (starts .entry)) (now (ends .entry)) (now (kinds .entry))))) ⌝ }
-    ensures { λ r. ⌜ r .carries ≡ uncarriedFrom t 1 (cellsIn (File d) (now (s .entry)) (now (starts .entry)) (now (ends .entry)) (now (kinds .entry))) ⌝ }
-{
-    let mut nothing = [0u8; 1];
-    record_writer::clean::write_data(d, t, s, starts, ends, kinds, clean, &mut nothing, 0, false)
-}
-
-// What the target says of a data record, as `check` does.
+// The target's checks of a data record of a file.
 pub fn check_data(
     d: Dialect,
     t: Dialect,
@@ -217,12 +273,17 @@ pub fn check_data(
     ensures { λ r. ⌜ (r .verdict ≡ Sound
         → r .length ≡ length (recordText (into t) false (cellsIn (File d) (now (s .entry)) (now (starts .entry)) (now (ends .entry)) (now (kinds .entry))) ++ ending t)) ⌝ }
 {
-    let x = measure_data(d, t, s, starts, ends, kinds, clean);
-    let carries = x.carries;
-    if let CheckResult::Faulty(e) = carries {
-        return refused(e);
-    }
-    check_size(t, x.end, written)
+    check_target(
+        Source::File(d),
+        t,
+        s,
+        starts,
+        ends,
+        kinds,
+        false,
+        clean,
+        written,
+    )
 }
 
 // The text of a data record with its ending, at a place of the buffer.
@@ -242,6 +303,16 @@ pub fn write_data(
     requires { ⌜ Room true at (recordText (into t) false (cellsIn (File d) (now s) (now starts) (now ends) (now kinds)) ++ ending t) (now out) ⌝ }
     ensures { λ r. ⌜ WrittenAt true (now (out .entry)) at (recordText (into t) false (cellsIn (File d) (now (s .entry)) (now (starts .entry)) (now (ends .entry)) (now (kinds .entry))) ++ ending t) (now (out .exit)) r ⌝ }
 {
-    let text = record_writer::clean::write_data(d, t, s, starts, ends, kinds, clean, out, at, true);
-    record::write_ending(t, out, text.end, true)
+    line::write_line(
+        Source::File(d),
+        t,
+        s,
+        starts,
+        ends,
+        kinds,
+        false,
+        clean,
+        out,
+        at,
+    )
 }

@@ -7,3 +7,5 @@ pub mod Records
 pub mod Lengths
 pub mod ByteMembership
 pub mod CleanCells
+pub mod CleanRecords
+pub mod TextWithEnding

@@ -2,3 +2,4 @@ pub mod Columns
 pub mod Verbatim
 pub mod Joined
 pub mod CleanCellText
+pub mod CleanRecord

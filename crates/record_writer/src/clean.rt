@@ -1,92 +1,21 @@
-// The text of a data record of a file in a target. Where each of its cells is a text that stands in it as it is, none is looked at byte by
-// byte; every other record goes to record.rt. Where this is not known of a record, check.rt finds it out.
+// Records of verbatim cells: texts whose content is their raw bytes, without quotation marks or between two. quoted.rt writes such a record
+// into a target that quotes every text, plus.rt into CSV+, and neither looks at a cell byte by byte. Here: whether a record is one, where the
+// scanner has not found it out. The definition is `CleanIn` of cell_fast's specs/Ends.antt.
 ghost use mathlib.Core.Path.{_≡_};
-ghost use mathlib.Core.Bool.{true, false};
-ghost use Rattle.model.specs.rules.Dialect.{into};
-ghost use Rattle.model.specs.rules.Text.{recordText};
-ghost use Rattle.model.specs.rules.Records.{uncarriedFrom};
-ghost use Rattle.cell_fast.specs.Ends.{CleanIn};
-ghost use Rattle.buffer.specs.Writes.{Room, WrittenAt};
+ghost use mathlib.Core.Bool.{true};
 ghost use Rattle.cell_decoder.specs.declared.source.Source.the-variants.{File};
-ghost use Rattle.cell_decoder.specs.Sources.{cellsIn, Cells};
-ghost use Rattle.record_writer.specs.Verbatim.{quotesAll};
+ghost use Rattle.cell_fast.specs.Ends.{CleanIn};
+ghost use Rattle.record_writer.specs.CleanRecord.{CleanRecord};
 ghost use Rattle.record_writer.specs.Joined.{Parts};
-use crate::record;
-use crate::record::RecordText;
-use cell_decoder::source::Source;
-use model::CheckResult;
 use model::Dialect;
 
 mod check;
-mod plus;
-mod quoted;
+pub mod plus;
+pub mod quoted;
 mod quotes;
 
-// Whether a target quotes every text.
-fn quotes_all(t: Dialect) -> bool
-    ensures { λ r. ⌜ r ≡ quotesAll t ⌝ }
-{
-    match t {
-        Dialect::Csvj => true,
-        Dialect::Tdif => true,
-        Dialect::CsvPlus(_) => false,
-    }
-}
-
-// The record at a place of the buffer, or only measured from there, as `record::put` has it.
-pub fn write_data(
-    d: Dialect,
-    t: Dialect,
-    s: &[u8],
-    starts: &[usize],
-    ends: &[usize],
-    kinds: &[u8],
-    clean: bool,
-    out: &mut [u8],
-    at: usize,
-    write: bool,
-) -> RecordText
-    requires { ⌜ Cells (File d) (now s) (now starts) (now ends) (now kinds) ⌝ }
-    requires { ⌜ (clean ≡ true → CleanIn d (now s) (now starts) (now ends)) ⌝ }
-    requires { ⌜ Room write at (recordText (into t) false (cellsIn (File d) (now s) (now starts) (now ends) (now kinds))) (now out) ⌝ }
-    ensures { λ r. ⌜ WrittenAt write (now (out .entry)) at
-        (recordText (into t) false (cellsIn (File d) (now (s .entry)) (now (starts .entry)) (now (ends .entry)) (now (kinds .entry))))
-        (now (out .exit)) (r .end) ⌝ }
-    ensures { λ r. ⌜ r .carries ≡ uncarriedFrom t 1 (cellsIn (File d) (now (s .entry)) (now (starts .entry)) (now (ends .entry)) (now (kinds .entry))) ⌝ }
-{
-    if clean {
-        if quotes_all(t) {
-            let end = quoted::write_quoted(s, starts, ends, out, at, write);
-            return RecordText {
-                end,
-                carries: CheckResult::Sound,
-            };
-        }
-        if cell_lexer::quote_of(t) == 0x22 {
-            let p = cell_lexer::delimiter_of(t);
-            let end = plus::write_csv_plus(s, starts, ends, p, out, at, write);
-            return RecordText {
-                end,
-                carries: CheckResult::Sound,
-            };
-        }
-    }
-    record::write_record(
-        Source::File(d),
-        t,
-        s,
-        starts,
-        ends,
-        kinds,
-        false,
-        out,
-        at,
-        write,
-    )
-}
-
-// Whether each cell of a record is clean. Where one is not, no cell after it is looked at.
-pub fn is_clean(d: Dialect, s: &[u8], starts: &[usize], ends: &[usize]) -> bool
+// Whether each cell of a record is verbatim. The first that is not ends the loop.
+fn is_clean(d: Dialect, s: &[u8], starts: &[usize], ends: &[usize]) -> bool
     requires { ⌜ Parts (now s) (now starts) (now ends) ⌝ }
     ensures { λ r. ⌜ (r ≡ true → CleanIn d (now (s .entry)) (now (starts .entry)) (now (ends .entry))) ⌝ }
 {
@@ -104,4 +33,15 @@ pub fn is_clean(d: Dialect, s: &[u8], starts: &[usize], ends: &[usize]) -> bool
         n += 1;
     }
     true
+}
+
+// Whether a record of a file is clean: no header, and each cell verbatim.
+pub fn is_clean_record(d: Dialect, s: &[u8], starts: &[usize], ends: &[usize], header: bool) -> bool
+    requires { ⌜ Parts (now s) (now starts) (now ends) ⌝ }
+    ensures { λ r. ⌜ (r ≡ true → CleanRecord (now (s .entry)) (now (starts .entry)) (now (ends .entry)) (File d) header) ⌝ }
+{
+    if header {
+        return false;
+    }
+    is_clean(d, s, starts, ends)
 }

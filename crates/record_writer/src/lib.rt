@@ -6,6 +6,7 @@
 //
 // The definitions are model's specs/rules/Text.antt. A rule that changes there changes a law of proofs/, and no loop.
 pub mod clean;
+pub mod line;
 pub mod quotes;
 pub mod record;
 mod verbatim;

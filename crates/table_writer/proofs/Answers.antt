@@ -20,7 +20,7 @@ use Rattle.model.proofs.Tests.{impossible}
 use Rattle.codes.specs.declared.TextAnswer.{TextAnswer}
 use Rattle.codes.specs.Named.{textAnswer}
 use Rattle.table_writer.specs.TableParts.{isThere}
-use Rattle.table_writer.specs.declared.records.Measurement.the-variants.{Accepted, Refused}
+use Rattle.record_target.specs.declared.Measurement.the-variants.{Accepted, Refused}
 use Rattle.table_writer.specs.Rows.{sumBy, measuredAs}
 use Rattle.table_writer.specs.Answered.{tableWritten, writtenIn, writerIn}
 

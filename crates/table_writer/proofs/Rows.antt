@@ -27,8 +27,8 @@ use Rattle.model.specs.rules.Api.{rowsOf, rowFault, orNext, rowsFrom, rowsFault
 use Rattle.model.proofs.round_trip.TableText.{row-length}
 use Rattle.model.proofs.file_laws.CheckResults.{else-sound, target-sound}
 use Rattle.buffer.specs.Writes.{Room, WrittenAt}
-use Rattle.buffer.proofs.WriteProgress.{Emitting, emitting, room-next, room-rest, put-next, put-whole, same-long, written-first}
-use Rattle.table_writer.specs.declared.records.Measurement.the-variants.{Accepted, Refused}
+use Rattle.buffer.proofs.WriteProgress.{Emitting, emitting, room-next, put-next, put-whole, same-long, written-first}
+use Rattle.record_target.specs.declared.Measurement.the-variants.{Accepted, Refused}
 use Rattle.table_writer.specs.Rows.{headerIf, rowCheck, sumBy, measuredAs}
 
 -- ---- the records that are left
@@ -166,20 +166,6 @@ module _ {t : Dialect} {vs : List Value} {columns records n at size : ℕ} (m : 
       let f : rowsFault (into t) (rowsOf records columns vs) ≡ none = m .faults ∙ ap (rowsFrom (into t) (m .done)) e in
       let g : rowsOf records columns vs ≡ m .done = m .all-rows ∙ ap (λ (l : List (List Value)). m .done ++ l) e ∙ append-nil (m .done) in
       ap (sumBy (into t) (rowsOf records columns vs)) f ∙ ap (λ (l : List (List Value)). Accepted (length (tableText (into t) l))) g ∙ ap Accepted (sym (m .text))
-
--- ---- one record, written
-
--- a text of two parts, in a room that has place for both
-module _ {old : Bytes} {o : ℕ} (a b : Bytes) (h : Room true o (a ++ b) old) where
-  pub room-first : Room true o a old
-  room-first = room-next a b (emitting true h)
-
-  module _ {mid : Bytes} {q : ℕ} (p : WrittenAt true old o a mid q) where
-    pub room-second : Room true q b mid
-    room-second = room-rest (put-next a (emitting true h) p)
-
-    pub put-both : {new : Bytes} {r : ℕ} → WrittenAt true mid q b new r → WrittenAt true old o (a ++ b) new r
-    put-both x = put-whole (put-next b (rw append-nil (put-next a (emitting true h) p)) x)
 
 -- ---- writing
 

@@ -16,8 +16,8 @@ use Rattle.model.specs.rules.Records.{_orElse_, headerFault, targetFault}
 use Rattle.model.specs.rules.Api.{rowsOf, rowsFault}
 use Rattle.cell_decoder.specs.declared.source.Source.the-variants.{Contents}
 use Rattle.cell_decoder.specs.Sources.{cellsIn}
-use Rattle.table_writer.specs.declared.records.Measurement.{Measurement}
-use Rattle.table_writer.specs.declared.records.Measurement.the-variants as sums
+use Rattle.record_target.specs.declared.Measurement.{Measurement}
+use Rattle.record_target.specs.declared.Measurement.the-variants as sums
 
 -- the records of a table: the cells of its lists, so many at a time (§13.1)
 abbrev pub rowsGiven : (content : Bytes) (starts ends kinds : List ℕ) (columns records : ℕ) → List (List Value)

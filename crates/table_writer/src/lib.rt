@@ -15,10 +15,10 @@ ghost use Rattle.cell_decoder.specs.Sources.{Cells};
 ghost use Rattle.table_writer.specs.TableParts.{given};
 ghost use Rattle.table_writer.specs.Rows.{rowsGiven};
 ghost use Rattle.table_writer.specs.Answered.{tableWritten, writerIn};
-use crate::records::Measurement;
 use codes::NamedDialect;
 use codes::TextAnswer;
 use model::Dialect;
+use record_target::Measurement;
 
 pub mod check;
 pub mod content;

@@ -17,9 +17,9 @@ ghost use Rattle.table_writer.specs.Rows.{rowsGiven, headerIf, rowCheck,
 use cell_decoder::source::Source;
 use model::CheckResult;
 use model::Dialect;
-use model::Report;
+use record_target::Measurement;
 use record_target::TargetCheck;
-use record_writer::record;
+use record_writer::line;
 
 // ---- measuring
 
@@ -65,7 +65,7 @@ fn check_record(
             length: 0,
         };
     }
-    record_target::check(
+    record_target::check_target(
         Source::Contents,
         t,
         content,
@@ -73,14 +73,9 @@ fn check_record(
         ends,
         kinds,
         header,
+        false,
         written,
     )
-}
-
-// What the records come to: a text of this length, or the first fault.
-pub enum Measurement {
-    Accepted { length: usize },
-    Refused(Report),
 }
 
 // The records of a table.
@@ -125,39 +120,6 @@ pub fn measure(
 
 // ---- writing
 
-// One record with its ending, at o.
-fn write_record(
-    t: Dialect,
-    content: &[u8],
-    starts: &[usize],
-    ends: &[usize],
-    kinds: &[u8],
-    header: bool,
-    room: &mut [u8],
-    o: usize,
-) -> usize
-    requires { ⌜ Cells Contents (now content) (now starts) (now ends) (now kinds) ⌝ }
-    requires { ⌜ Room true o (recordText (into t) header (cellsIn Contents (now content) (now starts) (now ends) (now kinds)) ++ ending t) (now room) ⌝ }
-    ensures { λ r. ⌜ WrittenAt true (now (room .entry)) o (recordText (into t) header
-        (cellsIn Contents (now (content .entry)) (now (starts .entry)) (now (ends .entry)) (now (kinds .entry))) ++ ending t)
-        (now (room .exit)) r ⌝ }
-{
-    let x = record::write_record(
-        Source::Contents,
-        t,
-        content,
-        starts,
-        ends,
-        kinds,
-        header,
-        room,
-        o,
-        true,
-    );
-    let end = x.end;
-    record::write_ending(t, room, end, true)
-}
-
 // The records of a table, in a room that holds their text.
 pub fn write_records(
     t: Dialect,
@@ -181,13 +143,15 @@ pub fn write_records(
     let mut o = 0;
     while n < records {
         let next = at + columns;
-        o = write_record(
+        o = line::write_line(
+            Source::Contents,
             t,
             content,
             &starts[at..next],
             &ends[at..next],
             &kinds[at..next],
             n == 0,
+            false,
             room,
             o,
         );

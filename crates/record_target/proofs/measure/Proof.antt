@@ -19,16 +19,18 @@ text c =
     let a = c .args in
     recordText (into (a .t)) (a .header) (cellsIn (a .src) (a .s .now) (a .starts .now) (a .ends .now) (a .kinds .now))
 
+write-text-requires : tie.Need-write-text-requires
+write-text-requires c κs =
+    let u = c .before .before .before .before .before in
+    (u .pre .0, (u .pre .1, room-measured _ _ _ (omega arith)))
+
 returns : tie.Need-returns
 returns c =
-    let w = text (c .before .before .before .before .before .before .before) in
+    let u = c .before .before .before .before .before .before .before in
+    let w = text u in
     let from-zero : 0 + length w ≡ length w = omega arith in
-    (place-measured (c .before .write-record .ensures .0) ∙ ap measure from-zero, c .before .write-record .ensures .1)
+    let p = c .before .write-text .ensures in
+    (place-measured (p .0) ∙ ap measure from-zero, p .1)
 
 pub measure-spec : {M : Type 1} → statement M
-measure-spec =
-    tie.close
-    (tie.spec
-    (λ c. search needs)
-    (λ c κs. (c .before .before .before .before .before .pre, room-measured _ _ _ (omega arith)))
-    returns)
+measure-spec = tie.close (tie.spec (λ c. search needs) write-text-requires returns)

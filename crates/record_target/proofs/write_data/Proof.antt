@@ -1,18 +1,13 @@
-use Rattle.record_target.proofs.TextWithEnding.{room-first, room-second, put-both, long-both}
+-- A data record of a file.
+use borrow.Author.Needs.{needs}
+use Rattle.record_writer.specs.CleanRecord.{clean-data}
 use Rattle.record_target.proofs.write_data.Statement.{statement}
 use Rattle.record_target.proofs.write_data.Tie as tie
 
-write-data-requires : tie.Need-write-data-requires
-write-data-requires c κs = let q = c .before .before .before .before .before .before .pre in (q .0, (q .1 .0, room-first _ _ (q .1 .1)))
-
-write-ending-requires : tie.Need-write-ending-requires
-write-ending-requires c κs = room-second _ _ (c .before .before .before .before .before .before .before .before .before .before .pre .1 .1) (c .before .before .before .write-data .ensures .0)
-
-same-length : tie.Need-same-length
-same-length c = long-both _ _ (c .before .before .before .before .before .before .before .before .before .before .before .before .before .pre .1 .1) (c .before .before .before .before .before .before .write-data .ensures .0) (c .before .before .write-ending .ensures)
-
-returns : tie.Need-returns
-returns c = put-both _ _ (c .before .before .before .before .before .before .before .before .before .before .before .before .before .pre .1 .1) (c .before .before .before .before .before .before .write-data .ensures .0) (c .before .before .write-ending .ensures)
+write-line-requires : tie.Need-write-line-requires
+write-line-requires c κs =
+    let u = c .before .before .before .before .before .before in
+    (u .pre .0, (λ e. clean-data (u .pre .1 .0 e), u .pre .1 .1))
 
 pub write-data-spec : {M : Type 1} → statement M
-write-data-spec = tie.close (tie.spec write-data-requires write-ending-requires same-length returns)
+write-data-spec = tie.close (tie.spec write-line-requires (λ c. search needs) λ c. search needs)

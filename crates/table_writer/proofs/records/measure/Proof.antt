@@ -13,7 +13,7 @@ use Rattle.model.specs.rules.Text.{Value, recordText, ending}
 use Rattle.cell_decoder.specs.declared.source.Source.the-variants.{Contents}
 use Rattle.cell_decoder.specs.Sources.{cellsIn}
 use Rattle.cell_decoder.proofs.CellsIn.{cells-length}
-use Rattle.table_writer.specs.declared.records.Measurement.the-variants.{Refused}
+use Rattle.record_target.specs.declared.Measurement.the-variants.{Refused}
 use Rattle.table_writer.specs.Rows.{rowCheck}
 use Rattle.table_writer.proofs.Parts.{part-cells, part-stands}
 use Rattle.table_writer.proofs.Rows.{rowAt, row-inside, Measuring, measuring, measured-fault, measured-next, measured-all}

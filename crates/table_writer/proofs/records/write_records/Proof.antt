@@ -10,6 +10,7 @@ use lib.Dec.{eqb}
 use Rattle.model.specs.rules.Dialect.{into}
 use Rattle.model.specs.rules.Text.{Value, recordText, ending}
 use Rattle.model.specs.rules.Api.{slice}
+use Rattle.model.proofs.Tests.{impossible}
 use Rattle.buffer.proofs.WriteProgress.{room-as, emitted-as}
 use Rattle.cell_decoder.specs.declared.source.Source.the-variants.{Contents}
 use Rattle.cell_decoder.specs.Sources.{cellsIn}
@@ -57,20 +58,20 @@ loop-holds c =
     let s = c .before .before .before .before .before in
     writing-rows (count s ∙ s .pre .1 .0) (s .pre .1 .1)
 
-write-record-requires : tie.Need-write-record-requires Inv-loop μ-loop
-write-record-requires c κs =
+write-line-requires : tie.Need-write-line-requires Inv-loop μ-loop
+write-line-requires c κs =
     let in-loop = c .before .before .before .before in
     let s = in-loop .before .before .before .before .before .before .before in
     let a = s .args in
-    let l = in-loop .before .loop in (
-      part-stands Contents (a .content .now) (a .starts .now) (a .ends .now) (a .kinds .now) (l .at) (a .columns) (s .pre .0) (inside in-loop),
-      room-as (row-text in-loop) (row-room (l .inv) (in-loop .loop-test .taken)),
-    )
+    let l = in-loop .before .loop in
+    let cells = part-stands Contents (a .content .now) (a .starts .now) (a .ends .now) (a .kinds .now) (l .at) (a .columns) (s .pre .0) (inside in-loop) in
+    let room = room-as (row-text in-loop) (row-room (l .inv) (in-loop .loop-test .taken)) in
+    (cells, (λ e. impossible e, room))
 
 loop-again : tie.Need-loop-again Inv-loop μ-loop
 loop-again c =
     let in-loop = c .before .before .before .before .before .before .before in
-    row-written (in-loop .before .loop .inv) (in-loop .loop-test .taken) (emitted-as (sym (row-text in-loop)) (c .before .before .write-record .ensures))
+    row-written (in-loop .before .loop .inv) (in-loop .loop-test .taken) (emitted-as (sym (row-text in-loop)) (c .before .before .write-line .ensures))
 
 pub write-records-spec : {M : Type 1} → statement M
 write-records-spec =
@@ -91,7 +92,7 @@ write-records-spec =
     (λ c. omega arith)
     (λ c. omega arith)
     (λ c. inside-kinds (c .before .before))
-    write-record-requires
+    write-line-requires
     (λ c. omega arith)
     (λ c. omega arith)
     loop-again
