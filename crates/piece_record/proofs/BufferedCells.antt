@@ -1,4 +1,4 @@
--- The cells that stand in buffered bytes one after another: what is asked of them, and that they may be spelt.
+-- Cells that lie in buffered bytes one after another: the checks before writing, and that cells that pass them can be written.
 use Prim.Native.Nat.{ℕ, zero, suc, _+_, _-_, _≤_, _<_}
 use native.Mathlib.Omega.{arith}
 use mathlib.Core.Path.{_≡_, refl, sym, ap, ap₂, _∙_}
@@ -75,7 +75,7 @@ unfolding startsBy
 starts-by at [] = refl
 starts-by at (e ∷ es) = ap (λ (l : List ℕ). at ∷ l) (starts-by e es)
 
--- ---- what spelling and checks ask of them
+-- ---- what writing and the checks require
 
 slice-short : (s : Bytes) (i j : ℕ) → length s ≤ MAXRECORD → length (slice s i j) ≤ MAXRECORD
 slice-short s i j h = omega (arith, length-take (j - i) (drop i s), length-drop i s)
@@ -108,7 +108,7 @@ unfolding endOf
 end-from at upto [] (order-end h) = omega arith
 end-from at upto (e ∷ es) (order-next h hs) = let k = end-from e upto es hs in omega arith
 
--- ---- bytes asked one after another
+-- ---- bytes tested in order
 
 pub no-ed-next : (s : Bytes) (i : ℕ) → ((j : ℕ) → j < i → getD s j 0 ≡ 0xED → ⊥) → (getD s i 0 ≡ 0xED → ⊥) → (j : ℕ) → j < i + 1 → getD s j 0 ≡ 0xED → ⊥
 no-ed-next s i h n j l e =
@@ -139,7 +139,7 @@ not-followed s i f l e n h =
     let w : EdFollows s (i - 1) = h (i - 1) (omega arith) e in
     n (rw on at (w .least)) (rw on at (w .most))
 
--- ---- a span of bytes that may be spelt may be
+-- ---- a span of bytes that can be written can be
 
 slice-followed : (s : Bytes) (n i j : ℕ) → j ≤ n → EdFollowed (take n s) → EdFollowed (slice s i j)
 slice-followed s n i j below h k l e =
@@ -183,7 +183,7 @@ whole-room w h = record { measured = λ e. impossible (sym e); inside = λ _. h 
 
 -- ---- the lists that the code makes
 
--- what stands at the beginning of an array
+-- the beginning of an array
 take-over : (n : ℕ) (new old : List ℕ) → length new ≡ n → take n (over new old) ≡ new
 take-over n new old e = take-at new (drop (length new) old) n e
 

@@ -1,8 +1,9 @@
-// A complete record, from the buffered bytes of its cells: checked, and written if it is sound and there is room.
+// A complete record. In: the buffered bytes of its cells with their ends, and the place of the record in its file. Out: its text in the
+// buffer, if it has no fault and there is room, or the fault. specs/Completion.antt is the definition.
 //
-// Cells that calls buffered can be written and have room, as the laws of piece_step and piece_run show. A record may also be of a state that no
-// calls made, and its cells any bytes: they are checked for what writing needs (cell_decoder's specs/Followed.antt), so that the call stays in
-// bounds, and a record that fails is dropped.
+// A state that calls made has only cells that can be written and room for them (piece_step, piece_run). A state from elsewhere may hold any
+// bytes: they are checked for what writing requires (cell_decoder's specs/Followed.antt), so that the call stays in bounds, and a record
+// that fails this check is dropped.
 ghost use mathlib.Core.Path.{_≡_};
 ghost use mathlib.Core.Bool.{true, false};
 ghost use Prim.Native.Nat.{_≤_};
@@ -21,16 +22,16 @@ use model::Fault;
 use piece_state::cells;
 use piece_state::place::Place;
 
-// What becomes of a complete record.
+// The result for a complete record.
 pub enum RecordResult {
-    // It is written, up to this place.
+    // It is written, and ends at this place.
     Written(usize),
     Refused(Fault),
-    // Its cells can't be spelt, or its text has no room: no calls made this state.
+    // Its cells can't be written, or its text has no room: no calls made this state.
     Invalid,
 }
 
-// A record whose cells may be spelt.
+// A record whose cells can be written: checked, then written if there is room.
 fn finish(
     d: Dialect,
     t: Dialect,
@@ -83,10 +84,10 @@ fn finish(
     }
 }
 
-// ---- bytes that no calls kept
+// ---- bytes that no calls buffered
 
-// Whether ED hex stands among these bytes. All are asked, with no way out before the last: so the machine asks sixteen at once, and a
-// record in which none stands, as nearly all are, costs next to nothing.
+// Whether one of these bytes is ED hex. All are tested, with no early return: so the loop is widened to sixteen bytes at once, and a record
+// without ED, as nearly all are, costs next to nothing.
 fn holds_ed(s: &[u8]) -> bool
     ensures { λ r. ⌜ (r ≡ false → HoldsNoEd (now (s .entry))) ⌝ }
 {
@@ -101,7 +102,7 @@ fn holds_ed(s: &[u8]) -> bool
     found
 }
 
-// Whether a byte from 80 to 9F hex stands behind each ED.
+// Whether a byte from 80 to 9F hex follows each ED.
 fn is_ed_followed(s: &[u8]) -> bool
     ensures { λ r. ⌜ (r ≡ true → EdFollowed (now (s .entry))) ⌝ }
     ensures { λ r. ⌜ (EdFollowed (now (s .entry)) → r ≡ true) ⌝ }
@@ -132,7 +133,7 @@ fn last_end(ends: &[usize]) -> usize
     ends[n - 1]
 }
 
-// Whether the cells of a record may be spelt.
+// Whether the cells of a record can be written.
 fn may_be_written(bytes: &[u8], ends: &[usize]) -> bool
     requires { ⌜ InOrder 0 (now ends) (length (now bytes)) ⌝ }
     ensures { λ r. ⌜ (r ≡ true → EdFollowed (take (endOf 0 (now (ends .entry))) (now (bytes .entry)))) ⌝ }
@@ -145,7 +146,7 @@ fn may_be_written(bytes: &[u8], ends: &[usize]) -> bool
     true
 }
 
-// A record whose cells stand in the buffered bytes, with their starts.
+// A record whose cells lie in the buffered bytes, with their starts.
 fn complete_spans(
     d: Dialect,
     t: Dialect,
@@ -171,7 +172,7 @@ fn complete_spans(
     finish(d, t, bytes, starts, ends, &kinds[..n], p, out, o)
 }
 
-// A record whose cells stand in the buffered bytes one after the other, with these ends.
+// A record whose cells lie in the buffered bytes one after the other, with these ends.
 pub fn complete(
     d: Dialect,
     t: Dialect,

@@ -1,5 +1,4 @@
--- What the decoder answers where the room is as long as the raw cell: no refusal, since content is no longer than the cell.
--- Assumes nothing.
+-- The decoder refuses nothing where the room is as long as the raw cell, since content is no longer than the cell.
 use mathlib.Core.Path.{_≡_, sym, ap, _∙_}
 use Prim.Native.Nat.{ℕ, _≤_}
 use native.Mathlib.Omega.{arith}

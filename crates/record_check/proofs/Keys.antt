@@ -1,5 +1,4 @@
--- Keys of names by their bytes, and two keys by what stands at a place.
--- Assumes nothing.
+-- A key is the name with each byte folded, so two keys can be compared byte by byte.
 use mathlib.Core.Path.{_≡_, refl, sym, ap, _∙_}
 use mathlib.Core.Bool.{Bool, true, false, _&&_, and-false}
 use mathlib.Core.List.{List, [], _∷_, map}

@@ -1,5 +1,4 @@
--- Checks of a record, by what their tests say; those that go from cell to cell, by what is said of the cell at a place.
--- Assumes nothing.
+-- The checks of a record by the outcomes of their tests; a check of all cells is unrolled at the cell at one place.
 use mathlib.Core.Path.{_≡_, refl, sym, ap}
 use mathlib.Core.Bool.{true, false, not}
 use mathlib.Core.List.{List, [], _∷_}
@@ -56,7 +55,7 @@ module _ (kinds : List ℕ) where
       unfolding notTextFrom when _orElse_
       not-text-next e = rw (drop-next kinds n (n + 1) h refl, e) (ap (λ (k : ℕ). notTextFrom k (drop (n + 1) kinds)) (sym (add-one (n + 1))))
 
--- they are those of the cells
+-- the check of the kinds' numbers is that of the cells
 pub not-text-cells : (n : ℕ) (src : Source) (s : Bytes) (starts ends kinds : List ℕ) → length starts ≡ length ends → length starts ≡ length kinds
     → notTextFrom n kinds ≡ headerKindFrom n (cellsIn src s starts ends kinds)
 unfolding notTextFrom headerKindFrom cellsIn

@@ -1,5 +1,4 @@
--- Whether a name repeats an earlier one, from cell to cell, by what is said of the cell at a place.
--- Assumes nothing.
+-- The search for a repeated name, unrolled at the cell at one place.
 use mathlib.Core.Path.{_≡_, refl, sym, ap}
 use mathlib.Core.Bool.{true, false}
 use mathlib.Core.List.{List, _∷_}

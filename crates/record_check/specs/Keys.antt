@@ -1,4 +1,4 @@
--- Names as they are compared, by the rule of a dialect that need not be the one in which they are spelt.
+-- Names as they are compared (§6.6), by the rule of a dialect that need not be the one in which they are encoded.
 use Prim.Native.Nat.{ℕ, zero, suc, _<_, _≤_}
 use mathlib.Core.Path.{_≡_}
 use mathlib.Core.List.{List, [], _∷_}
@@ -18,13 +18,13 @@ use Rattle.cell_decoder.specs.Sources.{contentBy}
 use Rattle.record_check.specs.declared.names.Repeat.{Repeat}
 use Rattle.record_check.specs.declared.names.Repeat.the-variants.{NoRepeat, AtColumn}
 
--- a byte of a name as names are compared
+-- a byte of a name as names are compared: in TDIF upper case equals lower case (§4.10)
 abbrev pub folded : (rule : Dialect) → ℕ → ℕ
 folded Csvj b = b
 folded Tdif b = lower b
 folded (CsvPlus s) b = b
 
--- how long the bytes of a name may be: in a file as long as a record
+-- how long the bytes of a name may be: in a file no longer than a record, as contents of any length
 pub data Short : Source → ℕ → Type 0 where
   in-file : {d : Dialect} {n : ℕ} → n ≤ MAXRECORD → Short (File d) n
   as-content : {n : ℕ} → Short Contents n
@@ -40,7 +40,7 @@ pub record NamesIn (src : Source) (s : Bytes) (starts ends : List ℕ) : Type 0 
   pub paired : length starts ≡ length ends
   pub each : (k : ℕ) → k < length starts → NameIn src s (getD starts k 0) (getD ends k 0)
 
--- the key, by a rule, of the cell that stands in s from `from` up to `upto`
+-- the key, by a rule, of the cell that lies in s from `from` up to `upto` (§6.6)
 abbrev pub keyAt : Source → (rule : Dialect) → (s : Bytes) → (from upto : ℕ) → Bytes
 keyAt src rule s i j = nameKey rule (contentBy src (slice s i j))
 
@@ -49,7 +49,7 @@ unfoldable pub keysBefore : Source → (rule : Dialect) → (s : Bytes) → (sta
 keysBefore src rule s starts ends zero = []
 keysBefore src rule s starts ends (suc n) = keyAt src rule s (getD starts n 0) (getD ends n 0) ∷ keysBefore src rule s starts ends n
 
--- a repeated name as the fault that it is
+-- the check result for a repeated name, with the caller's fault
 abbrev pub repeatedAs : (ℕ → Fault) → Repeat → CheckResult
 repeatedAs fault NoRepeat = Sound
 repeatedAs fault (AtColumn n) = Faulty (fault n)

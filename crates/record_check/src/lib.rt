@@ -1,9 +1,9 @@
-// The checks of a complete record, in the rules' order (§7.8): columns, then for a header kinds and repeated names (names.rt), for a data
-// record the count of its cells. A header comes as the spans and the kinds of its cells, which may be raw in a file or contents, a data
-// record as its count; the first fault comes out, or none.
+// The source's checks of a complete record, in the rules' order (§7.8): columns, then for a header kinds and repeated names (names.rt), for
+// a data record the number of its cells. In: the spans and kinds of the cells, raw bytes of a file or contents. Out: the first fault, or
+// none.
 //
-// The definitions are `headerFault` and `dataFault` of model's specs/rules/Records.antt, over the cells that stand in the lists (cell_decoder's
-// specs/Sources.antt).
+// The definitions are `headerFault` and `dataFault` of model's specs/rules/Records.antt, over the cells of the lists (cell_decoder's
+// specs/Sources.antt). A check that changes there changes its function here and its law in proofs/Records.antt.
 ghost use mathlib.Core.Path.{_≡_};
 ghost use mathlib.Core.List.{List};
 ghost use lib.ListN.{length};
@@ -24,7 +24,7 @@ pub mod names;
 
 // ---- headers
 
-// The first cell that is not text, by the numbers of their kinds.
+// The first cell that is not text (§6.7).
 fn first_not_text(kinds: &[u8]) -> CheckResult
     ensures { λ r. ⌜ r ≡ notTextFrom 1 (now (kinds .entry)) ⌝ }
 {
@@ -39,7 +39,7 @@ fn first_not_text(kinds: &[u8]) -> CheckResult
     CheckResult::Sound
 }
 
-// A header whose cells stand in these lists, by a dialect's rule for names.
+// The checks of a header, with names compared by the rule of a dialect.
 pub fn header(
     src: Source,
     rule: Dialect,
@@ -65,7 +65,8 @@ pub fn header(
 
 // ---- data records
 
-// A data record of so many cells, under a header of so many columns.
+// The checks of a data record with this number of cells, under a header of `columns` columns. Only the number counts, so a caller need not
+// have the cells in lists.
 pub fn data(columns: usize, cells: usize) -> CheckResult
     ensures { λ r. ⌜ ((vs : List Value) → length vs ≡ cells → r ≡ dataFault columns vs) ⌝ }
 {

@@ -1,10 +1,10 @@
 // Names of a header: the first that repeats an earlier one, by the rule of any dialect.
 //
-// Names are compared by their keys (§6.6): content, folded on the way as the rule asks. A name of a file is decoded into a room, each time
-// anew: at most 64 passes over a header of at most 4,096 bytes, and no room for all names at once. A name that is given as content is
-// compared where it lies, however long.
+// Names are compared by their keys (§6.6): their content, with case folded as the rule requires. A name in a file is decoded into a room
+// each time it is compared: at most 64 passes over a header of at most 4,096 bytes, and no room for all names at once. A name given as
+// content is compared where it lies, however long.
 //
-// The definitions are those of specs/Keys.antt: another rule for upper and lower case changes `fold_byte`, with what is said of a key in
+// The definitions are those of specs/Keys.antt. Another rule for upper and lower case changes `fold_byte` and the laws of a key in
 // proofs/Keys.antt, and no other function.
 ghost use mathlib.Core.Path.{_≡_};
 ghost use mathlib.Core.List.{List};
@@ -39,7 +39,7 @@ fn lower_case(b: u8) -> u8
     b + 0x20
 }
 
-// A byte of a name as a dialect's rule takes upper and lower case.
+// A byte of a name with case folded by a dialect's rule.
 fn fold_byte(rule: Dialect, b: u8) -> u8
     ensures { λ r. ⌜ r ≡ folded rule b ⌝ }
 {
@@ -158,8 +158,8 @@ pub enum Repeat {
     AtColumn(usize),
 }
 
-// The first name that repeats an earlier one by this rule, which need not be that of the dialect in which the names are spelt. The
-// fault is the caller's: 6 by the rule of the source, 9 by that of the target (§6.6 §8.4).
+// The first name that repeats an earlier one by this rule, which need not be that of the dialect in which the names are encoded. The
+// caller chooses the fault: 6 by the rule of the source, 9 by that of the target (§6.6 §8.4).
 pub fn first_repeat(
     src: Source,
     rule: Dialect,

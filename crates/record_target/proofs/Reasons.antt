@@ -1,5 +1,4 @@
--- Fault 9 by what its tests say, in the definition's order.
--- Assumes nothing.
+-- Fault 9 by the outcomes of its tests, in the definition's order.
 use mathlib.Core.Path.{_≡_, refl, sym, ap, _∙_}
 use mathlib.Core.Bool.{Bool, true, false, not, _&&_}
 use mathlib.Core.List.{List, [], _∷_, _++_}

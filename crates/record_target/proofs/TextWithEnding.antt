@@ -1,4 +1,4 @@
--- Two texts that are put one after the other, as a record and its ending are.
+-- Two texts written one after the other, as a record's text and its ending are, are their concatenation written at once.
 use Prim.Native.Nat.{ℕ}
 use mathlib.Core.Path.{_≡_, sym, subst}
 use mathlib.Core.Bool.{true}

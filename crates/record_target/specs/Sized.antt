@@ -1,4 +1,4 @@
--- What a target says of the length of a record's text.
+-- A target's check of the length of a record's text.
 use Prim.Native.Nat.{ℕ, _+_}
 use mathlib.Core.Path.{_≡_}
 use mathlib.Core.List.{_++_}
@@ -19,7 +19,7 @@ lengthFault t written text =
     when (ltb MAXRECORD (length text)) TextTooLong
     orElse when (ltb MAXFILE (written + length (text ++ ending t))) OutputTooLong
 
--- the verdict on a text's length; where there is no fault, how long the text is with its ending
+-- the check result for a text's length; without a fault, `size` is the length of the text with its ending
 pub record Sized (t : Dialect) (written : ℕ) (text : Bytes) (verdict : CheckResult) (size : ℕ) : Type 0 where
   pub says : verdict ≡ lengthFault t written text
   pub long : verdict ≡ Sound → size ≡ length (text ++ ending t)

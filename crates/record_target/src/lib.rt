@@ -1,7 +1,9 @@
-// What a target asks of a complete record, fault 9 reason by reason (§8.1): a header with cells, cells that it can carry, names that differ
-// by its rule, and a text within the limits. The record's text is measured, and nothing is written.
+// The target's checks of a complete record, the reasons of fault 9 in order (§8.1): a header has cells, the target can represent each cell,
+// names differ by its rule, and the text is within the limits. In: the spans and kinds of the cells. Out: the first fault, or the length of
+// the record's text, which is measured and not written.
 //
-// The definition is `targetFault` of model's specs/rules/Records.antt, over the cells that stand in the lists (cell_decoder's specs/Sources.antt).
+// The definition is `targetFault` of model's specs/rules/Records.antt, over the cells of the lists (cell_decoder's specs/Sources.antt). A
+// reason that changes there changes its function here and its law in proofs/Reasons.antt.
 ghost use mathlib.Core.Path.{_≡_};
 ghost use mathlib.Core.Bool.{not, _&&_};
 ghost use mathlib.Core.List.{List, _++_};
@@ -132,7 +134,7 @@ fn name_clash(
 
 // ---- lengths
 
-// How long a text of this length is with its ending.
+// The length with the record's ending of a text of length `end`.
 fn with_ending(t: Dialect, end: usize) -> usize
     requires { ⌜ end ≤ MAXRECORD ⌝ }
     ensures { λ r. ⌜ r ≡ end + length (ending t) ⌝ }
@@ -141,7 +143,7 @@ fn with_ending(t: Dialect, end: usize) -> usize
     record::write_ending(t, &mut nothing, end, false)
 }
 
-// A text of this length, measured without its ending, after so many bytes of output.
+// The checks of a text's length, measured without its ending, after `written` bytes of output.
 fn check_size(t: Dialect, end: usize, written: usize) -> TargetCheck
     requires { ⌜ written ≤ MAXFILE ⌝ }
     ensures { λ r. ⌜ ((text : Bytes) → end ≡ measure (length text) → Sized t written text (r .verdict) (r .length)) ⌝ }

@@ -1,5 +1,4 @@
--- The text of a clean cell in a target, from its raw bytes; and every target carries it.
--- Assumes nothing.
+-- The text of a verbatim cell in a target, from its raw bytes; and every target can represent it.
 use mathlib.Core.Path.{_≡_, refl, sym, ap, _∙_}
 use mathlib.Core.Bool.{Bool, true, false, _&&_, _||_, or-false}
 use mathlib.Core.List.{_++_}

@@ -1,5 +1,4 @@
--- A cell whose bytes are clean between its quotation marks, or without them where its dialect has such texts, is clean.
--- Assumes nothing.
+-- A cell whose bytes are ordinary between its quotation marks, or without them where its dialect has such texts, is verbatim.
 use Prim.Native.Nat.{ℕ, _+_, _-_, _≤_, _<_}
 use native.Mathlib.Nat.{le-refl}
 use native.Mathlib.Omega.{arith}

@@ -1,5 +1,5 @@
--- The laws of records of verbatim cells (Records.antt), for a record of any source that is flagged `clean`: it can only be a data record of a
--- file.
+-- The laws of records of verbatim cells (Records.antt), for a record of any source that is flagged `clean`: it can only be a data record
+-- of a file.
 use mathlib.Core.Path.{_≡_, sym}
 use mathlib.Core.Bool.{Bool, true, false}
 use mathlib.Core.List.{List}

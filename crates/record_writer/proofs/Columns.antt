@@ -1,5 +1,4 @@
--- A record, from place n on: the text of its cells, and what the target says of them, by the cell at n.
--- Assumes nothing.
+-- The text of a record from place n on, and the target's check of its cells, unrolled at the cell at n.
 use mathlib.Core.Path.{_≡_, refl, sym, ap, _∙_}
 use mathlib.Core.Bool.{Bool, true, false}
 use mathlib.Core.List.{List, [], _∷_, _++_, append-nil}
@@ -31,7 +30,7 @@ use Rattle.record_writer.specs.Columns.{beforeCell, isFirst, columnText,
 
 -- ---- one cell
 
--- what stands before a cell that is not the first
+-- a delimiter is before a cell that is not the first
 pub before-later : (t : Dialect) (n : ℕ) → (n ≡ 0 → ⊥) → beforeCell t n ≡ delimiterOf t ∷ []
 before-later t zero h = absurd (h refl)
 before-later t (suc n) h = refl
@@ -40,11 +39,11 @@ pub later-first : (n : ℕ) (header : Bool) → (n ≡ 0 → ⊥) → isFirst n 
 later-first zero header h = absurd (h refl)
 later-first (suc n) header h = refl
 
--- nothing stands before the first
+-- nothing is before the first
 pub first-written : (write : Bool) (t : Dialect) (n : ℕ) {o : ℕ} {out : Bytes} → n ≡ 0 → Room write o (beforeCell t n) out → WrittenAt write out o (beforeCell t n) out o
 first-written write t n e p = rw e (put-whole (emitting write (rw e at p)))
 
--- a cell's text does not depend on where it stands
+-- a cell's text does not depend on its place
 pub cell-anywhere : (t : Dialect) (only first : Bool) (v w : Value) → v .kind ≡ w .kind → v .content ≡ w .content
     → cellText t only first v ≡ cellText t only first w
 unfolding cellText
@@ -76,7 +75,7 @@ module _ (t : Dialect) (n : ℕ) (k : Kind) (content : Bytes) where
         unfolding when _orElse_
         cell-sound l = rw (h, j, e, l)
 
--- CSVJ carries every cell
+-- CSVJ can represent every cell
 pub csvj-carries : (t : Dialect) (n : ℕ) (k : Kind) (content : Bytes) → isCsvj t ≡ true → uncarriedCell t n k content ≡ Sound
 csvj-carries Csvj n k content j = cell-in-csvj Csvj n k content refl j
 csvj-carries Tdif n k content j = impossible j
@@ -89,13 +88,13 @@ unfolding _orElse_
 orElse-sound Sound = refl
 orElse-sound (Faulty e) = refl
 
--- ---- what is said so far
+-- ---- the check result so far
 
 pub said-nothing : (column : ℕ) (lone : Bool) → column ≡ 0 → checkOf column lone ≡ Sound
 said-nothing zero lone e = refl
 said-nothing (suc n) lone e = absurd (omega arith)
 
--- then the cell is told
+-- then the cell is the first fault
 pub said-then : (column : ℕ) (lone : Bool) (v : CheckResult) → column ≡ 0 → checkOf column lone orElse v ≡ v
 unfolding _orElse_
 said-then zero lone v e = refl
@@ -151,11 +150,11 @@ alone zero m only vs h l o =
 alone (suc n) m only vs h l o = o ∙ ne-eqb m 1 (λ e. omega arith)
 
 module _ (src : Source) (t : Dialect) (s : Bytes) (starts ends kinds : List ℕ) (header : Bool) where
-  -- the text that is still to come
+  -- the text that is still to be written
   abbrev pub textAt : ℕ → Bytes
   textAt n = textFrom t header n (cellsFrom src s starts ends kinds n)
 
-  -- what the target says of them
+  -- the target's check of them
   abbrev pub uncarriedAt : ℕ → CheckResult
   uncarriedAt n = uncarriedFrom t (n + 1) (cellsFrom src s starts ends kinds n)
 
@@ -186,7 +185,7 @@ module _ (src : Source) (t : Dialect) (s : Bytes) (starts ends kinds : List ℕ)
           (sym (else-assoc _ _ _)
           ∙ ap (λ (m : ℕ). uncarriedCell t (n + 1) (v .kind) (v .content) orElse uncarriedFrom t m (cellsFrom src s starts ends kinds (n + 1))) (sym (add-one (n + 1))))
 
-      -- the verdict so far, and then that of the cell at n
+      -- the check result so far, or else that of the cell at n
       pub says-next : (all carries v r : CheckResult) (kind : Kind) → kind ≡ cellAt src s starts ends kinds n .kind → v ≡ uncarriedCell t (n + 1) kind (cellAt src s starts ends kinds n .content)
           → r ≡ carries orElse v → all ≡ carries orElse uncarriedAt n → all ≡ r orElse uncarriedAt (n + 1)
       says-next all carries v r kind same here joined before =
@@ -195,12 +194,12 @@ module _ (src : Source) (t : Dialect) (s : Bytes) (starts ends kinds : List ℕ)
           before ∙ ap (λ (x : CheckResult). carries orElse x) uncarried-next ∙ sym (else-assoc carries _ (uncarriedAt (n + 1)))
           ∙ ap (λ (x : CheckResult). (carries orElse x) orElse uncarriedAt (n + 1)) (sym told) ∙ ap (λ (x : CheckResult). x orElse uncarriedAt (n + 1)) (sym joined)
 
--- the last part goes out
+-- the last part is written
 pub written-last : {write : Bool} {old : Bytes} {at : ℕ} {whole out : Bytes} {o : ℕ} {v new : Bytes} {r : ℕ}
     → Emitting write old at whole out o v → WrittenAt write out o v new r → WrittenAt write old at whole new r
 written-last {write} {old} {at} {whole} {out} {o} {v} p q = let all : Emitting write old at whole out o (v ++ []) = rw append-nil p in put-whole (put-next v all q)
 
--- the first n cells are put, and the verdict of them all is that of these and then of the rest
+-- the first n cells are written, and the check result for all is that for these or else for the rest
 pub record WrittenUpTo (src : Source) (t : Dialect) (s : Bytes) (starts ends kinds : List ℕ) (header : Bool) (old : Bytes) (at : ℕ) (write : Bool) (out : Bytes) (n o : ℕ) (carries : CheckResult) : Type 0 where
   pub going : Emitting write old at (recordText (into t) header (cellsIn src s starts ends kinds)) out o (textAt src t s starts ends kinds header n)
   pub says : uncarriedFrom t 1 (cellsIn src s starts ends kinds) ≡ carries orElse uncarriedAt src t s starts ends kinds header n

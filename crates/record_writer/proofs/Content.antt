@@ -1,5 +1,4 @@
--- Clean bytes: each stands for itself between quotation marks, in every dialect; and what is known of a clean cell.
--- Assumes nothing.
+-- Ordinary bytes stand for themselves between quotation marks in every dialect; what follows for a verbatim cell.
 use mathlib.Core.Path.{_≡_, refl, sym, ap, _∙_}
 use mathlib.Core.Bool.{true, false, not, _&&_, or-false}
 use mathlib.Core.List.{[], _∷_, _++_, append-nil}
@@ -154,7 +153,7 @@ quoted-inside : (bs : Bytes) → insideOf (QUOTE ∷ (bs ++ QUOTE ∷ [])) ≡ b
 unfolding insideOf
 quoted-inside bs = take-at bs (QUOTE ∷ []) (length (QUOTE ∷ (bs ++ QUOTE ∷ [])) - 1 - 1) (omega (arith, length-append bs (QUOTE ∷ [])))
 
--- what is known of a clean cell
+-- the kind and the content of a verbatim cell
 pub record Known (d : Dialect) (raw : Bytes) : Type 0 where
   pub inside : Bytes
   pub clean : AllClean inside

@@ -1,5 +1,4 @@
--- Cells one after another, from place n on.
--- Assumes nothing.
+-- Cells written in order, from place n on.
 use mathlib.Core.Path.{_≡_, refl, sym, ap}
 use mathlib.Core.Bool.{Bool}
 use mathlib.Core.List.{List, [], _∷_, _++_}
@@ -22,7 +21,7 @@ before-later p zero h = absurd (h refl)
 before-later p (suc n) h = refl
 
 module _ (p : ℕ) (text : Bytes → Bytes) (s : Bytes) (starts ends : List ℕ) where
-  -- the cell at a place with what stands before it, and what is still to come
+  -- the cell at a place with the delimiter before it, and the text that is still to be written
   abbrev pub columnAt : ℕ → Bytes
   columnAt n = before p n ++ text (slice s (getD starts n 0) (getD ends n 0))
 
@@ -41,9 +40,9 @@ module _ (p : ℕ) (text : Bytes → Bytes) (s : Bytes) (starts ends : List ℕ)
     unfolding joinedFrom
     joined-end h = rw (drop-of-length-le starts h)
 
--- ---- cells that are put one after another
+-- ---- cells written in order
 
--- the first n cells are put
+-- the first n cells are written
 pub record WrittenUpTo (p : ℕ) (text : Bytes → Bytes) (s : Bytes) (starts ends : List ℕ) (write : Bool) (old : Bytes) (at : ℕ) (out : Bytes) (n o : ℕ) : Type 0 where
   pub going : Emitting write old at (joinedFrom p text s 0 starts ends) out o (joinedAt p text s starts ends n)
   pub within : n ≤ length starts
@@ -57,13 +56,13 @@ module _ {p : ℕ} {text : Bytes → Bytes} {s : Bytes} {starts ends : List ℕ}
   cell-next : n < length starts → Emitting write old at (joinedFrom p text s 0 starts ends) out o (columnAt p text s starts ends n ++ joinedAt p text s starts ends (n + 1))
   cell-next h = rw (joined-next p text s starts ends e n h) at (u .going)
 
-  -- there is room for the cell at n, and it goes out
+  -- there is room for the cell at n, and it is written
   pub room-cell : n < length starts → Room write o (columnAt p text s starts ends n) out
   room-cell h = room-next (columnAt p text s starts ends n) (joinedAt p text s starts ends (n + 1)) (cell-next h)
 
   pub put-cell : n < length starts → {new : Bytes} {r : ℕ} → WrittenAt write out o (columnAt p text s starts ends n) new r → WrittenUpTo p text s starts ends write old at new (n + 1) r
   put-cell h q = record { going = put-next (columnAt p text s starts ends n) (cell-next h) q; within = omega arith }
 
-  -- all are put
+  -- all are written
   pub put-all : length starts ≤ n → WrittenAt write old at (joinedFrom p text s 0 starts ends) out o
   put-all h = put-whole (rw (joined-end p text s starts ends e n h) at (u .going))

@@ -1,5 +1,4 @@
 -- Quotation marks: whether a cell has them, and how long it is with them.
--- Assumes nothing.
 use mathlib.Core.Path.{_≡_, refl}
 use mathlib.Core.Bool.{Bool, true, false}
 use mathlib.Core.List.{[], _∷_, _++_}
@@ -42,7 +41,7 @@ length-most raw false e = omega (arith, length-two raw e)
 pub length-cell : (raw : Bytes) → length (quotedCell raw) ≤ length raw + 2
 length-cell raw = length-most raw (begins QUOTE raw) refl
 
--- with what stands before it
+-- with the delimiter before it
 pub length-first : (n : ℕ) (bs : Bytes) → n ≡ 0 → length (before COMMA n ++ bs) ≡ length bs
 length-first zero bs e = refl
 length-first (suc n) bs e = absurd (omega arith)

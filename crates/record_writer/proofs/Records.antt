@@ -1,5 +1,4 @@
--- The text of a record of clean cells is theirs, one after another; and every target carries it.
--- Assumes nothing.
+-- The text of a record of verbatim cells is their texts in order; and every target can represent it.
 use mathlib.Core.Path.{_≡_, refl, sym, ap, ap₂, _∙_}
 use mathlib.Core.Bool.{Bool, true, false}
 use mathlib.Core.List.{List, _++_}
@@ -34,7 +33,7 @@ use Rattle.record_writer.proofs.Joined.{columnAt, joinedAt, joined-next
 
 -- ---- one cell
 
--- a clean cell of a file
+-- a verbatim cell of a file
 record Cell (d : Dialect) (kind : Kind) (raw : Bytes) : Type 0 where
   pub short : length raw ≤ MAXRECORD
   pub content : Known d raw
@@ -96,7 +95,7 @@ module _ (d t : Dialect) (s : Bytes) (starts ends kinds : List ℕ) (cells : Cel
       joined quotedCell (λ n h. quoted-cell (cell-at n h .content) (cell-at n h .is-text) t (eqb (length starts) 1) false q) (length starts) 0 (omega arith)
       ∙ ap (λ (p : ℕ). joinedFrom p quotedCell s 0 starts ends) (comma-of t q)
 
-  -- all are carried from place n on
+  -- the target can represent all cells from place n on
   all-carried : (k n : ℕ) → n + k ≡ length starts → uncarriedAt (File d) t s starts ends kinds false n ≡ Sound
   unfolding _orElse_
   all-carried zero n e = uncarried-end (File d) t s starts ends kinds false (cells .with-ends) (cells .with-kinds) n (omega arith)

@@ -1,5 +1,4 @@
--- A cell whose content is one run: its text between quotation marks is that run, and it holds no lone surrogate.
--- Assumes nothing.
+-- A cell whose content is one run of ordinary bytes: its quoted text is that run between quotation marks, and it holds no lone surrogate.
 use mathlib.Core.Path.{_≡_, refl, sym, ap, _∙_}
 use mathlib.Core.Bool.{Bool, true, false, not}
 use mathlib.Core.List.{[], _∷_, _++_, append-nil}
@@ -115,7 +114,7 @@ bare-content (CsvPlus s) (b ∷ bs) h x e = let other : (b is quoteOf (CsvPlus s
 
 -- ---- a cell that passes
 
--- the content of a cell is the run from i to j, however it is spelt
+-- the content of a cell is the run from i to j, quoted or not
 record Run (d : Dialect) (raw : Bytes) (i j : ℕ) : Type 0 where
   pub c : Spelling
   pub quote : QUOTE ≡ sourceQuote c

@@ -1,4 +1,4 @@
--- The text of a clean cell, from its raw bytes: in quotation marks, or without them where CSV+ has it so.
+-- The text of a verbatim cell, from its raw bytes: in quotation marks, or without them where CSV+ needs none.
 use Prim.Native.Nat.{ℕ, _-_}
 use mathlib.Core.Bool.{Bool, true, false, not, _&&_, _||_}
 use mathlib.Core.List.{[], _∷_, _++_}
@@ -19,7 +19,7 @@ marked quoted bs = quoteIf quoted ++ (bs ++ quoteIf quoted)
 unfoldable pub quotedCell : Bytes → Bytes
 quotedCell raw = marked (not (begins QUOTE raw)) raw
 
--- how many bytes stand before its content, and after it
+-- how many bytes precede its content, and as many follow it
 abbrev pub quotesBy : (quoted : Bool) → ℕ
 quotesBy true = 1
 quotesBy false = 0
@@ -28,7 +28,7 @@ quotesBy false = 0
 unfoldable pub insideOf : Bytes → Bytes
 insideOf raw = slice raw (quotesBy (begins QUOTE raw)) (length raw - quotesBy (begins QUOTE raw))
 
--- whether CSV+ with this delimiter quotes a clean content: it holds the delimiter, or is empty and alone (§14.7)
+-- whether CSV+ with this delimiter quotes a verbatim content: it holds the delimiter, or is empty and the only cell (§14.7)
 abbrev pub needsQuotes : (delimiter : ℕ) (only : Bool) → Bytes → Bool
 needsQuotes p only bs = holds (isByte p) bs || only && isEmpty bs
 

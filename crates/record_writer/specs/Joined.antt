@@ -1,4 +1,4 @@
--- The cells of a record that stand in spans of a file, one after another with a delimiter between each two.
+-- The text of a record whose cells lie in spans of a file: the cells in order, with a delimiter between each two.
 use Prim.Native.Nat.{ℕ, zero, suc, _+_, _≤_, _<_}
 use mathlib.Core.Path.{_≡_}
 use mathlib.Core.Bool.{true}
@@ -8,12 +8,12 @@ use Rattle.model.specs.rules.Base.{Bytes, QUOTE, begins}
 use Rattle.model.specs.rules.Report.{MAXRECORD}
 use Rattle.model.specs.rules.Api.{slice}
 
--- what stands before the cell at place n: a delimiter, but for the first
+-- what is written before the cell at place n: a delimiter, but nothing before the first
 abbrev pub before : (delimiter n : ℕ) → Bytes
 before p zero = []
 before p (suc n) = p ∷ []
 
--- the cells of these spans, of which the first is at place n; `text` is what is put for a cell's raw bytes
+-- the cells of these spans, of which the first is at place n; `text` maps a cell's raw bytes to its text
 unfoldable pub joinedFrom : (delimiter : ℕ) (text : Bytes → Bytes) (s : Bytes) (n : ℕ) (starts ends : List ℕ) → Bytes
 joinedFrom p text s n [] ends = []
 joinedFrom p text s n (i ∷ starts) [] = []

@@ -1,6 +1,6 @@
-// Records of verbatim cells: texts whose content is their raw bytes, without quotation marks or between two. quoted.rt writes such a record
-// into a target that quotes every text, plus.rt into CSV+, and neither looks at a cell byte by byte. Here: whether a record is one, where the
-// scanner has not found it out. The definition is `CleanIn` of cell_fast's specs/Ends.antt.
+// Records of verbatim cells: texts whose content is their raw bytes, without quotation marks or between two. quoted.rt writes such a
+// record into a target that quotes every text, plus.rt into CSV+, and neither looks at a cell byte by byte. Here: whether a record is one,
+// where the scanner has not found it out. The definition is `CleanIn` of cell_fast's specs/Ends.antt.
 ghost use mathlib.Core.Path.{_≡_};
 ghost use mathlib.Core.Bool.{true};
 ghost use Rattle.cell_decoder.specs.declared.source.Source.the-variants.{File};

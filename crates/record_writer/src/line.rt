@@ -1,6 +1,7 @@
-// A record's text in a target, by the fast path for verbatim cells (clean.rt) or else cell by cell (record.rt), and the text with its ending.
-// In: the cells as spans with their kinds, whether the record is a header, and whether its cells are verbatim (`clean`). Out: the text in the
-// buffer, or only its length. The definition is `recordText` of model's specs/rules/Text.antt; specs/CleanRecord.antt says what `clean` means.
+// A record's text in a target, by the fast path for verbatim cells (clean.rt) or else cell by cell (record.rt), and the text with its
+// ending. In: the cells as spans with their kinds, whether the record is a header, and whether its cells are verbatim (`clean`). Out: the
+// text in the buffer, or only its length. The definition is `recordText` of model's specs/rules/Text.antt; specs/CleanRecord.antt says
+// what `clean` means.
 ghost use mathlib.Core.Path.{_≡_};
 ghost use mathlib.Core.Bool.{true};
 ghost use mathlib.Core.List.{_++_};

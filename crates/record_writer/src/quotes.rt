@@ -1,7 +1,7 @@
-// The quotation marks around the content of a cell.
+// The quotation marks around the content of a raw cell. The definition is `Quotes` of specs/Verbatim.antt.
 ghost use Rattle.record_writer.specs.Verbatim.{Quotes};
 
-// How many stand before it, and as many after it: one where the cell begins and ends with one.
+// How many precede it, and as many follow it: one where the cell begins and ends with one.
 pub fn quotes_around(raw: &[u8]) -> usize
     ensures { λ r. ⌜ Quotes (now (raw .entry)) r ⌝ }
 {

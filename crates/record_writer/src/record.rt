@@ -1,4 +1,6 @@
-// The text of a record, whose cells stand in spans of s, and the first cell that the target can't carry.
+// The text of a record cell by cell, and the first cell that the target can't represent. In: the spans of the cells in s, with their kinds.
+// Out: the text in the buffer, or only its length. The definitions are `recordText` of model's specs/rules/Text.antt and `uncarriedFrom` of
+// its specs/rules/Records.antt.
 ghost use mathlib.Core.Path.{_≡_};
 ghost use mathlib.Core.Bool.{true, false};
 ghost use Prim.Native.Nat.{_+_, _<_};
@@ -26,11 +28,11 @@ use model::Kind;
 pub struct RecordText {
     // Where the text ends, without the record's ending.
     pub end: usize,
-    // The first cell that the target can't carry.
+    // The check result for its cells: the first that the target can't represent.
     pub carries: CheckResult,
 }
 
-// ---- what the target carries
+// ---- what the target can represent
 
 fn tdif_has_kind(k: Kind) -> bool
     ensures { λ r. ⌜ r ≡ hasKind Tdif k ⌝ }
@@ -55,14 +57,14 @@ fn has_kind(t: Dialect, k: Kind) -> bool
     }
 }
 
-// What is said of the cells so far: nothing where the column is 0, else of the first that the target can't carry whether it holds a lone
-// surrogate or is of a kind that the target lacks. Two numbers: a verdict in the loop would go through memory.
+// The check result so far: sound where the column is 0, else the first cell that the target can't represent, and whether it holds a lone
+// surrogate or is of a kind that the target lacks. Two numbers, since an enum in the loop would go through memory.
 struct FirstFault {
     column: usize,
     lone: bool,
 }
 
-// The same with the cell in this column, in whose content a lone surrogate was met or not.
+// The same with the cell in this column, in whose content a lone surrogate was found or not.
 fn with_cell(said: FirstFault, t: Dialect, number: u8, lone: bool, column: usize) -> FirstFault
     requires { ⌜ 0 < column ⌝ }
     ensures { λ r. ⌜ ((content : Bytes) → (isText (kindFrom number) ≡ true → isCsvj t ≡ false → lone ≡ holdsLone content)
@@ -124,8 +126,8 @@ fn is_first(n: usize, header: bool) -> bool
     false
 }
 
-// The cell at place n, with a delimiter before it unless it is the first. The one point where a cell passes from reading to writing
-// (`carried` of model's specs/rules/Text.antt): it is written as it was read.
+// The cell at place n, with a delimiter before it unless it is the first. Here a cell passes from reading to writing (`carried` of model's
+// specs/rules/Text.antt): it is written with the kind and content with which it was read.
 fn write_column(
     src: Source,
     t: Dialect,
@@ -162,7 +164,7 @@ fn write_column(
 
 // ---- records
 
-// The record at a place of the buffer, or only measured from there.
+// Writes the record at a place of the buffer, or only measures it from there.
 pub fn write_record(
     src: Source,
     t: Dialect,

@@ -1,6 +1,6 @@
-// Texts that pass into the target byte for byte, as most cells of most files do. One test of their bytes, eight at once, tells them from
-// the others, and they are put without a look at how they are spelt: for short cells that spares a fifth of the instructions of a conversion.
-// Whatever is not of this form goes to `cell`.
+// Texts that are copied into the target byte for byte, as most cells of most files are: one test of their bytes, eight to a step, and no
+// decoding. For short cells this spares a fifth of the instructions of a conversion. Any other cell falls back to cell_writer. The
+// definition of the test is `Looks` of specs/Verbatim.antt.
 ghost use mathlib.Core.Path.{_≡_};
 ghost use mathlib.Core.Bool.{true, false};
 ghost use Prim.Native.Nat.{_≤_};
@@ -24,7 +24,7 @@ use model::Dialect;
 
 // ---- what a source and a target allow
 
-// Whether both have the quotation mark for a quote, and the target quotes every text. It is asked once for a record.
+// Whether both have the quotation mark for a quote, and the target quotes every text. Tested once for a record.
 pub fn is_direct(src: Source, t: Dialect) -> bool
     ensures { λ r. ⌜ (r ≡ true → Direct src t) ⌝ }
 {
@@ -45,15 +45,15 @@ pub fn is_direct(src: Source, t: Dialect) -> bool
 
 // ---- what a cell is
 
-// What of a cell passes.
+// The part of a cell that is copied.
 pub enum Verbatim {
-    // The bytes from here up to there, between two quotes.
+    // The bytes from the first place up to the second, between two quotes.
     Span(usize, usize),
-    // What its spelling says.
+    // The cell must be decoded.
     Fallback,
 }
 
-// Whether all bytes from here up to there stand for themselves, eight to a step.
+// Whether all bytes from `from` up to `upto` are ordinary, eight to a step.
 fn all_plain(raw: &[u8], from: usize, upto: usize) -> bool
     requires { ⌜ (from ≤ upto) × (upto ≤ length (now raw)) ⌝ }
     ensures { λ r. ⌜ (r ≡ true → AllIn plainText (now (raw .entry)) from upto) ⌝ }
@@ -68,7 +68,7 @@ fn all_plain(raw: &[u8], from: usize, upto: usize) -> bool
     swar::unplain_text(swar::last_word(raw, from, upto)) == 0
 }
 
-// The number of its kind is asked as it is: to name the kind first costs two of a hundred instructions.
+// The kind's number is tested as it is: to name the kind first costs 2% of the instructions.
 fn verbatim_span(direct: bool, number: u8, raw: &[u8]) -> Verbatim
     ensures { λ r. ⌜ Looks direct (kindFrom number) (now (raw .entry)) r ⌝ }
 {
@@ -97,7 +97,7 @@ fn write_between_quotes(raw: &[u8], out: &mut [u8], o: usize, write: bool) -> us
     buffer::emit_byte(out, end, 0x22, write)
 }
 
-// A cell at o, or only measured from there, as `cell::put` has it.
+// Writes a cell at o, or only measures it from there, as `cell::write_cell` does.
 pub fn write_verbatim(
     src: Source,
     t: Dialect,

@@ -1,5 +1,4 @@
 -- Answers with a text: a refusal leaves the room as it is, and an answer of a callee is that of its caller where the definitions agree.
--- Assumes nothing.
 use Prim.Native.Nat.{ℕ, _<_, _≤_}
 use native.Mathlib.Omega.{arith}
 use mathlib.Core.Path.{_≡_, refl, sym, ap, _∙_}
@@ -26,7 +25,7 @@ use Rattle.table_writer.specs.Answered.{tableWritten, writtenIn, writerI
 
 -- ---- answers
 
--- an answer and a room are as w says
+-- an answer and a room are those of w
 abbrev pub Answers : (w : Written) (r : TextAnswer) (old new : Bytes) → Type 0
 Answers w r old new = (r ≡ textAnswer w) × (new ≡ over (w .text) old)
 
@@ -52,7 +51,7 @@ long-enough room text h = rw (le-ltb room (length text) h)
 
 -- ---- all records
 
--- the records have no fault, and their text is so long
+-- the records have no fault, and the length of their text is known
 record NoFault (t : Target) (rs : List (List Value)) (k : ℕ) (o : Option Report) : Type 0 where
   pub faultless : o ≡ none
   pub size : k ≡ length (tableText t rs)

@@ -1,5 +1,4 @@
--- Content, a byte at a time: what a byte after ED does, by its range, going on by one byte, and by a run of ASCII.
--- Assumes nothing.
+-- Steps of the automaton for content: a byte after ED by its range, any other byte, and a run of ASCII.
 use Prim.Native.Nat.{ℕ, _+_, _<_, _≤_}
 use native.Mathlib.Omega.{arith}
 use mathlib.Core.Path.{_≡_, refl, sym, ap, _∙_}
@@ -77,7 +76,7 @@ passes-ascii {s} {i} {j} p h b =
           ∙ ap (λ (w : Option Wide). contentFrom w (drop (j + 1) s)) (ascii-step (getD s j 0) b);
     }
 
--- a step, and what passes after it
+-- a step, and the run after it
 pub step-passes : (o : Option Wide) {w : Option Wide} {s : Bytes} {i j : ℕ} → i < length s → w ≡ stepIn o (getD s i 0) → SameContentState w s (i + 1) j → contentFrom o (drop i s) ≡ contentFrom w (drop j s)
 step-passes o {w} {s} {i} {j} h e p =
     ap (contentFrom o) (drop-next s i (i + 1) h refl)

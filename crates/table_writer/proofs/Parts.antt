@@ -1,5 +1,4 @@
--- The cells of a part of the lists are that part of the cells, and stand as they did.
--- Assumes nothing.
+-- The cells of a part of the lists are that part of the cells, and are as valid.
 use Prim.Native.Nat.{ℕ, zero, suc, _+_, _-_, _<_, _≤_}
 use native.Mathlib.Omega.{arith}
 use mathlib.Core.Path.{_≡_, refl, sym, ap, _∙_}

@@ -1,5 +1,4 @@
--- A product told by a quotient, which no number overflows.
--- Assumes nothing.
+-- A product is checked by its quotient, which can't overflow.
 use Prim.Native.Nat.{ℕ, _+_, _*_, _/_, _%_, _<_}
 use native.Mathlib.Nat.{add-zero, div-add-mod, div-eq-of-eq-mul-right, mul-mod-right, zero-mul}
 use mathlib.Core.Path.{_≡_, sym, ap, _∙_}

@@ -1,5 +1,4 @@
--- The records of a table one after another: those that are left after some of them, what is said of the next, and the text of the rest.
--- Assumes nothing.
+-- The records of a table in order: those left after n of them, the check of the next, and the text of the rest.
 use Prim.Native.Nat.{ℕ, suc, _+_, _-_, _*_, _<_, _≤_}
 use native.Mathlib.Omega.{arith}
 use native.Mathlib.Nat.{mul-suc}
@@ -90,7 +89,7 @@ unfolding _orElse_
 row-check t [] r = refl
 row-check t (h ∷ rs) r = refl
 
--- n records are passed without a fault, and their text is so long
+-- n records are checked without a fault, and `size` is the length of their text
 pub record Measuring (t : Dialect) (vs : List Value) (columns records n at size : ℕ) : Type 0 where
   pub stands-at : Lies vs columns records n at
   pub within : size ≤ MAXFILE
@@ -115,7 +114,7 @@ measuring {t} {vs} {columns} {records} e =
 
 module _ {t : Dialect} {vs : List Value} {columns records n at size : ℕ} (m : Measuring t vs columns records n at size) where
   module _ (h : n < records) where
-    -- what is said of the next record, and of those after it
+    -- the check of the next record, and of those after it
     next-fault :
         rowsFault (into t) (rowsOf records columns vs)
         ≡ orNext (suc n) (rowCheck t (eqb n 0) size (rowAt vs columns at)) (rowsFrom (into t) (m .done ++ (rowAt vs columns at ∷ [])) (rowsLeft vs columns records (n + 1) (at + columns)))

@@ -1,6 +1,4 @@
--- The cells and the records of a table, where they are there: each cell is that of its span and its kind, and the records are these
--- cells, so many at a time.
--- Assumes nothing.
+-- The cells and records of valid lists: each cell is that of its span and kind, and the records are these cells, `columns` at a time.
 use Prim.Native.Nat.{ℕ, zero, suc, _+_, _*_, _<_, _≤_}
 use native.Mathlib.Omega.{arith}
 use mathlib.Core.Path.{_≡_, refl, sym, ap, _∙_}
@@ -70,7 +68,7 @@ not-inside bs s e (some k) h l = rw (there-if, le-leb s e h, lt-leb e (length bs
 pub cell-beyond : (bs : Bytes) (s e n : ℕ) → s ≤ e → length bs < e → isThere (tableCell bs s e n) ≡ false
 cell-beyond bs s e n h l = rw (cell-by bs s e n) (not-inside bs s e (kindNamed n) h l)
 
--- a cell that is there
+-- a valid cell
 record There (bs : Bytes) (s e : ℕ) (o : Option Kind) : Type 0 where
   forward : s ≤ e
   within : e ≤ length bs
@@ -126,7 +124,7 @@ cells-end bs ss es ks n p q l =
     let d : drop n ks ≡ [] = drop-of-length-le ks {i = n} (omega arith) in
     rw (a, b, d)
 
--- cells that are there
+-- valid cells
 pub record AllThere (bs : Bytes) (ss es ks : List ℕ) : Type 0 where
   pub cells : Cells Contents bs ss es ks
   pub same : tableCells bs ss es ks ≡ some (cellsIn Contents bs ss es ks)
@@ -164,7 +162,7 @@ and-yes true = refl
 and-yes false = refl
 
 module _ (bs : Bytes) (ss es ks : List ℕ) (columns records : ℕ) where
-  -- with a cell that is not there, there is no table
+  -- with an invalid cell there is no table
   no-rows : (o : Option (List Value)) → isThere o ≡ false → isThere (tableRows columns records o) ≡ false
   no-rows none h = refl
   no-rows (some vs) h = impossible (sym h)
@@ -173,7 +171,7 @@ module _ (bs : Bytes) (ss es ks : List ℕ) (columns records : ℕ) where
   unfolding rowsIn
   missing h = no-rows (tableCells bs ss es ks) h
 
-  -- with all of them, the records are there by their number
+  -- with all cells valid, their number decides whether there are records
   by-number : AllThere bs ss es ks → rowsIn (given bs ss es ks columns records) ≡ (if eqb (length ss) (columns * records) && ltb 0 records then some (rowsOf records columns (cellsIn Contents bs ss es ks)) else none)
   unfolding rowsIn
   by-number a = rw (a .same, cells-length Contents bs ss es ks (a .cells .with-ends) (a .cells .with-kinds))

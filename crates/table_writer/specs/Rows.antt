@@ -1,4 +1,4 @@
--- What is said of the records of a table.
+-- The check result and the measured length for the records of a table.
 use Prim.Native.Nat.{ℕ}
 use mathlib.Core.Bool.{Bool, true, false}
 use mathlib.Core.Option.{Option, none, some}
@@ -19,7 +19,7 @@ use Rattle.cell_decoder.specs.Sources.{cellsIn}
 use Rattle.record_target.specs.declared.Measurement.{Measurement}
 use Rattle.record_target.specs.declared.Measurement.the-variants as sums
 
--- the records of a table: the cells of its lists, so many at a time (§13.1)
+-- the records of a table: the cells of its lists, `columns` at a time (§13.1)
 abbrev pub rowsGiven : (content : Bytes) (starts ends kinds : List ℕ) (columns records : ℕ) → List (List Value)
 rowsGiven content starts ends kinds columns records = rowsOf records columns (cellsIn Contents content starts ends kinds)
 
@@ -28,7 +28,7 @@ abbrev pub headerIf : Dialect → (header : Bool) → List Value → CheckResult
 headerIf t true vs = headerFault t vs
 headerIf t false vs = Sound
 
--- the fault of a record after so many bytes of text: a header's own, and then the target's (§13.11 §13.12)
+-- the fault of a record after `written` bytes of text: a header's own, and then the target's (§13.11 §13.12)
 abbrev pub rowCheck : Dialect → (header : Bool) → (written : ℕ) → List Value → CheckResult
 rowCheck t header written vs = headerIf t header vs orElse targetFault (into t) header written vs
 

@@ -1,4 +1,4 @@
--- A table as its parts are given, and whether something is there.
+-- A table from the lists that the writer is given, and whether an option holds a value.
 use Prim.Native.Nat.{ℕ}
 use mathlib.Core.Bool.{Bool, true, false}
 use mathlib.Core.Option.{Option, none, some}

@@ -1,8 +1,8 @@
-// Whether what the writer is given is a table (12): lists of one length, with a place for each cell of each record, and in each cell's
-// span bytes that a cell of its kind can have. content.rt says which bytes are content.
+// Whether the lists that the writer is given are a table (error 12 otherwise): all of one length, which is columns times records, and in
+// each cell's span bytes that a cell of its kind can have. content.rt decides which bytes are content.
 //
-// The definition is `rowsIn` of model's specs/rules/Api.antt. Where it has records they are the cells of the lists, as decoder's
-// specs/Sources.antt names them, record by record (proofs/Tables.antt).
+// The definition is `rowsIn` of model's specs/rules/Api.antt. Where it has records, they are the cells of the lists (cell_decoder's
+// specs/Sources.antt), record by record: proofs/Tables.antt.
 ghost use mathlib.Core.Path.{_≡_};
 ghost use Prim.Native.Nat.{_*_};
 ghost use lib.Dec.{eqb};
@@ -34,7 +34,7 @@ fn is_number_kind(k: Kind) -> bool
     }
 }
 
-// Whether bytes spell a number.
+// Whether bytes are a number as spelt.
 fn is_number(s: &[u8]) -> bool
     ensures { λ r. ⌜ r ≡ isNumber (kindOf Csvj (now (s .entry))) (validateCell Csvj (now (s .entry))) ⌝ }
 {
@@ -69,7 +69,7 @@ fn is_value(k: Kind, s: &[u8]) -> bool
     }
 }
 
-// Whether a cell of this span and of the kind of this number can be.
+// Whether the cell in this span, of the kind with this number, is valid.
 fn is_cell(content: &[u8], from: usize, upto: usize, kind: u8) -> bool
     ensures { λ r. ⌜ r ≡ isThere (tableCell (now (content .entry)) from upto kind) ⌝ }
 {
@@ -87,7 +87,7 @@ fn is_cell(content: &[u8], from: usize, upto: usize, kind: u8) -> bool
 
 // ---- tables
 
-// Whether each cell of these lists can be.
+// Whether each cell of these lists is valid.
 fn are_cells(content: &[u8], starts: &[usize], ends: &[usize], kinds: &[u8]) -> bool
     requires { ⌜ (length (now starts) ≡ length (now ends)) × (length (now starts) ≡ length (now kinds)) ⌝ }
     ensures { λ r. ⌜ r ≡ isThere (tableCells (now (content .entry)) (now (starts .entry)) (now (ends .entry)) (now (kinds .entry))) ⌝ }
@@ -102,7 +102,7 @@ fn are_cells(content: &[u8], starts: &[usize], ends: &[usize], kinds: &[u8]) -> 
     true
 }
 
-// Whether so many cells are columns times records, which may be more than a number holds.
+// Whether `cells` is columns times records, a product that may overflow.
 fn is_product(cells: usize, columns: usize, records: usize) -> bool
     ensures { λ r. ⌜ r ≡ eqb cells (columns * records) ⌝ }
 {
@@ -115,7 +115,7 @@ fn is_product(cells: usize, columns: usize, records: usize) -> bool
     cells / columns == records
 }
 
-// Whether there are records in what was given. `records` counts the header.
+// Whether the lists are a table. `records` counts the header.
 pub fn is_table(
     content: &[u8],
     starts: &[usize],

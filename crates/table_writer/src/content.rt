@@ -1,5 +1,5 @@
-// Whether bytes have the form of content: UTF-8, widened by lone surrogates (§2.6 §2.9). An automaton, a byte at a time, over the step
-// of UTF-8.
+// Whether bytes are content: UTF-8, widened by lone surrogates (§2.6 §2.9). An automaton over the step of UTF-8, a byte at a time, with
+// runs of ASCII passed over at once. The definition is `Content` of specs/Content.antt; the laws of a step are in proofs/Contents.antt.
 ghost use mathlib.Core.Path.{_≡_};
 ghost use mathlib.Core.Bool.{false};
 ghost use mathlib.Core.List.{[]};
@@ -12,7 +12,7 @@ use model::Advance;
 use model::Char;
 use model::Inner;
 
-// Where content stands. `high`: directly after a high surrogate, or in one.
+// The state. `high`: directly after a high surrogate, or in one.
 pub enum ContentState {
     Gap { high: bool },
     AfterEd { high: bool },
@@ -43,7 +43,7 @@ fn at_gap(high: bool, b: u8) -> ContentState
     after_advance(utf8::char_step(Char::Whole, b))
 }
 
-// Below A0 a character, A0 to AF a high surrogate, B0 to BF a low one, which stands directly after no high one.
+// Below A0 a character, A0 to AF a high surrogate, B0 to BF a low one, which may not follow a high one directly.
 fn after_ed(high: bool, b: u8) -> ContentState
     ensures { λ r. ⌜ wideIn r ≡ wideStep (ed high) b ⌝ }
 {
@@ -110,7 +110,7 @@ fn may_end(p: ContentState) -> bool
 
 // ---- runs of ASCII
 
-// How far ASCII goes from `at`, where content stands between characters.
+// The end of the run of ASCII from `at`, between characters.
 fn ascii_end(s: &[u8], at: usize) -> usize
     requires { ⌜ at ≤ length (now s) ⌝ }
     ensures { λ r. ⌜ SameContentState (some (gap false)) (now (s .entry)) at r ⌝ }
@@ -125,7 +125,7 @@ fn ascii_end(s: &[u8], at: usize) -> usize
     i
 }
 
-// The same from any place. Directly after a high surrogate the next byte goes by a step.
+// The same in any state. Directly after a high surrogate the next byte is taken by a step.
 fn run_on(p: ContentState, s: &[u8], at: usize) -> usize
     requires { ⌜ at ≤ length (now s) ⌝ }
     ensures { λ r. ⌜ SameContentState (wideIn p) (now (s .entry)) at r ⌝ }
@@ -139,7 +139,7 @@ fn run_on(p: ContentState, s: &[u8], at: usize) -> usize
     ascii_end(s, at)
 }
 
-// By runs, and by steps between them: ASCII passes thirty times as fast as by steps.
+// By runs, and by steps between them: ASCII is thirty times as fast as by steps alone.
 pub fn is_content(s: &[u8]) -> bool
     ensures { λ r. ⌜ r ≡ isContent (now (s .entry)) ⌝ }
 {

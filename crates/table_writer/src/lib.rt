@@ -1,7 +1,8 @@
-// The canonical writer: a table of contents to text (§13.1). Whether what it was given is a table is asked first, then every record is
-// validated and measured, and only where the text has room is it written.
+// The canonical writer (§13.1). In: a table as contents, with the spans and kinds of its cells. Out: its text in the room, or a refusal
+// that leaves the room unchanged. The lists are checked first (check.rt), then every record is checked and measured, and the text is
+// written only where it has room (records.rt).
 //
-// The definition is `writer` of model's specs/rules/Api.antt. The two loops over the records are table_writer::records'.
+// The definition is `writer` of model's specs/rules/Api.antt. proofs/Answers.antt has the laws that a new answer would change.
 ghost use mathlib.Core.Path.{_≡_};
 ghost use Prim.Native.Nat.{_*_};
 ghost use lib.ListN.{length};
@@ -24,7 +25,7 @@ pub mod check;
 pub mod content;
 pub mod records;
 
-// A table whose text is so long: 10 where the room is shorter.
+// Writes a table whose text has length `size`: error 10 where the room is shorter.
 fn write_if_fits(
     t: Dialect,
     content: &[u8],
@@ -91,7 +92,7 @@ fn write_table(
     }
 }
 
-// What was given, in this dialect: 12 where it is no table.
+// The lists in this dialect: error 12 where they are no table.
 fn write_in(
     t: Dialect,
     content: &[u8],
@@ -115,8 +116,8 @@ fn write_in(
     write_table(t, content, starts, ends, kinds, columns, records, room)
 }
 
-// The writer: 11 for a number that is no dialect's. `records` counts the header. It ends on every input, and its answer and its room are
-// determined for all of them (§13.1 §19.1 §19.5 §19.6).
+// The writer: error 11 for a number that is no dialect's. `records` counts the header. It ends on every input, and its answer and its room
+// are determined for all of them (§13.1 §19.1 §19.5 §19.6).
 pub fn write(
     dialect: u32,
     content: &[u8],

@@ -1,5 +1,6 @@
-// The records of a table: validated and measured one after another, and written one after another. A rule that changes for a record
-// changes a law of proofs/Rows.antt, and no loop.
+// The records of a table, in two loops: checked and measured, then written. In: the lists of a table's cells. Out: the length of its text
+// or the first fault, then the text in the room. The definitions are `rowsFault` and `tableText` of model's specs/rules. A rule that
+// changes for a record changes a law of proofs/Rows.antt, and no loop.
 ghost use mathlib.Core.Path.{_≡_};
 ghost use mathlib.Core.Bool.{true};
 ghost use mathlib.Core.List.{_++_};
@@ -23,7 +24,7 @@ use record_writer::line;
 
 // ---- measuring
 
-// The checks of a header, where the record is one.
+// The checks of a header, if the record is one.
 fn header_fault(
     t: Dialect,
     content: &[u8],
@@ -42,7 +43,7 @@ fn header_fault(
     record_check::header(Source::Contents, t, content, starts, ends, kinds)
 }
 
-// One record, after so many bytes of text: the checks of a header if it is one, and then the target's.
+// One record after `written` bytes of text: the checks of a header if it is one, and then the target's.
 fn check_record(
     t: Dialect,
     content: &[u8],
@@ -120,7 +121,7 @@ pub fn measure(
 
 // ---- writing
 
-// The records of a table, in a room that holds their text.
+// Writes the records of a table into a room that is long enough for their text.
 pub fn write_records(
     t: Dialect,
     content: &[u8],

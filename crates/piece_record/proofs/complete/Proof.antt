@@ -1,4 +1,4 @@
--- Each end is also the next start.
+-- Each cell's end is the next one's start.
 use native.Mathlib.Omega.{arith}
 use mathlib.Core.Path.{sym, ap, _∙_}
 use lib.ListN.{length}

@@ -1,4 +1,4 @@
--- The cells are asked whether they may be spelt, and then have the kinds that their bytes tell.
+-- The cells are checked for what writing requires, and then have the kinds of their bytes.
 use native.Mathlib.Omega.{arith}
 use mathlib.Core.Path.{refl, sym, ap, subst, _∙_}
 use mathlib.Core.List.{List}

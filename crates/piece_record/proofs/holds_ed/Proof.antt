@@ -1,4 +1,4 @@
--- `piece_record::holds_ed` meets its contract. The invariant: as long as none was found, none stands before i.
+-- The invariant: while none was found, no byte before i is ED.
 use Prim.Native.Nat.{ℕ, _-_, _≤_, _<_}
 use native.Mathlib.Omega.{arith}
 use mathlib.Core.Path.{_≡_, sym, _∙_}

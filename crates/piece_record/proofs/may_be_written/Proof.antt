@@ -1,4 +1,4 @@
--- `piece_record::may_be_written` meets its contract: the bytes up to the last end hold no ED, or each is asked for.
+-- The bytes up to the last end hold no ED, or each ED is checked.
 use native.Mathlib.Omega.{arith}
 use Prim.Native.Nat.{ℕ}
 use mathlib.Core.Path.{refl, sym, subst}

@@ -1,5 +1,4 @@
 -- `record_check::data` meets its contract: its tests are the definition's.
--- Assumes nothing.
 use native.Mathlib.Omega.{arith}
 use Rattle.record_check.proofs.Records.{data-too-many, data-uneven, data-sound}
 use Rattle.record_check.proofs.data.Statement.{statement}

@@ -1,5 +1,4 @@
--- `record_check::first_not_text` meets its contract. The invariant: what is answered of all kinds is what is answered of those from here on.
--- Assumes nothing.
+-- The invariant: the result for all kinds equals the result for those from n on.
 use mathlib.Core.Path.{_≡_, refl, sym, ap, _∙_}
 use Prim.Native.Nat.{_-_, _≤_}
 use native.Mathlib.Omega.{arith}
@@ -18,7 +17,7 @@ Inv-loop kinds n₀ n = (n ≤ length kinds) × (notTextAt kinds 0 ≡ notTextAt
 abbrev μ-loop : tie.MeasureT-loop
 μ-loop kinds n₀ n = length kinds - n
 
--- what is asked of the kind at n
+-- whether the kind at n is text
 told : (c : tie.After-is-text Inv-loop μ-loop)
     → let u = c .before .before .before .before in
     c .is-text .result ≡ isText (kindFrom (getD (u .before .before .args .kinds .now) (u .loop .n) 0))

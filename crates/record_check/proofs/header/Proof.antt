@@ -1,5 +1,4 @@
 -- `record_check::header` meets its contract: its checks are the definition's, in the same order.
--- Assumes nothing.
 use mathlib.Core.Path.{_≡_, sym, ap, _∙_}
 use mathlib.Core.List.{List}
 use native.Mathlib.Omega.{arith}
@@ -27,7 +26,7 @@ returns c =
     let u = c .before .before .before .before .before in
     header-too-many (u .args .rule) (cells u) (omega (arith, counted u, c .if1 .taken))
 
--- what is answered of the kinds is answered of the cells
+-- the result for the kinds is that for the cells
 kinds : (c : tie.After-first-not-text)
     → let u = c .before .before .before .before .before .before in
     headerKindFrom 1 (cells u) ≡ c .first-not-text .result
@@ -41,7 +40,7 @@ returns-2 c =
     let u = k .before .before .before .before .before .before in
     header-not-text (u .args .rule) (cells u) (omega (arith, counted u, k .before .if1 .left)) (c .before .e .given .0 .0) (kinds k ∙ c .before .e .given .1)
 
--- what is answered of the names is answered of the header
+-- once columns and kinds are checked, the result for the names is that for the header
 names : (c : tie.After-first-repeat)
     → let u = c .before .before .before .before .before .before .before .before .before in
     repeatedAs RepeatedName (c .first-repeat .result) ≡ headerFault (u .args .rule) (cells u)

@@ -1,5 +1,4 @@
 -- `record_target::check_size` meets its contract: its tests are the definition's.
--- Assumes nothing.
 use mathlib.Core.Path.{refl}
 use native.Mathlib.Omega.{arith}
 use lib.ListN.{length}

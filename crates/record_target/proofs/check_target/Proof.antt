@@ -1,5 +1,4 @@
 -- `record_target::check_target` meets its contract: its checks are the definition's, in the same order.
--- Assumes nothing.
 use mathlib.Core.Path.{_≡_, sym, _∙_}
 use mathlib.Core.Bool.{false, not, _&&_}
 use mathlib.Core.List.{List}
@@ -49,13 +48,13 @@ returns-2 c =
       λ s. fault-sound (sym (c .refused2 .ensures) ∙ s),
     )
 
--- the target carries its cells
+-- the target can represent its cells
 carries : (c : tie.After-name-clash)
     → let u = c .before .before .before .before .before .before .before .before .before .before in
     uncarriedFrom (u .args .t) 1 (cells u) ≡ Sound
 carries c = sym (c .before .before .before .measure .ensures .1) ∙ c .before .enum-told .given .1
 
--- what is answered of its names
+-- the check result for its names
 clash : (c : tie.After-name-clash)
     → let u = c .before .before .before .before .before .before .before .before .before .before in
     clashFault (u .args .t) (u .args .header) (cells u) ≡ c .name-clash .result

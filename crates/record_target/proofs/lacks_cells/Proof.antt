@@ -1,5 +1,4 @@
 -- `record_target::lacks_cells` meets its contract: its tests are the definition's.
--- Assumes nothing.
 use mathlib.Core.Path.{sym, ap, _∙_}
 use mathlib.Core.Bool.{not}
 use native.Mathlib.Omega.{arith}

@@ -1,5 +1,4 @@
--- `record_target::measure` meets its contract: from 0 on, a place is a measure.
--- Assumes nothing.
+-- From place 0 on, the end of the text is its length.
 use mathlib.Core.Path.{_≡_, ap, _∙_}
 use Prim.Native.Nat.{_+_}
 use native.Mathlib.Omega.{arith}

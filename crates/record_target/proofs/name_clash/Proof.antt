@@ -1,5 +1,4 @@
 -- `record_target::name_clash` meets its contract: it is the first repeated name of a header, with this fault.
--- Assumes nothing.
 use mathlib.Core.Path.{_≡_, sym, ap, _∙_}
 use mathlib.Core.Bool.{Bool}
 use mathlib.Core.List.{List}
@@ -14,7 +13,7 @@ use Rattle.record_check.specs.Keys.{repeatedAs}
 use Rattle.record_target.proofs.name_clash.Statement.{statement}
 use Rattle.record_target.proofs.name_clash.Tie as tie
 
--- what is said where this is a header or not
+-- the check result for a header or another record
 abbrev answer : tie.Start → List ℕ → Bool → CheckResult
 answer c kinds header = let a = c .args in clashFault (a .t) header (cellsIn (a .src) (a .s .now) (a .starts .now) (a .ends .now) kinds)
 

@@ -1,5 +1,4 @@
 -- `record_target::with_ending` meets its contract: a measure within the limit is a sum.
--- Assumes nothing.
 use mathlib.Core.Path.{_∙_}
 use Prim.Native.Nat.{_+_}
 use native.Mathlib.Omega.{arith}

@@ -1,4 +1,4 @@
-// Whether a cell is clean, where nothing is told of it: by its bytes, eight to a step.
+// Whether a cell is verbatim, by its bytes, eight to a step. The definition is `CleanCell` of cell_fast's specs/Ends.antt.
 ghost use mathlib.Core.Path.{_≡_};
 ghost use mathlib.Core.Bool.{true};
 ghost use Prim.Native.Nat.{_≤_};
@@ -12,7 +12,7 @@ ghost use Rattle.cell_fast.specs.Ends.{CleanCell};
 use crate::quotes;
 use model::Dialect;
 
-// Whether texts may stand without quotation marks.
+// Whether the dialect has texts without quotation marks.
 pub fn may_be_bare(d: Dialect) -> bool
     ensures { λ r. ⌜ r ≡ mayBeEmpty d ⌝ }
 {
@@ -37,7 +37,7 @@ fn all_clean(raw: &[u8], from: usize, upto: usize) -> bool
     swar::unclean_text(swar::last_word(raw, from, upto)) == 0
 }
 
-// Whether a cell with so many quotation marks before its content may be a text.
+// Whether a cell with `around` quotation marks before its content may be a text.
 fn may_be_text(bare: bool, around: usize) -> bool
     ensures { λ r. ⌜ (r ≡ true → around ≡ 0 → bare ≡ true) ⌝ }
 {
@@ -47,7 +47,7 @@ fn may_be_text(bare: bool, around: usize) -> bool
     true
 }
 
-// `bare`: texts may stand without quotation marks.
+// `bare`: the dialect has texts without quotation marks.
 pub fn is_clean(bare: bool, raw: &[u8]) -> bool
     ensures { λ r. ⌜ ((d : TheDialect) → quoteOf d ≡ QUOTE → bare ≡ mayBeEmpty d → r ≡ true → CleanCell d (now (raw .entry))) ⌝ }
 {

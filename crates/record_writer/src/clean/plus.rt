@@ -1,4 +1,5 @@
-// Clean cells into CSV+ with the quotation mark for a quote: without quotation marks where they need none.
+// Verbatim cells into CSV+ with the quotation mark for a quote: quoted only where the delimiter or an empty only cell requires it (§14.7).
+// The definition is `plusCell` of specs/CleanCellText.antt.
 ghost use mathlib.Core.Path.{_≡_};
 ghost use mathlib.Core.Bool.{true};
 ghost use mathlib.Core.List.{_++_};
@@ -95,7 +96,7 @@ fn write_column(
     write_text(&raw[from..upto], p, only, out, at, write)
 }
 
-// The cells at a place of the buffer, or only measured from there.
+// Writes the cells at a place of the buffer, or only measures them from there.
 pub fn write_csv_plus(
     s: &[u8],
     starts: &[usize],

@@ -1,5 +1,5 @@
-// Clean cells into a target that quotes every text. No byte of a cell is looked at but the first, and a cell is copied as it stands.
-// Writing and measuring are two loops, so that no part of a cell asks which of the two is done.
+// Verbatim cells into a target that quotes every text. Only the first byte of a cell is tested, and the cell is copied unchanged. Writing
+// and measuring are two loops, so that no cell tests which of the two is done. The definition is `quotedCell` of specs/CleanCellText.antt.
 ghost use mathlib.Core.Path.{_≡_};
 ghost use mathlib.Core.Bool.{true};
 ghost use mathlib.Core.List.{_++_};
@@ -86,7 +86,7 @@ fn measure(s: &[u8], starts: &[usize], ends: &[usize], at: usize) -> usize
     o
 }
 
-// The cells at a place of the buffer, or only measured from there.
+// Writes the cells at a place of the buffer, or only measures them from there.
 pub fn write_quoted(
     s: &[u8],
     starts: &[usize],

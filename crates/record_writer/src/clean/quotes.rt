@@ -1,11 +1,11 @@
-// Quotation marks and delimiters around cells.
+// The quotation marks around a verbatim cell, and the delimiter before it.
 ghost use mathlib.Core.Path.{_≡_};
 ghost use Rattle.model.specs.rules.Base.{QUOTE, begins};
 ghost use Rattle.buffer.specs.Writes.{Room, WrittenAt};
 ghost use Rattle.record_writer.specs.Joined.{before};
 ghost use Rattle.record_writer.specs.CleanCellText.{quoteIf};
 
-// Whether a cell stands in quotation marks in its file.
+// Whether a cell is quoted in its file.
 pub fn has_quotes(raw: &[u8]) -> bool
     ensures { λ r. ⌜ r ≡ begins QUOTE (now (raw .entry)) ⌝ }
 {
@@ -26,7 +26,7 @@ pub fn write_quote(quoted: bool, out: &mut [u8], o: usize, write: bool) -> usize
     o
 }
 
-// What stands before the cell at place n.
+// The delimiter before the cell at place n, unless it is the first.
 pub fn write_delimiter(p: u8, n: usize, out: &mut [u8], o: usize, write: bool) -> usize
     requires { ⌜ Room write o (before p n) (now out) ⌝ }
     ensures { λ r. ⌜ WrittenAt write (now (out .entry)) o (before p n) (now (out .exit)) r ⌝ }

@@ -1,5 +1,4 @@
--- `table_writer::write` meets its contract: 11 for a number that is no dialect's, and otherwise what is written in the dialect.
--- Assumes nothing.
+-- Error 11 for a number that is no dialect's, and otherwise the answer in the dialect.
 use mathlib.Core.Path.{sym, ap, _∙_}
 use lib.ListN.{length}
 use borrow.Author.Needs.{needs}
@@ -10,7 +9,7 @@ use Rattle.table_writer.proofs.Answers.{refuses, answers-as, in-dialect
 use Rattle.table_writer.proofs.write.Statement.{statement}
 use Rattle.table_writer.proofs.write.Tie as tie
 
--- what was given
+-- the table that is given
 abbrev table : tie.Start → Table
 table c = given (c .args .content .now) (c .args .starts .now) (c .args .ends .now) (c .args .kinds .now) (c .args .columns) (c .args .records)
 

@@ -1,5 +1,4 @@
--- `table_writer::write_if_fits` meets its contract: 10 where the text is longer than the room, and otherwise the text.
--- Assumes nothing.
+-- Error 10 where the text is longer than the room, and otherwise the text.
 use borrow.Author.Needs.{needs}
 use native.Mathlib.Omega.{arith}
 use lib.ListN.{length}

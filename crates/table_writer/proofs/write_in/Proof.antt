@@ -1,5 +1,4 @@
--- `table_writer::write_in` meets its contract: 12 where there are no records in what was given, and otherwise what is written of them.
--- Assumes nothing.
+-- Error 12 where the lists are no table, and otherwise the answer for its records.
 use mathlib.Core.Path.{sym, ap, _∙_}
 use lib.ListN.{length}
 use borrow.Author.Needs.{needs}
@@ -12,7 +11,7 @@ use Rattle.table_writer.proofs.Answers.{refuses, answers-as, no-table}
 use Rattle.table_writer.proofs.write_in.Statement.{statement}
 use Rattle.table_writer.proofs.write_in.Tie as tie
 
--- what was given
+-- the table that is given
 abbrev table : tie.Start → Table
 table c = given (c .args .content .now) (c .args .starts .now) (c .args .ends .now) (c .args .kinds .now) (c .args .columns) (c .args .records)
 

@@ -1,5 +1,4 @@
--- `table_writer::write_table` meets its contract: the records' first fault, or their text where it has room.
--- Assumes nothing.
+-- The records' first fault, or their text where it has room.
 use mathlib.Core.Path.{refl, sym, _∙_}
 use mathlib.Core.List.{List}
 use lib.ListN.{length}

@@ -1,6 +1,4 @@
--- `record_check::names::first_repeat` meets its contract. The invariant: what is answered of all names is what is answered of those from
--- here on, with the ones before them seen.
--- Assumes nothing.
+-- The invariant: the result for all names equals the result for those from n on, given the keys of the ones before.
 use mathlib.Core.Path.{_≡_, refl, sym, _∙_}
 use mathlib.Core.List.{List}
 use Prim.Native.Nat.{ℕ, _-_, _≤_}

@@ -1,5 +1,4 @@
 -- `record_check::names::fold_byte` meets its contract, dialect by dialect.
--- Assumes nothing.
 use borrow.Author.Needs.{needs}
 use Rattle.record_check.proofs.names.fold_byte.Statement.{statement}
 use Rattle.record_check.proofs.names.fold_byte.Tie as tie

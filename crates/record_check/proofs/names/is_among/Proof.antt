@@ -1,5 +1,5 @@
--- `record_check::names::is_among` meets its contract. The invariant: the name is among the first n exactly when it is among those that are left.
--- Assumes nothing.
+-- `record_check::names::is_among` meets its contract. The invariant: the name is among the first n exactly when it is among those that are
+-- left.
 use mathlib.Core.Path.{_≡_, refl, sym, _∙_}
 use Prim.Native.Nat.{_-_, _≤_}
 use native.Mathlib.Omega.{arith}
@@ -19,7 +19,7 @@ Inv-loop src rule name s starts ends n room₀ j₀ room j =
 abbrev μ-loop : tie.MeasureT-loop
 μ-loop src rule name s starts ends n room₀ j₀ room j = j
 
--- the cell before j stands in s
+-- the cell before j lies in s
 before-j : (c : tie.After-shared-slice-known6 Inv-loop μ-loop)
     → let a = c .before .before .before .before .before .before .before .before .args in
     let j = c .before .before .before .loop .j in

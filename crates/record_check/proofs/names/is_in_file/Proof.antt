@@ -1,5 +1,4 @@
 -- `record_check::names::is_in_file` meets its contract: the room holds the cell's name, which is compared with the other.
--- Assumes nothing.
 use mathlib.Core.Path.{ap, _∙_}
 use native.Mathlib.Omega.{arith}
 use borrow.Author.Needs.{needs}

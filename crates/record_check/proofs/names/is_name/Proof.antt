@@ -1,5 +1,4 @@
--- `record_check::names::is_name` meets its contract, by what the bytes of a cell are.
--- Assumes nothing.
+-- By the source: a cell of a file is decoded first, a content is compared as it is.
 use mathlib.Core.Path.{_≡_, sym, ap, _∙_}
 use borrow.Author.Needs.{needs}
 use Rattle.model.specs.rules.Base.{same}

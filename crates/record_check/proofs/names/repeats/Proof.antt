@@ -1,5 +1,4 @@
 -- `record_check::names::repeats` meets its contract, by what the bytes of a cell are.
--- Assumes nothing.
 use mathlib.Core.Path.{_≡_, sym, ap, _∙_}
 use mathlib.Core.Bool.{Bool}
 use native.Mathlib.Omega.{arith}
@@ -12,11 +11,11 @@ use Rattle.record_check.proofs.Keys.{short-in-file, names-as}
 use Rattle.record_check.proofs.names.repeats.Statement.{statement}
 use Rattle.record_check.proofs.names.repeats.Tie as tie
 
--- the cell stands in s
+-- the cell lies in s
 at-n : (c : tie.Start) → NameIn (c .args .src) (c .args .s .now) (getD (c .args .starts .now) (c .args .n) 0) (getD (c .args .ends .now) (c .args .n) 0)
 at-n c = c .pre .0 .each (c .args .n) (c .pre .1)
 
--- what is answered where the bytes are these
+-- the result for these bytes
 abbrev answer : tie.Start → Source → Bool
 answer c src =
     let a = c .args in

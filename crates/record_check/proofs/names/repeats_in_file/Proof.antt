@@ -1,5 +1,4 @@
 -- `record_check::names::repeats_in_file` meets its contract: the room holds the name, which is looked for among the earlier ones.
--- Assumes nothing.
 use mathlib.Core.Path.{ap, _∙_}
 use lib.ListN.{replicate}
 use borrow.Author.Needs.{needs}

@@ -1,5 +1,4 @@
 -- `record_check::names::same_name` meets its contract. The invariant: the names are the same exactly when they are from here on.
--- Assumes nothing.
 use mathlib.Core.Path.{_≡_, refl, sym, _∙_}
 use Prim.Native.Nat.{_-_, _≤_}
 use native.Mathlib.Omega.{arith}

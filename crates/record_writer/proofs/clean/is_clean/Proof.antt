@@ -1,5 +1,4 @@
--- `record_writer::clean::is_clean` meets its contract. The invariant: the cells before place n are clean.
--- Assumes nothing.
+-- The invariant: the cells before place n are verbatim.
 use Prim.Native.Nat.{ℕ, _+_, _-_, _≤_, _<_}
 use mathlib.Core.Path.{sym, _∙_}
 use native.Mathlib.Omega.{arith}
@@ -17,7 +16,7 @@ Inv-loop s starts ends bare n₀ n = CleanBefore bare s starts ends n
 abbrev μ-loop : tie.MeasureT-loop
 μ-loop s starts ends bare n₀ n = length starts - n
 
--- the cell stands in s
+-- the cell lies in s
 at-n : (c : tie.After-shared-slice-known5 Inv-loop μ-loop)
     → let a = c .before .before .before .before .before .before .before .before .before .before .args in
     let n = c .before .before .before .loop .n in

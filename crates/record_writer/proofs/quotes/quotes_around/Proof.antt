@@ -1,5 +1,4 @@
 -- `record_writer::quotes::quotes_around` meets its contract, test by test.
--- Assumes nothing.
 use native.Mathlib.Omega.{arith}
 use Rattle.record_writer.specs.Verbatim.{no-quotes, a-quote}
 use Rattle.record_writer.proofs.quotes.quotes_around.Statement.{statement}

@@ -1,5 +1,4 @@
 -- `record_writer::record::check_result` meets its contract.
--- Assumes nothing.
 use mathlib.Core.Path.{sym, ap, _∙_}
 use Rattle.record_writer.specs.Columns.{checkOf}
 use Rattle.record_writer.proofs.Columns.{said-nothing, says-lone, says-lacks}

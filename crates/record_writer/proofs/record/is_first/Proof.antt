@@ -1,5 +1,4 @@
 -- `record_writer::record::is_first` meets its contract.
--- Assumes nothing.
 use mathlib.Core.Path.{sym}
 use native.Mathlib.Omega.{arith}
 use Rattle.record_writer.proofs.Columns.{later-first}

@@ -1,5 +1,4 @@
 -- `record_writer::record::with_cell` meets its contract: its tests are the definition's.
--- Assumes nothing.
 use mathlib.Core.Path.{_≡_, sym, ap, _∙_}
 use mathlib.Core.Bool.{true, false}
 use native.Mathlib.Omega.{arith}
@@ -16,7 +15,7 @@ use Rattle.record_writer.proofs.Columns.{cell-lacks, cell-no-text, cell
 use Rattle.record_writer.proofs.record.with_cell.Statement.{statement}
 use Rattle.record_writer.proofs.record.with_cell.Tie as tie
 
--- what the target says of this cell
+-- the target's check of this cell
 abbrev here : tie.Start → Bytes → CheckResult
 here c content = let a = c .args in uncarriedCell (a .t) (a .column) (kindFrom (a .number)) content
 

@@ -1,5 +1,4 @@
--- `record_writer::record::write_column` meets its contract: what stands before the cell is put, and then the cell.
--- Assumes nothing.
+-- The delimiter is written, and then the cell.
 use mathlib.Core.Path.{_≡_, sym, ap}
 use mathlib.Core.Bool.{Bool}
 use borrow.Author.Needs.{needs}
@@ -23,7 +22,7 @@ write-delimiter-requires c κs =
     let u = c .before .before .before in
     room-next (beforeCell (u .args .t) (u .args .n)) (cell u) (emitting (u .args .write) (u .pre .1 .1))
 
--- the cell comes next
+-- the cell is next
 cell-next : (c : tie.After-write-delimiter)
     → let u = c .before .before .before .before in
     let a = u .args in

@@ -1,5 +1,4 @@
 -- `record_writer::record::write_delimiter` meets its contract: one byte, or nothing before the first cell.
--- Assumes nothing.
 use mathlib.Core.Path.{_≡_, sym, ap, _∙_}
 use mathlib.Core.List.{[], _∷_}
 use Prim.Native.Nat.{ℕ}
@@ -14,7 +13,7 @@ use Rattle.record_writer.proofs.record.write_delimiter.Tie as tie
 returns : tie.Need-returns
 returns c = let a = c .before .before .args in first-written (a .write) (a .t) (a .n) (c .if1 .taken) (c .before .before .pre)
 
--- the delimiter comes next
+-- the delimiter is next
 delimiter : (c : tie.After-delimiter-of)
     → let a = c .before .before .before .before .args in
     c .delimiter-of .result ∷ [] ≡ beforeCell (a .t) (a .n)

@@ -1,5 +1,4 @@
 -- `record_writer::record::write_ending` meets its contract, dialect by dialect.
--- Assumes nothing.
 use mathlib.Core.Path.{sym, ap}
 use borrow.Author.Needs.{needs}
 use Rattle.model.specs.rules.Text.{ending}

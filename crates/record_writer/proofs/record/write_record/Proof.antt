@@ -1,5 +1,4 @@
--- `record_writer::record::write_record` meets its contract. The invariant: what is still to be put is the text of the cells from here on.
--- Assumes nothing.
+-- The invariant: what is still to be written is the text of the cells from n on.
 use mathlib.Core.Path.{refl, sym, ap, _∙_}
 use mathlib.Core.List.{_++_}
 use Prim.Native.Nat.{_-_, _+_, _<_}
@@ -31,7 +30,7 @@ abbrev μ-loop : tie.MeasureT-loop
 loop-holds : tie.Need-loop-holds Inv-loop μ-loop
 loop-holds c = let u = c .before .before .before .before .before .before in written-none _ _ _ _ _ _ _ _ _ _ (u .pre .1)
 
--- the cell stands in s
+-- the cell lies in s
 at-n : (c : tie.After-shared-slice-known5 Inv-loop μ-loop)
     → let a = c .before .before .before .before .before .before .before .before .before .args in
     let n = c .before .before .loop .n in
@@ -40,7 +39,7 @@ at-n c =
     let u = c .before .before .before .before .before .before .before .before .before in
     u .pre .0 .each (c .before .before .loop .n) (c .before .loop-test .taken)
 
--- the cell at n comes next
+-- the cell at n is next
 cell-next : (c : tie.After-shared-slice-known7 Inv-loop μ-loop)
     → let l = c .before .before .before .before .loop in
     let a = c .before .before .before .before .before .before .before .before .before .before .before .args in

@@ -1,5 +1,4 @@
 -- `record_writer::verbatim::is_direct` meets its contract: its tests are the definition's.
--- Assumes nothing.
 use mathlib.Core.Path.{refl, sym, _∙_}
 use borrow.Author.Needs.{needs}
 use Rattle.model.proofs.Tests.{impossible}

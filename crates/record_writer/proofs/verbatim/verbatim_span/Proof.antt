@@ -1,5 +1,4 @@
 -- `record_writer::verbatim::verbatim_span` meets its contract, test by test.
--- Assumes nothing.
 use mathlib.Core.Path.{_≡_, ap, _∙_}
 use mathlib.Core.Bool.{true}
 use Prim.Native.Nat.{ℕ}

@@ -1,5 +1,4 @@
 -- `record_writer::verbatim::write_between_quotes` meets its contract: a quote, the bytes and a quote.
--- Assumes nothing.
 use mathlib.Core.List.{[], _∷_, _++_}
 use borrow.Author.Needs.{needs}
 use Rattle.model.specs.rules.Base.{QUOTE}
@@ -8,19 +7,19 @@ use Rattle.record_writer.proofs.Columns.{written-last}
 use Rattle.record_writer.proofs.verbatim.write_between_quotes.Statement.{statement}
 use Rattle.record_writer.proofs.verbatim.write_between_quotes.Tie as tie
 
--- all of it comes
+-- all of it is to be written
 first : (c : tie.Start)
     → let a = c .args in
     Emitting (a .write) (a .out .now) (a .o) (QUOTE ∷ (a .raw .now ++ QUOTE ∷ [])) (a .out .now) (a .o) ((QUOTE ∷ []) ++ (a .raw .now ++ QUOTE ∷ []))
 first c = emitting (c .args .write) (c .pre)
 
--- the bytes come
+-- the bytes are next
 second : (c : tie.After-emit-byte)
     → let a = c .before .before .before .before .args in
     Emitting (a .write) (a .out .now) (a .o) (QUOTE ∷ (a .raw .now ++ QUOTE ∷ [])) (c .emit-byte .last .0) (c .emit-byte .result) (a .raw .now ++ QUOTE ∷ [])
 second c = put-next (QUOTE ∷ []) (first (c .before .before .before .before)) (c .emit-byte .ensures)
 
--- the last quote comes
+-- the last quote is next
 third : (c : tie.After-emit)
     → let a = c .before .before .before .before .before .before .before .before .args in
     Emitting (a .write) (a .out .now) (a .o) (QUOTE ∷ (a .raw .now ++ QUOTE ∷ [])) (c .emit .last .0) (c .emit .result) (QUOTE ∷ [])

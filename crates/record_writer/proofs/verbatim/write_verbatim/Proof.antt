@@ -1,5 +1,4 @@
--- `record_writer::verbatim::write_verbatim` meets its contract, by what was seen of the cell.
--- Assumes nothing.
+-- A run of ordinary bytes is written between quotes; any other cell is decoded.
 use mathlib.Core.Path.{sym}
 use borrow.Author.Needs.{needs}
 use Rattle.buffer.proofs.WriteProgress.{room-as, emitted-as}
@@ -10,7 +9,7 @@ use Rattle.record_writer.proofs.VerbatimLaws.{Passed, passed, looks-ins
 use Rattle.record_writer.proofs.verbatim.write_verbatim.Statement.{statement}
 use Rattle.record_writer.proofs.verbatim.write_verbatim.Tie as tie
 
--- a run was seen, from here up to there
+-- a run of ordinary bytes was found
 seen : (c : tie.After-known-told)
     → let a = c .before .before .before .before .before .before .args in
     let at = c .before .from .given .0 in
@@ -34,7 +33,7 @@ returns c =
     let a = c .before .before .before .before .before .before .before .before .before .before .before .args in
     (emitted-as (sym (p .cell (a .only) (a .first))) (c .before .before .write-between-quotes .ensures), λ e f. p .lone)
 
--- its spelling says the rest
+-- the cell is decoded
 write-cell-requires : tie.Need-write-cell-requires
 write-cell-requires c κs =
     let u = c .before .before .before .before .before .before .before in

@@ -1,5 +1,4 @@
--- `table_writer::check::are_cells` meets its contract. The invariant: all cells are there exactly when those from here on are.
--- Assumes nothing.
+-- The invariant: all cells are valid exactly when those from n on are.
 use mathlib.Core.Path.{_≡_, refl, sym, _∙_}
 use Prim.Native.Nat.{_-_, _≤_}
 use native.Mathlib.Omega.{arith}

@@ -1,5 +1,4 @@
--- `table_writer::check::is_cell` meets its contract: it asks for the kind, for the span and then for the bytes.
--- Assumes nothing.
+-- The kind is checked, then the span, then the bytes.
 use mathlib.Core.Path.{sym, ap, _∙_}
 use borrow.Author.Needs.{needs}
 use Rattle.codes.specs.Named.{kindIn}

@@ -1,5 +1,4 @@
 -- `table_writer::check::is_empty` meets its contract: only the empty list has length 0.
--- Assumes nothing.
 use mathlib.Core.Path.{_≡_, refl}
 use mathlib.Core.List.{[], _∷_}
 use native.Mathlib.Omega.{arith}

@@ -1,5 +1,4 @@
--- `table_writer::check::is_number` meets its contract: bytes of another kind are no number, and those of a number's are one where they are a whole cell.
--- Assumes nothing.
+-- Bytes whose first is not a number's are no number, and others are one where they are a whole cell.
 use mathlib.Core.Path.{_≡_, refl, sym, ap, _∙_}
 use Prim.Native.Nat.{ℕ}
 use mathlib.Core.Bool.{false}
@@ -31,7 +30,7 @@ unsound True e o = refl
 unsound False e o = refl
 unsound Null e o = refl
 
--- what the first byte says of a number
+-- the kind by the first byte
 by-kind : (c : tie.After-is-number-kind) → c .is-number-kind .result ≡ isNumber (kindOf Csvj (c .before .before .before .args .s .now)) WholeCell
 by-kind c = c .is-number-kind .ensures ∙ ap (λ (k : Kind). isNumber k WholeCell) (c .before .kind-of .ensures)
 

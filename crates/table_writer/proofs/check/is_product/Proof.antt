@@ -1,5 +1,4 @@
--- `table_writer::check::is_product` meets its contract: a product is told by its quotient.
--- Assumes nothing.
+-- A product is checked by its quotient.
 use mathlib.Core.Path.{sym}
 use native.Mathlib.Omega.{arith}
 use borrow.Author.Needs.{needs}

@@ -1,5 +1,4 @@
--- `table_writer::check::is_table` meets its contract: lists of one length, a record, as many cells as the records have, and each of them there.
--- Assumes nothing.
+-- Lists of one length, at least one record, as many cells as the records have, and each of them valid.
 use mathlib.Core.Path.{sym, _∙_}
 use native.Mathlib.Omega.{arith}
 use borrow.Author.Needs.{needs}

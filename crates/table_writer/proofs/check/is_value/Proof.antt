@@ -1,5 +1,4 @@
 -- `table_writer::check::is_value` meets its contract: each arm is the definition's.
--- Assumes nothing.
 use borrow.Author.Needs.{needs}
 use Rattle.table_writer.proofs.check.is_value.Statement.{statement}
 use Rattle.table_writer.proofs.check.is_value.Tie as tie

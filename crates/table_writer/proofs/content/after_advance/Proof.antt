@@ -1,5 +1,4 @@
 -- `table_writer::content::after_advance` meets its contract: each arm is the definition's.
--- Assumes nothing.
 use borrow.Author.Needs.{needs}
 use Rattle.table_writer.proofs.content.after_advance.Statement.{statement}
 use Rattle.table_writer.proofs.content.after_advance.Tie as tie

@@ -1,5 +1,4 @@
--- `table_writer::content::after_ed` meets its contract: the byte's range says where content stands.
--- Assumes nothing.
+-- The byte's range decides the next state.
 use mathlib.Core.Path.{sym, _∙_}
 use native.Mathlib.Omega.{arith}
 use Rattle.model.specs.rules.Base.{if_then_else_}

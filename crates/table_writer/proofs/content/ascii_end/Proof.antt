@@ -1,5 +1,4 @@
--- `table_writer::content::ascii_end` meets its contract. The invariant: the bytes up to here leave content where it stood.
--- Assumes nothing.
+-- The invariant: the bytes up to i leave the state unchanged.
 use mathlib.Core.Bool.{false}
 use mathlib.Core.Option.{some}
 use Prim.Native.Nat.{_-_}

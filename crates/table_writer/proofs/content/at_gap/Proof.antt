@@ -1,5 +1,4 @@
--- `table_writer::content::at_gap` meets its contract: ED is kept apart, and every other byte is one of a text.
--- Assumes nothing.
+-- ED has a state of its own, and every other byte is a step of UTF-8.
 use mathlib.Core.Path.{ap, _∙_}
 use borrow.Author.Needs.{needs}
 use borrow.Author.Tests.{eq-eqb, ne-eqb}

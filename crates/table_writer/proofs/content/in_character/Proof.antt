@@ -1,5 +1,4 @@
--- `table_writer::content::in_character` meets its contract: the byte is one of a text.
--- Assumes nothing.
+-- The byte is a step of UTF-8.
 use mathlib.Core.Path.{ap, _∙_}
 use borrow.Author.Needs.{needs}
 use Rattle.model.specs.rules.Utf8.{settle, wideStep}

@@ -1,5 +1,4 @@
 -- `table_writer::content::in_lone` meets its contract, by its tests.
--- Assumes nothing.
 use Rattle.model.specs.rules.Base.{if_then_else_}
 use Rattle.model.specs.rules.Utf8.{wideStep}
 use Rattle.model.proofs.Tests.{tests}

@@ -1,5 +1,4 @@
--- `table_writer::content::is_content` meets its contract. The invariant: the bytes are content exactly when the rest is, from where it stands.
--- Assumes nothing.
+-- The invariant: the bytes are content exactly when the rest is, from the current state.
 use mathlib.Core.Path.{_≡_, sym, ap, _∙_}
 use Prim.Native.Nat.{_-_, _≤_}
 use native.Mathlib.Omega.{arith}

@@ -1,5 +1,4 @@
 -- `table_writer::content::may_end` meets its contract: content ends between characters only.
--- Assumes nothing.
 use borrow.Author.Needs.{needs}
 use Rattle.model.specs.rules.Utf8.{wideFrom}
 use Rattle.table_writer.proofs.content.may_end.Statement.{statement}

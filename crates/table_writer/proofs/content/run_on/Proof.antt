@@ -1,5 +1,4 @@
--- `table_writer::content::run_on` meets its contract: ASCII passes between characters, except directly after a high surrogate.
--- Assumes nothing.
+-- A run of ASCII is passed over between characters, except directly after a high surrogate.
 use borrow.Author.Needs.{needs}
 use Rattle.table_writer.proofs.content.run_on.Statement.{statement}
 use Rattle.table_writer.proofs.content.run_on.Tie as tie

@@ -1,5 +1,4 @@
--- `table_writer::content::step` meets its contract: each arm is the step from its place.
--- Assumes nothing.
+-- Each arm is the step from its state.
 use borrow.Author.Needs.{needs}
 use Rattle.table_writer.proofs.content.step.Statement.{statement}
 use Rattle.table_writer.proofs.content.step.Tie as tie

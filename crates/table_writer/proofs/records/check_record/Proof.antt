@@ -1,5 +1,4 @@
 -- `table_writer::records::check_record` meets its contract: a header's own fault comes first.
--- Assumes nothing.
 use mathlib.Core.Path.{sym, _∙_}
 use mathlib.Core.List.{List}
 use borrow.Author.Needs.{needs}

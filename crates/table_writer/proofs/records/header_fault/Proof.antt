@@ -1,5 +1,4 @@
 -- `table_writer::records::header_fault` meets its contract: only a header has one.
--- Assumes nothing.
 use borrow.Author.Needs.{needs}
 use borrow.Author.Tests.{not-true, not-false}
 use Rattle.table_writer.proofs.records.header_fault.Statement.{statement}

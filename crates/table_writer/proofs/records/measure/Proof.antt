@@ -1,5 +1,4 @@
--- `table_writer::records::measure` meets its contract. The invariant: the records that are passed have no fault, and their text is so long.
--- Assumes nothing.
+-- The invariant: the first n records have no fault, and `size` is the length of their text.
 use mathlib.Core.Path.{_≡_, sym, ap, _∙_}
 use mathlib.Core.List.{List, _++_}
 use Prim.Native.Nat.{_+_, _-_, _≤_}
@@ -59,7 +58,7 @@ check-record-requires c κs =
     let l = in-loop .before .loop in
     (part-stands Contents (a .content .now) (a .starts .now) (a .ends .now) (a .kinds .now) (l .at) (a .columns) (s .pre .0) (inside in-loop), l .inv .within)
 
--- what is said of the record at this place
+-- the check result for the record at this place
 verdict-at : (c : tie.After-check-record Inv-loop μ-loop)
     → let l = c .before .before .before .before .before .loop in
     let s = c .before .before .before .before .before .before .before .before .before .before in
@@ -90,7 +89,7 @@ returns c =
     ap Refused (c .record-report .ensures)
     ∙ sym (measured-fault (in-loop .before .loop .inv) (in-loop .loop-test .taken) (c .before .before .v .given .0 .0) (sym (verdict-at at-validated) ∙ c .before .before .v .given .1))
 
--- the record is passed
+-- the record has no fault
 passed : (c : tie.After-struct-known Inv-loop μ-loop)
     → let at-validated = c .before .before .before in
     let at-loop = at-validated .before .before .before .before .before in

@@ -1,6 +1,4 @@
--- `table_writer::records::write_records` meets its contract. The invariant: the room holds the text of the records that are passed, and has place for
--- that of the rest.
--- Assumes nothing.
+-- The invariant: the room holds the text of the first n records, and has place for that of the rest.
 use mathlib.Core.Path.{_≡_, sym, ap, _∙_}
 use mathlib.Core.List.{List, _++_}
 use Prim.Native.Nat.{_+_, _-_, _≤_}

@@ -1,5 +1,4 @@
--- `record_check::names::content::write_content` meets its contract: the decoder refuses nothing here, and what it answers is the content.
--- Assumes nothing.
+-- The decoder refuses nothing here, and returns the content.
 use borrow.Author.Needs.{needs}
 use Rattle.record_check.proofs.DecodedNames.{never-refused, decoded}
 use Rattle.record_check.proofs.names.content.write_content.Statement.{statement}

@@ -1,5 +1,4 @@
--- `record_writer::clean::check::all_clean` meets its contract. The invariant: the bytes before i are clean.
--- Assumes nothing.
+-- The invariant: the bytes before i are ordinary.
 use Prim.Native.Nat.{_-_, _≤_}
 use native.Mathlib.Omega.{arith}
 use borrow.Author.Needs.{needs}

@@ -1,5 +1,4 @@
 -- `record_writer::clean::check::is_clean` meets its contract, test by test.
--- Assumes nothing.
 use mathlib.Core.Path.{sym, _∙_}
 use native.Mathlib.Omega.{arith}
 use borrow.Author.Needs.{needs}

@@ -1,5 +1,4 @@
 -- `record_writer::clean::check::may_be_text` meets its contract.
--- Assumes nothing.
 use Rattle.record_writer.proofs.clean.check.may_be_text.Statement.{statement}
 use Rattle.record_writer.proofs.clean.check.may_be_text.Tie as tie
 

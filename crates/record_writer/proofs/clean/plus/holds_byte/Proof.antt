@@ -1,5 +1,4 @@
--- `record_writer::clean::plus::holds_byte` meets its contract. The invariant: what is held at all is held from here on.
--- Assumes nothing.
+-- The invariant: the bytes hold p exactly when those from i on do.
 use mathlib.Core.Path.{_≡_, refl, sym, _∙_}
 use Prim.Native.Nat.{_-_, _≤_}
 use native.Mathlib.Omega.{arith}

@@ -1,5 +1,4 @@
--- `record_writer::clean::plus::holds_from` meets its contract. The invariant: what is held from `at` on is held from here on.
--- Assumes nothing.
+-- The invariant: the bytes from `at` on hold p exactly when those from i on do.
 use mathlib.Core.Path.{_≡_, refl, sym, _∙_}
 use Prim.Native.Nat.{_-_, _≤_}
 use native.Mathlib.Omega.{arith}

@@ -1,5 +1,4 @@
 -- `record_writer::clean::plus::needs_quotes` meets its contract, by its tests.
--- Assumes nothing.
 use mathlib.Core.Path.{sym, _∙_}
 use borrow.Author.Needs.{needs}
 use Rattle.record_writer.proofs.ByteMembership.{needs-held, needs-only, needs-none}

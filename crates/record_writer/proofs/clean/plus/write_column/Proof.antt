@@ -1,5 +1,4 @@
--- `record_writer::clean::plus::write_column` meets its contract: what stands before the cell is put, and then the cell.
--- Assumes nothing.
+-- The delimiter is written, and then the cell.
 use mathlib.Core.Path.{_≡_, sym, ap}
 use mathlib.Core.List.{_++_}
 use Prim.Native.Nat.{_-_, _≤_}
@@ -23,7 +22,7 @@ write-delimiter-requires c κs =
     let u = c .before .before .before in
     room-next (before (u .args .p) (u .args .n)) (cell u) (emitting (u .args .write) (u .pre .1))
 
--- the cell comes next
+-- the cell is next
 cell-next : (c : tie.After-write-delimiter)
     → let u = c .before .before .before .before in
     let a = u .args in
@@ -39,7 +38,7 @@ fits c =
     let u = c .before .before .before .before .before .before .before in
     marks-inside (u .args .raw .now) (c .quotes-before .result) (c .quotes-before .ensures) (u .pre .0)
 
--- what the code puts
+-- the text that the code writes
 inside : (c : tie.After-quotes-before)
     → let u = c .before .before .before .before .before .before .before in
     let a = u .args in

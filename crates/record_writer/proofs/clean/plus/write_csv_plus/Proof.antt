@@ -1,5 +1,4 @@
--- `record_writer::clean::plus::write_csv_plus` meets its contract. The invariant: what is still to be put is the text of the cells from here on.
--- Assumes nothing.
+-- The invariant: what is still to be written is the text of the cells from n on.
 use Prim.Native.Nat.{_-_}
 use native.Mathlib.Omega.{arith}
 use lib.Dec.{eqb}
@@ -17,7 +16,7 @@ Inv-loop s starts ends p out₀ at write only n₀ o₀ out n o = WrittenUpTo p 
 abbrev μ-loop : tie.MeasureT-loop
 μ-loop s starts ends p out₀ at write only n₀ o₀ out n o = length starts - n
 
--- the cell stands in s
+-- the cell lies in s
 at-n : (c : tie.After-shared-slice-known5 Inv-loop μ-loop)
     → let a = c .before .before .before .before .before .before .before .before .args in
     let n = c .before .before .before .loop .n in

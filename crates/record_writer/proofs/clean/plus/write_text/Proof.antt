@@ -1,5 +1,4 @@
--- `record_writer::clean::plus::write_text` meets its contract: a quotation mark or none, the bytes, and the same again.
--- Assumes nothing.
+-- A quotation mark or none is written, then the bytes, then the same again.
 use mathlib.Core.Path.{_≡_, sym, ap}
 use mathlib.Core.List.{_++_}
 use borrow.Author.Needs.{needs}
@@ -16,11 +15,11 @@ mark c = quoteIf (needsQuotes (c .args .p) (c .args .only) (c .args .bs .now))
 abbrev text : tie.Start → Bytes
 text c = marked (needsQuotes (c .args .p) (c .args .only) (c .args .bs .now)) (c .args .bs .now)
 
--- the mark that the code puts
+-- the quotation mark that the code writes
 same : (c : tie.After-needs-quotes) → quoteIf (c .needs-quotes .result) ≡ mark (c .before .before .before)
 same c = ap quoteIf (c .needs-quotes .ensures)
 
--- the bytes come
+-- the bytes are next
 second : (c : tie.After-write-quote)
     → let u = c .before .before .before .before .before in
     let a = u .args in
@@ -30,7 +29,7 @@ second c =
     let u = h .before .before .before in
     put-next (mark u) (emitting (u .args .write) (u .pre)) (emitted-as (sym (same h)) (c .write-quote .ensures))
 
--- the last mark comes
+-- the last quotation mark is next
 third : (c : tie.After-emit)
     → let u = c .before .before .before .before .before .before .before .before .before in
     let a = u .args in

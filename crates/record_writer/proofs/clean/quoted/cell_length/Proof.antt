@@ -1,5 +1,4 @@
 -- `record_writer::clean::quoted::cell_length` meets its contract.
--- Assumes nothing.
 use mathlib.Core.Path.{sym, _∙_}
 use borrow.Author.Needs.{needs}
 use Rattle.record_writer.proofs.Lengths.{length-own, length-two}

@@ -1,5 +1,4 @@
--- `record_writer::clean::quoted::measure` meets its contract. The invariant: what is still to be measured is the text of the cells from here on.
--- Assumes nothing.
+-- The invariant: what is still to be measured is the text of the cells from n on.
 use Prim.Native.Nat.{ℕ, _+_, _-_}
 use mathlib.Core.Path.{refl, ap, _∙_}
 use mathlib.Core.Bool.{false}
@@ -16,14 +15,14 @@ use Rattle.record_writer.proofs.Joined.{WrittenUpTo, written-none, room
 use Rattle.record_writer.proofs.clean.quoted.measure.Statement.{statement}
 use Rattle.record_writer.proofs.clean.quoted.measure.Tie as tie
 
--- nothing is written, into no buffer
+-- nothing is written, so any buffer serves
 abbrev Inv-loop : tie.InvT-loop
 Inv-loop s starts ends at n₀ o₀ n o = WrittenUpTo COMMA quotedCell s starts ends false [] at [] n o
 
 abbrev μ-loop : tie.MeasureT-loop
 μ-loop s starts ends at n₀ o₀ n o = length starts - n
 
--- the cell stands in s
+-- the cell lies in s
 at-n : (c : tie.After-shared-slice-known5 Inv-loop μ-loop)
     → let a = c .before .before .before .before .before .before .before .args in
     let n = c .before .before .before .loop .n in

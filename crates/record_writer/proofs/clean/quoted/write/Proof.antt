@@ -1,5 +1,4 @@
--- `record_writer::clean::quoted::write` meets its contract. The invariant: what is still to be put is the text of the cells from here on.
--- Assumes nothing.
+-- The invariant: what is still to be written is the text of the cells from n on.
 use Prim.Native.Nat.{_-_}
 use mathlib.Core.Bool.{true}
 use native.Mathlib.Omega.{arith}
@@ -18,7 +17,7 @@ Inv-loop s starts ends out₀ at n₀ o₀ out n o = WrittenUpTo COMMA quotedCel
 abbrev μ-loop : tie.MeasureT-loop
 μ-loop s starts ends out₀ at n₀ o₀ out n o = length starts - n
 
--- the cell stands in s
+-- the cell lies in s
 at-n : (c : tie.After-shared-slice-known5 Inv-loop μ-loop)
     → let a = c .before .before .before .before .before .before .before .before .args in
     let n = c .before .before .before .loop .n in

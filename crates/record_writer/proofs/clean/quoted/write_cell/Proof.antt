@@ -1,5 +1,4 @@
--- `record_writer::clean::quoted::write_cell` meets its contract: a quotation mark or none, the bytes, and the same again.
--- Assumes nothing.
+-- A quotation mark or none is written, then the bytes, then the same again.
 use mathlib.Core.Path.{_≡_, refl, sym, ap}
 use mathlib.Core.Bool.{Bool, true, not}
 use mathlib.Core.List.{_++_}
@@ -14,18 +13,18 @@ use Rattle.record_writer.proofs.clean.quoted.write_cell.Tie as tie
 abbrev mark : tie.Start → Bytes
 mark c = quoteIf (not (begins QUOTE (c .args .raw .now)))
 
--- the mark that the code puts
+-- the quotation mark that the code writes
 same : (c : tie.After-has-quotes) → quoteIf (not (c .has-quotes .result)) ≡ mark (c .before .before .before)
 same c = ap (λ (b : Bool). quoteIf (not b)) (c .has-quotes .ensures)
 
--- all of it comes
+-- all of it is to be written
 first : (c : tie.Start)
     → let a = c .args in
     Emitting true (a .out .now) (a .o) (quotedCell (a .raw .now)) (a .out .now) (a .o) (mark c ++ (a .raw .now ++ mark c))
 unfolding quotedCell
 first c = emitting true (c .pre)
 
--- the bytes come
+-- the bytes are next
 second : (c : tie.After-write-quote)
     → let u = c .before .before .before .before .before in
     let a = u .args in
@@ -35,7 +34,7 @@ second c =
     let u = h .before .before .before in
     put-next (mark u) (first u) (emitted-as (sym (same h)) (c .write-quote .ensures))
 
--- the last mark comes
+-- the last quotation mark is next
 third : (c : tie.After-copy)
     → let u = c .before .before .before .before .before .before .before .before .before in
     let a = u .args in

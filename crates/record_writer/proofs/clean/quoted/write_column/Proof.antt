@@ -1,5 +1,4 @@
--- `record_writer::clean::quoted::write_column` meets its contract: what stands before the cell is put, and then the cell.
--- Assumes nothing.
+-- The delimiter is written, and then the cell.
 use mathlib.Core.Bool.{true}
 use mathlib.Core.List.{_++_}
 use borrow.Author.Needs.{needs}
@@ -16,7 +15,7 @@ write-delimiter-requires c κs =
     let u = c .before .before .before in
     room-next (before COMMA (u .args .n)) (quotedCell (u .args .raw .now)) (emitting true (u .pre))
 
--- the cell comes next
+-- the cell is next
 cell-next : (c : tie.After-write-delimiter)
     → let a = c .before .before .before .before .args in
     Emitting true (a .out .now) (a .o) (before COMMA (a .n) ++ quotedCell (a .raw .now)) (c .write-delimiter .last .1 .1 .0) (c .write-delimiter .result) (quotedCell (a .raw .now))

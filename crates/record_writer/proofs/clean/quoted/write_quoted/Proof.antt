@@ -1,5 +1,4 @@
 -- `record_writer::clean::quoted::write_quoted` meets its contract: it writes, or only measures.
--- Assumes nothing.
 use mathlib.Core.Path.{refl}
 use borrow.Author.Needs.{needs}
 use Rattle.buffer.proofs.WriteProgress.{put-measured}

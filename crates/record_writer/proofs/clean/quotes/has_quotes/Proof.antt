@@ -1,5 +1,4 @@
 -- `record_writer::clean::quotes::has_quotes` meets its contract.
--- Assumes nothing.
 use mathlib.Core.Path.{sym}
 use borrow.Author.Needs.{needs}
 use Rattle.record_writer.proofs.Lengths.{begins-none, begins-by}

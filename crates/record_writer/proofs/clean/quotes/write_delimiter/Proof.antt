@@ -1,5 +1,4 @@
 -- `record_writer::clean::quotes::write_delimiter` meets its contract: one byte, or nothing before the first cell.
--- Assumes nothing.
 use mathlib.Core.Path.{_≡_, sym}
 use mathlib.Core.List.{[]}
 use borrow.Author.Needs.{needs}

@@ -1,5 +1,4 @@
 -- `record_writer::clean::quotes::write_quote` meets its contract: one byte or none.
--- Assumes nothing.
 use mathlib.Core.Path.{sym}
 use borrow.Author.Needs.{needs}
 use Rattle.buffer.proofs.WriteProgress.{room-as, emitted-as}
