@@ -32,7 +32,9 @@ is-clean-record-requires : tie.Need-is-clean-record-requires
 is-clean-record-requires c κs = parts-of (c .before .before .before .before .before .before .pre .0)
 
 -- the fault is that of the record at this place
-fault : (c : tie.After-check-record) → c .check-record .result .verdict ≡ faultAt (start c .args .d) (into (start c .args .t)) (start c .args .p) (cells (start c))
+fault : (c : tie.After-check-record)
+    → let a = start c .args in
+    c .check-record .result .verdict ≡ faultAt (a .d) (into (a .t)) (a .p) (cells (start c))
 unfolding faultAt
 fault c = c .check-record .ensures .0
 
