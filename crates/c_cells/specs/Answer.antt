@@ -1,4 +1,4 @@
--- What C's struct stands for, as an answer of the decoder.
+-- C's struct as an answer of the decoder.
 use Rattle.cell_decoder.specs.Answer.{CellAnswer}
 use Rattle.c_cells.specs.declared.DecodeAnswer.{DecodeAnswer}
 

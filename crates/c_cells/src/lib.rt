@@ -1,10 +1,10 @@
-// The C boundary for single cells and for contents: thin functions over the decoder and the writer, with no logic of their own.
-// `include/hemakuliwi.h` declares them for C. Their contracts are their definitions', for the decoder with a struct in place of its
-// enum (specs/Answer.antt).
+// The C boundary for single cells and for tables of contents: the decoder and the writer under their C names, with no logic.
+// `include/hemakuliwi.h` declares them for C. Their contracts are their definitions', for the decoder with a struct in place of its enum
+// (specs/Answer.antt).
 //
-// It is a crate of its own, apart from that for whole files, so that each has a lexer for itself: where both called the same one, the
-// reader's loop would have to call it too, instead of holding it, and would lose a third of its speed. The writer stands here since it
-// asks the lexer whether a content spells a number.
+// It is a crate of its own, apart from those for whole files, so that each has a copy of the lexer: where both called the same one, it
+// would not be inlined into the reader's loop, which would lose a third of its speed. The writer is here since it uses the lexer to see
+// whether a content is a number.
 ghost use mathlib.Core.Path.{_≡_};
 ghost use lib.ListN.{length};
 ghost use Rattle.model.specs.rules.Api.{decoder, decoderLeaves, writer, writerLeaves};
@@ -16,7 +16,7 @@ use cell_decoder::Decoded;
 use codes::TextAnswer;
 use model::Report;
 
-// What the decoder answers: a report, and the content's length and kind, which are 0 on refusal.
+// What the decoder returns: a report, and the content's length and kind, which are 0 on refusal.
 #[repr(C)]
 pub struct DecodeAnswer {
     pub report: Report,
@@ -28,7 +28,7 @@ fn answer_of(d: Decoded) -> DecodeAnswer
     ensures { λ r. ⌜ structAnswer r ≡ givenAnswer d ⌝ }
 {
     let Decoded::Content { size, kind } = d else {
-        // What is no content is a refusal: the inner `else` is proved never to run.
+        // A result without content is a refusal: the inner `else` is proved never to run.
         let Decoded::Refused(e) = d else {
             return DecodeAnswer {
                 report: codes::call_report(codes::WRONG_CALL),
@@ -49,7 +49,7 @@ fn answer_of(d: Decoded) -> DecodeAnswer
     }
 }
 
-// The raw bytes of one cell to its content, in `room`.
+// Decodes the raw bytes of one cell to its content, in `room`.
 #[no_mangle]
 pub extern "C" fn hk_decode(dialect: u32, raw: &[u8], room: &mut [u8]) -> DecodeAnswer
     ensures answer { λ r. ⌜ structAnswer r ≡ decoderAnswer (decoder dialect (now (raw .entry)) (length (now (room .entry)))) ⌝ }
@@ -58,7 +58,7 @@ pub extern "C" fn hk_decode(dialect: u32, raw: &[u8], room: &mut [u8]) -> Decode
     answer_of(cell_decoder::decode(dialect, raw, room))
 }
 
-// A table of contents to canonical text, in `room`. Its contract is the writer's.
+// Writes a table of contents as canonical text, in `room`. Its contract is the writer's.
 #[no_mangle]
 pub extern "C" fn hk_write(
     dialect: u32,

@@ -1,5 +1,5 @@
-// The C boundary for the end of a file that came in pieces: the calls under their C names, with no logic of their own.
-// `include/hemakuliwi.h` declares them for C. Their contracts are those of the calls. Why it is a crate of its own is told in c_pieces.
+// The C boundary for the end of a file that came in pieces: the calls of piece_converter under their C names, with their contracts and no
+// logic. `include/hemakuliwi.h` declares them for C. c_pieces says why this is a crate of its own.
 ghost use lib.ListN.{length};
 ghost use Rattle.model.specs.rules.Ledger.{finish};
 ghost use Rattle.piece_converter.specs.Contract.{converterOf, CallContract};

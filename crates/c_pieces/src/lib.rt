@@ -1,6 +1,6 @@
-// The C boundary for conversion in pieces: the calls under their C names, with no logic of their own. `include/hemakuliwi.h` declares
-// them for C. Their contracts are those of the calls. The end is called in a crate of its own (c_ends), so that what completes a record
-// has one caller here and stands inside the loop of the walk.
+// The C boundary for conversion in pieces: the calls of piece_converter under their C names, with their contracts and no logic.
+// `include/hemakuliwi.h` declares them for C. The end calls are a crate of their own (c_ends), so that the code that completes a record
+// has one caller here and is inlined into the loop over the steps.
 ghost use mathlib.Core.Path.{_≡_};
 ghost use lib.ListN.{length};
 ghost use Rattle.model.specs.rules.Ledger.{piece};

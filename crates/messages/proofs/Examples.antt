@@ -1,5 +1,4 @@
--- Words and sentences as the definitions have them, by computation.
--- Assumes nothing.
+-- Words and sentences by the definitions, by computation.
 use mathlib.Core.Path.{_≡_, refl}
 use Rattle.model.specs.rules.Base.{if_then_else_, same}
 use Rattle.model.specs.laws.Ascii.{ascii}

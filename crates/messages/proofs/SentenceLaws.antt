@@ -1,6 +1,5 @@
--- The laws of the sentences: a number is written with the fewest digits that hold it, at most 20, and so a form comes to at most 20 bytes
--- for each of its own.
--- Assumes nothing.
+-- The laws of the sentences: a number is written with the fewest digits that hold it, at most 20, and so the text of a form has at most
+-- 20 bytes for each of the form's own.
 use mathlib.Core.Path.{_≡_, refl, sym, ap}
 use mathlib.Core.List.{[], _∷_, _++_}
 use Prim.Native.Nat.{ℕ, zero, suc, _+_, _*_, _/_, _^_, _≤_, _<_}
@@ -83,7 +82,7 @@ unfolding filled
 filled-short e [] = omega arith
 filled-short e (b ∷ form) = simp length-append (omega (arith, part-short e b, filled-short e form))
 
--- a form from a place on, by what its next byte comes to
+-- a form from an index on, by the text of its next byte
 pub filled-next :
     (e : Report) (form : Bytes) (i : ℕ) → i < length form → filled e (drop i form) ≡ partOf e (getD form i 0) ++ filled e (drop (i + 1) form)
 unfolding filled
@@ -98,7 +97,7 @@ module _ (e : Report) (form : Bytes) (i : ℕ) {old out : Bytes} {o : ℕ} (w : 
       let r : o + length (p ++ q) ≤ length out = room-left (rw (filled-next e form i h) at w) in
       omega (arith, length-append p q)
 
-  -- it goes out
+  -- it is written
   pub fill-next :
       {out′ : Bytes} {o′ : ℕ} → i < length form →
       (o′ ≡ o + length (partOf e (getD form i 0))) × (out′ ≡ written out o (partOf e (getD form i 0))) →

@@ -1,4 +1,4 @@
--- What the program says of a refusal: a form for each fault, with the numbers of the report filled in.
+-- What the program writes about a refusal: a form for each fault, with the numbers of the report filled in.
 use Prim.Native.Nat.{ℕ, zero, suc, _/_}
 use mathlib.Core.List.{[], _∷_, _++_}
 use lib.Dec.{ltb}
@@ -16,7 +16,7 @@ placesOf (suc most) n = if ltb n 10 then 1 else suc (placesOf most (n / 10))
 unfoldable pub decimal : ℕ → Bytes
 decimal n = digits 10 (placesOf 19 n) n
 
--- what a byte of a form comes to: N is the number of the report, R its record, C its column, B its byte offset, and any other byte is
+-- the text of one byte of a form: N is the number of the report, R its record, C its column, B its byte offset, and any other byte is
 -- itself (§6.14)
 unfoldable pub partOf : Report → ℕ → Bytes
 partOf e b =
@@ -31,13 +31,14 @@ unfoldable pub filled : Report → Bytes → Bytes
 filled e [] = []
 filled e (b ∷ form) = partOf e b ++ filled e form
 
--- what the column of a fault 9 says of its reason: of a cell or a name (§8.3 §8.4), or of the record as a whole (§8.2 §8.5 §8.6)
+-- the form of fault 9 by its column, which is that of a cell or a name (§8.3 §8.4), or 0 where the reason is the record as a whole (§8.2
+-- §8.5 §8.6)
 unfoldable pub uncarriedForm : (column : ℕ) → Bytes
 uncarriedForm column =
     if column is 0 then ascii "refused (N): record R can't be written in the target dialect, which asks for a column or in which the record or the file gets too long; it begins at byte B\n"
     else ascii "refused (N): column C of record R can't be written in the target dialect, which lacks such a cell or character or takes the name for an earlier one; the record begins at byte B\n"
 
--- what each fault means, and of which place it tells (§6.1 §6.2 §6.3 §6.4 §6.5 §6.6 §6.7 §6.8 §6.13 §6.9); a call that is itself wrong
+-- what each fault means, and which place it reports (§6.1 §6.2 §6.3 §6.4 §6.5 §6.6 §6.7 §6.8 §6.13 §6.9); a call that is itself wrong
 -- (§6.10 §6.11) has no place
 unfoldable pub formOf : (number column : ℕ) → Bytes
 formOf n column =
@@ -52,7 +53,7 @@ formOf n column =
     else if n is 9 then uncarriedForm column
     else ascii "refused (N): the converter was not called as it has to be\n"
 
--- what is said of a report (§6.14)
+-- the sentence for a report (§6.14)
 abbrev pub sentenceOf : Report → Bytes
 sentenceOf e = filled e (formOf (e .number) (e .column))
 

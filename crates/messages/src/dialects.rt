@@ -1,10 +1,10 @@
-// Dialects by the words of the command line.
+// Dialects by the words of the command line. Definition: specs/Words.antt.
 ghost use mathlib.Core.Path.{_≡_};
 ghost use mathlib.Core.Bool.{_||_};
 ghost use Rattle.model.specs.rules.Records.{lower};
 ghost use Rattle.messages.specs.Words.{spells, dialectNamed};
 
-// A to Z taken as a to z.
+// A to Z as a to z.
 fn lower_case(b: u8) -> u8
     ensures { λ r. ⌜ r ≡ lower b ⌝ }
 {
@@ -17,7 +17,7 @@ fn lower_case(b: u8) -> u8
     b + 0x20
 }
 
-// Whether a word is a name, in upper or in lower case.
+// Whether a word is a name, in upper or lower case.
 fn is_word(word: &[u8], name: &[u8]) -> bool
     ensures { λ r. ⌜ r ≡ spells (now (word .entry)) (now (name .entry)) ⌝ }
 {
@@ -44,7 +44,7 @@ fn names(word: &[u8], name: &[u8], number: &[u8]) -> bool
     is_word(word, number)
 }
 
-// The number of the dialect that a word names, 0 where it names none.
+// The number of the dialect that a word names, 0 if it names none.
 pub fn dialect_named(word: &[u8]) -> u32
     ensures { λ r. ⌜ r ≡ dialectNamed (now (word .entry)) ⌝ }
 {

@@ -1,3 +1,3 @@
-// The words of the program: the dialects by name, and a refusal as a sentence.
+// The texts of the program: the dialects by name, and a refusal as a sentence.
 pub mod dialects;
 pub mod refusal;

@@ -1,5 +1,5 @@
-// A refusal in words: one sentence for each fault, with the numbers of its report in it. The definition is specs/Sentences.antt, whose
-// forms stand here once more: the proof says that they are the same, byte for byte.
+// A refusal in words: one sentence for each fault, with the numbers of its report in it. Definition: specs/Sentences.antt, whose forms
+// are repeated here; the proof says that they are the same, byte for byte.
 ghost use mathlib.Core.Path.{_≡_};
 ghost use Prim.Native.Nat.{_+_, _*_, _≤_};
 ghost use lib.ListN.{length};
@@ -19,7 +19,7 @@ fn write_number(n: usize, out: &mut [u8], o: usize) -> usize
     buffer::copy(out, o, &digits[..k])
 }
 
-// What a byte of a form comes to, at o.
+// Writes the text of one byte of a form, from index o on.
 fn write_part(e: Report, b: u8, out: &mut [u8], o: usize) -> usize
     requires { ⌜ o + length (partOf e b) ≤ length (now out) ⌝ }
     ensures { λ r. ⌜ (r ≡ o + length (partOf e b)) × (now (out .exit) ≡ written (now (out .entry)) o (partOf e b)) ⌝ }
@@ -40,7 +40,7 @@ fn write_part(e: Report, b: u8, out: &mut [u8], o: usize) -> usize
     o + 1
 }
 
-// A form with the numbers of a report in it. None of them has more than 20 digits.
+// Writes a form with the numbers of a report in it. None of them has more than 20 digits.
 fn fill(e: Report, form: &[u8], out: &mut [u8]) -> usize
     requires { ⌜ 20 * length (now form) ≤ length (now out) ⌝ }
     ensures { λ r. ⌜ (r ≡ length (filled e (now (form .entry)))) × (now (out .exit) ≡ over (filled e (now (form .entry))) (now (out .entry))) ⌝ }
@@ -73,7 +73,7 @@ fn uncarried(e: Report, out: &mut [u8; 4096]) -> usize
     )
 }
 
-// The sentence for a report, at the beginning of out; how long it is.
+// Writes the sentence for a report to the beginning of `out`. Returns its length.
 pub fn sentence(e: Report, out: &mut [u8; 4096]) -> usize
     ensures { λ r. ⌜ (r ≡ length (sentenceOf e)) × (now (out .exit) ≡ over (sentenceOf e) (now (out .entry))) ⌝ }
 {

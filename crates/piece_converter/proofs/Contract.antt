@@ -1,5 +1,5 @@
--- The contract of a call, from what it comes to where the state stands. A check refuses, and nothing changes; or the call is taken,
--- and then the state takes bytes.
+-- The contract of a call, from what it does at the state's stage. A check refuses, and nothing changes; or the call is taken, and then
+-- the state takes bytes.
 use Prim.Native.Nat.{ℕ, _≤_}
 use native.Mathlib.Omega.{arith}
 use mathlib.Core.Path.{_≡_, refl, sym, ap, subst, _∙_}
@@ -49,7 +49,7 @@ consumedThen w c bs = if checkedAt w c then bs else bs ++ bytesOf c
 abbrev entry : Call → Written → List Entry
 entry c a = record { call = c; answer = a } ∷ []
 
--- a call by a number that is no dialect's consumes nothing
+-- a call with a number that is no dialect's consumes nothing
 consumed-unknown : (past : List Entry) (c : Call) → consumedIn (past ++ entry c (unwritten (refusal 11))) ≡ consumedIn past
 unfolding consumedIn if_then_else_
 consumed-unknown past c = go (ledger.faultIn past) refl
@@ -58,7 +58,7 @@ consumed-unknown past c = go (ledger.faultIn past) refl
     go (some e) k = consumed-some (entry c (unwritten (refusal 11))) e past k
     go none k = consumed-none (entry c (unwritten (refusal 11))) past k ∙ append-nil (consumedIn past)
 
--- one that is taken consumes its bytes, also where it meets a fault
+-- a call that is taken consumes its bytes, also where it meets a fault
 consumed-last : (t : Target) (text : Bytes) (c : Call) (q : Progress) → consumedIn (entry c (taken t text q)) ≡ bytesOf c
 unfolding consumedIn if_then_else_
 consumed-last t text c (going r) = append-nil (bytesOf c)
@@ -76,7 +76,7 @@ consumed-then d t past ended c (stood-ended r k e b x) = consumed-none (entry c 
 
 -- ---- one call is enough
 
--- what a call comes to, by where the state stands
+-- what a call does, by the state's stage
 record Stepped (s : Converter) (c : Call) (out : List ℕ) (told : TextAnswer) (next : Converter) (out′ : List ℕ) : Type 0 where
   known :
       (m n : ℕ) (d t : Dialect) (w : ConverterStage) (consumed : Bytes) → dialectOf m ≡ some d → dialectOf n ≡ some t → Models consumed m n w s →
@@ -88,7 +88,7 @@ record Stepped (s : Converter) (c : Call) (out : List ℕ) (told : TextAnswer) (
 abbrev pub checkOf : Converter → Call → CallCheck
 checkOf s c = checkNow (s .source) (s .target) (s .fault) (s .ended) (length (bytesOf c)) (roomOf c)
 
--- what holds of any state
+-- what holds for any state
 record Anyhow (s : Converter) (c : Call) (out : List ℕ) (told : TextAnswer) (next : Converter) (out′ : List ℕ) : Type 0 where
   within : told .length ≤ length out
   as-long : length out′ ≡ length out
@@ -102,7 +102,7 @@ module _ (s : Converter) (c : Call) (out : List ℕ) (told : TextAnswer) (next :
     carries : Represents m n (past ++ entry c (answerNow m n past c)) next
     same : checked m n past c ≡ true → next ≡ s
 
-  -- by a number that is no dialect's nothing changes
+  -- with a number that is no dialect's nothing changes
   idle :
       (m n : ℕ) (past : List Entry) → UnknownLaws m n → Says told out out′ (unwritten (refusal 11)) → next ≡ s →
       (Models (consumedIn (past ++ entry c (unwritten (refusal 11)))) m n ended s → Represents m n (past ++ entry c (unwritten (refusal 11))) s) →
@@ -148,7 +148,7 @@ module _ (s : Converter) (c : Call) (out : List ℕ) (told : TextAnswer) (next :
 none-known : {A : Type 0} (o : Option Dialect) (d : Dialect) → o ≡ none → o ≡ some d → A
 none-known o d p q = let z : _≡_ {A = ℕ} 0 1 = cc in absurd (omega arith)
 
--- the numbers of a state tell its stage
+-- the numbers of a state encode its stage
 stage-reports :
     {m n : ℕ} {consumed : Bytes} {w : ConverterStage} {s : Converter} (d t : Dialect) → dialectOf m ≡ some d → dialectOf n ≡ some t → StageOf m n consumed w s → StageEncoded w (s .fault) (s .ended)
 stage-reports d t p q (stage-taking d′ t′ done k p′ q′ reads tells takes) = tells
@@ -175,12 +175,12 @@ source-unknown s c m n w consumed p h = unknown-source (s .source) (s .target) (
 target-unknown : (s : Converter) (c : Call) (m n : ℕ) (w : ConverterStage) (consumed : Bytes) → dialectOf n ≡ none → Models consumed m n w s → checkOf s c ≡ checks.Refused (refusal 11)
 target-unknown s c m n w consumed q h = unknown-target (s .source) (s .target) (s .fault) (s .ended) (length (bytesOf c)) (roomOf c) (ap dialectOf (h .target) ∙ q)
 
--- ---- a call that a check answers
+-- ---- a call that a check refuses
 
 same-report : (x : CallCheck) (e f : Report) → x ≡ checks.Refused e → x ≡ checks.Refused f → e ≡ f
 same-report x e f p q = cc
 
--- the machine's answer, from which it does not move
+-- the machine's answer, which leaves its stage as it is
 record Refuses (d t : Dialect) (w : ConverterStage) (c : Call) (e : Report) : Type 0 where
   answers : answerAt d (into t) w c ≡ unwritten e
   by-check : checkedAt w c ≡ true
@@ -233,7 +233,7 @@ taken-at : {d t : Dialect} {w : ConverterStage} {c : Call} {x : CallCheck} (d′
 taken-at d′ t′ (means-refused a k z) h = let z : _≡_ {A = ℕ} 0 1 = cc in absurd (omega arith)
 taken-at d′ t′ (means-taken r z small) h = record { from = cc; to = cc; read = r; stands = z; sized = small }
 
--- what the state then holds
+-- what the state then represents
 record Holds (d t : Dialect) (consumed : Bytes) (s : Converter) (w : ConverterStage) : Type 0 where
   done : List Rec
   k : Buffered
@@ -259,7 +259,7 @@ module _ (s : Converter) (c : Call) (d t : Dialect) (h : checkOf s c ≡ checks.
   Comes m n d t consumed w =
       Says told out out′ (answerAt d (into t) w c) × Models (consumedThen w c consumed) m n (stageAfter d (into t) w c) next × (checkedAt w c ≡ true → next ≡ s)
 
-  -- what it comes to, where the state takes bytes
+  -- what it does, where the state takes bytes
   abbrev Takings : Type 0
   Takings =
       (m n : ℕ) (consumed : Bytes) (done : List Rec) (k : Buffered) → dialectOf m ≡ some d → dialectOf n ≡ some t → Takes d t consumed s done k → tooSmall c ≡ false →
@@ -299,7 +299,7 @@ module _ (s : Converter) (c : Call) (d t : Dialect) (h : checkOf s c ≡ checks.
         let here : Comes m n d t consumed (taking (stood (y .done) (y .k))) = comes m n consumed (y .done) (y .k) (p ∙ ap some (x .from)) (q ∙ ap some (x .to)) (k .source) (k .target) (y .takes) (x .sized) in
         as-named m n d′ t′ consumed w (taking (stood (y .done) (y .k))) (x .from) (x .to) (y .stands) here
 
-    -- no check answers it
+    -- no check refuses it
     not-refused : {A : Type 0} (e : Report) → checkOf s c ≡ checks.Refused e → A
     not-refused e z = let z : _≡_ {A = ℕ} 0 1 = cc in absurd (omega arith)
 
@@ -313,7 +313,7 @@ module _ (s : Converter) (c : Call) (d t : Dialect) (h : checkOf s c ≡ checks.
         called s c out told next out′ steps (record { within = within; as-long = as-long; dialects = same; refuses = λ e z. not-refused e z })
 
 module _ (s : Converter) (d t : Dialect) (out : List ℕ) where
-  -- no calls made this state
+  -- the state is none that calls make
   pub lost-called : (c : Call) (told : TextAnswer) → checkOf s c ≡ checks.Proceed d t → told .length ≤ length out → (InBounds (placeOf s) (currentIn (placeOf s) (s .«name_ends») (s .ends)) → ⊥) → CallContract s c out told s out
   lost-called c told h within out-of = taken-called s c d t h out told s out (refl, refl) within refl λ m n consumed done k p q takes small. absurd (out-of (takes .bounds))
 

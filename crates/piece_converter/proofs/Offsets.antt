@@ -20,7 +20,7 @@ use Rattle.model.specs.rules.Text.{Value}
 use Rattle.model.specs.rules.Records.{Read, Progress, going, stopped, nothingRead, complete, validated, closing, move, readByte, readFrom, readBytes, recordFault}
 use Rattle.model.proofs.Tests.{split}
 
--- reading that goes on stands at this offset
+-- reading that continues is at this offset
 data LiesAt (n : ℕ) : Progress → Type 0 where
   at-offset : {r : Read} → r .offset ≡ n → LiesAt n (going r)
   at-fault : {e : Fault} {r : Read} → LiesAt n (stopped e r)

@@ -1,5 +1,5 @@
--- A call that is taken answers as the machine of model does, and the state then stands where the machine stands. A new converter
--- stands before the first byte.
+-- A call that is taken returns what model's machine answers, and the next state is at the machine's next stage. A new converter is before
+-- the first byte.
 use Prim.Native.Nat.{ℕ, _≤_, _<_}
 use native.Mathlib.Omega.{arith}
 use mathlib.Core.Path.{_≡_, refl, sym, ap, ap₂, subst, _∙_}
@@ -49,7 +49,7 @@ use Rattle.piece_converter.specs.Contract.{converterOf, newConverter, Re
 use Rattle.piece_converter.specs.declared.Converter.{Converter}
 use Rattle.piece_converter.proofs.Offsets.{offset-is}
 
--- a place comes back from the numbers of a state
+-- a place is decoded from the numbers it was encoded in
 pub place-back : (p : Place) (over : ℕ) (e : Report) → placeIn (numbersOf p over e) ≡ p
 place-back p over e =
     ap (λ (f : FileState). record { state = f; offset = p .offset; start = p .start; size = p .size; fill = p .fill; cells = p .cells; columns = p .columns; records = p .records; written = p .written }) (state-back (p .state))
@@ -62,7 +62,7 @@ or-none false b h = (refl, h)
 numbered : (x : Fault) (r : Read) → 0 < faultReport x r .number
 numbered x r = let z = within-true 1 9 (numberOf x) (fault-number x) in let low = z .0 in omega arith
 
--- report, length and output say this answer
+-- report, length and output are those of this answer
 pub record Says (told : TextAnswer) (out out′ : List ℕ) (a : Written) : Type 0 where
   pub answer : told ≡ textAnswer a
   pub leaves : out′ ≡ callLeaves a out
@@ -72,19 +72,19 @@ abbrev pub stateThen : Converter → CallResult → (over : ℕ) → (ends name-
 stateThen s r over ends name-ends bytes names =
     converterOf (s .source) (s .target) (numbersOf (r .place) over (r .report)) ends name-ends bytes names
 
--- what is told of it
+-- its report and length
 abbrev pub callAnswer : CallResult → TextAnswer
 callAnswer r = record { report = r .report; length = r .length }
 
 -- ---- a call that is taken
 
--- where the state stands after it, and what it shows
+-- the stage of the state after it, and what it shows
 pub record Left (m n : ℕ) (d t : Dialect) (consumed : Bytes) (w : ConverterStage) (next : Converter) : Type 0 where
   pub stage : StageOf m n consumed w next
   pub shows : StateShows d t consumed next
   pub offset : Unfaulted w → next .offset ≡ length consumed
 
--- what a state shows, by what its bytes come to
+-- what a state shows, by what reading its bytes results in
 shows-by :
     {d t : Dialect} {consumed : Bytes} {s : Converter} (p : Progress) → readBytes d (some (into t)) consumed ≡ p → s .records ≡ length (recordsOf p) →
     s .columns ≡ columnsOf (recordsOf p) → Named consumed (s .names) (s .«name_ends») (recordsOf p) → StateShows d t consumed s
@@ -164,7 +164,7 @@ module _ (d t : Dialect) (consumed : Bytes) (s : Converter) (done : List Rec) (k
       unfolding newText
       end-says = says (readEnd d (some (into t)) (going stood)) r out out′ (f .reports) (f .text) (f .long)
 
-      -- the flag is 1 where the end was accepted; after a fault it is not asked
+      -- the flag is 1 where the end was accepted; after a fault it is not determined
       end-stage : StageOf m n (consumed ++ []) (stageThen true (readEnd d (some (into t)) (going stood))) (stateThen s r 1 ends′ name-ends′ bytes′ names′)
       end-stage = go (readEnd d (some (into t)) (going stood)) (f .reports)
         where
@@ -172,7 +172,7 @@ module _ (d t : Dialect) (consumed : Bytes) (s : Converter) (done : List Rec) (k
           go (going y) g = let one : 0 < 1 = omega arith in stage-ended (reports-ended (ap (λ (e : Report). e .number) g) one)
           go (stopped x y) g = stage-faulted (subst (λ (e : Report). StageEncoded (faulted (faultReport x y)) e 1) (sym g) (reports-faulted (numbered x y)))
 
-      -- the bytes consumed are as before, and so is the place
+      -- the bytes consumed and the place do not change
       pub end-left : Named consumed names′ name-ends′ done → Left m n d t (consumed ++ []) (stageThen true (readEnd d (some (into t)) (going stood))) (stateThen s r 1 ends′ name-ends′ bytes′ names′)
       unfolding readFrom
       end-left named =

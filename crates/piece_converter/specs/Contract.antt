@@ -1,4 +1,4 @@
--- What the piece and end calls promise, by the calls that a converter has answered before.
+-- The contract of the piece and end calls, after any calls that a converter has answered.
 use Prim.Native.Nat.{ℕ, _≤_}
 use mathlib.Core.Path.{_≡_}
 use mathlib.Core.Bool.{true}
@@ -17,7 +17,7 @@ use Rattle.piece_converter.specs.States.{storedEnd, storedFault}
 use Rattle.piece_converter.specs.Representation.{Models}
 use Rattle.piece_converter.specs.declared.Converter.{Converter}
 
--- the state that is lent as these arrays: its numbers come in the order of the fields (§15.2)
+-- the state that is lent as these arrays: its numbers are in the order of the fields (§15.2)
 abbrev pub converterOf : (source target : ℕ) → (numbers ends name-ends bytes names : List ℕ) → Converter
 converterOf m n numbers ends name-ends bytes names =
     record {
@@ -45,8 +45,8 @@ abbrev pub newConverter : (source target : ℕ) → Converter
 newConverter m n =
     converterOf m n (replicate 14 0) (replicate MAXCOLUMNS 0) (replicate MAXCOLUMNS 0) (replicate MAXRECORD 0) (replicate MAXRECORD 0)
 
--- a converter made with these two numbers has answered these calls, and shows what the bytes that they consumed complete. After a fault or
--- an accepted end that is all it has to keep: its other bytes are undecided (§15.2 §15.3)
+-- a converter made with these two numbers has answered these calls, and shows what the bytes that they consumed complete. After a fault
+-- or an accepted end nothing more is required of it: its other bytes are not determined (§15.2 §15.3)
 abbrev pub Represents : (source target : ℕ) → (past : List Entry) → Converter → Type 0
 Represents m n past = machine.Carries (Models (consumedIn past)) m n past
 
@@ -54,15 +54,15 @@ Represents m n past = machine.Carries (Models (consumedIn past)) m n past
 pub record CallContract (s : Converter) (c : Call) (out : List ℕ) (told : TextAnswer) (next : Converter) (out′ : List ℕ) : Type 0 where
   -- report and length are the ledger's
   pub answer : (m n : ℕ) (past : List Entry) → Represents m n past s → told ≡ textAnswer (answerNow m n past c)
-  -- each byte of the output is of the ledger's text or as it was
+  -- each byte of the output is of the ledger's text or unchanged
   pub leaves : (m n : ℕ) (past : List Entry) → Represents m n past s → out′ ≡ callLeaves (answerNow m n past c) out
   -- the next state has answered this call too
   pub carries :
       (m n : ℕ) (past : List Entry) → Represents m n past s → Represents m n (past ++ (record { call = c; answer = answerNow m n past c } ∷ [])) next
-  -- one of the four checks leaves the state as it was
+  -- a call that one of the four checks refuses leaves the state as it was
   pub unchanged : (m n : ℕ) (past : List Entry) → Represents m n past s → checked m n past c ≡ true → next ≡ s
-  -- what holds of any state, made by calls or not: the length is within the output, which is as long as it was; the state keeps its
-  -- dialects, and the four checks go by its numbers (§15.9)
+  -- for any state, made by calls or not: the length is within the output, whose own length does not change; the dialects of the state do
+  -- not change, and the four checks use its numbers (§15.9)
   pub within : told .length ≤ length out
   pub as-long : length out′ ≡ length out
   pub dialects : (next .source ≡ s .source) × (next .target ≡ s .target)

@@ -1,4 +1,4 @@
--- The stage of model's Machine at which a converter stands, by what it carries, and what it shows of the bytes consumed.
+-- The stage of model's machine that a converter represents by its fields, and what the fields show of the bytes consumed.
 use Prim.Native.Nat.{ℕ}
 use mathlib.Core.Path.{_≡_}
 use mathlib.Core.Option.{none, some}
@@ -21,9 +21,9 @@ use Rattle.piece_converter.specs.declared.Converter.{Converter}
 
 -- ---- what a state shows
 
--- Once these bytes were consumed a state shows the records that they complete before any fault, the header too: their number, the header's
--- columns, and its names as they are spelt. After a fault or an accepted end it still does; a last record that only the end completes is
--- not among them (§15.2)
+-- Once these bytes were consumed a state shows the records that they complete before any fault, the header too: their number, the
+-- header's columns, and its names as they are encoded. After a fault or an accepted end it still does; a last record that only the end
+-- completes is not among them (§15.2)
 pub record StateShows (d t : Dialect) (consumed : Bytes) (s : Converter) : Type 0 where
   pub records : s .records ≡ length (recordsOf (readBytes d (some (into t)) consumed))
   pub columns : s .columns ≡ columnsOf (recordsOf (readBytes d (some (into t)) consumed))
@@ -35,9 +35,9 @@ Unfaulted (taking r) = Unit {0}
 Unfaulted (faulted e) = ⊥
 Unfaulted ended = Unit {0}
 
--- ---- where it stands
+-- ---- the stage
 
--- a state that takes bytes, between these dialects, after the records `done` and with this kept of the current record (§15.2)
+-- a state that takes bytes, between these dialects, after the records `done` and with the buffered part k of the current record (§15.2)
 pub record Takes (d t : Dialect) (consumed : Bytes) (s : Converter) (done : List Rec) (k : Buffered) : Type 0 where
   pub hold :
       StateInvariant d (into t) (placeOf s) (currentIn (placeOf s) (s .names) (s .bytes)) (currentIn (placeOf s) (s .«name_ends») (s .ends)) done k
@@ -49,7 +49,7 @@ pub record Takes (d t : Dialect) (consumed : Bytes) (s : Converter) (done : List
   pub long-bytes : length (s .bytes) ≡ MAXRECORD
   pub long-ends : length (s .ends) ≡ MAXCOLUMNS
 
--- the stage of a converter that was made with its own two numbers; with a number that is no dialect it stands as after an end (§15.4)
+-- the stage of a converter that was made with these two numbers; with a number that is no dialect it is that after an end (§15.4)
 pub data StageOf (m n : ℕ) (consumed : Bytes) : ConverterStage → Converter → Type 0 where
   stage-taking :
       {s : Converter} {r : Read} (d t : Dialect) (done : List Rec) (k : Buffered) → dialectOf m ≡ some d → dialectOf n ≡ some t →
@@ -60,10 +60,10 @@ pub data StageOf (m n : ℕ) (consumed : Bytes) : ConverterStage → Converter �
   stage-no-source : {s : Converter} → dialectOf m ≡ none → StageOf m n consumed ended s
   stage-no-target : {s : Converter} → dialectOf n ≡ none → StageOf m n consumed ended s
 
--- A converter made with these two numbers stands at this stage after these bytes, and shows what they complete. As long as no fault was met
--- it counts them. Nothing else is decided after a fault or an accepted end: not `bytes` and `ends`, not `names` and `name_ends` behind those
--- of the header, not `state`, `start`, `size`, `fill`, `cells` and `written`, after a fault not `offset` and `ended`, and after an end of
--- `fault` the number alone is (§15.2 §15.5 §15.6)
+-- A converter made with these two numbers is at this stage after these bytes, and shows what they complete. As long as no fault was met
+-- it counts them. Nothing else is determined after a fault or an accepted end: not `bytes` and `ends`, not `names` and `name_ends` beyond
+-- those of the header, not `state`, `start`, `size`, `fill`, `cells` and `written`; after a fault not `offset` and `ended`; and after an
+-- end only the number of `fault` is (§15.2 §15.5 §15.6)
 pub record Models (consumed : Bytes) (m n : ℕ) (w : ConverterStage) (s : Converter) : Type 0 where
   pub source : s .source ≡ m
   pub target : s .target ≡ n

@@ -1,4 +1,4 @@
--- The numbers of a state, in a list or as its fields, as what they stand for.
+-- The numbers of a state, in a list or as fields, and what they encode.
 use Prim.Native.Nat.{ℕ}
 use mathlib.Core.List.{List, [], _∷_}
 use lib.ListN.{getD}
@@ -7,7 +7,7 @@ use Rattle.piece_state.specs.Codes.{stateNumber, stateFrom}
 use Rattle.piece_state.specs.declared.place.Place.{Place}
 use Rattle.piece_converter.specs.declared.Converter.{Converter}
 
--- where the conversion stands (§15.2)
+-- where the conversion is (§15.2)
 abbrev pub placeIn : List ℕ → Place
 placeIn n =
     record {
@@ -30,7 +30,7 @@ storedEnd n = getD n 9 0
 abbrev pub storedFault : List ℕ → Report
 storedFault n = record { number = getD n 10 0; record_number = getD n 11 0; column = getD n 12 0; offset = getD n 13 0 }
 
--- where the conversion stands, by the fields (§15.2)
+-- where the conversion is, by the fields (§15.2)
 abbrev pub placeOf : Converter → Place
 placeOf s =
     record {

@@ -1,4 +1,6 @@
-// The calls over a state that is lent field by field, so that nothing is copied.
+// The piece and end calls over a state that is lent field by field, so that nothing is copied. In: the state's numbers and arrays, and a
+// piece; out: the text of the records that it completes, a report, and the next state in place of the old one. Definition: `CallContract`
+// (specs/Contract.antt), the ledger's answer after any calls; proofs/Contract.antt has the argument for both calls.
 ghost use lib.ListN.{length};
 ghost use Rattle.model.specs.rules.Ledger.{piece, finish};
 ghost use Rattle.piece_converter.specs.Contract.{converterOf, CallContract};

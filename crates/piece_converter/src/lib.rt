@@ -1,8 +1,9 @@
-// The piece converter: a file comes in pieces, and what is between two of them is a state of plain numbers and bytes. The definition
-// is the ledger of model's specs/rules/Ledger.antt.
+// The piece converter: a file comes in pieces, and the state between two of them is plain numbers and bytes. The definition is the ledger
+// of model's specs/rules/Ledger.antt.
 //
-// The calls take the state by value and hand the next one back, or go over a state that is lent field by field (`lent`). No call asks
-// anything of the state: it may be any numbers and bytes.
+// The calls take the state by value and return the next one, or work on a state that is lent field by field (`lent`). No call requires
+// anything of the state: it may be any numbers and bytes. A new field of the state is also one of state.rt, of `converterOf` in
+// specs/Contract.antt, of include/hemakuliwi.h and of rust/hemakuliwi/src/raw.rs.
 ghost use mathlib.Core.Path.{_≡_};
 ghost use lib.ListN.{length};
 ghost use Rattle.model.specs.rules.Ledger.{piece, finish};
@@ -13,13 +14,13 @@ use model::Report;
 pub mod lent;
 pub mod state;
 
-// All of it is plain, so that it may be copied and stored, and any bytes are a state. Zeros are a converter of no dialect.
+// All fields are plain, so that a state may be copied and stored, and any bytes are a state. Zeros are a converter of no dialect.
 #[repr(C)]
 pub struct Converter {
     // The dialect numbers that it was made with.
     pub source: u32,
     pub target: u32,
-    // Where the conversion stands: reading, by the number of its state, and how many bytes were consumed.
+    // Where the conversion is: the reader's state by its number, and how many bytes were consumed.
     pub state: usize,
     pub offset: usize,
     // The current record: where it starts, how many of its bytes count, how many bytes of its cells are buffered in `bytes`, and how many of
@@ -43,7 +44,7 @@ pub struct Converter {
     pub names: [u8; 4096],
 }
 
-// What a call answers, and the state for the next one.
+// What a call returns, and the state for the next one.
 #[repr(C)]
 pub struct PieceAnswer {
     pub answer: TextAnswer,

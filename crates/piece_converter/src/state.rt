@@ -1,5 +1,6 @@
-// The numbers of a state that is lent, in the order and layout of the fields of a `Converter`: where the conversion stands, whether its end
-// was accepted, and the report of a fault that was met.
+// The numbers of a lent state, in the order and layout of the fields of a `Converter`: where the conversion is, whether its end was
+// accepted, and the report of a fault that was met. Definitions: specs/States.antt; `place-back` of proofs/Representation.antt is the
+// round trip.
 ghost use mathlib.Core.Path.{_≡_};
 ghost use Rattle.piece_converter.specs.States.{placeIn, storedFault, numbersOf};
 use model::Report;

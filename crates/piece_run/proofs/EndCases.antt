@@ -1,4 +1,4 @@
--- What the end of the file comes to, case by case.
+-- What the code does at the end of the file, case by case: it returns what the laws of the end say.
 use Prim.Native.Nat.{ℕ, suc, _+_, _≤_, _<_}
 use native.Mathlib.Omega.{arith}
 use native.Mathlib.Numerals.{add-one}
@@ -47,7 +47,7 @@ module _ (d : Dialect) (t : Target) (p : Place) (done : List Rec) (k : Buffered)
   pub finish-clean : readLast d t p done k ≡ going (readAt d p done k) → r .place ≡ p → r .report ≡ accepted → r .length ≡ 0 → Finished d t p done k out out r
   finish-clean e s g l = nothing-new (going (readAt d p done k)) e refl s g l
 
--- ---- the current cell joins the buffered ones
+-- ---- the current cell is appended
 
 last-bytes : (cs : List RawCell) (c : RawCell) → bufferedBytes (cs ++ (c ∷ [])) ≡ bufferedBytes cs ++ c .bytes
 unfolding bufferedBytes
@@ -82,7 +82,7 @@ last-order ends last fill h l =
 
 -- ---- a last record
 
--- its text ends in the output, whatever state it is of
+-- its text ends in the output, from any state
 pub last-room : {d : Dialect} {t : Target} {p : Place} {bytes ends out out′ : List ℕ} {end : ℕ} → CompleteSound d t p bytes ends 0 out out′ (Written end) → end ≤ length out
 last-room (not-encoded z w y) = let x : _≡_ {A = ℕ} 0 1 = cc in absurd (omega arith)
 last-room (ruled (is-written v l w e)) = omega arith

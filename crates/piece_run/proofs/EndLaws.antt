@@ -26,7 +26,7 @@ use Rattle.piece_record.specs.Completion.{faultAt, textAt}
 use Rattle.piece_step.proofs.Faults.{fault-start, report-start, report-byte, fault-of, text-of}
 
 module _ (d : Dialect) (t : Target) (p : Place) (done : List Rec) (k : Buffered) where
-  -- what the end of the file comes to
+  -- what the end of the file results in
   abbrev pub readLast : Progress
   readLast = readEnd d (some t) (going (readAt d p done k))
 
@@ -54,7 +54,7 @@ module _ (d : Dialect) (t : Target) (p : Place) (done : List Rec) (k : Buffered)
     reported : (x : Fault) → isAtByte x ≡ true → faultReport x (readAt d p done k) ≡ report (numberOf x) (p .records + 1) (columnOf x) (p .offset)
     reported x e = report-byte x (readAt d p done k) (p .records) e (sym (h .records))
 
-    -- in a record, or in a comment or the mark
+    -- in a record, or in a comment or the byte order mark
     pub cut-reads : fileEnd d (p .state) ≡ Cut → readLast ≡ stopped CutShort (readAt d p done k)
     cut-reads e = ends-as Cut e
 

@@ -1,4 +1,4 @@
--- A call over a piece: inside a cell it has no turns, and from the header's arrays it goes on in the others.
+-- A call over a piece: inside a cell it takes no steps, and after the header's step the run continues in the other arrays.
 use Prim.Native.Nat.{ℕ, _+_, _≤_, _<_}
 use native.Mathlib.Omega.{arith}
 use mathlib.Core.Path.{_≡_, refl, sym, ap, subst, _∙_}
@@ -31,7 +31,7 @@ use Rattle.piece_run.specs.PieceRun.{PieceRunSound, took-all, took-fault
 
 -- ---- a piece inside a cell
 
--- where it was told, nothing is left to be done
+-- where the fast path found it, no step is left
 pub cell-buffered :
     {d : Dialect} {t : Target} {piece : Bytes} {place : Place} {done : List Rec} {k : Buffered} {out bytes ends bytes′ : List ℕ} {r : InCellStep} {q : Place} {e : Report}
     (w : StepsSoFar d t piece place done k out 0 place bytes ends out 0) → InCellSound d piece place bytes ends bytes′ r → r ≡ cell.Buffered q → e ≡ accepted →
@@ -110,7 +110,7 @@ named-on : (file : Bytes) (names ends : List ℕ) (mid : List Rec) {rs : List Re
 named-on file names ends [] l n g = absurd (omega arith)
 named-on file names ends (x ∷ mid) l n g = subst (Named file names ends) (sym (g .sum)) n
 
--- until the header is complete, what is buffered of it is spelt as in the file
+-- until the header is complete, its buffered cells are encoded as in the file
 pub begun-follows :
     {d : Dialect} {t : Target} {before piece : Bytes} {p : Place} {names name-ends bytes ends out : List ℕ} {done : List Rec} {k : Buffered} → Begun d t before piece p names name-ends bytes ends out done k → p .records ≡ 0 →
     Follows (before ++ piece) piece 0 p k
@@ -120,7 +120,7 @@ begun-follows {before = before} {piece = piece} {p = p} {k = k} b none =
       kept = scan-grows before piece (scanAt p k) (b .heads .kept (sym (b .begins .hold .records) ∙ none));
     }
 
--- a step behind the header, whose names are where they stay
+-- a step after the header, whose names do not change
 pub record Headed (file : Bytes) (d : Dialect) (t : Target) (piece : Bytes) (place : Place) (done : List Rec) (k : Buffered) (out₀ names name-ends : List ℕ) (i : ℕ) (p : Place) (bytes ends out : List ℕ) (o : ℕ) : Type 0 where
   pub now : StepsSoFar d t piece place done k out₀ i p bytes ends out o
   pub behind : 1 ≤ length (now .done′)
@@ -168,7 +168,7 @@ module _ {d : Dialect} {t : Target} {piece : Bytes} {place : Place} {names name-
       let none : length (q .done) ≡ 0 = ap length f ∙ sym (b .hold .records) ∙ first in
       took-fault x q r (subst (CountsRecords place) (sym f) (record { records = b .hold .records; columns = b .hold .columns })) (named-none (before ++ piece) names′ name-ends′ (q .done) none) e (v ∙ w .text ∙ ap (λ (l : List Rec). over (newText t done l) out) (sym f)) (w .long ∙ ap (λ (l : List Rec). length (newText t done l)) (sym f))
 
--- the steps behind the header leave its names as they are
+-- the steps after the header do not change its names
 pub took-later :
     {d : Dialect} {t : Target} {before piece : Bytes} {place : Place} {done : List Rec} {k : Buffered} {out₀ names name-ends : List ℕ} {i : ℕ} {p : Place} {bytes ends out : List ℕ} {o : ℕ} {bytes′ ends′ out′ : List ℕ} {r : CallResult}
     (h : Headed (before ++ piece) d t piece place done k out₀ names name-ends i p bytes ends out o) → StepsSound d t piece place done k (h .now .done′) out₀ bytes′ ends′ out′ r → PieceRunSound d t before piece place done k out₀ names name-ends bytes′ ends′ out′ r

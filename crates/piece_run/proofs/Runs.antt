@@ -1,5 +1,5 @@
--- Step after step over a piece: what holds at each step, and how each way through a step keeps it. The room law of model's Room says that a
--- call never runs out of its output.
+-- Step after step over a piece: the loop's invariant, and how each result of a step preserves it. The room law of model's Room says that
+-- a call never runs out of output.
 use Prim.Native.Nat.{ℕ, _+_, _≤_, _<_}
 use native.Mathlib.Omega.{arith}
 use mathlib.Core.Path.{_≡_, refl, sym, ap, ap₂, subst, _∙_}
@@ -34,7 +34,7 @@ written-over new old text =
     let b : drop (length new + length text) (new ++ drop (length new) old) ≡ drop (length (new ++ text)) old = drop-append-add new (drop (length new) old) (length text) ∙ drop-drop (length text) (length new) old ∙ ap (λ (m : ℕ). drop m old) (sym (length-append new text)) in
     ap₂ (λ (x y : Bytes). x ++ (text ++ y)) a b ∙ sym (append-assoc new text (drop (length (new ++ text)) old))
 
--- ---- a step after another
+-- ---- one step after another
 
 unfoldable pub run-begins : {d : Dialect} {t : Target} {piece : Bytes} {place : Place} {bytes ends out : List ℕ} {done : List Rec} {k : Buffered} → CallStart d t piece place bytes ends out done k → StepsSoFar d t piece place done k out 0 place bytes ends out 0
 run-begins {t = t} {out = out} {done = done} {k = k} b =
@@ -48,7 +48,7 @@ run-begins {t = t} {out = out} {done = done} {k = k} b =
       long = rw (new-none t done);
     }
 
--- a step of a call that had come to the records `mid` when its turns began
+-- a step of a call that had completed the records `mid` when its steps began
 pub record Since (mid : List Rec) (d : Dialect) (t : Target) (piece : Bytes) (place : Place) (done : List Rec) (k : Buffered) (out₀ : Bytes) (i : ℕ) (p : Place) (bytes ends out : List ℕ) (o : ℕ) : Type 0 where
   pub now : StepsSoFar d t piece place done k out₀ i p bytes ends out o
   pub grows : Grows mid (now .done′)
@@ -82,7 +82,7 @@ module _ {d : Dialect} {t : Target} {piece : Bytes} {place : Place} {done : List
   unfoldable pub walk-on : {mid : List Rec} {q : Place} {at end : ℕ} {bytes′ ends′ out′ : List ℕ} → Grows mid (w .done′) → StepSound d t piece i p (w .done′) (w .k′) o out bytes′ ends′ out′ (Next q at end) → Since mid d t piece place done k out₀ at q bytes′ ends′ out′ end
   walk-on g (steps-next x k″ r h n v e) = walk-more g x k″ r h v e
 
-  -- the same where it was told
+  -- the same where the fast path found it
   pub walk-quickly : {mid : List Rec} {q : Place} {at end : ℕ} {out′ : List ℕ} {r : FastStep} → Grows mid (w .done′) → FastStepSound d t piece i p bytes ends (w .done′) (w .k′) o out out′ r → r ≡ quick.Next q at end → Since mid d t piece place done k out₀ at q bytes ends out′ end
   walk-quickly {mid} {q} {at} {end} {out′} g (a-record {q = q′} {at = at′} {end = end′} x k″ r h v e) z =
       let a : q′ ≡ q = cc in
@@ -96,7 +96,7 @@ module _ {d : Dialect} {t : Target} {piece : Bytes} {place : Place} {done : List
   pub walk-pends : {q : Place} {e : Report} {bytes′ ends′ out′ : List ℕ} → StepSound d t piece i p (w .done′) (w .k′) o out bytes′ ends′ out′ (NeedInput q) → InBounds q ends′ → e ≡ accepted → (mid : List Rec) → Grows mid (w .done′) → StepsSound d t piece place done k mid out₀ bytes′ ends′ out′ (record { place = q; report = e; length = o })
   walk-pends (steps-pending k″ r h z v) b e mid g = proceeds-all (w .done′) k″ g (w .reads ∙ r) h b e (v ∙ w .text) (w .long)
 
-  -- the place given back is the one of the step
+  -- the place that is returned is that of the step
   pub walk-stops : {e : Report} {bytes′ ends′ out′ : List ℕ} → StepSound d t piece i p (w .done′) (w .k′) o out bytes′ ends′ out′ (Failed e) → (mid : List Rec) → Grows mid (w .done′) → StepsSound d t piece place done k mid out₀ bytes′ ends′ out′ (record { place = p; report = e; length = o })
   walk-stops (steps-stopped x q r f e v) mid g =
       proceeds-fault x q (subst (Grows mid) (sym f) g) (w .reads ∙ r) (subst (CountsRecords p) (sym f) (record { records = w .hold .records; columns = w .hold .columns })) e (v ∙ w .text ∙ ap (λ (l : List Rec). over (newText t done l) out₀) (sym f)) (w .long ∙ ap (λ (l : List Rec). length (newText t done l)) (sym f))
@@ -113,9 +113,9 @@ module _ {d : Dialect} {t : Target} {piece : Bytes} {place : Place} {done : List
       let is-all : length (tableText t (rows (q .done))) ≡ length (tableText t (rows all)) = ap (λ (z : List Rec). length (tableText t (rows z))) f in
       absurd (omega (arith, b .room))
 
--- ---- a record that was told
+-- ---- a record of the fast path
 
--- where the run stands behind it
+-- the position of the run after it
 pub record Behind (piece : Bytes) (n i : ℕ) (out : List ℕ) (q : Place) (at end : ℕ) : Type 0 where
   pub bounds : (xs : List ℕ) → InBounds q xs
   pub place : q .offset ≡ n + at
@@ -142,7 +142,7 @@ fast-ready r = record { offset = r .bounds .offset; before = r .bounds .written;
 pub ready-fast : {piece : Bytes} {n i : ℕ} {q : Place} {at end : ℕ} {bytes ends out out′ : List ℕ} → Behind piece n i out q at end → length out′ ≡ length out → {p : Place} {o : ℕ} → StepReady piece n i p bytes ends out o → StepReady piece n at q bytes ends out′ end
 ready-fast {ends = ends} b l r = record { bounds = b .bounds ends; at = b .place; inside = b .inside; room = omega (arith, b .room); long-bytes = r .long-bytes; long-ends = r .long-ends }
 
--- where nothing was told, all is as it was
+-- after a fallback nothing has changed
 module _ {piece : Bytes} {i : ℕ} {p : Place} {bytes ends out out′ : List ℕ} {o : ℕ} (same : out′ ≡ out) where
   pub ready-still : {n : ℕ} → StepReady piece n i p bytes ends out o → StepReady piece n i p bytes ends out′ o
   ready-still {n} r = subst (λ (x : List ℕ). StepReady piece n i p bytes ends x o) (sym same) r

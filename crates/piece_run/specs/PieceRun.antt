@@ -1,4 +1,4 @@
--- What a call over a piece comes to: the report on reading its bytes, and the text of the records that it completed.
+-- What a call over a piece results in: the report on reading its bytes, and the text of the records that it completed.
 use Prim.Native.Nat.{ℕ}
 use mathlib.Core.Path.{_≡_}
 use mathlib.Core.Option.{some}
@@ -16,7 +16,7 @@ use Rattle.piece_step.specs.Invariant.{readAt, StateInvariant}
 use Rattle.piece_step.specs.Steps.{InBounds, currentIn}
 use Rattle.piece_step.specs.Calls.{Named, Heads, CountsRecords}
 
--- as the steps over the piece, with the header's names where they stay, also at a fault
+-- the steps over the piece are sound, and the header's names are buffered as they are encoded in the file, also after a fault (§15.2)
 pub data PieceRunSound (d : Dialect) (t : Target) (before piece : Bytes) (p : Place) (done : List Rec) (k : Buffered) (out names′ name-ends′ bytes′ ends′ out′ : List ℕ) (r : CallResult) : Type 0 where
   took-all :
       (done′ : List Rec) (k′ : Buffered) → readFrom d (some t) (going (readAt d p done k)) piece ≡ going (readAt d (r .place) done′ k′) →

@@ -1,4 +1,4 @@
--- Step after step over a piece: what holds at each, and what they come to.
+-- Step after step over a piece: the loop's invariant, and what the steps result in.
 use Prim.Native.Nat.{ℕ, _≤_}
 use mathlib.Core.Path.{_≡_}
 use mathlib.Core.Option.{some}
@@ -17,7 +17,7 @@ use Rattle.piece_step.specs.Invariant.{readAt, StateInvariant}
 use Rattle.piece_step.specs.Steps.{InBounds}
 use Rattle.piece_step.specs.Calls.{Reached, CountsRecords}
 
--- what holds at a step of a call that began with this output: where reading stands, and what was written
+-- the invariant at a step of a call that began with this output: the position of the reader, and the text that was written
 pub record StepsSoFar (d : Dialect) (t : Target) (piece : Bytes) (place : Place) (done : List Rec) (k : Buffered) (out₀ : Bytes) (i : ℕ) (p : Place) (bytes ends out : List ℕ) (o : ℕ) : Type 0 where
   pub done′ : List Rec
   pub k′ : Buffered
@@ -27,13 +27,13 @@ pub record StepsSoFar (d : Dialect) (t : Target) (piece : Bytes) (place : Place)
   pub text : out ≡ over (newText t done done′) out₀
   pub long : o ≡ length (newText t done done′)
 
--- the call began where earlier calls had come to, with sizes that are taken
+-- the call began where earlier calls ended, with a piece and an output of allowed sizes
 pub record Entered (d : Dialect) (t : Target) (piece : Bytes) (place : Place) (done : List Rec) (k : Buffered) (out₀ : Bytes) : Type 0 where
   pub reached : Reached d t (readAt d place done k)
   pub short : length piece ≤ MAXPIECE
   pub room : LEASTOUTPUT ≤ length out₀
 
--- what the steps come to after the records `mid`: reading goes on from the place that is given back; or it met a fault, and the place
+-- what the steps result in after the records `mid`: reading continues from the place that is returned; or it met a fault, and the place
 -- still counts the records before it
 pub data StepsSound (d : Dialect) (t : Target) (piece : Bytes) (place : Place) (done : List Rec) (k : Buffered) (mid : List Rec) (out₀ bytes′ ends′ out′ : List ℕ) (r : CallResult) : Type 0 where
   proceeds-all :

@@ -1,4 +1,5 @@
-// Whether a run from a state stays in bounds. Any state that a caller hands in is checked; one that calls made passes.
+// Whether a run from a state stays in bounds. In: any state a caller may pass; out: exactly `InBounds` (specs/Steps.antt of piece_step),
+// which every state that calls make satisfies.
 ghost use mathlib.Core.Path.{_≡_};
 ghost use mathlib.Core.Bool.{true};
 ghost use lib.ListN.{length};
@@ -10,7 +11,7 @@ use codes::MAX_RECORD;
 use piece_state::checks;
 use piece_state::place::Place;
 
-// Only ends that are buffered are checked: of a record with more cells than it may have none is.
+// Only ends that are buffered are checked: a record with more cells than it may have has none.
 fn is_buffered_in_bounds(p: Place, ends: &[usize]) -> bool
     requires { ⌜ length (now ends) ≡ MAXCOLUMNS ⌝ }
     ensures { λ r. ⌜ (r ≡ true → InBounds p (now (ends .entry))) ⌝ }
@@ -43,7 +44,7 @@ fn is_buffered_in_bounds(p: Place, ends: &[usize]) -> bool
     checks::is_in_order(ends, p.cells, p.fill)
 }
 
-// The same where the current ends are those of the header's names or of another record's cells.
+// The same for the current ends: those of the header's names, or of another record's cells.
 pub fn is_in_bounds(p: Place, name_ends: &[usize], ends: &[usize]) -> bool
     requires { ⌜ (length (now «name_ends») ≡ MAXCOLUMNS) × (length (now ends) ≡ MAXCOLUMNS) ⌝ }
     ensures { λ r. ⌜ (r ≡ true → InBounds p (currentIn p (now («name_ends» .entry)) (now (ends .entry)))) ⌝ }

@@ -1,4 +1,6 @@
-// The end of the file: between records, in the middle of one, or completing a last one with the current cell.
+// The end of a file that came in pieces: between records, in the middle of one, or completing a last one with the current cell. In: the
+// place and the buffered cells; out: a report, and the text of a last record. Definition: `Finished` (specs/Calls.antt of piece_step),
+// the end of model's reader; proofs/EndLaws.antt has a law for each case.
 ghost use mathlib.Core.Path.{_≡_};
 ghost use mathlib.Core.List.{List, []};
 ghost use Prim.Native.Nat.{_≤_};
@@ -20,7 +22,7 @@ use piece_record::RecordResult;
 use piece_state::place::Place;
 use piece_step::CallResult;
 
-// A fault at this place of the file.
+// Reports a fault at offset `at` of the file.
 fn fault_at(p: Place, e: Fault, at: usize) -> CallResult
     requires { ⌜ p .records ≤ MAXFILE ⌝ }
     ensures { λ r. ⌜ r ≡ failedAs p e at ⌝ }
@@ -32,7 +34,7 @@ fn fault_at(p: Place, e: Fault, at: usize) -> CallResult
     }
 }
 
-// The last record, with the current cell. Its cells may be as many as a record may have.
+// Completes the last record with the current cell. The buffered cells may already be as many as a record may have.
 fn last_record(
     d: Dialect,
     t: Dialect,
@@ -109,7 +111,7 @@ fn end_record(
     }
 }
 
-// The end. The header is buffered where its names stay, and once it is complete they are left as they are.
+// The end. The header is buffered in `names` and `name_ends`, and once it is complete they are not changed.
 pub fn end_file(
     d: Dialect,
     t: Dialect,

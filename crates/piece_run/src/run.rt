@@ -1,4 +1,6 @@
-// A piece: inside a cell, or step after step.
+// A call over a piece: inside a cell, or step by step. In: a piece, the place and the buffered cells; out: the text of the records it
+// completes, a report and the next place. Definition: `PieceRunSound` (specs/PieceRun.antt); proofs/PieceRun.antt joins the header's step
+// to the steps after it.
 ghost use mathlib.Core.List.{List};
 ghost use Prim.Native.Nat.{_≤_};
 ghost use lib.ListN.{length};
@@ -19,7 +21,7 @@ use piece_step::CallResult;
 use piece_step::PieceStep;
 use piece_step::in_cell::InCellStep;
 
-// A piece behind the header. The lists are filled with zeros only where they are needed.
+// A piece after the header. The scratch lists are zeroed only where they are needed.
 fn run_after_header(
     d: Dialect,
     t: Dialect,
@@ -56,7 +58,7 @@ fn run_after_header(
     )
 }
 
-// A piece. The header's cells are buffered where its names then stay, the other records' beside them.
+// A piece. The header's cells are buffered in `names` and `name_ends`, those of other records in `bytes` and `ends`.
 pub fn run_piece(
     d: Dialect,
     t: Dialect,

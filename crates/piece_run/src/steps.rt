@@ -1,4 +1,5 @@
-// Step after step over a piece, from record to record, up to its end or a fault.
+// Step after step over a piece, from record to record, up to its end or a fault. Definition: `StepsSound` (specs/Runs.antt), reading to
+// the end of the piece; proofs/Runs.antt has the loop's invariant, and a law for each result of a step.
 ghost use mathlib.Core.Path.{_≡_};
 ghost use mathlib.Core.List.{List};
 ghost use Prim.Native.Nat.{ℕ, _≤_};
@@ -15,7 +16,7 @@ use piece_step::CallResult;
 use piece_step::PieceStep;
 use piece_step::fast::FastStep;
 
-// What a call comes to, as one value.
+// The result of a call, as one value.
 pub fn call_result(place: Place, report: Report, length: usize) -> CallResult
     ensures { λ r. ⌜ r ≡ record { place = place; report = report; length = length } ⌝ }
 {
@@ -26,7 +27,7 @@ pub fn call_result(place: Place, report: Report, length: usize) -> CallResult
     }
 }
 
-// How long a record was that began and ended there. A state that no calls made may say that it ended first.
+// The length of a record from `start` to `end`. In a state that no calls made the end may come first.
 fn bytes_between(start: usize, end: usize) -> usize {
     if end < start {
         return 0;
@@ -34,8 +35,9 @@ fn bytes_between(start: usize, end: usize) -> usize {
     end - start
 }
 
-// The steps from i of the piece on, of which n bytes were consumed before, with so many bytes of the output written. A record is expected
-// to be as long as the one before it: where less of the piece is left, it will hardly end there, and would be gone over twice.
+// The steps from index `from` of the piece on, with `at` bytes of the output written; n bytes were consumed before the piece. A record is
+// expected to be as long as the one before it: where less of the piece is left it will hardly end there, and the fast path would only
+// scan it twice.
 pub fn run_steps(
     d: Dialect,
     t: Dialect,

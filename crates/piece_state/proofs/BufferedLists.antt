@@ -1,4 +1,4 @@
--- What the lists show, cell by cell, and what is buffered of it.
+-- Cells of the lists, one by one: the laws of the loops that buffer them and that store their starts and kinds.
 use Prim.Native.Nat.{ℕ, suc, _+_, _-_, _<_, _≤_}
 use native.Mathlib.Omega.{arith}
 use mathlib.Core.Path.{_≡_, refl, ap, ap₂}
@@ -14,9 +14,9 @@ use Rattle.buffer.specs.Writes.{written}
 use Rattle.buffer.proofs.WriteProgress.{drop-next, Writing, start, put, here, store, room-left, done, filled}
 use Rattle.piece_state.specs.CurrentRecord.{rawCellIn, rawCellsIn, rawCellsAt, SpansIn, kindsAt}
 
--- ---- a place more
+-- ---- one index more
 
--- what a list shows from place k up to n begins with the element there
+-- the elements from index k up to n begin with the one at k
 shown-next : (xs : List ℕ) (k n : ℕ) → k < n → n ≤ length xs → take (n - k) (drop k xs) ≡ getD xs k 0 ∷ take (n - (k + 1)) (drop (k + 1) xs)
 shown-next xs k n h l =
     let m : n - k ≡ suc (n - (k + 1)) = omega arith in
@@ -31,7 +31,7 @@ module _ (bytes : Bytes) (starts stops : List ℕ) where
   unfolding rawCellsIn
   cells-end k n h = let z : n - k ≡ 0 = omega arith in rw z
 
--- there are no more cells than places
+-- there are no more cells than elements
 cells-least : (bytes : Bytes) (starts stops : List ℕ) → length (rawCellsIn bytes starts stops) ≤ length starts
 unfolding rawCellsIn
 cells-least bytes [] stops = omega arith
@@ -43,9 +43,9 @@ unfolding bufferedEnds
 ends-count o [] = refl
 ends-count o (c ∷ cs) = ap suc (ends-count (o + length (c .bytes)) cs)
 
--- ---- keeping cells
+-- ---- buffering cells
 
--- cells of the lists are being kept, from `from` on: those from k on are still to come, and `at` bytes are buffered
+-- cells of the lists are being buffered, from index `from` on: those from k on are pending, and `at` bytes are buffered
 pub record Preserving (piece : Bytes) (starts stops : List ℕ) (from n : ℕ) (bytes₀ : Bytes) (fill : ℕ) (ends₀ : List ℕ) (bytes : Bytes) (ends : List ℕ) (k at : ℕ) : Type 0 where
   pub lower : from ≤ k
   pub upper : k ≤ n
@@ -110,7 +110,7 @@ module _ {piece : Bytes} {starts stops : List ℕ} {from n : ℕ} {bytes₀ : By
 
 -- ---- starts
 
--- the starts from place k on are being put down: `at` is the next
+-- the starts from index k on are being stored: `at` is the next
 pub record Starting (ends : List ℕ) (n : ℕ) (starts₀ starts : List ℕ) (k at : ℕ) : Type 0 where
   pub upper : k ≤ n
   pub in-ends : n ≤ length ends
@@ -141,7 +141,7 @@ module _ {ends : List ℕ} {n : ℕ} {starts₀ : List ℕ} where
 
 -- ---- kinds
 
--- the numbers of the kinds of the cells from place k up to n
+-- the numbers of the kinds of the cells at indices k up to n
 abbrev pub kindsFrom : Dialect → Bytes → (starts ends : List ℕ) → (k n : ℕ) → List ℕ
 kindsFrom d bytes starts ends k n = kindsOf (valuesIn d bytes (take (n - k) (drop k starts)) (take (n - k) (drop k ends)))
 
@@ -151,7 +151,7 @@ kinds-least d bytes [] ends = omega arith
 kinds-least d bytes (i ∷ starts) [] = omega arith
 kinds-least d bytes (i ∷ starts) (j ∷ ends) = omega (arith, kinds-least d bytes starts ends)
 
--- the kinds from place k on are being put down
+-- the kinds from index k on are being stored
 pub record Sorting (d : Dialect) (bytes : Bytes) (starts ends : List ℕ) (n : ℕ) (kinds₀ kinds : List ℕ) (k : ℕ) : Type 0 where
   pub upper : k ≤ n
   pub stand : SpansIn bytes starts ends 0 n

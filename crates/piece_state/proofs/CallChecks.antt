@@ -1,4 +1,4 @@
--- The checks before a call are the machine's: by what is carried they refuse what it refuses, and take what it takes.
+-- The checks before a call are the machine's: by the saved numbers they refuse what it refuses, and take what it takes.
 use Prim.Native.Nat.{ℕ}
 use mathlib.Core.Path.{_≡_, refl, ap, ap₂, _∙_}
 use mathlib.Core.Bool.{Bool, true, false}

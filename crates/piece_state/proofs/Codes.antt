@@ -1,4 +1,5 @@
--- Each state comes back from its number: by computation where nothing is held, and otherwise since its row has room for what is held.
+-- The number of a state decodes to that state: by computation where it has no argument, and otherwise since its row has room for the
+-- argument's number.
 use Prim.Native.Nat.{ℕ, _+_, _-_, _≤_, _<_}
 use native.Mathlib.Omega.{arith}
 use mathlib.Core.Path.{_≡_, refl, ap, _∙_}
@@ -82,7 +83,7 @@ cell-small (Hex h) = omega (arith, hex-small h)
 cell-small (InNumber m) = omega (arith, numeral-small m)
 cell-small (InWord w) = omega (arith, word-small w)
 
--- ---- and back
+-- ---- decoding
 
 char-back : (t : Char) → charFrom (charNumber t) ≡ t
 unfolding charFrom innerFrom leadFrom if_then_else_

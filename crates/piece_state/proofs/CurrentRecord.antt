@@ -1,4 +1,4 @@
--- The laws of the current record: what the buffered bytes and ends mean, and what becomes of them as cells of a part join them.
+-- The laws of the current record: what the buffered bytes and ends mean, and how they change as cells of a part are appended.
 use Prim.Native.Nat.{ℕ, zero, suc, _+_, _-_, _<_, _≤_}
 use native.Mathlib.Omega.{arith}
 use mathlib.Core.Path.{_≡_, refl, sym, ap, ap₂, _∙_}
@@ -21,9 +21,9 @@ use Rattle.buffer.specs.Writes.{written}
 use Rattle.piece_state.specs.CurrentRecord.{rawCellIn, rawCellsIn, rawCellsAt, Shows, SpansIn, kindsAt, CurrentRecord, ProceedsOn, nothing-open, first-proceeds-on}
 use Rattle.piece_state.proofs.BufferedLists.{ends-count}
 
--- ---- the cells that the lists show
+-- ---- the cells of the lists
 
--- lists of the places of cells show those cells
+-- lists of the spans of cells hold those cells
 shown-cells : (bytes : Bytes) (cs : List RawCell) → All (SpanIn bytes) cs → rawCellsIn bytes (map (λ (c : RawCell). c .from) cs) (map (λ (c : RawCell). c .upto) cs) ≡ cs
 unfolding rawCellsIn
 shown-cells bytes [] all-none = refl
@@ -34,7 +34,7 @@ shown-cells bytes (c ∷ cs) (all-cons h hs) =
 pub shown-are : {bytes : Bytes} {starts stops : List ℕ} {from n : ℕ} {cs : List RawCell} → Shows bytes starts stops from n cs → rawCellsAt bytes starts stops from n ≡ cs
 shown-are {bytes} {cs = cs} h = ap₂ (rawCellsIn bytes) (h .starts-shown) (h .stops-shown) ∙ shown-cells bytes cs (h .standing)
 
--- cells that stand in the bytes, by their places
+-- cells that lie in the bytes, by their spans
 span-at : (bytes : Bytes) (cs : List RawCell) → All (SpanIn bytes) cs → (i : ℕ) → i < length cs → (getD (map (λ (c : RawCell). c .from) cs) i 0 ≤ getD (map (λ (c : RawCell). c .upto) cs) i 0) × (getD (map (λ (c : RawCell). c .upto) cs) i 0 ≤ length bytes)
 span-at bytes [] all-none i l = absurd (omega arith)
 span-at bytes (c ∷ cs) (all-cons h hs) zero l = (h .forward, h .within)
@@ -66,7 +66,7 @@ take-before (suc n) o l = ap (λ (l : List ℕ). o ∷ l) (take-take n (suc n) l
 pub buffered-starts : (ends : List ℕ) (cs : List RawCell) → take (length cs) ends ≡ bufferedEnds 0 cs → take (length cs) (0 ∷ ends) ≡ bufferedStarts 0 cs
 buffered-starts ends cs e = sym (take-before (length cs) 0 ends) ∙ ap (λ (l : List ℕ). take (length cs) (0 ∷ l)) e ∙ starts-by-ends 0 cs
 
--- what `starts_of` leaves shows them
+-- the starts that `starts_of` stores are theirs
 pub starts-shown : (ends starts : List ℕ) (cs : List RawCell) → length cs ≤ length ends → take (length cs) ends ≡ bufferedEnds 0 cs → take (length cs) (over (take (length cs) (0 ∷ ends)) starts) ≡ bufferedStarts 0 cs
 starts-shown ends starts cs h e =
     let n : length (take (length cs) (0 ∷ ends)) ≡ length cs = rw length-take (omega arith) in
@@ -74,7 +74,7 @@ starts-shown ends starts cs h e =
     let shown : take (length cs) (over new starts) ≡ new = take-at new (drop (length new) starts) (length cs) n in
     shown ∙ buffered-starts ends cs e
 
--- ---- what is buffered means the cells
+-- ---- the buffered bytes mean the cells
 
 pub nothing-buffered : (bytes : Bytes) (ends : List ℕ) → CurrentRecord bytes 0 ends [] []
 unfolding bufferedBytes bufferedEnds
@@ -86,7 +86,7 @@ module _ {bytes : Bytes} {fill : ℕ} {ends : List ℕ} {cells : List RawCell} {
       let whole : bufferedBytes cells ++ (raw ++ drop fill bytes) ≡ bytes = sym (append-assoc (bufferedBytes cells) raw (drop fill bytes)) ∙ ap (λ (l : Bytes). l ++ drop fill bytes) (sym (h .held)) ∙ take-append-drop fill bytes in
       rw whole at (buffered-cells d [] (raw ++ drop fill bytes) cells)
 
-  -- as long as what is buffered
+  -- the bytes of the cells are as many as are buffered
   fill-fits : fill ≤ length bytes
   fill-fits = omega (arith, length-take fill bytes, ap length (h .held), length-append (bufferedBytes cells) raw, h .filled)
 
@@ -100,16 +100,16 @@ same-kinds (and-cell e es) = ap₂ (λ (n : ℕ) (l : List ℕ). n ∷ l) (ap ki
 pub hand-kinds : {bytes : Bytes} {fill : ℕ} {ends : List ℕ} {cells : List RawCell} {raw : Bytes} (d : Dialect) (starts : List ℕ) → CurrentRecord bytes fill ends cells raw → take (length cells) starts ≡ bufferedStarts 0 cells → kindsAt d bytes starts ends (length cells) ≡ kindsOf (map (valueOf d) cells)
 hand-kinds {bytes} d starts h e = ap₂ (λ (ss es : List ℕ). kindsOf (valuesIn d bytes ss es)) e (h .ended) ∙ same-kinds (hand-values h d)
 
--- ---- more is buffered
+-- ---- appending
 
--- what is written after what is buffered stands after it
+-- what is written after the buffered bytes follows them
 pub take-written : (l : List ℕ) (at : ℕ) (w : List ℕ) → at ≤ length l → take (at + length w) (written l at w) ≡ take at l ++ w
 take-written l at w h =
     let n : length (take at l ++ w) ≡ at + length w = simp (length-append, length-take) (omega arith) in
     let e : take at l ++ (w ++ drop (at + length w) l) ≡ take at l ++ w ++ drop (at + length w) l = sym (append-assoc (take at l) w (drop (at + length w) l)) in
     ap (take (at + length w)) e ∙ take-at (take at l ++ w) (drop (at + length w) l) (at + length w) n
 
--- bytes of the open cell are buffered
+-- bytes of the open cell are appended
 pub buffered-open : {bytes : Bytes} {fill : ℕ} {ends : List ℕ} {cells : List RawCell} {raw : Bytes} (rest : Bytes) → CurrentRecord bytes fill ends cells raw → CurrentRecord (written bytes fill rest) (fill + length rest) ends cells (raw ++ rest)
 buffered-open {bytes} {fill} {ends} {cells} {raw} rest h =
     record {
@@ -118,7 +118,7 @@ buffered-open {bytes} {fill} {ends} {cells} {raw} rest h =
       ended = h .ended;
     }
 
--- ---- cells that join
+-- ---- cells that continue the open one
 
 bytes-append : (xs ys : List RawCell) → bufferedBytes (xs ++ ys) ≡ bufferedBytes xs ++ bufferedBytes ys
 unfolding bufferedBytes
@@ -148,7 +148,7 @@ module _ (k : Buffered) (began : ℕ) where
   none-ends o [] e = refl
   none-ends o (c ∷ cs) e = rw (same-bytes c e) (ap (λ (l : List ℕ). (o + length (c .bytes)) ∷ l) (none-ends (o + length (c .bytes)) cs e))
 
-  -- a cell that began later stays as it is
+  -- a cell that began later does not change
   later-same : (cs : List RawCell) → All (λ (x : RawCell). began < x .from) cs → map (joinedCell k began) cs ≡ cs
   unfolding joinedCell if_then_else_
   later-same [] all-none = refl
@@ -158,7 +158,7 @@ module _ (k : Buffered) (began : ℕ) where
   unfolding joinedCell if_then_else_
   first-joined c e = rw (eq-eqb (c .from) began e)
 
-  -- the bytes of cells that join are what is buffered of the open one, and then theirs
+  -- the bytes of joined cells are the buffered ones of the open cell, and then theirs
   joined-bytes : (cs : List RawCell) → ProceedsOn k began cs → bufferedBytes (map (joinedCell k began) cs) ≡ k .raw ++ bufferedBytes cs
   unfolding bufferedBytes
   joined-bytes cs (nothing-open e) = none-bytes cs e ∙ ap (λ (l : Bytes). l ++ bufferedBytes cs) (sym e)
@@ -174,7 +174,7 @@ module _ (k : Buffered) (began : ℕ) where
       let same : o + length (k .raw ++ c .bytes) ≡ o + length (k .raw) + length (c .bytes) = omega (arith, length-append (k .raw) (c .bytes)) in
       rw (first-joined c e, later-same cs later, same)
 
--- cells of a part join what is buffered: the current record is theirs and what came before, with no cell open
+-- cells of a part are appended: the current record has these after the earlier ones, and no open cell
 pub buffered-more : {bytes : Bytes} {fill : ℕ} {ends : List ℕ} (k : Buffered) (began : ℕ) (cs : List RawCell) → CurrentRecord bytes fill ends (k .cells) (k .raw) → ProceedsOn k began cs → length (k .cells) ≤ length ends → CurrentRecord (written bytes fill (bufferedBytes cs)) (fill + length (bufferedBytes cs)) (written ends (length (k .cells)) (bufferedEnds fill cs)) (joinedCells k began cs) []
 buffered-more {bytes} {fill} {ends} k began cs h g l =
     let old = k .cells in

@@ -1,4 +1,4 @@
--- What a true answer of a check gives, and where it is true.
+-- The checks of a saved state, as propositions: what a true result gives, and that a state with these facts passes.
 use Prim.Native.Nat.{ℕ, suc, _+_, _-_, _<_, _≤_}
 use native.Mathlib.Omega.{arith}
 use mathlib.Core.Path.{_≡_, refl, ap, _∙_}
@@ -14,7 +14,7 @@ use Rattle.buffer.proofs.WriteProgress.{drop-next}
 use Rattle.piece_state.specs.declared.place.Place.{Place}
 use Rattle.piece_state.specs.Sound.{bufferedInRecord, inOrder, InOrder, order-end, order-next}
 
--- ---- ends in order
+-- ---- ends ascend
 
 pub ordered : (at : ℕ) (es : List ℕ) (fill : ℕ) → inOrder at es fill ≡ true → InOrder at es fill
 unfolding inOrder
@@ -28,7 +28,7 @@ is-ordered at (e ∷ es) fill (order-next h hs) = rw (le-leb at e h) (is-ordered
 
 -- ---- the loop
 
--- the ends from place k up to n are still to be looked at
+-- the ends from index k up to n are still to be checked
 abbrev pub orderFrom : (ends : List ℕ) → (n fill k at : ℕ) → Bool
 orderFrom ends n fill k at = inOrder at (take (n - k) (drop k ends)) fill
 

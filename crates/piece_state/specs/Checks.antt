@@ -1,4 +1,4 @@
--- What a call is answered before anything is read, by what is carried, and where a converter of model stands that carries this.
+-- The checks before a call, by the saved numbers, and the stage of model's machine that these numbers encode.
 use Prim.Native.Nat.{ℕ, _<_}
 use mathlib.Core.Path.{_≡_}
 use mathlib.Core.Bool.{true, false, _||_}
@@ -38,19 +38,19 @@ checkNow m n fault over piece room = checkNamed (dialectOf m) (dialectOf n) faul
 
 -- ---- the stage of a converter
 
--- these two tell the stage: a fault that was met has a number, and the flag is 0 until an end is accepted
+-- how these two encode the stage: a fault that was met has a number above 0, and the flag is 0 until an end is accepted (§15.5 §15.6)
 pub data StageEncoded : ConverterStage → (fault : Report) → (ended : ℕ) → Type 0 where
   reports-taking : {r : Read} {fault : Report} → fault .number ≡ 0 → StageEncoded (taking r) fault 0
   reports-faulted : {e : Report} {over : ℕ} → 0 < e .number → StageEncoded (faulted e) e over
   reports-ended : {fault : Report} {over : ℕ} → fault .number ≡ 0 → 0 < over → StageEncoded ended fault over
 
--- what a check means for a call at this stage: the machine's answer, from which it does not move; or the call is taken
+-- what a check result means for a call at this stage: the machine's answer, which leaves the stage as it is; or the call is taken
 pub data CallCheckSound (d t : Dialect) (w : ConverterStage) (c : Call) : CallCheck → Type 0 where
   means-refused :
       {e : Report} → answerAt d (into t) w c ≡ unwritten e → checkedAt w c ≡ true → stageAfter d (into t) w c ≡ w → CallCheckSound d t w c (Refused e)
   means-taken : (r : Read) → w ≡ taking r → tooSmall c ≡ false → CallCheckSound d t w c (Proceed d t)
 
--- the checks are those of the machine
+-- the check results are the machine's (§15.4 §15.5 §15.6 §15.7)
 abbrev pub ChecksMean : Type 0
 ChecksMean =
     (m n : ℕ) (d t : Dialect) (w : ConverterStage) (fault : Report) (over : ℕ) (c : Call) → dialectOf m ≡ some d → dialectOf n ≡ some t →

@@ -1,4 +1,4 @@
--- States as numbers. Every state has its number, and any number stands for some state, that of its own for the number of a state.
+-- Lexer states as numbers. Every state has a number of its own, and every number decodes to some state.
 use Prim.Native.Nat.{ℕ, _+_, _-_}
 use mathlib.Core.Path.{_≡_}
 use lib.Dec.{ltb}
@@ -124,7 +124,7 @@ wordFrom n =
     else if n is 9 then Nul
     else Backslash
 
--- what holds something has a row of sixteen numbers
+-- a state with an argument has a row of sixteen numbers
 abbrev pub cellNumber : Cell → ℕ
 cellNumber Fresh = 0
 cellNumber Closed = 1
@@ -189,6 +189,6 @@ stateFrom n =
     else if ltb n 32 then Comment (charFrom (n - 16))
     else Inside (cellFrom (n - 32))
 
--- each state comes back from its number
+-- the number of a state decodes to that state
 abbrev pub StateBack : Type 0
 StateBack = (f : FileState) → stateFrom (stateNumber f) ≡ f

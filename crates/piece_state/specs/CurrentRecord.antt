@@ -1,5 +1,5 @@
--- The current record between calls: the raw bytes of its cells one after another, where each complete one ends, and then those of
--- the open one. An end is also the next start.
+-- The current record between calls: the raw bytes of its complete cells one after another, where each of them ends, and the bytes of the
+-- open cell. An end is also the next start.
 use Prim.Native.Nat.{ℕ, _+_, _-_, _<_, _≤_}
 use mathlib.Core.Path.{_≡_}
 use mathlib.Core.List.{List, [], _∷_, _++_, map}
@@ -13,7 +13,7 @@ use Rattle.model.specs.laws.Places.{SpanIn, valuesIn, bufferedBytes, bufferedEn
 
 -- ---- cells in lists
 
--- the cell that stands in these bytes from `from` up to `upto`
+-- the cell of these bytes from `from` up to `upto`
 abbrev pub rawCellIn : Bytes → (from upto : ℕ) → RawCell
 rawCellIn bytes i j = record { from = i; upto = j; bytes = slice bytes i j }
 
@@ -23,17 +23,17 @@ rawCellsIn bytes [] stops = []
 rawCellsIn bytes (i ∷ starts) [] = []
 rawCellsIn bytes (i ∷ starts) (j ∷ stops) = rawCellIn bytes i j ∷ rawCellsIn bytes starts stops
 
--- the cells that stand at places `from` up to n of these lists
+-- the cells at indices `from` up to n of these lists
 abbrev pub rawCellsAt : Bytes → (starts stops : List ℕ) → (from n : ℕ) → List RawCell
 rawCellsAt bytes starts stops from n = rawCellsIn bytes (take (n - from) (drop from starts)) (take (n - from) (drop from stops))
 
--- the lists show these cells at places `from` up to n
+-- the lists hold the spans of these cells at indices `from` up to n
 pub record Shows (bytes : Bytes) (starts stops : List ℕ) (from n : ℕ) (cs : List RawCell) : Type 0 where
   pub starts-shown : take (n - from) (drop from starts) ≡ map (λ (c : RawCell). c .from) cs
   pub stops-shown : take (n - from) (drop from stops) ≡ map (λ (c : RawCell). c .upto) cs
   pub standing : All (SpanIn bytes) cs
 
--- there are n places in either list, and cells from place `from` on stand in these bytes
+-- both lists have n elements, and the spans from index `from` on lie in these bytes
 pub record SpansIn (bytes : Bytes) (starts stops : List ℕ) (from n : ℕ) : Type 0 where
   pub in-starts : n ≤ length starts
   pub in-stops : n ≤ length stops
@@ -48,13 +48,13 @@ kindsAt d bytes starts ends n = kindsOf (valuesIn d bytes (take n starts) (take 
 
 -- ---- the current record
 
--- so many bytes are buffered, of these complete cells and of the open one, and the ends of the complete ones
+-- `fill` bytes are buffered, those of these complete cells and `raw` of the open one, and the ends of the complete cells
 pub record CurrentRecord (bytes : Bytes) (fill : ℕ) (ends : List ℕ) (cells : List RawCell) (raw : Bytes) : Type 0 where
   pub held : take fill bytes ≡ bufferedBytes cells ++ raw
   pub filled : fill ≡ length (bufferedBytes cells) + length raw
   pub ended : take (length cells) ends ≡ bufferedEnds 0 cells
 
--- of the cells that ended in a part only the first goes on with what is buffered of the open one; where nothing is buffered of it, none has to
+-- of the cells that ended in a part only the first continues the buffered open cell; where nothing of one is buffered, none has to
 pub data ProceedsOn (k : Buffered) (began : ℕ) : List RawCell → Type 0 where
   nothing-open : {cs : List RawCell} → k .raw ≡ [] → ProceedsOn k began cs
   first-proceeds-on : {c : RawCell} {cs : List RawCell} → c .from ≡ began → All (λ (x : RawCell). began < x .from) cs → ProceedsOn k began (c ∷ cs)

@@ -1,5 +1,6 @@
-// The current record between calls: the raw bytes of its cells one after another in one array, and where each complete cell ends.
-// An end is also the next start, so that starts are not carried.
+// The current record between calls. In: spans of cells that the scanner found in a piece; out: their raw bytes one after another in one
+// array, and where each complete cell ends. An end is also the next start, so no starts are saved. Definitions: specs/CurrentRecord.antt;
+// the loops are proved by proofs/BufferedLists.antt. Another layout is also one for piece_record and piece_step.
 ghost use mathlib.Core.Path.{_≡_};
 ghost use mathlib.Core.List.{_∷_};
 ghost use Prim.Native.Nat.{_+_, _≤_};
@@ -11,8 +12,8 @@ ghost use Rattle.piece_state.specs.CurrentRecord.{rawCellsAt, SpansIn, k
 use codes::cell;
 use model::Dialect;
 
-// The cells at places `from` up to n of the lists, which ended in this piece, join the buffered bytes, and where each ends then joins the
-// ends. How many bytes are buffered now.
+// Appends the cells at indices `from` up to n of the lists, which ended in this piece, to the buffered bytes, and where each of them ends
+// then to `ends`. Returns how many bytes are buffered.
 pub fn buffer_cells(
     piece: &[u8],
     starts: &[usize],
@@ -42,7 +43,7 @@ pub fn buffer_cells(
     at
 }
 
-// The bytes of the cell that is still open join the buffered ones. How many are buffered now.
+// Appends the bytes of the cell that is still open. Returns how many bytes are buffered.
 pub fn buffer_open(rest: &[u8], bytes: &mut [u8], fill: usize) -> usize
     requires { ⌜ fill + length (now rest) ≤ length (now bytes) ⌝ }
     ensures { λ r. ⌜ (r ≡ fill + length (now (rest .entry)))
@@ -51,7 +52,7 @@ pub fn buffer_open(rest: &[u8], bytes: &mut [u8], fill: usize) -> usize
     buffer::copy(bytes, fill, rest)
 }
 
-// The starts of n buffered cells: 0, and each end but the last.
+// Stores the starts of n buffered cells: 0, and each end but the last.
 pub fn starts_of(ends: &[usize], n: usize, starts: &mut [usize])
     requires { ⌜ (n ≤ length (now ends)) × (n ≤ length (now starts)) ⌝ }
     ensures { λ r. ⌜ now (starts .exit) ≡ over (take n (0 ∷ now (ends .entry))) (now (starts .entry)) ⌝ }
@@ -65,7 +66,7 @@ pub fn starts_of(ends: &[usize], n: usize, starts: &mut [usize])
     }
 }
 
-// The numbers of the kinds of n cells.
+// Stores the numbers of the kinds of n cells.
 pub fn kinds_of(
     d: Dialect,
     bytes: &[u8],

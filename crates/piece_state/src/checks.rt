@@ -1,5 +1,7 @@
-// The checks before a call: the four of the rules in their order (§15.4 to §15.7), and whether ends stand in order and cells are buffered only
-// in a record, which a run over a piece needs to stay in bounds.
+// The checks before a call, in the rules' order (§15.4 to §15.7), and two checks of a saved state, which keep a run over a piece in
+// bounds: ends ascend, and cells are buffered only in a record. In: the saved numbers and the sizes of a call; out: a refusal, or the two
+// dialects. Definitions: specs/Checks.antt and specs/Sound.antt. A new check is proved in proofs/CallChecks.antt, and then
+// piece_converter again.
 ghost use mathlib.Core.Path.{_≡_};
 ghost use Prim.Native.Nat.{_≤_};
 ghost use lib.ListN.{length, take};
@@ -12,14 +14,14 @@ use model::Dialect;
 use model::FileState;
 use model::Report;
 
-// What a call is answered before anything is read: a refusal or a fault that was met before; or it is taken, between these two.
+// The result of the checks before anything is read: a refusal, which may repeat an earlier fault; or the call proceeds, between these two
+// dialects.
 pub enum CallCheck {
     Refused(Report),
     Proceed(Dialect, Dialect),
 }
 
-// The checks of a call between two known dialects. The number of `fault` is 0 until a fault is met, and `ended` is 0 until an end is
-// accepted.
+// The checks of a call between two known dialects. `fault.number` is 0 until a fault is met, and `ended` is 0 until an end is accepted.
 fn check_between(
     d: Dialect,
     t: Dialect,
@@ -45,7 +47,7 @@ fn check_between(
     CallCheck::Proceed(d, t)
 }
 
-// The four checks. Dialect numbers are carried as callers give them, in 32 bits, and are looked up at each call.
+// The four checks. Dialect numbers are saved as callers give them, in 32 bits, and are looked up at each call.
 pub fn check_call(
     source: u32,
     target: u32,
@@ -67,7 +69,7 @@ pub fn check_call(
 
 // ---- staying in bounds
 
-// Whether the first n ends stand in order, up to `fill`.
+// Whether the first n ends ascend, up to `fill`.
 pub fn is_in_order(ends: &[usize], n: usize, fill: usize) -> bool
     requires { ⌜ n ≤ length (now ends) ⌝ }
     ensures { λ r. ⌜ r ≡ inOrder 0 (take n (now (ends .entry))) fill ⌝ }
@@ -105,7 +107,7 @@ pub fn in_record(f: FileState) -> bool
     }
 }
 
-// Whether cells are buffered only where a record is in hand: elsewhere its size may start anew, and would say nothing of what is buffered.
+// Whether cells are buffered only in a record: outside of one `size` may restart at 0, and would say nothing about what is buffered.
 pub fn is_buffered_in_record(p: Place) -> bool
     ensures { λ r. ⌜ r ≡ bufferedInRecord p ⌝ }
 {

@@ -1,4 +1,5 @@
-// Where a conversion stands between two calls, as numbers.
+// Where a conversion is between two calls, as numbers. `StateInvariant` (specs/Invariant.antt of piece_step) says which position of the
+// reader they represent: a new field belongs there too, and in the numbers of piece_converter's state.rt.
 ghost use mathlib.Core.Path.{_≡_};
 ghost use Rattle.piece_state.specs.Sound.{atStart};
 use model::FileState;

@@ -1,5 +1,5 @@
-// States as numbers, so that what is carried is plain numbers: any number is some state, and each state comes back from its own. The
-// definitions are those of specs/Codes.antt, and `state-back` of proofs/Codes.antt is the law.
+// Lexer states as numbers, so that a saved state is plain numbers. Every number decodes to some state, and the number of a state to that
+// state. Definitions: specs/Codes.antt. A new state needs a number of its own, and `state-back` of proofs/Codes.antt again.
 ghost use mathlib.Core.Path.{_≡_};
 ghost use Rattle.piece_state.specs.Codes.{leadNumber, leadFrom, innerNumber, innerFrom, charNumber, charFrom, hexNumber, hexFrom, numeralNumber, numeralFrom, wordNumber, wordFrom, cellNumber, fixedCell, cellFrom, stateNumber, fixedState, stateFrom};
 use model::Cell;

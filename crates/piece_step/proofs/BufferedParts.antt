@@ -1,4 +1,4 @@
--- What is buffered, as the code keeps it: cells of a part join the buffered ones in the part of an array behind them.
+-- How the code appends cells: it writes them into the slice of an array after the buffered ones. The ends still ascend, and all fits.
 use Prim.Native.Nat.{ℕ, zero, suc, _+_, _-_, _≤_}
 use native.Mathlib.Omega.{arith}
 use mathlib.Core.Path.{_≡_, refl, sym, ap, ap₂, _∙_}
@@ -20,7 +20,7 @@ drop-over n [] h = drop-nil n
 drop-over zero (x ∷ l) h = absurd (omega arith)
 drop-over (suc n) (x ∷ l) h = drop-over n l (omega arith)
 
--- a list written from its place `at` on, as the list written from the beginning of what is behind `at`
+-- a list written from index `at` on, as the slice from `at` on written from its beginning
 pub written-behind : (l : List ℕ) (at : ℕ) (w new : List ℕ) → at ≤ length l → new ≡ written (take (length l - at) (drop at l)) 0 w → putMid at (length l - at) l new ≡ written l at w
 written-behind l at w new h e =
     let n : length (drop at l) ≡ length l - at = length-drop at l in
@@ -30,7 +30,7 @@ written-behind l at w new h e =
     let last : drop (length l - at) (drop at l) ≡ [] = drop-over (length l - at) (drop at l) (omega arith) in
     ap₂ (λ (x y : List ℕ). take at l ++ (x ++ y)) new′ last ∙ ap (λ (x : List ℕ). take at l ++ x) (append-nil (w ++ drop (at + length w) l))
 
--- ---- in order
+-- ---- ends ascend
 
 pub order-more : {at b c : ℕ} {ends : List ℕ} → InOrder at ends b → b ≤ c → InOrder at ends c
 order-more {at} {c = c} (order-end h) l = let g : at ≤ c = omega arith in order-end g
@@ -66,7 +66,7 @@ module _ (ends ends′ : List ℕ) (fill kept : ℕ) (cs : List RawCell) (total 
   pub ends-long : length (take total ends′) ≡ total
   ends-long = ap length ends-then ∙ omega (arith, length-append (take kept ends) (bufferedEnds fill cs), length-take kept ends, ends-count fill cs)
 
--- ---- how many cells lists show
+-- ---- how many cells the lists hold
 
 cells-long : (s : Bytes) (starts stops : List ℕ) (n : ℕ) → length starts ≡ n → length stops ≡ n → length (rawCellsIn s starts stops) ≡ n
 unfolding rawCellsIn
@@ -80,6 +80,6 @@ listed {s} {starts} {stops} {n} h =
     let b : n ≤ length stops = h .in-stops in
     cells-long s (take (n - 0) (drop 0 starts)) (take (n - 0) (drop 0 stops)) n (omega (arith, length-take (n - 0) (drop 0 starts), length-drop 0 starts)) (omega (arith, length-take (n - 0) (drop 0 stops), length-drop 0 stops))
 
--- all that is behind a place
+-- all that follows an index
 pub tail-part : (l : List ℕ) (at : ℕ) → take (length l - at) (drop at l) ≡ drop at l
 tail-part l at = take-all (length l - at) (drop at l) (omega (arith, length-drop at l))

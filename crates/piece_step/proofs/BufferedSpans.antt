@@ -1,5 +1,5 @@
--- Cells that are buffered one after the other, each a span of the file, are spelt as in the file; and so they are in every file that begins
--- with it.
+-- Cells that are buffered one after another, each a span of the file, are encoded as in the file; and so they are in every file that
+-- begins with it.
 use Prim.Native.Nat.{ℕ, _+_, _-_, _≤_}
 use native.Mathlib.Omega.{arith}
 use mathlib.Core.Path.{_≡_, refl, sym, ap, subst, _∙_}
@@ -19,7 +19,7 @@ use Rattle.piece_step.specs.Types.{Dialect}
 use Rattle.piece_step.specs.Steps.{EncodedInFile, all-encoded, next-encoded}
 use Rattle.piece_step.specs.Calls.{Named}
 
--- ---- cells that are buffered
+-- ---- buffered cells
 
 -- more ends may follow
 encoded-more : {file bytes : Bytes} {at : ℕ} {ends : List ℕ} {vs : List Value} (more : List ℕ) → EncodedInFile file bytes at ends vs → EncodedInFile file bytes at (ends ++ more) vs
@@ -43,7 +43,7 @@ module _ (file : Bytes) (d : Dialect) where
       let rest : EncodedInFile file (pre ++ c .bytes ++ (bufferedBytes cs ++ post)) (at + length (c .bytes)) (bufferedEnds (at + length (c .bytes)) cs) (map (valueOf d) cs) = spelt-from cs (pre ++ c .bytes) post (at + length (c .bytes)) long hs in
       rw one (next-encoded on (rw two at room) (h .forward) (h .within) (here ∙ h .raw) (rw two at rest))
 
--- the arrays in hand spell the cells that are buffered
+-- the current arrays hold the encoded cells
 pub encoded-buffered :
     {bytes : Bytes} {fill : ℕ} {ends : List ℕ} {cells : List RawCell} {raw : Bytes} → CurrentRecord bytes fill ends cells raw → (d : Dialect) (file : Bytes) → All (SpanIn file) cells →
     EncodedInFile file bytes 0 ends (map (valueOf d) cells)
@@ -61,7 +61,7 @@ named-none file names ends (x ∷ done) e = absurd (omega arith)
 
 -- ---- a file that grows
 
--- a span stays where it is
+-- a span does not move
 slice-grows : (a b : Bytes) (i j : ℕ) → i ≤ j → j ≤ length a → slice (a ++ b) i j ≡ slice a i j
 slice-grows a b i j f l =
     let n : length (drop i a) ≡ length a - i = length-drop i a in

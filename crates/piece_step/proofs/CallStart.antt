@@ -1,4 +1,4 @@
--- The arrays of the current record where a call begins: the header's, or the others.
+-- The arrays of the current record where a call begins: those of the header, or the others.
 use Prim.Native.Nat.{ℕ}
 use native.Mathlib.Omega.{arith}
 use mathlib.Core.Path.{_≡_}

@@ -1,4 +1,4 @@
--- The cells of a record that lies whole in a part of a file: each stands there, whole, and the lists show them.
+-- The cells of a record that lies whole in a part of a file: the spans in the lists are theirs, and each is a whole cell.
 use Prim.Native.Nat.{ℕ, suc, _+_, _-_, _≤_, _<_}
 use native.Mathlib.Omega.{arith}
 use mathlib.Core.Path.{_≡_, refl, sym, ap, subst, _∙_}
@@ -74,7 +74,7 @@ unfolding cellAt
 between-fresh begins = refl
 between-fresh ends = refl
 
--- ---- a record that was told
+-- ---- a record of the fast scan
 
 module _ (d : Dialect) (limit : ℕ) (piece : Bytes) (i : ℕ) (f : FileState) (starts : Starts f) (inside : i ≤ length piece) where
   abbrev pub Here : ScanResult
@@ -104,7 +104,7 @@ module _ (d : Dialect) (limit : ℕ) (piece : Bytes) (i : ℕ) (f : FileState) (
       all-lie d piece MAXRECORD (omega arith) cs (ends-whole (subst (PreservesTo d) e keeps)) (ends-stretches (subst (ScanResultIn piece) e lies)) (ends-sized (subst SizedTo e sizes))
 
   module _ {s₀ e₀ k₀ s e k : List ℕ} {q : FastScan} (told : FastScanSound d limit piece i f MAXCOLUMNS 0 s₀ e₀ k₀ s e k q) (long : Scratch s₀ e₀ k₀) {start cells next : ℕ} {g : FileState} {clean : Bool} (z : q ≡ Record start cells g next clean) where
-    -- what the scan came to, and what the lists hold then
+    -- the result of the scan, and the lists after it
     pub record Complete : Type 0 where
       pub found : CompletedAs Here start cells g next
       pub at-starts : s ≡ storedFrom MAXCOLUMNS 0 (rawStarts (found .cs)) s₀
@@ -154,7 +154,7 @@ module _ (d : Dialect) (limit : ℕ) (piece : Bytes) (i : ℕ) (f : FileState) (
     pk : k ≡ storedFrom MAXCOLUMNS 0 (kindsOf values) k₀
     pk = complete .at-kinds ∙ ap (λ (l : List ℕ). storedFrom MAXCOLUMNS 0 l k₀) (sym (map-map (λ (v : Value). kindNumber (v .kind)) (valueOf d) (complete .found .cs)))
 
-    -- the cells stand in the lists
+    -- the lists hold the cells
     pub cells-there : cells ≤ MAXCOLUMNS → Cells (File d) piece (take cells s) (take cells e) (take cells k)
     cells-there h = stand-there d piece values stands s₀ e₀ k₀ s e k room ps pe pk cells counts h
 

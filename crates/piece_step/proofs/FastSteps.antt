@@ -1,4 +1,4 @@
--- A data record that was told and written is a step of the run.
+-- A data record that the fast path found and wrote is a step of the run.
 use Prim.Native.Nat.{ℕ, suc, _+_, _-_, _≤_, _<_}
 use native.Mathlib.Omega.{arith}
 use mathlib.Core.Path.{_≡_, refl, sym, ap, subst, _∙_}
@@ -38,14 +38,14 @@ use Rattle.piece_step.specs.declared.fast.FastStep.{FastStep}
 use Rattle.piece_step.specs.FastSteps.{FastStepReady, Starts, begins, ends, Between, FastStepWrites, at-next, not-found, FastStepInBounds, next-in-bounds, nothing-in-bounds, FastStepSound, a-record, nothing}
 use Rattle.piece_step.proofs.FastCells.{Complete, complete, values-there}
 
--- ---- nothing is in hand
+-- ---- nothing is buffered
 
 none-kept : {f : FileState} {k : Buffered} → Starts f → Holds f k → (k .raw ≡ []) × (k .cells ≡ [])
 none-kept begins (current h) = impossible h
 none-kept ends (current h) = impossible h
 none-kept s (nothing-current r c) = (r, c)
 
--- a cell has the same kind and content wherever its place is counted from
+-- a cell has the same kind and content from wherever its offset is counted
 joined-bytes : (k : Buffered) (began : ℕ) (c : RawCell) → k .raw ≡ [] → joinedCell k began c .bytes ≡ c .bytes
 unfolding joinedCell
 joined-bytes k began c e = split (λ (x : RawCell). x .bytes ≡ c .bytes) (c .from is began) (λ _. rw e) λ _. refl

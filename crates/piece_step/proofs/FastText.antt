@@ -1,4 +1,4 @@
--- What is known of a text that was put, by what was answered.
+-- The text that the fast path wrote, by its result: the record has no fault, and the text fits.
 use Prim.Native.Nat.{ℕ, _+_, _-_, _≤_}
 use native.Mathlib.Omega.{arith}
 use mathlib.Core.Path.{_≡_, refl, sym, ap, subst, _∙_}
@@ -44,7 +44,7 @@ module _ {t : Dialect} {columns before : ℕ} {vs : List Value} {o : ℕ} {out o
   put-nowhere (up-to a b l w y) q = other cc
   put-nowhere (no-text w) q = w
 
--- the text has room in the file, and ends behind o
+-- the text fits into the file, and ends after o
 pub written-fits : {t : Dialect} {columns before : ℕ} {vs : List Value} {o : ℕ} {out out′ : List ℕ} {end : ℕ} → UpTo t columns before vs o out out′ end → (o ≤ end) × (before + (end - o) ≤ MAXFILE)
 written-fits {t} {columns} {before} {vs} {o} {out} {out′} {end} y =
     let f = target-sound (into t) false before vs (y .target) in
@@ -52,7 +52,7 @@ written-fits {t} {columns} {before} {vs} {o} {out} {out′} {end} y =
     let e : end ≡ o + length (recordText (into t) false vs ++ ending t) = y .place in
     (omega arith, omega arith)
 
--- the place behind it
+-- the place after it
 pub written-place :
     {t : Dialect} {p : Place} {vs : List Value} {o : ℕ} {out out′ : List ℕ} {end : ℕ} (n next : ℕ) (f : FileState) (cells : ℕ) → (p .records ≡ 0 → ⊥) → cells ≤ MAXCOLUMNS →
     UpTo t (p .columns) (p .written) vs o out out′ end →

@@ -1,4 +1,4 @@
--- The fault of a complete record by the numbers of a place is that of reading, and its place is the record's start.
+-- The fault of a complete record by the numbers of a place is that of reading, and its offset is the record's start.
 use Prim.Native.Nat.{ℕ, suc, _+_}
 use native.Mathlib.Omega.{arith}
 use mathlib.Core.Path.{_≡_, refl, sym, ap, _∙_}
@@ -20,7 +20,7 @@ use Rattle.piece_state.specs.declared.place.Place.{Place}
 use Rattle.piece_step.specs.Invariant.{columnsOf}
 use Rattle.piece_record.specs.Completion.{faultAt, textAt}
 
--- ---- the place of a record's fault is its start
+-- ---- the offset of a record's fault is its start
 
 data AtStart : CheckResult → Type 0 where
   start-sound : AtStart Sound
@@ -95,7 +95,7 @@ pub report-byte : (e : Fault) (r : Read) (n : ℕ) → isAtByte e ≡ true → l
 unfolding if_then_else_
 report-byte e r n q l = let z : suc n ≡ n + 1 = omega arith in rw (q, l, z)
 
--- ---- by numbers
+-- ---- by the numbers of a place
 
 by-records :
     (d : Dialect) (t : Target) (done : List Rec) (vs : List Value) →
@@ -117,7 +117,7 @@ module _ (d : Dialect) (t : Target) (p : Place) (done : List Rec) (records : p .
     unfolding faultAt
     by-numbers vs = rw (is-first, columns, written) (by-records d t done vs)
 
-    -- the same of cells that stand elsewhere
+    -- the same for cells at other offsets
     pub fault-of : (ws vs : List Value) → SameCells ws vs → faultAt d t p ws ≡ recordFault d (some t) done vs
     fault-of ws vs s = by-numbers ws ∙ place-free .fault d (some t) done ws vs s
 

@@ -1,4 +1,4 @@
--- Ordinary bytes inside a cell leave the scan in that cell, with more of its bytes. So the place behind them is what a step comes to.
+-- Ordinary bytes inside a cell leave the scan in that cell, with more of its bytes. So the place after them is the result of a step.
 use Prim.Native.Nat.{ℕ, suc, _+_, _-_, _≤_}
 use native.Mathlib.Nat.{add-zero}
 use native.Mathlib.Omega.{arith}
@@ -39,7 +39,7 @@ use Rattle.piece_step.specs.declared.in_cell.InCellStep.the-variants as 
 -- ---- a scan over ordinary bytes
 
 module _ (d : Dialect) (limit : ℕ) (c : Cell) (q : ℕ) (stops : runStop d c ≡ At q) where
-  -- the scan behind them
+  -- the scan after them
   abbrev behind : Scan → Bytes → Scan
   behind s xs =
       record { state = Inside c; offset = s .offset + length xs; start = s .start; size = s .size + length xs; opened = s .opened; raw = s .raw ++ xs; cells = s .cells }
@@ -69,7 +69,7 @@ module _ (d : Dialect) (piece : Bytes) (p : Place) (bytes ends : List ℕ) (boun
   abbrev hand : RecordState
   hand = record { start = 0; size = p .size + length piece; opened = 0; cells = 0 }
 
-  -- the place behind it
+  -- the place after it
   abbrev placeBehind : (fill : ℕ) → Place
   placeBehind fill =
       record {

@@ -1,6 +1,6 @@
--- A part of a file that begins in a record. Nothing is outside the record up to its end (`proceeds`). Where a cell is open, that cell is
--- the first that closes, and all others begin later (`first-closes`); and every byte of a cell is counted, beside those that were
--- counted before (`grows`).
+-- A part of a file that begins in a record. Nothing lies outside the record up to its end (`proceeds`). Where a cell is open, that cell
+-- is the first that closes, and all others begin later (`first-closes`); and every byte of a cell counts, beside those that were counted
+-- before (`grows`).
 use Prim.Native.Nat.{ℕ, suc, _+_, _≤_}
 use native.Mathlib.Omega.{arith}
 use mathlib.Core.Path.{_≡_, refl}
@@ -20,7 +20,7 @@ use Rattle.piece_step.specs.Invariant.{inCell}
 
 -- ---- a byte of a record
 
--- it goes on in the record or ends it, and where a cell is open it is the cell's or closes it
+-- it stays in the record or ends it, and where a cell is open it belongs to the cell or closes it
 pub data Proceeds (f : FileState) : Step → Type 0 where
   go-fault : {e : ByteFault} → Proceeds f (Reject e)
   go-cell : {g : FileState} → inCell g ≡ true → Proceeds f (To g OfCell)
@@ -106,7 +106,7 @@ proceeds d f b h = proceeds-of (step-transition d f b) h
 pub data ClosedFirst (began : ℕ) : List RawCell → Type 0 where
   closed-first : {c : RawCell} {cs : List RawCell} → c .from ≡ began → All (λ (x : RawCell). suc began ≤ x .from) cs → ClosedFirst began (c ∷ cs)
 
--- the cell that was open where the part began is still open, or it was the first to close
+-- the cell that was open where the part began is still open, or was the first to close
 pub data First (began : ℕ) (s : Scan) : Type 0 where
   still-open : inCell (s .state) ≡ true → s .opened ≡ began → s .cells ≡ [] → First began s
   then-closed : inRecord (s .state) ≡ true → suc began ≤ s .opened → ClosedFirst began (s .cells) → First began s
@@ -156,9 +156,9 @@ module _ (d : Dialect) (limit began : ℕ) where
 pub first-closes : (d : Dialect) (limit : ℕ) (s : Scan) (bs : Bytes) → inCell (s .state) ≡ true → s .opened ≡ s .offset → s .cells ≡ [] → FirstIn (s .offset) (scan d limit s bs)
 first-closes d limit s bs h o c = firsts d limit (s .offset) bs s (still-open h o c) (omega arith)
 
--- ---- every byte of a cell is counted
+-- ---- every byte of a cell counts
 
--- the bytes of cells are counted beside those that were counted before
+-- the bytes of cells count beside those that were counted before
 pub data Grew (base : ℕ) : ScanResult → Type 0 where
   grew-pends : {s : Scan} → inRecord (s .state) ≡ true → base + (bytesIn (s .cells) + length (s .raw)) ≤ s .size → Grew base (pends s)
   grew-fails : {e : Fault} {s : Scan} → Grew base (fails e s)

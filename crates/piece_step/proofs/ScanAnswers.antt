@@ -1,4 +1,4 @@
--- What the scanner's answer says of the scan, what its lists show, and what is buffered of the current record then.
+-- From the scanner's result: the scan of the part that it reports, the cells that its lists hold, and the current record after it.
 use Prim.Native.Nat.{ℕ, suc, _+_, _-_, _≤_, _<_}
 use native.Mathlib.Omega.{arith}
 use native.Mathlib.Nat.{add-zero}
@@ -36,7 +36,7 @@ use Rattle.piece_step.specs.Steps.{InBounds}
 use Rattle.piece_step.proofs.ScanLaws.{bufferedOf, Preserves, PreservesTo, preserves-pends, scan-preserves}
 use Rattle.piece_step.proofs.OpenCells.{ClosedFirst, closed-first, First, still-open, then-closed, FirstIn, first-pends, first-completes, first-closes, Grew, grew-pends, grew-completes, grows}
 
--- ---- the answer
+-- ---- the result
 
 pub record CompletedAs (x : ScanResult) (start cells : ℕ) (f : FileState) (next : ℕ) : Type 0 where
   pub s : Scan
@@ -89,7 +89,7 @@ lists-show {cs = cs} m starts stops starts′ stops′ e f n h l k all =
       standing = all;
     }
 
--- ---- room to keep
+-- ---- room to buffer
 
 pub bytes-in : (cs : List RawCell) → bytesIn cs ≡ length (bufferedBytes cs)
 unfolding bytesIn bufferedBytes
@@ -168,7 +168,7 @@ module _ (d : Dialect) (limit : ℕ) (p : Place) (ends : List ℕ) (b : InBounds
       scan-preserves d limit (fresh (p .state) (p .size) i) bs
       (record { runs = rw (outside-fresh (p .state) h) here; whole = all-none; opens = no-bytes refl; holds = nothing-current refl refl })
 
-  -- outside records nothing is in hand
+  -- outside records nothing is buffered
   pub none-pended : (s : Scan) → from-here ≡ pends s → inRecord (s .state) ≡ false → (inRecord (p .state) ≡ false) × (s .cells ≡ []) × (s .raw ≡ [])
   none-pended s e out = split-on (inRecord (p .state)) (λ h. impossible (sym out ∙ stays-in (subst (Grew (p .size)) e (grew-here h)))) was-out
     where
@@ -182,7 +182,7 @@ module _ (d : Dialect) (limit : ℕ) (p : Place) (ends : List ℕ) (b : InBounds
       was-out : inRecord (p .state) ≡ false → (inRecord (p .state) ≡ false) × (s .cells ≡ []) × (s .raw ≡ [])
       was-out h = held (keeps (subst (PreservesTo d) e (keeps-here h)) .holds) h
 
--- ---- what is buffered
+-- ---- the current record
 
 pub shown-of : (p : Place) (k : Buffered) {bytes : Bytes} {fill : ℕ} {ends : List ℕ} → CurrentRecord bytes fill ends (k .cells) (k .raw) → p .fill ≡ fill → Shown p k bytes ends
 shown-of p k h e =
@@ -205,7 +205,7 @@ unfolding endOf bufferedEnds bufferedBytes
 end-of-buffered o [] = omega arith
 end-of-buffered o (c ∷ cs) = end-of-buffered (o + length (c .bytes)) cs ∙ omega (arith, length-append (c .bytes) (bufferedBytes cs))
 
--- whole cells may be spelt, and so may they one after another
+-- in whole cells each ED has its second byte, and so it has in them one after another
 buffered-closed : (d : Dialect) {cs : List RawCell} → All (IsWhole d) cs → EdClosed (bufferedBytes cs)
 unfolding bufferedBytes
 buffered-closed d all-none = closed-none
@@ -224,7 +224,7 @@ module _ {bytes : Bytes} {fill : ℕ} {ends : List ℕ} {cells : List RawCell} {
       ap₂ (λ (k : ℕ) (l : Bytes). take k l) n all ∙ take-append-seam (bufferedBytes cells) (raw ++ drop fill bytes) in
       rw first (closed-followed (buffered-closed d w))
 
--- ---- cells of a part join it
+-- ---- cells of a part are appended
 
 moved-bytes : (n : ℕ) (cs : List RawCell) → bufferedBytes (map (movedCell n) cs) ≡ bufferedBytes cs
 unfolding bufferedBytes

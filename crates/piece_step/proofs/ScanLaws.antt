@@ -1,6 +1,6 @@
--- What a scan keeps, from wherever it begins: the current cell goes by the cell automaton and every complete cell is whole; something
--- is in hand only in a record (`scan-preserves`). How far it goes, and how many cells it finds (`scan-within`). Its faults are at a byte
--- (`scan-faults`).
+-- What a scan preserves, from wherever it begins: the current cell follows the cell automaton, every complete cell is whole, and
+-- something is buffered only in a record (`scan-preserves`). How far it gets, and how many cells it finds (`scan-within`). Its faults are
+-- at a byte (`scan-faults`).
 use Prim.Native.Nat.{ℕ, suc, _+_, _≤_}
 use native.Mathlib.Omega.{arith}
 use mathlib.Core.Path.{_≡_, refl}
@@ -26,7 +26,7 @@ use Rattle.piece_step.proofs.OpenCells.{cell-record, grown-cell, opens-
 
 -- ---- the current cell and the complete cells
 
--- what is in hand, as a part of a file would keep it
+-- the current record, as it would be buffered at the end of a part
 abbrev pub bufferedOf : Scan → Buffered
 bufferedOf s = record { start = s .start; opened = s .opened; raw = s .raw; cells = s .cells }
 
@@ -46,7 +46,7 @@ unfolding validateCell
 closing-whole true s z w = all-snoc (z .whole) (runs-sound 0 (z .runs) w)
 closing-whole false s z w = z .whole
 
--- before a record nothing is in hand
+-- before a record nothing is buffered
 before-none : (s : Scan) → Starts (s .state) → Holds (s .state) (bufferedOf s) → s .cells ≡ []
 before-none s e (current h) = starts-not e h
 before-none s e (nothing-current r c) = c
@@ -83,9 +83,9 @@ module _ (d : Dialect) (limit : ℕ) where
 pub scan-preserves : (d : Dialect) (limit : ℕ) (s : Scan) (bs : Bytes) → Preserves d s → PreservesTo d (scan d limit s bs)
 scan-preserves d limit s bs z = keep d limit bs s z
 
--- ---- how far it goes
+-- ---- how far it gets
 
--- a scan that began there stands at most at the limit, and has no more cells than bytes
+-- a scan that began there is at most at the limit, and has no more cells than bytes
 pub record Within (began limit : ℕ) (s : Scan) : Type 0 where
   pub under : s .offset ≤ limit
   pub few : began + length (s .cells) ≤ s .offset

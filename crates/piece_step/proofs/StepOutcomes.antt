@@ -1,5 +1,5 @@
--- One step over a piece. Reading on from a place is the scan of the part from there, moved to where it stands in the file,
--- with what is buffered put before it; so each answer of the scanner says what reading comes to, and at which place it stands then.
+-- One step over a piece. Reading on from a place is the scan of the part from there, moved to its offset in the file and with the
+-- buffered cells before it; so each result of the scanner says what reading results in, and at which place.
 use Prim.Native.Nat.{ℕ, suc, _+_, _-_, _≤_}
 use native.Mathlib.Omega.{arith}
 use mathlib.Core.Path.{_≡_, refl, sym, ap, subst, _∙_}
@@ -45,7 +45,7 @@ raw-buffered : (k : Buffered) (began : ℕ) → joinedRaw k began began [] ≡ k
 unfolding joinedRaw if_then_else_
 raw-buffered k began = rw (same-byte began) (append-nil (k .raw))
 
--- the scan of the whole file from where reading stands, by that of the part
+-- the scan of the whole file from the reader's position, by that of the part
 pub part-scans :
     (d : Dialect) (n : ℕ) (k : Buffered) (f : FileState) (size began : ℕ) (bs : Bytes) → n ≤ MAXFILE → Holds f k →
     scan d MAXFILE (standing n k f size began) bs ≡ joinedTo k (n + began) (movedTo n (scan d (MAXFILE - n) (fresh f size began) bs))
@@ -58,7 +58,7 @@ part-scans d n k f size began bs l h =
     ∙ ap (λ x. joinedTo k (n + began) (scan d x (moved n s) bs)) (sym limit)
     ∙ ap (joinedTo k (n + began)) (shift d n (MAXFILE - n) s bs)
 
--- a place of the part, in the file
+-- an offset of the part, in the file
 same-place : (n a b : ℕ) → ((n + a) is (n + b)) ≡ (a is b)
 same-place n a b = split-on (a is b) (λ h. rw h (go h)) λ h. rw h (no h)
   where
@@ -72,7 +72,7 @@ pub start-from : (p : Place) (k : Buffered) (n i start : ℕ) → p .start ≡ k
 unfolding joinedPlace
 start-from p k n i start e = rw (same-place n start i, e)
 
--- ---- what a scan keeps, case by case
+-- ---- what a scan preserves, case by case
 
 pending : {d : Dialect} {s : Scan} → PreservesTo d (pends s) → Preserves d s
 pending (preserves-pends z) = z
@@ -150,7 +150,7 @@ module _ (u : Step) where
   abbrev pub scanned : ScanResult
   scanned = scan d (MAXFILE - n) (fresh (p .state) (p .size) i) (drop i piece)
 
-  -- the cells of the record, with what is buffered of it
+  -- the cells of the record, with the buffered ones
   abbrev pub allCells : List RawCell → List RawCell
   allCells cs = joinedCells k (n + i) (map (movedCell n) cs)
 
@@ -158,7 +158,7 @@ module _ (u : Step) where
   abbrev pub inFile : Scan → Scan
   inFile s = joined k (n + i) (moved n s)
 
-  -- what reading comes to
+  -- what reading results in
   abbrev pub readOn : Progress
   readOn = readFrom d (some t) (going (readAt d p done k)) (drop i piece)
 
@@ -196,7 +196,7 @@ module _ (u : Step) where
       pub pend-reads : (fill : ℕ) → readOn ≡ going (readAt d (placePending p n i fill s) done (bufferedOf (inFile s)))
       pend-reads fill = reads-on ∙ ap (λ x. resume d (some t) done (joinedTo k (n + i) (movedTo n x))) e
 
-      -- what is buffered then is spelt as in the file
+      -- the buffered cells are then encoded as in the file
       pub pend-stands : (file : Bytes) → Follows file piece i p k → ScanIn file (inFile s)
       pend-stands file g = pending-in (subst (λ x. ScanResultIn file (joinedTo k (n + i) (movedTo n x))) e (file-on file g)) .stand
 
@@ -272,7 +272,7 @@ module _ (u : Step) where
               report-start x (readOf d done (inFile s)) (p .records) (fault-start d t p ws x q) (sym (h .records))
               ∙ ap (report (numberOf x) (p .records + 1) (columnOf x)) (start-from p k n i (s .start) (h .starts))
 
-        -- it is sound
+        -- it has no fault
         module _ (q : faultAt d t p ws ≡ Sound) where
           abbrev pub placeThen : Place
           placeThen = placeAfter p (length ws) (length (textAt t p ws)) f (n + next)

@@ -1,5 +1,5 @@
--- A step of the run, by what the scanner answered: the record's cells and bytes are those that reading goes by, and the place behind the
--- turn stays in bounds whatever state it began with.
+-- A step of the run, by the scanner's result: the record's cells and bytes are those of the reader, and the place after the step is in
+-- bounds whatever state it began with.
 use Prim.Native.Nat.{ℕ, suc, _+_, _-_, _≤_, _<_}
 use native.Mathlib.Omega.{arith}
 use mathlib.Core.Path.{_≡_, refl, sym, ap, ap₂, subst, _∙_}
@@ -69,7 +69,7 @@ sound-fits d t p ws e =
     let s = else-sound (if p .records is 0 then headerFault d ws else dataFault (p .columns) ws) (targetFault t (p .records is 0) (p .written) ws) e in
     target-sound t (p .records is 0) (p .written) ws (s .1) .fits
 
--- a text that was written has room in the file
+-- a text that was written fits into the file
 finish-fits : (d : Dialect) (t : Target) (p : Place) (ws : List Value) (o : ℕ) (out out′ : List ℕ) (r : RecordResult) → FinishSound (faultAt d t p ws) (textAt t p ws) o out out′ r → Fitting p o r
 finish-fits d t p ws o out out′ (Written end) (is-written v l w e) =
     let f : p .written + length (textAt t p ws) ≤ MAXFILE = sound-fits d t p ws v in (omega arith, omega arith)
@@ -79,7 +79,7 @@ finish-fits d t p ws o out out′ Invalid (has-no-room v l w) = tt
 finish-room : (v : CheckResult) (text : Bytes) (o : ℕ) (out out′ : List ℕ) (end : ℕ) → FinishSound v text o out out′ (Written end) → end ≤ length out
 finish-room v text o out out′ end (is-written x l w e) = omega arith
 
--- ---- a scan goes on
+-- ---- a scan continues
 
 data Behind (i : ℕ) : ScanResult → Type 0 where
   behind-pends : {s : Scan} → i ≤ s .offset → Behind i (pends s)
@@ -222,7 +222,7 @@ module _ (d : Dialect) (piece : Bytes) (n i : ℕ) (p : Place) (bytes ends out :
           go (Refused x) e h = stopped-bounds
           go Invalid e h = nowhere-bounds
 
-      -- where reading stands there
+      -- the position of the reader there
       module _ (same-cs : p .cells + cells ≤ MAXCOLUMNS → cs ≡ a .cs) (done : List Rec) (k : Buffered) (hold : StateInvariant d t p bytes ends done k) where
         abbrev u : turning.Step
         u = record { d = d; t = t; p = p; done = done; k = k; n = n; i = i; piece = piece }

@@ -1,4 +1,4 @@
--- What a call has written: it has room, and each record's text and ending join it.
+-- What a call has written: it fits into the output, and each record's text and ending are appended to it.
 use Prim.Native.Nat.{_+_, _≤_}
 use native.Mathlib.Omega.{arith}
 use mathlib.Core.Path.{_≡_, sym, ap, _∙_}
@@ -23,7 +23,7 @@ grown-length {a} g = omega (arith, ap length (g .sum), length-append a (g .added
 module _ (d : Dialect) (t : Target) where
   -- the records completed so far are among those of the whole piece
   module _ (xs : Bytes) (r : Read) (e : readBytes d (some t) xs ≡ going r) where
-    -- what the bytes come to with a piece more
+    -- what reading the bytes results in with a piece more
     pub reads-on : (piece : Bytes) → readBytes d (some t) (xs ++ piece) ≡ readFrom d (some t) (going r) piece
     unfolding readBytes
     reads-on piece = read-append d (some t) (going nothingRead) xs piece ∙ ap (λ p. readFrom d (some t) p piece) e

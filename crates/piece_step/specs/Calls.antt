@@ -1,4 +1,4 @@
--- What a call begins with, over a piece or at the end, and what the end comes to.
+-- What a call begins with, over a piece or at the end, and what the end results in.
 use Prim.Native.Nat.{ℕ, _+_, _≤_}
 use mathlib.Core.Path.{_≡_}
 use mathlib.Core.Option.{some}
@@ -16,12 +16,12 @@ use Rattle.piece_step.specs.declared.CallResult.{CallResult}
 use Rattle.piece_step.specs.Invariant.{scanAt, readAt, columnsOf, StateInvariant}
 use Rattle.piece_step.specs.Steps.{InBounds, currentIn, EncodedInFile}
 
--- some bytes were read up to here
+-- reading some bytes results in this
 pub record Reached (d : Dialect) (t : Target) (r : Read) : Type 0 where
   pub consumed : Bytes
   pub reads : readBytes d (some t) consumed ≡ going r
 
--- a call begins where earlier calls have come to, with a piece and an output of the sizes that are taken
+-- a call begins where earlier calls ended, with a piece and an output of allowed sizes
 pub record CallStart (d : Dialect) (t : Target) (piece : Bytes) (p : Place) (bytes ends out : List ℕ) (done : List Rec) (k : Buffered) : Type 0 where
   pub hold : StateInvariant d t p bytes ends done k
   pub reached : Reached d t (readAt d p done k)
@@ -30,7 +30,7 @@ pub record CallStart (d : Dialect) (t : Target) (piece : Bytes) (p : Place) (byt
 
 -- ---- the header's names
 
--- the first record is the header: these arrays hold its names as they are spelt in the file (§15.2)
+-- the first record is the header: these arrays hold its names as they are encoded in the file (§15.2)
 abbrev pub Named : (file : Bytes) → (names name-ends : List ℕ) → List Rec → Type 0
 Named file names ends [] = Unit {0}
 Named file names ends (h ∷ rs) = EncodedInFile file names 0 ends (h .cells)
@@ -45,7 +45,7 @@ pub record CountsRecords (p : Place) (done : List Rec) : Type 0 where
   pub records : p .records ≡ length done
   pub columns : p .columns ≡ columnsOf done
 
--- what a call may rely on: it stays in bounds from this place
+-- what a call requires: a run from this place stays in bounds
 pub record ReadyPiece (p : Place) (names name-ends bytes ends : List ℕ) : Type 0 where
   pub bounds : InBounds p (currentIn p name-ends ends)
   pub long-names : length names ≡ MAXRECORD
@@ -61,11 +61,11 @@ pub record Begun (d : Dialect) (t : Target) (before piece : Bytes) (p : Place) (
 
 -- ---- the end
 
--- a fault at this place
+-- the result of a fault at offset `at`
 abbrev pub failedAs : Place → Fault → (at : ℕ) → CallResult
 failedAs p e at = record { place = p; report = report (numberOf e) (p .records + 1) (columnOf e) at; length = 0 }
 
--- the report on the file's end, and the text of a last record; the place is as it was
+-- the report on the file's end, and the text of a last record; the place does not change
 pub record Finished (d : Dialect) (t : Target) (p : Place) (done : List Rec) (k : Buffered) (out out′ : List ℕ) (r : CallResult) : Type 0 where
   pub place : r .place ≡ p
   pub reports : r .report ≡ reportOf (readEnd d (some t) (going (readAt d p done k)))

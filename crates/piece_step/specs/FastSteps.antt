@@ -1,4 +1,4 @@
--- A step over a data record that lies whole in the piece: what it comes to where it is told.
+-- The fast path over a data record that lies whole in the piece: when it applies, and that its result is that of a step.
 use Prim.Native.Nat.{ℕ, _+_, _-_, _≤_, _<_}
 use mathlib.Core.Path.{_≡_}
 use mathlib.Core.Bool.{Bool, true, false}
@@ -27,7 +27,7 @@ use Rattle.piece_step.specs.declared.fast.FastStep.the-variants.{Next, F
 
 -- ---- the text of a record
 
--- it is at o, up to `end`, if nothing is wrong with the record and there is room
+-- the text lies from o up to `end` in the output, if the record has no fault and there is room
 pub data FastTextSound (t : Dialect) (columns before : ℕ) (vs : List Value) (o : ℕ) (out out′ : List ℕ) : FastText → Type 0 where
   up-to :
       {end : ℕ} → dataFault columns vs ≡ Sound → targetFault (into t) false before vs ≡ Sound → o + length (recordText (into t) false vs ++ ending t) ≤ length out →
@@ -36,7 +36,7 @@ pub data FastTextSound (t : Dialect) (columns before : ℕ) (vs : List Value) (o
 
 -- ---- a step
 
--- what it may rely on: it begins at i of the piece, with n bytes consumed before the piece, and has written up to o
+-- what it requires: it begins at index i of the piece, n bytes were consumed before the piece, and o bytes of the output are written
 pub record FastStepReady (piece : Bytes) (n i : ℕ) (p : Place) (out : List ℕ) (o : ℕ) : Type 0 where
   pub offset : p .offset ≤ MAXFILE
   pub before : p .written ≤ MAXFILE
@@ -45,7 +45,7 @@ pub record FastStepReady (piece : Bytes) (n i : ℕ) (p : Place) (out : List ℕ
   pub inside : i ≤ length piece
   pub room : o ≤ length out
 
--- a record may begin there
+-- a record may begin in this state
 pub data Starts : FileState → Type 0 where
   begins : Starts Begin
   ends : Starts Ended
@@ -56,7 +56,7 @@ pub record Between (p : Place) : Type 0 where
   pub size : p .size ≡ 0
   pub state : Starts (p .state)
 
--- the place behind a record, and where its text ends; or nothing is told, and nothing was written
+-- the place after a record, and where its text ends; or a fallback, with nothing written
 pub data FastStepWrites (t : Dialect) (p : Place) (n next : ℕ) (f : FileState) (cells : ℕ) (vs : List Value) (o : ℕ) (out out′ : List ℕ) : FastStep → Type 0 where
   at-next :
       {end : ℕ} → cells ≤ MAXCOLUMNS → dataFault (p .columns) vs ≡ Sound → targetFault (into t) false (p .written) vs ≡ Sound → o + length (recordText (into t) false vs ++ ending t) ≤ length out →
@@ -64,14 +64,14 @@ pub data FastStepWrites (t : Dialect) (p : Place) (n next : ℕ) (f : FileState)
       FastStepWrites t p n next f cells vs o out out′ (Next (placeAfter p (length vs) (end - o) f (n + next)) next end)
   not-found : out′ ≡ out → FastStepWrites t p n next f cells vs o out out′ Fallback
 
--- it stays in bounds, whatever state it began with; and where nothing is told, nothing was written
+-- it stays in bounds, whatever state it began with; and a fallback writes nothing
 pub data FastStepInBounds (piece : Bytes) (n i : ℕ) (out out′ : List ℕ) : FastStep → Type 0 where
   next-in-bounds :
       {q : Place} {at end : ℕ} → ((ends : List ℕ) → InBounds q ends) → q .offset ≡ n + at → i < at → at ≤ length piece → end ≤ length out →
       FastStepInBounds piece n i out out′ (Next q at end)
   nothing-in-bounds : out′ ≡ out → FastStepInBounds piece n i out out′ Fallback
 
--- what it comes to, where reading stands at its place after the records `done`
+-- what it results in, if its place represents reading after the records `done`
 pub data FastStepSound (d : Dialect) (t : Target) (piece : Bytes) (i : ℕ) (p : Place) (bytes ends : List ℕ) (done : List Rec) (k : Buffered) (o : ℕ) (out out′ : List ℕ) : FastStep → Type 0 where
   a-record :
       {q : Place} {at end : ℕ} (x : Rec) (k′ : Buffered) →

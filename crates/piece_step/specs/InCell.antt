@@ -1,4 +1,4 @@
--- A piece that lies inside one cell: what it comes to where it is told.
+-- The fast path over a piece that lies inside one cell: when it applies, and that its result is that of a step.
 use Prim.Native.Nat.{ℕ, _+_, _≤_}
 use mathlib.Core.Path.{_≡_}
 use mathlib.Core.List.{List}
@@ -15,13 +15,13 @@ use Rattle.piece_step.specs.Steps.{InBounds, StepSound}
 use Rattle.piece_step.specs.declared.in_cell.InCellStep.{InCellStep}
 use Rattle.piece_step.specs.declared.in_cell.InCellStep.the-variants as told
 
--- so many bytes of a cell more stay within the limits
+-- `size` more bytes of a cell stay within the limits
 pub record Fits (p : Place) (size : ℕ) : Type 0 where
   pub columns : p .cells ≤ MAXCOLUMNS
   pub in-record : p .size + size ≤ MAXRECORD
   pub in-file : p .offset + size ≤ MAXFILE
 
--- the place behind the piece, which is what a step over it comes to, with whatever output; or nothing is told, and nothing was kept
+-- the place after the piece, which a step over it results in with any output; or a fallback, with nothing buffered
 pub data InCellSound (d : Dialect) (piece : Bytes) (p : Place) (bytes ends bytes′ : List ℕ) : InCellStep → Type 0 where
   all-buffered :
       {q : Place} → InBounds q ends →

@@ -1,4 +1,4 @@
--- What a state of the piece converter holds: where reading stands, and what is buffered of the current record.
+-- The abstraction relation of the piece converter: which position of model's reader a place and the buffered cells represent.
 use Prim.Native.Nat.{ℕ, _+_, _≤_}
 use mathlib.Core.Path.{_≡_}
 use mathlib.Core.Bool.{Bool, true, false}
@@ -40,7 +40,7 @@ pub data Open (f : FileState) (raw : Bytes) : Type 0 where
   in-cell : inCell f ≡ true → Open f raw
   no-bytes : raw ≡ [] → Open f raw
 
--- the bytes kept, one after another: those of the complete cells, and of the open one
+-- the buffered bytes, one after another: those of the complete cells, and of the open one
 abbrev pub allBuffered : Buffered → Bytes
 allBuffered k = bufferedBytes (k .cells) ++ k .raw
 
@@ -48,7 +48,7 @@ allBuffered k = bufferedBytes (k .cells) ++ k .raw
 abbrev pub IsWhole : Dialect → RawCell → Type 0
 IsWhole d c = validateCell d (c .bytes) ≡ WholeCell
 
--- ---- where reading stands
+-- ---- the position of the reader
 
 -- the current record at this place
 abbrev pub scanAt : Place → Buffered → Scan
@@ -64,13 +64,13 @@ abbrev pub columnsOf : List Rec → ℕ
 columnsOf [] = 0
 columnsOf (h ∷ rs) = length (h .cells)
 
--- the arrays hold what is buffered of these cells
+-- the arrays hold the bytes and the ends of these cells
 pub record Shown (p : Place) (k : Buffered) (bytes ends : List ℕ) : Type 0 where
   pub fill : p .fill ≡ length (allBuffered k)
   pub bytes-kept : take (p .fill) bytes ≡ allBuffered k
   pub ends-kept : take (length (k .cells)) ends ≡ bufferedEnds 0 (k .cells)
 
--- the place and the arrays stand for reading after the records `done`, with this kept of the current record
+-- the place and the arrays represent reading after the records `done`, with the buffered part k of the current record
 pub record StateInvariant (d : Dialect) (t : Target) (p : Place) (bytes ends : List ℕ) (done : List Rec) (k : Buffered) : Type 0 where
   pub starts : p .start ≡ k .start
   pub opens : Open (p .state) (k .raw)
@@ -90,16 +90,17 @@ pub record StateInvariant (d : Dialect) (t : Target) (p : Place) (bytes ends : L
 abbrev pub columnsWith : Place → (cells : ℕ) → ℕ
 columnsWith p cells = if p .records is 0 then cells else p .columns
 
--- the place behind a record
+-- the place after a record
 abbrev pub placeAfter : Place → (cells size : ℕ) → FileState → (offset : ℕ) → Place
 placeAfter p cells size f o =
     record { state = f; offset = o; start = o; size = 0; fill = 0; cells = 0; columns = columnsWith p cells; records = p .records + 1; written = p .written + size }
 
--- nothing is buffered behind a record
+-- nothing is buffered after a record
 abbrev pub bufferedNone : (offset : ℕ) → Buffered
 bufferedNone o = record { start = o; opened = o; raw = []; cells = [] }
 
--- where the current record starts, if in the part it starts there: where the part began it may have started before
+-- where in the file the current record starts, by where it starts in the part: one that starts where the part began may have started
+-- before
 abbrev pub startFrom : Place → (before began start : ℕ) → ℕ
 startFrom p n i start = if start is i then p .start else n + start
 

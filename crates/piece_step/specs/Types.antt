@@ -1,4 +1,4 @@
--- The types of model that a conversion in pieces goes by, under short names.
+-- The types of model that conversion in pieces uses, under short names.
 pub use Rattle.model.specs.declared.Report.{Report}
 pub use Rattle.model.specs.declared.Dialect.{Dialect}
 pub use Rattle.model.specs.declared.Target.{Target}

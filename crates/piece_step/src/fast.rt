@@ -1,5 +1,6 @@
-// The fast way over a data record that lies whole in the piece: it is written from the piece, and nothing of it is buffered. It answers what
-// a step comes to, or falls back to one.
+// The fast path over a data record that lies whole in the piece: it is checked and written from the piece, and nothing of it is buffered.
+// It returns the result of a step, or falls back to `step`. Definition: `FastStepSound` (specs/FastSteps.antt); proofs/FastSteps.antt
+// derives it from the contract of record_fast, and proofs/FastText.antt from that of record_target.
 ghost use mathlib.Core.Path.{_≡_};
 ghost use mathlib.Core.Bool.{true};
 ghost use mathlib.Core.List.{List};
@@ -24,22 +25,22 @@ use model::FileState;
 use piece_state::place::Place;
 use record_fast::FastScan;
 
-// What the fast way comes to.
+// The result of the fast path.
 pub enum FastStep {
-    // A record was written, up to `end`. The next step begins at this place, which is `at` in the piece.
+    // A record was written, up to `end` of the output. The next step begins at `place`, which is index `at` of the piece.
     Next { place: Place, at: usize, end: usize },
     Fallback,
 }
 
 // ---- the text of a record
 
-// Where it ends.
+// Where the text ends in the output.
 pub enum FastText {
     To(usize),
     Fallback,
 }
 
-// A data record under a header of so many columns, after so many bytes of output, at a place of the buffer.
+// Checks a data record under a header of `columns` cells, after `before` bytes of output, and writes it from index o of `out` on.
 fn write_record(
     d: Dialect,
     t: Dialect,
@@ -74,7 +75,7 @@ fn write_record(
 
 // ---- a step
 
-// A complete record of so many cells, which stand in these lists if they are no more than a record may have.
+// Completes a record of `cells` cells. The lists hold them if they are not more than a record may have.
 fn finish_record(
     d: Dialect,
     t: Dialect,
@@ -151,7 +152,7 @@ fn is_between(p: Place) -> bool
     }
 }
 
-// The step from i of the piece on, of which n bytes were consumed before, as `step` has it. Nothing is told where fewer than `least`
+// The step from index i of the piece on, as `step` does it; n bytes were consumed before the piece. Falls back where fewer than `least`
 // bytes are left.
 pub fn data_record(
     d: Dialect,

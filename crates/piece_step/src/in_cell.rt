@@ -1,5 +1,6 @@
-// The fast way over a piece that lies inside one cell: where all its bytes are ordinary they are buffered, and nothing else is to be done.
-// It answers what a step comes to, or falls back to one. A long text in small pieces goes this way.
+// The fast path over a piece that lies inside one cell: if all its bytes are ordinary ASCII they are buffered, and nothing else is to be
+// done. It returns the result of a step, or falls back. Long texts in small pieces take this path. Definition: `InCellSound`
+// (specs/InCell.antt); proofs/InCell.antt follows the scan over ordinary bytes.
 ghost use mathlib.Core.Path.{_≡_};
 ghost use mathlib.Core.Bool.{true};
 ghost use Prim.Native.Nat.{_+_, _≤_};
@@ -17,14 +18,14 @@ use model::FileState;
 use piece_state::cells;
 use piece_state::place::Place;
 
-// What the fast way comes to.
+// The result of the fast path.
 pub enum InCellStep {
-    // Its bytes are buffered. The next call begins at this place.
+    // All bytes are buffered. The next call begins at this place.
     Buffered(Place),
     Fallback,
 }
 
-// Whether all bytes are from 20 to 7E hex, and neither of these two.
+// Whether all bytes are 0x20 to 0x7E, and neither p nor q.
 fn all_ordinary(s: &[u8], p: u8, q: u8) -> bool
     ensures { λ r. ⌜ (r ≡ true → AllIn (ordinary p q) (now (s .entry)) 0 (length (now (s .entry)))) ⌝ }
 {
@@ -38,7 +39,7 @@ fn all_ordinary(s: &[u8], p: u8, q: u8) -> bool
     swar::unordinary(swar::last_word(s, 0, s.len()), p, q) == 0
 }
 
-// Whether so many bytes of a cell stay within the limits.
+// Whether `size` more bytes of a cell stay within the limits.
 fn fits(p: Place, size: usize) -> bool
     requires { ⌜ (p .size ≤ MAXRECORD) × (p .offset ≤ MAXFILE) ⌝ }
     ensures { λ r. ⌜ (r ≡ true → Fits p size) ⌝ }
@@ -55,7 +56,7 @@ fn fits(p: Place, size: usize) -> bool
     true
 }
 
-// The piece, as `step` has it, behind the header.
+// The step over a whole piece after the header, as `step` does it.
 pub fn step(d: Dialect, piece: &[u8], p: Place, bytes: &mut [u8], ends: &[usize]) -> InCellStep
     requires { ⌜ InBounds p (now ends) ⌝ }
     requires { ⌜ (length (now bytes) ≡ MAXRECORD) × (length (now ends) ≡ MAXCOLUMNS) ⌝ }

@@ -1,7 +1,9 @@
 // One step over a piece: from a place to the end of the current record, or to the end of the piece.
 //
-// The scanner finds the cells. Their bytes are buffered one after the other, from whichever calls they came. A complete record is checked
-// and written from the buffer; an incomplete one stays there. specs/Steps.antt says what reading comes to by a step.
+// In: a piece, a place and the buffered cells; out: the text of a complete record, or more buffered bytes, and the next place. The
+// scanner finds the cells, and their bytes are buffered one after another, from whichever calls they came. A complete record is checked
+// and written from the buffer. Definition: `StepSound` (specs/Steps.antt), what reading results in by a step; proofs/Steps.antt has a law
+// for each outcome of the scanner.
 ghost use mathlib.Core.Path.{_≡_};
 ghost use mathlib.Core.List.{List};
 ghost use Prim.Native.Nat.{_+_, _≤_, _^_, _<_};
@@ -32,7 +34,7 @@ pub mod in_cell;
 
 // ---- what is buffered
 
-// The cells that end in this piece join the buffered ones. How many bytes are buffered then.
+// Appends the cells that end in this piece to the buffered ones. Returns how many bytes are buffered.
 fn buffer_more(
     piece: &[u8],
     starts: &[usize],
@@ -64,8 +66,8 @@ fn buffer_more(
 
 // ---- a complete record
 
-// The current record is complete with so many cells that end in this piece: they join the buffered ones, and it is validated and written
-// from there. With more cells than a record may have it is refused, and nothing has to be kept.
+// The current record is complete with `cells` cells that end in this piece: they are appended to the buffered ones, and the record is
+// checked and written from there. With more cells than a record may have it is refused, and nothing has to be buffered.
 fn complete_record(
     d: Dialect,
     t: Dialect,
@@ -94,7 +96,8 @@ fn complete_record(
     piece_record::complete(d, t, bytes, &ends[..total], p, out, o, starts, kinds)
 }
 
-// Where the current record starts in the file, if in the piece it starts there: where the step began it may have started before.
+// Where in the file the current record starts, by where it starts in the piece: one that starts where the step began may have started
+// before.
 fn record_start(p: Place, n: usize, i: usize, start: usize) -> usize
     requires { ⌜ n + start < 2 ^ 64 ⌝ }
     ensures { λ r. ⌜ r ≡ startFrom p n i start ⌝ }
@@ -132,7 +135,8 @@ fn need_input(
     }
 }
 
-// The current record is not complete: its cells that end in this piece and the bytes of the open one join the buffered ones.
+// The current record is not complete: its cells that end in this piece are appended to the buffered ones, and so are the bytes of the
+// open cell.
 fn buffer_rest(
     p: Place,
     n: usize,
@@ -163,18 +167,18 @@ fn buffer_rest(
 
 // ---- a step
 
-// What a step comes to.
+// The result of a step.
 pub enum PieceStep {
-    // A record was written, up to `end`. The next step begins at this place, which is `at` in the piece.
+    // A record was written, up to `end` of the output. The next step begins at `place`, which is index `at` of the piece.
     Next { place: Place, at: usize, end: usize },
     // The piece ended.
     NeedInput(Place),
     Failed(Report),
-    // No calls made this state.
+    // The state is none that calls make.
     BadState,
 }
 
-// What a call over a piece, or at the end, comes to.
+// The result of a call over a piece or at the end.
 pub struct CallResult {
     pub place: Place,
     pub report: Report,
@@ -191,7 +195,7 @@ fn columns_with(p: Place, cells: usize) -> usize
     p.columns
 }
 
-// A record of so many cells is complete, and this became of it.
+// The result of a step whose record of `total` cells is complete, by what piece_record returned.
 fn after_record(
     r: RecordResult,
     p: Place,
@@ -232,7 +236,7 @@ fn after_record(
     }
 }
 
-// One step, from i of the piece on, of which n bytes were consumed before.
+// One step, from index i of the piece on; n bytes were consumed before the piece.
 pub fn step(
     d: Dialect,
     t: Dialect,

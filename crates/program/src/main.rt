@@ -1,10 +1,11 @@
 // The program that converts standard input to standard output, `program FROM TO`, over the piece converter: in constant memory, each
 // record written as it completes.
 //
-// It answers no status. A file was converted as a whole exactly if nothing was said on standard error.
+// It returns no status. A file was converted as a whole exactly if standard error is empty. What is proved is that it is safe and ends;
+// the bytes it writes are those of the piece calls.
 mod stream;
 
-// The dialect that an argument names, 0 where none does. The longest name has four bytes.
+// The dialect that an argument names, 0 if it names none. The longest name has four bytes.
 fn argument(i: usize) -> u32 {
     let mut word = [0u8; 4];
     let length = os::arg(i, &mut word);

@@ -1,4 +1,4 @@
-// Standard input to standard output, a piece at a time. A turn is loop-free: it reads once, converts what came and writes what that
+// Standard input to standard output, one piece at a time. A step is loop-free: it reads once, converts what came and writes what that
 // completed.
 ghost use Rattle.io.specs.Counts.{Counts};
 use codes::LEAST_OUTPUT;
@@ -14,22 +14,21 @@ use messages::refusal;
 use model::Report;
 use piece_converter::lent;
 
-// How many bytes of the output a call wrote. No call of these answers more than the output has; that it is asked here once more spares the
-// proof of it.
+// How many bytes of the output a call wrote. No call returns a length over that of the output; checking it here spares proving it here.
 fn written_length(length: usize, out: &[u8]) -> usize
     ensures { λ r. ⌜ Counts r (now (out .entry)) ⌝ }
 {
     codes::min_of(length, out.len())
 }
 
-// A refusal in words, on standard error.
+// Writes a refusal in words to standard error.
 fn say(e: Report) {
     let mut text = io::buffer();
     let n = refusal::sentence(e, &mut text);
     io::write_all(STDERR_FILENO, &text[..n]);
 }
 
-// Writes what a call wrote, and answers whether the conversion goes on after it.
+// Writes the output of a call, and returns whether the conversion continues after it.
 fn deliver(answer: TextAnswer, out: &[u8]) -> bool {
     let n = written_length(answer.length, out);
     if !io::write_all(STDOUT_FILENO, &out[..n]) {
@@ -44,7 +43,7 @@ fn deliver(answer: TextAnswer, out: &[u8]) -> bool {
     false
 }
 
-// One read and what follows from it. Answers whether there may be more to read.
+// One read and the call that follows from it. Returns whether there may be more to read.
 fn step(
     source: u32,
     target: u32,
@@ -81,8 +80,8 @@ fn step(
     deliver(answer, out)
 }
 
-// Converts all of standard input. A loop has to end, and nothing says that standard input does: but a turn after which there may be more
-// has read a byte or more, and a file of more than MAX_FILE bytes is refused. So the turns are never used up.
+// Converts all of standard input. A loop has to end, and nothing says that standard input does; but a step after which there may be more
+// has read at least a byte, and a file of more than MAX_FILE bytes is refused. So the steps never run out.
 pub fn convert(source: u32, target: u32) {
     let mut numbers = [0usize; 14];
     let mut ends = [0usize; MAX_COLUMNS];

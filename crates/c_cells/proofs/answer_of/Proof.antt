@@ -1,4 +1,4 @@
--- `c_cells::answer_of` meets its contract: each field is that of the answer given.
+-- `c_cells::answer_of` meets its contract: each field is that of the decoder's answer.
 use mathlib.Core.Path.{_∙_}
 use borrow.Author.Needs.{needs}
 use Rattle.c_cells.proofs.answer_of.Statement.{statement}

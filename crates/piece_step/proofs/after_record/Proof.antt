@@ -1,4 +1,4 @@
--- Each answer on the record is one of the step.
+-- `piece_step::after_record` meets its contract: each result on the record is one of the step.
 use native.Mathlib.Omega.{arith}
 use mathlib.Core.Path.{sym, ap, subst}
 use borrow.Author.Needs.{needs}

@@ -1,4 +1,4 @@
--- The part of the ends behind those that are buffered is lent.
+-- `piece_step::buffer_more` meets its contract: the slice of `ends` after the buffered ones is lent.
 use Prim.Native.Nat.{_+_, _-_, _≤_}
 use native.Mathlib.Omega.{arith}
 use lib.ListN.{length, drop, length-take, length-drop}

@@ -1,4 +1,4 @@
--- The cells and the bytes of the open one join the buffered ones.
+-- `piece_step::buffer_rest` meets its contract: the cells and then the bytes of the open one are appended.
 use mathlib.Core.Path.{_≡_, ap, _∙_}
 use Prim.Native.Nat.{_+_, _-_, _≤_}
 use native.Mathlib.Omega.{arith}

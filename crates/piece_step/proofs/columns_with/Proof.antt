@@ -1,3 +1,4 @@
+-- `piece_step::columns_with` meets its contract, by its test.
 use borrow.Author.Tests.{eq-eqb, ne-eqb}
 use Rattle.model.specs.rules.Base.{if_then_else_}
 use Rattle.piece_step.proofs.columns_with.Statement.{statement}

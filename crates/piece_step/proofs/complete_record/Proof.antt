@@ -1,4 +1,5 @@
--- The cells join the buffered ones, whose ends stay in order, and the record is ruled on from there.
+-- `piece_step::complete_record` meets its contract: the cells are appended, the ends still ascend, and the record is checked from the
+-- buffer.
 use mathlib.Core.Path.{_≡_, refl, sym, ap, _∙_}
 use Prim.Native.Nat.{_+_, _≤_}
 use native.Mathlib.Omega.{arith}

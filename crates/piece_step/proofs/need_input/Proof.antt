@@ -1,3 +1,4 @@
+-- `piece_step::need_input` meets its contract: each field is that of the definition.
 use borrow.Author.Needs.{needs}
 use Rattle.piece_step.proofs.need_input.Statement.{statement}
 use Rattle.piece_step.proofs.need_input.Tie as tie

@@ -1,3 +1,4 @@
+-- `piece_step::record_start` meets its contract, by its test.
 use borrow.Author.Needs.{needs}
 use borrow.Author.Tests.{eq-eqb, ne-eqb}
 use Rattle.model.specs.rules.Base.{if_then_else_}

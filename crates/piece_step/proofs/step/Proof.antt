@@ -1,4 +1,4 @@
--- The scanner's answer is a scan of the piece, and each way is a law of proofs/Steps.antt.
+-- `piece_step::step` meets its contract: the scanner's result is a scan of the piece, and each outcome is a law of proofs/Steps.antt.
 use Prim.Native.Nat.{_≤_}
 use native.Mathlib.Omega.{arith}
 use mathlib.Core.Path.{sym, subst, _∙_}

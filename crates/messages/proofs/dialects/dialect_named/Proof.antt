@@ -1,5 +1,4 @@
 -- `messages::dialects::dialect_named` meets its contract: its tests are the definition's.
--- Assumes nothing.
 use mathlib.Core.Path.{sym, _∙_}
 use borrow.Author.Needs.{needs}
 use Rattle.model.specs.rules.Base.{if_then_else_}

@@ -1,6 +1,5 @@
--- `messages::dialects::is_word` meets its contract. The invariant: the word is the name exactly when it is from here on. The laws are those
--- of names that are compared by TDIF's rule.
--- Assumes nothing.
+-- `messages::dialects::is_word` meets its contract. The invariant: the word is the name exactly if it is from here on. The laws are those
+-- of names compared by TDIF's rule.
 use mathlib.Core.Path.{_≡_, refl, sym, _∙_}
 use Prim.Native.Nat.{_-_, _≤_}
 use native.Mathlib.Omega.{arith}

@@ -1,5 +1,4 @@
 -- `messages::dialects::lower_case` meets its contract: its tests are the definition's.
--- Assumes nothing.
 use borrow.Author.Needs.{needs}
 use Rattle.model.specs.rules.Base.{if_then_else_}
 use Rattle.model.proofs.Tests.{tests}

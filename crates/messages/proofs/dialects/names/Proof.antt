@@ -1,5 +1,4 @@
--- `messages::dialects::names` meets its contract: its test is the definition's first, and its answer else the second.
--- Assumes nothing.
+-- `messages::dialects::names` meets its contract: its test is the definition's first, and its result otherwise the second.
 use mathlib.Core.Path.{sym, _∙_}
 use borrow.Author.Needs.{needs}
 use Rattle.messages.proofs.dialects.names.Statement.{statement}

@@ -1,5 +1,4 @@
--- `messages::refusal::fill` meets its contract. The invariant: what is still to be written is what the rest of the form comes to.
--- Assumes nothing.
+-- `messages::refusal::fill` meets its contract. The invariant: the text of the rest of the form is still to be written.
 use Prim.Native.Nat.{_-_, _≤_}
 use native.Mathlib.Omega.{arith}
 use lib.ListN.{length, drop}

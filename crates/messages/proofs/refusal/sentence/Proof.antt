@@ -1,5 +1,4 @@
 -- `messages::refusal::sentence` meets its contract: its arms are the definition's tests, and its forms are the same bytes.
--- Assumes nothing.
 use Prim.Native.Nat.{ℕ}
 use mathlib.Core.Path.{ap}
 use borrow.Author.Needs.{needs}

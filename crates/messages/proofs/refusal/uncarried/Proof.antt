@@ -1,5 +1,4 @@
 -- `messages::refusal::uncarried` meets its contract: its test is the definition's, and its forms are the same bytes.
--- Assumes nothing.
 use borrow.Author.Needs.{needs}
 use borrow.Author.Tests.{eq-eqb, ne-eqb}
 use Rattle.model.specs.rules.Base.{if_then_else_}

@@ -1,5 +1,4 @@
 -- `messages::refusal::write_number` meets its contract: the fewest digits that hold a number are its decimal text.
--- Assumes nothing.
 use mathlib.Core.Path.{_≡_, ap, _∙_}
 use native.Mathlib.Omega.{arith}
 use lib.ListN.{length, take}

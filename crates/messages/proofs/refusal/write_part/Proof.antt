@@ -1,5 +1,4 @@
 -- `messages::refusal::write_part` meets its contract: its tests are the definition's.
--- Assumes nothing.
 use mathlib.Core.Path.{refl}
 use native.Mathlib.Omega.{arith}
 use borrow.Author.Needs.{needs}

@@ -31,7 +31,7 @@ use Rattle.piece_converter.proofs.lent.end.Tie as tie
 
 -- ---- the checks
 
--- the state and the call, where the checks have answered
+-- the state and the call, after the checks
 abbrev stateAt : tie.After-check-call → Converter
 stateAt u =
     let a = u .before .before .before .before .args in
@@ -60,7 +60,7 @@ refused-returns c =
 
 -- ---- a call that is taken
 
--- where it was asked whether the run stays in bounds
+-- after the check that the run stays in bounds
 abbrev checkedAt : tie.After-is-in-bounds → tie.After-check-call
 checkedAt v = v .before .before .before .before .before .before .before .before .before
 

@@ -1,4 +1,4 @@
--- `piece_converter::state::place_in` meets its contract: each number is read, and the state by its number.
+-- `piece_converter::state::place_in` meets its contract: each number is read, and the lexer state is decoded from its own.
 use mathlib.Core.Path.{ap}
 use borrow.Author.Needs.{needs}
 use lib.ListN.{getD}

@@ -1,4 +1,4 @@
--- Each test is one of the bounds, in their order.
+-- `piece_run::bounds::is_buffered_in_bounds` meets its contract: each test is one of the bounds, in their order.
 use Prim.Native.Nat.{_≤_, _<_}
 use native.Mathlib.Omega.{arith}
 use mathlib.Core.Path.{refl, sym, _∙_}

@@ -1,3 +1,4 @@
+-- `piece_run::bounds::is_in_bounds` meets its contract: the current ends are the first list until the header is complete.
 use borrow.Author.Needs.{needs}
 use borrow.Author.Tests.{eq-eqb, ne-eqb}
 use Rattle.model.specs.rules.Base.{if_then_else_}

@@ -1,4 +1,4 @@
--- The current record is in the first arrays until the header is complete.
+-- `piece_run::ending::end_file` meets its contract: the current record is in the first arrays until the header is complete.
 use mathlib.Core.Path.{sym, _∙_}
 use borrow.Author.Needs.{needs}
 use Rattle.piece_step.proofs.BufferedSpans.{named-none}

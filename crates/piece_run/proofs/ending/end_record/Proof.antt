@@ -1,4 +1,4 @@
--- What the end of the file means where reading stands says which case it is.
+-- `piece_run::ending::end_record` meets its contract: the lexer state decides which case of the end it is.
 use native.Mathlib.Omega.{arith}
 use mathlib.Core.Path.{refl, sym, ap, _∙_}
 use borrow.Author.Needs.{needs}

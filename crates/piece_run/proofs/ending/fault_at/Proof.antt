@@ -1,3 +1,4 @@
+-- `piece_run::ending::fault_at` meets its contract: each field is that of the definition.
 use borrow.Author.Needs.{needs}
 use Rattle.piece_run.proofs.ending.fault_at.Statement.{statement}
 use Rattle.piece_run.proofs.ending.fault_at.Tie as tie

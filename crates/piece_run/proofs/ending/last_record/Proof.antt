@@ -1,4 +1,5 @@
--- The end of the current cell joins the buffered ones, and the record is ruled on from there.
+-- `piece_run::ending::last_record` meets its contract: the end of the current cell is appended, and the record is checked from the
+-- buffer.
 use Prim.Native.Nat.{_+_, _<_}
 use native.Mathlib.Omega.{arith}
 use mathlib.Core.Path.{_≡_, refl, ap, subst}

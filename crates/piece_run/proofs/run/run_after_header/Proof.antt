@@ -1,4 +1,5 @@
--- A piece inside a cell has no turns; where that is not told, nothing was kept, and the steps begin as they would have.
+-- `piece_run::run::run_after_header` meets its contract: a piece inside a cell takes no steps; after a fallback nothing was buffered, and
+-- the steps begin as they would have.
 use Prim.Native.Nat.{ℕ}
 use native.Mathlib.Omega.{arith}
 use mathlib.Core.Path.{refl, sym, ap, subst}

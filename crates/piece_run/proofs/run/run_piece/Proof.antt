@@ -1,4 +1,5 @@
--- Until the header is complete a step goes over its own arrays; the steps behind it go over the others, and leave the names as they are.
+-- `piece_run::run::run_piece` meets its contract: until the header is complete a step uses its arrays; the steps after it use the others,
+-- and do not change the names.
 use Prim.Native.Nat.{_≤_, _<_}
 use native.Mathlib.Omega.{arith}
 use mathlib.Core.Path.{_≡_, refl, sym, ap, subst, _∙_}

@@ -1,4 +1,5 @@
--- At each step the place is ready and in bounds, and where reading stood at the place that was given it stands now at this one.
+-- `piece_run::steps::run_steps` meets its contract. The invariant: the place is ready and in bounds, and it represents the position that
+-- reading reaches from the first place.
 use Prim.Native.Nat.{ℕ, _-_}
 use native.Mathlib.Omega.{arith}
 use mathlib.Core.Path.{_≡_, refl, sym, ap, subst, _∙_}

@@ -1,4 +1,4 @@
--- `piece_state::cells::buffer_cells` meets its contract. The invariant: what is still to be kept are the cells from k on.
+-- `piece_state::cells::buffer_cells` meets its contract. The invariant: the cells from k on are pending.
 use Prim.Native.Nat.{_-_, _≤_}
 use native.Mathlib.Omega.{arith}
 use lib.ListN.{length, getD}
@@ -29,7 +29,7 @@ mul-stop c = omega (arith, c .before .before .loop .inv .stand .in-stops)
 shared-slice-read-stop : tie.Need-shared-slice-read-stop Inv-loop μ-loop
 shared-slice-read-stop c = omega (arith, c .before .before .before .loop .inv .stand .in-stops)
 
--- the next cell stands in the piece
+-- the next cell lies in the piece
 stands : (c : tie.After-copy-arg Inv-loop μ-loop)
     → let s = c .before .before .before .before .before .before .before .before .before .before .args in
     let k = c .before .before .before .before .loop .k in

@@ -1,4 +1,4 @@
--- `piece_state::cells::kinds_of` meets its contract. The invariant: what is still to be put down are the kinds from place k on.
+-- `piece_state::cells::kinds_of` meets its contract. The invariant: the kinds from index k on are pending.
 use Prim.Native.Nat.{_-_, _≤_}
 use mathlib.Core.Path.{ap, _∙_}
 use native.Mathlib.Omega.{arith}
@@ -30,7 +30,7 @@ mul-end c = omega (arith, c .before .before .loop .inv .stand .in-stops)
 shared-slice-read-end : tie.Need-shared-slice-read-end Inv-loop μ-loop
 shared-slice-read-end c = omega (arith, c .before .before .before .loop .inv .stand .in-stops)
 
--- the next cell stands in the buffered bytes
+-- the next cell lies in the buffered bytes
 stands : (c : tie.After-shared-slice-known5 Inv-loop μ-loop)
     → let s = c .before .before .before .before .before .before .before .before .args in
     let k = c .before .before .before .loop .k in

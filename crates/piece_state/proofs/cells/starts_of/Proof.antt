@@ -1,5 +1,4 @@
--- `piece_state::cells::starts_of` meets its contract. The invariant: what is still to be put down is the next start, and each end from k on but
--- the last.
+-- `piece_state::cells::starts_of` meets its contract. The invariant: the next start is pending, and then each end from k on but the last.
 use Prim.Native.Nat.{_-_}
 use native.Mathlib.Omega.{arith}
 use Rattle.piece_state.proofs.BufferedLists.{Starting, starting, start-fits, started, started-all}

@@ -1,4 +1,4 @@
--- `piece_state::checks::check_call` meets its contract: what the numbers name, and then the checks between.
+-- `piece_state::checks::check_call` meets its contract: the dialects by their numbers, and then the checks between them.
 use mathlib.Core.Path.{sym, ap, _∙_}
 use Rattle.codes.specs.Named.{dialectIn}
 use Rattle.piece_state.specs.declared.checks.CallCheck.the-variants.{Refused}

@@ -1,4 +1,4 @@
--- `piece_state::checks::is_in_order` meets its contract. The invariant: what is answered of all ends is what is answered of those from k on.
+-- `piece_state::checks::is_in_order` meets its contract. The invariant: the check of all ends equals that of the ends from k on.
 use Prim.Native.Nat.{_-_, _≤_}
 use native.Mathlib.Omega.{arith}
 use mathlib.Core.Path.{_≡_, sym, _∙_}

@@ -1,3 +1,4 @@
+-- `piece_step::fast::data_record` meets its contract: a record of the fast scan is one of the reader, and all else falls back.
 use Prim.Native.Nat.{_-_, _≤_}
 use native.Mathlib.Omega.{arith}
 use mathlib.Core.Path.{refl, _∙_}

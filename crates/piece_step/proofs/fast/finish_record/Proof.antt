@@ -1,3 +1,4 @@
+-- `piece_step::fast::finish_record` meets its contract: the place after the record counts its text, which fits into the file.
 use Prim.Native.Nat.{ℕ, _+_, _-_, _≤_}
 use native.Mathlib.Omega.{arith}
 use mathlib.Core.Path.{_≡_, refl, sym, ap, subst, _∙_}

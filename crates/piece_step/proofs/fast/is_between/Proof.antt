@@ -1,3 +1,4 @@
+-- `piece_step::fast::is_between` meets its contract, by its tests.
 use mathlib.Core.Path.{sym, subst}
 use borrow.Author.Needs.{needs}
 use Rattle.model.specs.declared.FileState.{FileState}

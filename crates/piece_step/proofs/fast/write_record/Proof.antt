@@ -1,3 +1,4 @@
+-- `piece_step::fast::write_record` meets its contract: the checks find no fault, and the text fits into the output.
 use Prim.Native.Nat.{ℕ, _+_, _-_, _≤_}
 use native.Mathlib.Omega.{arith}
 use mathlib.Core.Path.{_≡_, refl, sym, _∙_}

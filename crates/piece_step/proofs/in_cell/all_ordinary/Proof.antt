@@ -1,4 +1,4 @@
--- The invariant: the bytes before i are ordinary.
+-- `piece_step::in_cell::all_ordinary` meets its contract. The invariant: the bytes before i are ordinary.
 use Prim.Native.Nat.{_-_, _≤_}
 use native.Mathlib.Omega.{arith}
 use lib.ListN.{length}

@@ -1,3 +1,4 @@
+-- `piece_step::in_cell::fits` meets its contract, by its tests.
 use native.Mathlib.Omega.{arith}
 use borrow.Author.Needs.{needs}
 use Rattle.model.proofs.Tests.{impossible}

@@ -1,3 +1,5 @@
+-- `piece_step::in_cell::step` meets its contract: ordinary bytes within the limits stay in the cell (proofs/InCell.antt), and all else
+-- falls back.
 use native.Mathlib.Omega.{arith}
 use mathlib.Core.Path.{refl, sym, _∙_}
 use borrow.Author.Needs.{needs}

@@ -1,5 +1,4 @@
--- `program::stream::convert` is safe and ends. The measure is the number of turns that are left; nothing has to hold from turn to turn.
--- Assumes nothing.
+-- `program::stream::convert` is safe and ends. The measure is the number of steps that are left; the loop needs no invariant.
 use native.Mathlib.Omega.{arith}
 use Rattle.program.proofs.stream.convert.Statement.{statement}
 use Rattle.program.proofs.stream.convert.Tie as tie

@@ -1,5 +1,4 @@
--- `program::stream::say` is safe: the sentence lies in its room.
--- Assumes nothing.
+-- `program::stream::say` is safe: the sentence fits into its buffer.
 use borrow.Author.Needs.{needs}
 use Rattle.messages.proofs.SentenceLaws.{sentence-counts}
 use Rattle.program.proofs.stream.say.Statement.{statement}

@@ -1,5 +1,4 @@
--- `program::stream::written_length` meets its contract: the least of two numbers is no more than the second.
--- Assumes nothing.
+-- `program::stream::written_length` meets its contract: the lesser of two numbers is at most the second.
 use mathlib.Core.Path.{_≡_, sym}
 use Prim.Native.Nat.{ℕ, _≤_}
 use native.Mathlib.Omega.{arith}
