@@ -128,6 +128,12 @@ module _ (e : Report) (old : Bytes) {new : Bytes} {r : ℕ} where
       (r ≡ length (sentenceOf e)) × (new ≡ over (sentenceOf e) old)
   sentence-as q p = rw q p
 
+  -- the same for the fault with this number
+  pub sentence-of :
+      (n : ℕ) → e .number ≡ n → (r ≡ length (filled e (formOf n (e .column)))) × (new ≡ over (filled e (formOf n (e .column))) old) →
+      (r ≡ length (sentenceOf e)) × (new ≡ over (sentenceOf e) old)
+  sentence-of n q = sentence-as (ap (λ (m : ℕ). formOf m (e .column)) q)
+
   -- and lies in the buffer
   pub sentence-counts : (r ≡ length (sentenceOf e)) × (new ≡ over (sentenceOf e) old) → Counts r new
   sentence-counts p =
