@@ -35,7 +35,8 @@ filled e (b ∷ form) = partOf e b ++ filled e form
 -- §8.5 §8.6)
 unfoldable pub uncarriedForm : (column : ℕ) → Bytes
 uncarriedForm column =
-    if column is 0 then ascii "refused (N): record R can't be written in the target dialect, which asks for a column or in which the record or the file gets too long; it begins at byte B\n"
+    if column is 0 then ascii
+    "refused (N): record R can't be written in the target dialect, which asks for a column or in which the record or the file gets too long; it begins at byte B\n"
     else ascii "refused (N): column C of record R can't be written in the target dialect, which lacks such a cell or character or takes the name for an earlier one; the record begins at byte B\n"
 
 -- what each fault means, and which place it reports (§6.1 §6.2 §6.3 §6.4 §6.5 §6.6 §6.7 §6.8 §6.13 §6.9); a call that is itself wrong
@@ -49,7 +50,8 @@ formOf n column =
     else if n is 5 then ascii "refused (N): record R has another number of cells than the header; it begins at byte B\n"
     else if n is 6 then ascii "refused (N): record R, the header, has in column C the name of an earlier column; it begins at byte B\n"
     else if n is 7 then ascii "refused (N): record R, the header, has no name in column C, where the cell is not text; it begins at byte B\n"
-    else if n is 8 then ascii "refused (N): at record R, a limit is passed (16,777,215 bytes in a file, 4,096 bytes or 64 columns in a record); byte B is the first too many or, for columns, the record's first\n"
+    else if n is 8 then ascii
+    "refused (N): at record R, a limit is passed (16,777,215 bytes in a file, 4,096 bytes or 64 columns in a record); byte B is the first too many or, for columns, the record's first\n"
     else if n is 9 then uncarriedForm column
     else ascii "refused (N): the converter was not called as it has to be\n"
 

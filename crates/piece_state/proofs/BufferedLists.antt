@@ -23,7 +23,9 @@ shown-next xs k n h l =
     ap₂ take m (drop-next xs k (k + 1) (omega arith) refl)
 
 module _ (bytes : Bytes) (starts stops : List ℕ) where
-  pub cells-next : (k n : ℕ) → k < n → n ≤ length starts → n ≤ length stops → rawCellsAt bytes starts stops k n ≡ rawCellIn bytes (getD starts k 0) (getD stops k 0) ∷ rawCellsAt bytes starts stops (k + 1) n
+  pub cells-next :
+      (k n : ℕ) → k < n → n ≤ length starts → n ≤ length stops →
+      rawCellsAt bytes starts stops k n ≡ rawCellIn bytes (getD starts k 0) (getD stops k 0) ∷ rawCellsAt bytes starts stops (k + 1) n
   unfolding rawCellsIn
   cells-next k n h l m = ap₂ (rawCellsIn bytes) (shown-next starts k n h l) (shown-next stops k n h m)
 
@@ -46,7 +48,8 @@ ends-count o (c ∷ cs) = ap suc (ends-count (o + length (c .bytes)) cs)
 -- ---- buffering cells
 
 -- cells of the lists are being buffered, from index `from` on: those from k on are pending, and `at` bytes are buffered
-pub record Preserving (piece : Bytes) (starts stops : List ℕ) (from n : ℕ) (bytes₀ : Bytes) (fill : ℕ) (ends₀ : List ℕ) (bytes : Bytes) (ends : List ℕ) (k at : ℕ) : Type 0 where
+pub record Preserving (piece : Bytes) (starts stops : List ℕ) (from n : ℕ) (bytes₀ : Bytes) (fill : ℕ) (ends₀ : List ℕ) (bytes : Bytes)
+    (ends : List ℕ) (k at : ℕ) : Type 0 where
   pub lower : from ≤ k
   pub upper : k ≤ n
   pub stand : SpansIn piece starts stops from n
@@ -54,7 +57,10 @@ pub record Preserving (piece : Bytes) (starts stops : List ℕ) (from n : ℕ) (
   pub ends-go : Writing ends₀ from (bufferedEnds fill (rawCellsAt piece starts stops from n)) ends k (bufferedEnds at (rawCellsAt piece starts stops k n))
 
 module _ {piece : Bytes} {starts stops : List ℕ} {from n : ℕ} {bytes₀ : Bytes} {fill : ℕ} {ends₀ : List ℕ} where
-  pub keeping : SpansIn piece starts stops from n → from ≤ n → n ≤ length ends₀ → fill + length (bufferedBytes (rawCellsAt piece starts stops from n)) ≤ length bytes₀ → Preserving piece starts stops from n bytes₀ fill ends₀ bytes₀ ends₀ from fill
+  pub keeping :
+      SpansIn piece starts stops from n → from ≤ n → n ≤ length ends₀ →
+      fill + length (bufferedBytes (rawCellsAt piece starts stops from n)) ≤ length bytes₀ →
+      Preserving piece starts stops from n bytes₀ fill ends₀ bytes₀ ends₀ from fill
   keeping h l m r =
       let cs = rawCellsAt piece starts stops from n in
       let least = cells-least piece (take (n - from) (drop from starts)) (take (n - from) (drop from stops)) in
@@ -72,23 +78,37 @@ module _ {piece : Bytes} {starts stops : List ℕ} {from n : ℕ} {bytes₀ : By
       next : rawCellsAt piece starts stops k n ≡ rawCellIn piece (getD starts k 0) (getD stops k 0) ∷ rawCellsAt piece starts stops (k + 1) n
       next = cells-next piece starts stops k n h (p .stand .in-starts) (p .stand .in-stops)
 
-      bytes-next : Writing bytes₀ fill (bufferedBytes (rawCellsAt piece starts stops from n)) bytes at (slice piece (getD starts k 0) (getD stops k 0) ++ bufferedBytes (rawCellsAt piece starts stops (k + 1) n))
+      bytes-next :
+          Writing bytes₀ fill (bufferedBytes (rawCellsAt piece starts stops from n)) bytes at
+          (slice piece (getD starts k 0) (getD stops k 0) ++ bufferedBytes (rawCellsAt piece starts stops (k + 1) n))
       unfolding bufferedBytes
       bytes-next = rw next at (p .bytes-go)
 
-      ends-next : Writing ends₀ from (bufferedEnds fill (rawCellsAt piece starts stops from n)) ends k ((at + length (slice piece (getD starts k 0) (getD stops k 0))) ∷ bufferedEnds (at + length (slice piece (getD starts k 0) (getD stops k 0))) (rawCellsAt piece starts stops (k + 1) n))
+      ends-next :
+          Writing ends₀ from (bufferedEnds fill (rawCellsAt piece starts stops from n)) ends k
+          ((at + length (slice piece (getD starts k 0) (getD stops k 0))) ∷ bufferedEnds
+          (at + length (slice piece (getD starts k 0) (getD stops k 0))) (rawCellsAt piece starts stops (k + 1) n))
       unfolding bufferedEnds
       ends-next = rw next at (p .ends-go)
 
       -- there is room for the next cell, and for its end
       pub cell-fits : at + length (slice piece (getD starts k 0) (getD stops k 0)) ≤ length bytes
-      cell-fits = omega (arith, room-left bytes-next, length-append (slice piece (getD starts k 0) (getD stops k 0)) (bufferedBytes (rawCellsAt piece starts stops (k + 1) n)))
+      cell-fits =
+          omega (
+            arith,
+            room-left bytes-next,
+            length-append (slice piece (getD starts k 0) (getD stops k 0))
+                (bufferedBytes (rawCellsAt piece starts stops (k + 1) n)),
+          )
 
       pub end-fits : k < length ends
       end-fits = here ends-next
 
       -- it is buffered
-      pub kept-next : {bytes′ : Bytes} {r : ℕ} → (r ≡ at + length (slice piece (getD starts k 0) (getD stops k 0))) × (bytes′ ≡ written bytes at (slice piece (getD starts k 0) (getD stops k 0))) → Preserving piece starts stops from n bytes₀ fill ends₀ bytes′ (set ends k r) (k + 1) r
+      pub kept-next :
+          {bytes′ : Bytes} {r : ℕ} →
+          (r ≡ at + length (slice piece (getD starts k 0) (getD stops k 0))) × (bytes′ ≡ written bytes at (slice piece (getD starts k 0) (getD stops k 0))) →
+          Preserving piece starts stops from n bytes₀ fill ends₀ bytes′ (set ends k r) (k + 1) r
       kept-next e =
           rw (e .0, e .1)
           (record {
@@ -100,7 +120,11 @@ module _ {piece : Bytes} {starts stops : List ℕ} {from n : ℕ} {bytes₀ : By
           })
 
     -- all are buffered
-    pub kept-all : n ≤ k → (at ≡ fill + length (bufferedBytes (rawCellsAt piece starts stops from n))) × (bytes ≡ written bytes₀ fill (bufferedBytes (rawCellsAt piece starts stops from n))) × (ends ≡ written ends₀ from (bufferedEnds fill (rawCellsAt piece starts stops from n)))
+    pub kept-all :
+        n ≤ k →
+        (at ≡ fill + length (bufferedBytes (rawCellsAt piece starts stops from n))) ×
+        (bytes ≡ written bytes₀ fill (bufferedBytes (rawCellsAt piece starts stops from n))) ×
+        (ends ≡ written ends₀ from (bufferedEnds fill (rawCellsAt piece starts stops from n)))
     unfolding bufferedBytes bufferedEnds
     kept-all h =
         let none = cells-end piece starts stops k n h in
@@ -120,7 +144,8 @@ module _ {ends : List ℕ} {n : ℕ} {starts₀ : List ℕ} where
   pub starting : n ≤ length ends → n ≤ length starts₀ → Starting ends n starts₀ starts₀ 0 0
   starting h l =
       let m : n - 0 ≡ n = omega arith in
-      let go : Writing starts₀ 0 (take n (0 ∷ ends)) starts₀ 0 (take n (0 ∷ ends)) = start starts₀ 0 (take n (0 ∷ ends)) (omega (arith, length-take n (0 ∷ ends))) in
+      let go : Writing starts₀ 0 (take n (0 ∷ ends)) starts₀ 0 (take n (0 ∷ ends)) =
+      start starts₀ 0 (take n (0 ∷ ends)) (omega (arith, length-take n (0 ∷ ends))) in
       record { upper = omega arith; in-ends = h; starts-go = rw m go }
 
   module _ {starts : List ℕ} {k at : ℕ} (p : Starting ends n starts₀ starts k at) where
@@ -163,19 +188,23 @@ module _ {d : Dialect} {bytes : Bytes} {starts ends : List ℕ} {n : ℕ} {kinds
       let least = kinds-least d bytes (take n starts) (take n ends) in
       let long = length-take n starts in
       let m : n - 0 ≡ n = omega arith in
-      let go : Writing kinds₀ 0 (kindsAt d bytes starts ends n) kinds₀ 0 (kindsAt d bytes starts ends n) = start kinds₀ 0 (kindsAt d bytes starts ends n) (omega (arith, least, long)) in
+      let go : Writing kinds₀ 0 (kindsAt d bytes starts ends n) kinds₀ 0 (kindsAt d bytes starts ends n) =
+      start kinds₀ 0 (kindsAt d bytes starts ends n) (omega (arith, least, long)) in
       record { upper = omega arith; stand = h; kinds-go = rw m go }
 
   module _ {kinds : List ℕ} {k : ℕ} (p : Sorting d bytes starts ends n kinds₀ kinds k) where
     module _ (h : k < n) where
-      kinds-next : Writing kinds₀ 0 (kindsAt d bytes starts ends n) kinds k (kindNumber (kindOf d (slice bytes (getD starts k 0) (getD ends k 0))) ∷ kindsFrom d bytes starts ends (k + 1) n)
+      kinds-next :
+          Writing kinds₀ 0 (kindsAt d bytes starts ends n) kinds k
+          (kindNumber (kindOf d (slice bytes (getD starts k 0) (getD ends k 0))) ∷ kindsFrom d bytes starts ends (k + 1) n)
       unfolding valuesIn
       kinds-next = rw (shown-next starts k n h (p .stand .in-starts), shown-next ends k n h (p .stand .in-stops)) at (p .kinds-go)
 
       pub kind-fits : k < length kinds
       kind-fits = here kinds-next
 
-      pub sorted : {r : ℕ} → r ≡ kindNumber (kindOf d (slice bytes (getD starts k 0) (getD ends k 0))) → Sorting d bytes starts ends n kinds₀ (set kinds k r) (k + 1)
+      pub sorted :
+          {r : ℕ} → r ≡ kindNumber (kindOf d (slice bytes (getD starts k 0) (getD ends k 0))) → Sorting d bytes starts ends n kinds₀ (set kinds k r) (k + 1)
       sorted e = rw e (record { upper = omega arith; stand = p .stand; kinds-go = store kinds-next })
 
     pub sorted-all : n ≤ k → kinds ≡ over (kindsAt d bytes starts ends n) kinds₀

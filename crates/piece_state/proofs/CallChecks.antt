@@ -14,7 +14,8 @@ use Rattle.model.specs.rules.Records.{Read}
 use Rattle.model.specs.rules.Ledger.{Call, bytesOf, roomOf, tooSmall}
 use Rattle.model.specs.laws.Machine.{ConverterStage, taking, faulted, ended, answerAt, stageAfter}
 use Rattle.piece_state.specs.declared.checks.CallCheck.the-variants.{Refused, Proceed}
-use Rattle.piece_state.specs.Checks.{checkBetween, checkNamed, checkNow, StageEncoded, reports-taking, reports-faulted, reports-ended, CallCheckSound, means-refused, means-taken, ChecksMean}
+use Rattle.piece_state.specs.Checks.{checkBetween, checkNamed, checkNow, StageEncoded, reports-taking, reports-faulted, reports-ended, CallCheckSound}
+use Rattle.piece_state.specs.Checks.{means-refused, means-taken, ChecksMean}
 
 -- ---- dialects
 
@@ -41,7 +42,9 @@ module _ (d t : Dialect) (c : Call) where
   by-size r true e = means-refused {e = refusal 10} (rw e) e (rw e)
   by-size r false e = means-taken r refl e
 
-  between : (w : ConverterStage) (fault : Report) (over : ℕ) → StageEncoded w fault over → CallCheckSound d t w c (checkBetween d t fault over (length (bytesOf c)) (roomOf c))
+  between :
+      (w : ConverterStage) (fault : Report) (over : ℕ) → StageEncoded w fault over →
+      CallCheckSound d t w c (checkBetween d t fault over (length (bytesOf c)) (roomOf c))
   unfolding checkBetween answerAt stageAfter if_then_else_
   between (taking r) fault over (reports-taking e) = rw e (by-size r (tooSmall c) refl)
   between (faulted e) fault over (reports-faulted h) = rw (lt-ltb 0 (e .number) h) (means-refused refl refl refl)

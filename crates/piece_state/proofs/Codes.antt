@@ -20,7 +20,8 @@ use Rattle.model.specs.declared.Cell.{Cell}
 use Rattle.model.specs.declared.Cell.the-variants.{Fresh, Quoted, Closed, Escape, Hex, InNumber, InWord, Plain, Complete}
 use Rattle.model.specs.declared.FileState.the-variants.{Top, Begin, Ended, Bom1, Bom2, PlainBom1, PlainBom2, Comment, Blanks, ExpectCell, Inside, After, Cr}
 use Rattle.model.specs.rules.Base.{if_then_else_}
-use Rattle.piece_state.specs.Codes.{leadNumber, leadFrom, innerNumber, innerFrom, charNumber, charFrom, hexNumber, hexFrom, numeralNumber, numeralFrom, wordNumber, wordFrom, cellNumber, fixedCell, cellFrom, fixedState, stateFrom, StateBack}
+use Rattle.piece_state.specs.Codes.{leadNumber, leadFrom, innerNumber, innerFrom, charNumber, charFrom, hexNumber, hexFrom, numeralNumber, numeralFrom}
+use Rattle.piece_state.specs.Codes.{wordNumber, wordFrom, cellNumber, fixedCell, cellFrom, fixedState, stateFrom, StateBack}
 
 -- ---- how large the numbers are
 

@@ -20,7 +20,8 @@ pub second-current : (p : Place) (a b : List ℕ) → (p .records ≡ 0 → ⊥)
 unfolding if_then_else_
 second-current p a b e = rw (ne-eqb (p .records) 0 e)
 
-module _ {d : Dialect} {t : Target} {before piece : Bytes} {p : Place} {names name-ends bytes ends out : List ℕ} {done : List Rec} {k : Buffered} (b : Begun d t before piece p names name-ends bytes ends out done k) where
+module _ {d : Dialect} {t : Target} {before piece : Bytes} {p : Place} {names name-ends bytes ends out : List ℕ} {done : List Rec} {k : Buffered}
+    (b : Begun d t before piece p names name-ends bytes ends out done k) where
   pub begun-header : p .records ≡ 0 → CallStart d t piece p names name-ends out done k
   begun-header e = rw (first-current p names bytes e, first-current p name-ends ends e) at (b .begins)
 
@@ -30,8 +31,22 @@ module _ {d : Dialect} {t : Target} {before piece : Bytes} {p : Place} {names na
 module _ {p : Place} {names name-ends bytes ends : List ℕ} (r : ReadyPiece p names name-ends bytes ends) where
   pub ready-header : {piece out : List ℕ} → p .records ≡ 0 → StepReady piece (p .offset) 0 p names name-ends out 0
   ready-header {piece} {out} e =
-      record { bounds = rw (first-current p name-ends ends e) at (r .bounds); at = omega arith; inside = omega arith; room = omega arith; long-bytes = r .long-names; long-ends = r .long-name-ends }
+      record {
+        bounds = rw (first-current p name-ends ends e) at (r .bounds);
+        at = omega arith;
+        inside = omega arith;
+        room = omega arith;
+        long-bytes = r .long-names;
+        long-ends = r .long-name-ends;
+      }
 
   pub ready-later : {piece out : List ℕ} → (p .records ≡ 0 → ⊥) → StepReady piece (p .offset) 0 p bytes ends out 0
   ready-later {piece} {out} e =
-      record { bounds = rw (second-current p name-ends ends e) at (r .bounds); at = omega arith; inside = omega arith; room = omega arith; long-bytes = r .long-bytes; long-ends = r .long-ends }
+      record {
+        bounds = rw (second-current p name-ends ends e) at (r .bounds);
+        at = omega arith;
+        inside = omega arith;
+        room = omega arith;
+        long-bytes = r .long-bytes;
+        long-ends = r .long-ends;
+      }

@@ -53,7 +53,9 @@ short-one piece c n s l =
     let g : length (c .bytes) ≡ c .upto - c .from = ap length (s .raw) ∙ e in
     omega arith
 
-all-lie : (d : Dialect) (piece : Bytes) (n : ℕ) → n ≤ MAXRECORD → (cs : List RawCell) → All (IsWhole d) cs → All (SpanIn piece) cs → bytesIn cs ≤ n → All (LiesIn d piece) (map (valueOf d) cs)
+all-lie :
+    (d : Dialect) (piece : Bytes) (n : ℕ) → n ≤ MAXRECORD → (cs : List RawCell) → All (IsWhole d) cs → All (SpanIn piece) cs → bytesIn cs ≤ n →
+    All (LiesIn d piece) (map (valueOf d) cs)
 unfolding bytesIn
 all-lie d piece n m [] all-none all-none l = all-none
 all-lie d piece n m (c ∷ cs) (all-cons w ws) (all-cons s ss) l =
@@ -86,11 +88,14 @@ module _ (d : Dialect) (limit : ℕ) (piece : Bytes) (i : ℕ) (f : FileState) (
   ends-sized : {s : Scan} {cs : List RawCell} {g : FileState} {next : ℕ} {left : Bytes} → SizedTo (completes s cs g next left) → bytesIn cs ≤ MAXRECORD
   ends-sized {s} (sized-completes z l) = omega (arith, z .limit)
 
-  ends-stretches : {s : Scan} {cs : List RawCell} {g : FileState} {next : ℕ} {left : Bytes} → ScanResultIn piece (completes s cs g next left) → All (SpanIn piece) cs
+  ends-stretches :
+      {s : Scan} {cs : List RawCell} {g : FileState} {next : ℕ} {left : Bytes} → ScanResultIn piece (completes s cs g next left) → All (SpanIn piece) cs
   ends-stretches (completes-in x c l r) = c
 
   keeps : PreservesTo d Here
-  keeps = scan-preserves d limit (fresh f 0 i) (drop i piece) (record { runs = rw (between-fresh starts) here; whole = all-none; opens = no-bytes refl; holds = nothing-current refl refl })
+  keeps =
+      scan-preserves d limit (fresh f 0 i) (drop i piece)
+      (record { runs = rw (between-fresh starts) here; whole = all-none; opens = no-bytes refl; holds = nothing-current refl refl })
 
   sizes : SizedTo Here
   unfolding bytesIn
@@ -99,11 +104,14 @@ module _ (d : Dialect) (limit : ℕ) (piece : Bytes) (i : ℕ) (f : FileState) (
   lies : ScanResultIn piece Here
   lies = stretches d limit piece (fresh f 0 i) (record { raw = part-none piece i; forward = omega arith; within = inside; cells = all-none })
 
-  cells-whole : {s : Scan} {cs : List RawCell} {g : FileState} {next : ℕ} {left : Bytes} → Here ≡ completes s cs g next left → All (LiesIn d piece) (map (valueOf d) cs)
+  cells-whole :
+      {s : Scan} {cs : List RawCell} {g : FileState} {next : ℕ} {left : Bytes} → Here ≡ completes s cs g next left → All (LiesIn d piece) (map (valueOf d) cs)
   cells-whole {s} {cs} e =
-      all-lie d piece MAXRECORD (omega arith) cs (ends-whole (subst (PreservesTo d) e keeps)) (ends-stretches (subst (ScanResultIn piece) e lies)) (ends-sized (subst SizedTo e sizes))
+      all-lie d piece MAXRECORD (omega arith) cs (ends-whole (subst (PreservesTo d) e keeps)) (ends-stretches (subst (ScanResultIn piece) e lies))
+      (ends-sized (subst SizedTo e sizes))
 
-  module _ {s₀ e₀ k₀ s e k : List ℕ} {q : FastScan} (told : FastScanSound d limit piece i f MAXCOLUMNS 0 s₀ e₀ k₀ s e k q) (long : Scratch s₀ e₀ k₀) {start cells next : ℕ} {g : FileState} {clean : Bool} (z : q ≡ Record start cells g next clean) where
+  module _ {s₀ e₀ k₀ s e k : List ℕ} {q : FastScan} (told : FastScanSound d limit piece i f MAXCOLUMNS 0 s₀ e₀ k₀ s e k q)
+      (long : Scratch s₀ e₀ k₀) {start cells next : ℕ} {g : FileState} {clean : Bool} (z : q ≡ Record start cells g next clean) where
     -- the result of the scan, and the lists after it
     pub record Complete : Type 0 where
       pub found : CompletedAs Here start cells g next
@@ -152,7 +160,9 @@ module _ (d : Dialect) (limit : ℕ) (piece : Bytes) (i : ℕ) (f : FileState) (
     pe = complete .at-ends ∙ ap (λ (l : List ℕ). storedFrom MAXCOLUMNS 0 l e₀) (sym (map-map (λ (v : Value). v .upto) (valueOf d) (complete .found .cs)))
 
     pk : k ≡ storedFrom MAXCOLUMNS 0 (kindsOf values) k₀
-    pk = complete .at-kinds ∙ ap (λ (l : List ℕ). storedFrom MAXCOLUMNS 0 l k₀) (sym (map-map (λ (v : Value). kindNumber (v .kind)) (valueOf d) (complete .found .cs)))
+    pk =
+        complete .at-kinds ∙ ap (λ (l : List ℕ). storedFrom MAXCOLUMNS 0 l k₀)
+        (sym (map-map (λ (v : Value). kindNumber (v .kind)) (valueOf d) (complete .found .cs)))
 
     -- the lists hold the cells
     pub cells-there : cells ≤ MAXCOLUMNS → Cells (File d) piece (take cells s) (take cells e) (take cells k)

@@ -17,7 +17,8 @@ use Rattle.model.specs.rules.Decode.{kindOf, contentOf}
 use Rattle.model.specs.rules.Text.{Value, recordText, ending}
 use Rattle.model.specs.rules.Report.{MAXFILE, MAXCOLUMNS}
 use Rattle.model.specs.rules.Records.{Rec, going, readFrom, _orElse_, headerFault, dataFault, targetFault}
-use Rattle.model.specs.laws.Scans.{RawCell, Scan, ScanResult, completes, scan, fresh, valueOf, movedCell, joinedCell, joinedCells, Buffered, Holds, current, nothing-current}
+use Rattle.model.specs.laws.Scans.{RawCell, Scan, ScanResult, completes, scan, fresh, valueOf, movedCell, joinedCell, joinedCells, Buffered, Holds, current}
+use Rattle.model.specs.laws.Scans.{nothing-current}
 use Rattle.model.specs.laws.RoundTrips.{SameCells, no-cells, and-cell}
 use Rattle.model.proofs.Tests.{split, impossible}
 use Rattle.model.proofs.file_laws.CheckResults.{target-sound}
@@ -35,7 +36,8 @@ use Rattle.piece_step.specs.Steps.{Scratch, InBounds}
 use Rattle.piece_step.proofs.StepOutcomes as turning
 use Rattle.piece_step.proofs.StepOutcomes.{allCells, inFile, valuesNow, doneThen, placeThen, sound-reads, text-here, sound-holds}
 use Rattle.piece_step.specs.declared.fast.FastStep.{FastStep}
-use Rattle.piece_step.specs.FastSteps.{FastStepReady, Starts, begins, ends, Between, FastStepWrites, at-next, not-found, FastStepInBounds, next-in-bounds, nothing-in-bounds, FastStepSound, a-record, nothing}
+use Rattle.piece_step.specs.FastSteps.{FastStepReady, Starts, begins, ends, Between, FastStepWrites, at-next, not-found, FastStepInBounds, next-in-bounds}
+use Rattle.piece_step.specs.FastSteps.{nothing-in-bounds, FastStepSound, a-record, nothing}
 use Rattle.piece_step.proofs.FastCells.{Complete, complete, values-there}
 
 -- ---- nothing is buffered
@@ -50,7 +52,9 @@ joined-bytes : (k : Buffered) (began : ℕ) (c : RawCell) → k .raw ≡ [] → 
 unfolding joinedCell
 joined-bytes k began c e = split (λ (x : RawCell). x .bytes ≡ c .bytes) (c .from is began) (λ _. rw e) λ _. refl
 
-same-moved : (d : Dialect) (k : Buffered) (n began : ℕ) → k .raw ≡ [] → (cs : List RawCell) → SameCells (map (valueOf d) cs) (map (valueOf d) (map (joinedCell k began) (map (movedCell n) cs)))
+same-moved :
+    (d : Dialect) (k : Buffered) (n began : ℕ) → k .raw ≡ [] → (cs : List RawCell) →
+    SameCells (map (valueOf d) cs) (map (valueOf d) (map (joinedCell k began) (map (movedCell n) cs)))
 same-moved d k n began e [] = no-cells
 same-moved d k n began e (c ∷ cs) =
     let b : joinedCell k began (movedCell n c) .bytes ≡ c .bytes = joined-bytes k began (movedCell n c) e in
@@ -61,14 +65,19 @@ same-moved d k n began e (c ∷ cs) =
 later : (p : Place) → (p .records ≡ 0 → ⊥) → (p .records is 0) ≡ false
 later p h = ne-eqb (p .records) 0 h
 
-sound-at : (d t : Dialect) (p : Place) (vs : List Value) → (p .records ≡ 0 → ⊥) → dataFault (p .columns) vs ≡ Sound → targetFault (into t) false (p .written) vs ≡ Sound → faultAt d (into t) p vs ≡ Sound
+sound-at :
+    (d t : Dialect) (p : Place) (vs : List Value) → (p .records ≡ 0 → ⊥) → dataFault (p .columns) vs ≡ Sound →
+    targetFault (into t) false (p .written) vs ≡ Sound → faultAt d (into t) p vs ≡ Sound
 unfolding faultAt if_then_else_ _orElse_
 sound-at d t p vs l a b = rw (later p l, a, b)
 
 text-at : (t : Dialect) (p : Place) (vs : List Value) → (p .records ≡ 0 → ⊥) → textAt (into t) p vs ≡ recordText (into t) false vs ++ ending t
 text-at t p vs l = rw (later p l)
 
-module _ (t : Dialect) {d : Dialect} {piece : Bytes} {n i : ℕ} {p : Place} {out : List ℕ} {o : ℕ} (ready : FastStepReady piece n i p out o) (between : Between p) {s₀ e₀ k₀ s e kk : List ℕ} {q : FastScan} (told : FastScanSound d (MAXFILE - n) piece i (p .state) MAXCOLUMNS 0 s₀ e₀ k₀ s e kk q) (long : Scratch s₀ e₀ k₀) {start cells next : ℕ} {g : FileState} {clean : Bool} (z : q ≡ Record start cells g next clean) where
+module _ (t : Dialect) {d : Dialect} {piece : Bytes} {n i : ℕ} {p : Place} {out : List ℕ} {o : ℕ} (ready : FastStepReady piece n i p out o)
+    (between : Between p) {s₀ e₀ k₀ s e kk : List ℕ} {q : FastScan}
+    (told : FastScanSound d (MAXFILE - n) piece i (p .state) MAXCOLUMNS 0 s₀ e₀ k₀ s e kk q)
+    (long : Scratch s₀ e₀ k₀) {start cells next : ℕ} {g : FileState} {clean : Bool} (z : q ≡ Record start cells g next clean) where
   under : n ≤ MAXFILE
   under = omega (arith, ready .at, ready .offset)
 
@@ -112,25 +121,39 @@ module _ (t : Dialect) {d : Dialect} {piece : Bytes} {n i : ℕ} {p : Place} {ou
     came : scan d (MAXFILE - n) (fresh (p .state) (p .size) i) (drop i piece) ≡ completes (at-end .found .s) (at-end .found .cs) g next (at-end .found .left)
     came = ap (λ (m : ℕ). scan d (MAXFILE - n) (fresh (p .state) m i) (drop i piece)) (between .size) ∙ at-end .found .came
 
-    same : cells ≤ MAXCOLUMNS → SameCells Cells-of (valuesNow u hold (ready .at) under (ready .inside) (at-end .found .s) (at-end .found .cs) g next (at-end .found .left) came)
+    same :
+        cells ≤ MAXCOLUMNS →
+        SameCells Cells-of (valuesNow u hold (ready .at) under (ready .inside) (at-end .found .s) (at-end .found .cs) g next (at-end .found .left) came)
     unfolding joinedCell
     same few =
         rw (values-there d (MAXFILE - n) piece i (p .state) (between .state) (ready .inside) told long z few, kept .1)
         (same-moved d k n (n + i) (kept .0) (at-end .found .cs))
 
-    pub writes-turns : {out′ : List ℕ} {r : FastStep} → FastStepWrites t p n next g cells Cells-of o out out′ r → FastStepSound d (into t) piece i p bytes ends′ done k o out out′ r
+    pub writes-turns :
+        {out′ : List ℕ} {r : FastStep} → FastStepWrites t p n next g cells Cells-of o out out′ r →
+        FastStepSound d (into t) piece i p bytes ends′ done k o out out′ r
     writes-turns (not-found w) = nothing
     writes-turns (at-next {end = end} few a b room w y) =
         let sound : faultAt d (into t) p Cells-of ≡ Sound = sound-at d t p Cells-of (between .later) a b in
         let spelt : textAt (into t) p Cells-of ≡ recordText (into t) false Cells-of ++ ending t = text-at t p Cells-of (between .later) in
-        let text = text-here u hold (ready .at) under (ready .inside) (at-end .found .s) (at-end .found .cs) g next (at-end .found .left) came Cells-of (same few) sound in
+        let text =
+        text-here u hold (ready .at) under (ready .inside) (at-end .found .s) (at-end .found .cs) g next (at-end .found .left) came Cells-of (same few) sound in
         let size : length (textAt (into t) p Cells-of) ≡ end - o = ap length spelt ∙ omega arith in
-        let place : placeThen u hold (ready .at) under (ready .inside) (at-end .found .s) (at-end .found .cs) g next (at-end .found .left) came Cells-of (same few) sound ≡ placeAfter p (length Cells-of) (end - o) g (n + next) = ap (λ (m : ℕ). placeAfter p (length Cells-of) m g (n + next)) size in
-        let this : Rec = record { start = inFile u (at-end .found .s) .start; size = at-end .found .s .size; cells = map (valueOf d) (allCells u (at-end .found .cs)) } in
+        let place : placeThen u hold (ready .at) under (ready .inside) (at-end .found .s) (at-end .found .cs) g next
+        (at-end .found .left) came Cells-of (same few) sound ≡ placeAfter p (length Cells-of) (end - o) g (n + next) =
+        ap (λ (m : ℕ). placeAfter p (length Cells-of) m g (n + next)) size in
+        let this : Rec =
+        record { start = inFile u (at-end .found .s) .start; size = at-end .found .s .size; cells = map (valueOf d) (allCells u (at-end .found .cs)) } in
         a-record this (bufferedNone (n + next))
-        (subst (λ (x : Place). readFrom d (some (into t)) (going (readAt d p done k)) (drop i piece) ≡ readFrom d (some (into t)) (going (readAt d x (doneThen u hold (ready .at) under (ready .inside) (at-end .found .s) (at-end .found .cs) g next (at-end .found .left) came) (bufferedNone (n + next)))) (drop next piece)) place
-        (sound-reads u hold (ready .at) under (ready .inside) (at-end .found .s) (at-end .found .cs) g next (at-end .found .left) came Cells-of (same few) sound))
-        (subst (λ (x : Place). StateInvariant d (into t) x bytes ends′ (doneThen u hold (ready .at) under (ready .inside) (at-end .found .s) (at-end .found .cs) g next (at-end .found .left) came) (bufferedNone (n + next))) place
-        (sound-holds u hold (ready .at) under (ready .inside) (at-end .found .s) (at-end .found .cs) g next (at-end .found .left) came Cells-of (same few) sound bytes ends′))
+        (subst (λ (x : Place). readFrom d (some (into t)) (going (readAt d p done k)) (drop i piece) ≡ readFrom d (some (into t))
+        (going (readAt d x (doneThen u hold (ready .at) under (ready .inside) (at-end .found .s) (at-end .found .cs) g next
+        (at-end .found .left) came) (bufferedNone (n + next)))) (drop next piece)) place
+        (sound-reads u hold (ready .at) under (ready .inside) (at-end .found .s) (at-end .found .cs) g next (at-end .found .left) came Cells-of
+        (same few) sound))
+        (subst (λ (x : Place). StateInvariant d (into t) x bytes ends′
+        (doneThen u hold (ready .at) under (ready .inside) (at-end .found .s) (at-end .found .cs) g next (at-end .found .left) came)
+        (bufferedNone (n + next))) place
+        (sound-holds u hold (ready .at) under (ready .inside) (at-end .found .s) (at-end .found .cs) g next (at-end .found .left) came Cells-of
+        (same few) sound bytes ends′))
         (w ∙ ap (written out o) (sym spelt ∙ text))
         (y ∙ ap (λ (x : Bytes). o + length x) (sym spelt ∙ text))

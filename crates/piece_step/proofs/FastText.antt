@@ -45,7 +45,9 @@ module _ {t : Dialect} {columns before : ℕ} {vs : List Value} {o : ℕ} {out o
   put-nowhere (no-text w) q = w
 
 -- the text fits into the file, and ends after o
-pub written-fits : {t : Dialect} {columns before : ℕ} {vs : List Value} {o : ℕ} {out out′ : List ℕ} {end : ℕ} → UpTo t columns before vs o out out′ end → (o ≤ end) × (before + (end - o) ≤ MAXFILE)
+pub written-fits :
+    {t : Dialect} {columns before : ℕ} {vs : List Value} {o : ℕ} {out out′ : List ℕ} {end : ℕ} → UpTo t columns before vs o out out′ end →
+    (o ≤ end) × (before + (end - o) ≤ MAXFILE)
 written-fits {t} {columns} {before} {vs} {o} {out} {out′} {end} y =
     let f = target-sound (into t) false before vs (y .target) in
     let l : before + length (recordText (into t) false vs ++ ending t) ≤ MAXFILE = f .fits in
@@ -54,11 +56,34 @@ written-fits {t} {columns} {before} {vs} {o} {out} {out′} {end} y =
 
 -- the place after it
 pub written-place :
-    {t : Dialect} {p : Place} {vs : List Value} {o : ℕ} {out out′ : List ℕ} {end : ℕ} (n next : ℕ) (f : FileState) (cells : ℕ) → (p .records ≡ 0 → ⊥) → cells ≤ MAXCOLUMNS →
+    {t : Dialect} {p : Place} {vs : List Value} {o : ℕ} {out out′ : List ℕ} {end : ℕ} (n next : ℕ) (f : FileState) (cells : ℕ) →
+    (p .records ≡ 0 → ⊥) → cells ≤ MAXCOLUMNS →
     UpTo t (p .columns) (p .written) vs o out out′ end →
-    FastStepWrites t p n next f cells vs o out out′ (Next (record { state = f; offset = n + next; start = n + next; size = 0; fill = 0; cells = 0; columns = p .columns; records = p .records + 1; written = p .written + (end - o) }) next end)
+    FastStepWrites t p n next f cells vs o out out′
+    (Next (record {
+      state = f;
+      offset = n + next;
+      start = n + next;
+      size = 0;
+      fill = 0;
+      cells = 0;
+      columns = p .columns;
+      records = p .records + 1;
+      written = p .written + (end - o);
+    }) next end)
 unfolding if_then_else_
 written-place {t} {p} {vs} {o} {out} {out′} {end} n next f cells l few y =
     let c : columnsWith p (length vs) ≡ p .columns = rw (ne-eqb (p .records) 0 l) in
-    subst (λ (m : ℕ). FastStepWrites t p n next f cells vs o out out′ (Next (record { state = f; offset = n + next; start = n + next; size = 0; fill = 0; cells = 0; columns = m; records = p .records + 1; written = p .written + (end - o) }) next end)) c
+    subst (λ (m : ℕ). FastStepWrites t p n next f cells vs o out out′
+    (Next (record {
+      state = f;
+      offset = n + next;
+      start = n + next;
+      size = 0;
+      fill = 0;
+      cells = 0;
+      columns = m;
+      records = p .records + 1;
+      written = p .written + (end - o);
+    }) next end)) c
     (at-next few (y .source) (y .target) (y .room) (y .text) (y .place))

@@ -11,11 +11,13 @@ use borrow.Author.Tests.{ne-eqb}
 use Rattle.model.specs.rules.Base.{if_then_else_, _is_, Bytes, isEmpty}
 use Rattle.model.specs.rules.Text.{Value, isText, carried, recordText, tableText, ending}
 use Rattle.model.specs.rules.Report.{report, numberOf, columnOf, isAtByte, MAXCOLUMNS}
-use Rattle.model.specs.rules.Records.{Rec, rows, Read, faultReport, _orElse_, when, nameKey, among, repeatFrom, repeatFault, headerKindFrom, headerFault, dataFault, hasKind, losesSurrogate, uncarriedFrom, clashFault, targetFault, recordFault}
+use Rattle.model.specs.rules.Records.{Rec, rows, Read, faultReport, _orElse_, when, nameKey, among, repeatFrom, repeatFault, headerKindFrom, headerFault}
+use Rattle.model.specs.rules.Records.{dataFault, hasKind, losesSurrogate, uncarriedFrom, clashFault, targetFault, recordFault}
 use Rattle.model.specs.laws.RoundTrips.{SameCells}
 use Rattle.model.proofs.Tests.{split}
 use Rattle.model.proofs.round_trip.Meanings.{place-free}
-use Rattle.piece_step.specs.Types.{Dialect, Target, Fault, CellCount, RepeatedName, HeaderKind, TooManyColumns, NoCells, LacksKind, LoneSurrogate, Clash, TextTooLong, OutputTooLong, CheckResult, Sound, Faulty}
+use Rattle.piece_step.specs.Types.{Dialect, Target, Fault, CellCount, RepeatedName, HeaderKind, TooManyColumns, NoCells, LacksKind, LoneSurrogate, Clash}
+use Rattle.piece_step.specs.Types.{TextTooLong, OutputTooLong, CheckResult, Sound, Faulty}
 use Rattle.piece_state.specs.declared.place.Place.{Place}
 use Rattle.piece_step.specs.Invariant.{columnsOf}
 use Rattle.piece_record.specs.Completion.{faultAt, textAt}
@@ -41,10 +43,13 @@ unfolding headerKindFrom
 kinds-start n [] = start-sound
 kinds-start n (v ∷ vs) = or-start (when-start (not (isText (v .kind))) (HeaderKind n) refl) (kinds-start (suc n) vs)
 
-repeat-start : (d : Dialect) (fault : ℕ → Fault) → ((n : ℕ) → isAtByte (fault n) ≡ false) → (seen : List Bytes) (n : ℕ) (vs : List Value) → AtStart (repeatFrom d fault seen n vs)
+repeat-start :
+    (d : Dialect) (fault : ℕ → Fault) → ((n : ℕ) → isAtByte (fault n) ≡ false) → (seen : List Bytes) (n : ℕ) (vs : List Value) →
+    AtStart (repeatFrom d fault seen n vs)
 unfolding repeatFrom
 repeat-start d fault h seen n [] = start-sound
-repeat-start d fault h seen n (v ∷ vs) = split AtStart (among (nameKey d (v .content)) seen) (λ _. start-fault (h n)) λ _. repeat-start d fault h (nameKey d (v .content) ∷ seen) (suc n) vs
+repeat-start d fault h seen n (v ∷ vs) =
+    split AtStart (among (nameKey d (v .content)) seen) (λ _. start-fault (h n)) λ _. repeat-start d fault h (nameKey d (v .content) ∷ seen) (suc n) vs
 
 header-start : (d : Dialect) (vs : List Value) → AtStart (headerFault d vs)
 unfolding headerFault repeatFault
@@ -87,11 +92,13 @@ start-of e (start-fault {e = x} a) q = let z : x ≡ e = cc in rw (sym z) a
 pub fault-start : (d : Dialect) (t : Target) (p : Place) (vs : List Value) (e : Fault) → faultAt d t p vs ≡ Faulty e → isAtByte e ≡ false
 fault-start d t p vs e q = start-of e (at-start d t p vs) q
 
-pub report-start : (e : Fault) (r : Read) (n : ℕ) → isAtByte e ≡ false → length (r .done) ≡ n → faultReport e r ≡ report (numberOf e) (n + 1) (columnOf e) (r .start)
+pub report-start :
+    (e : Fault) (r : Read) (n : ℕ) → isAtByte e ≡ false → length (r .done) ≡ n → faultReport e r ≡ report (numberOf e) (n + 1) (columnOf e) (r .start)
 unfolding if_then_else_
 report-start e r n q l = let z : suc n ≡ n + 1 = omega arith in rw (q, l, z)
 
-pub report-byte : (e : Fault) (r : Read) (n : ℕ) → isAtByte e ≡ true → length (r .done) ≡ n → faultReport e r ≡ report (numberOf e) (n + 1) (columnOf e) (r .offset)
+pub report-byte :
+    (e : Fault) (r : Read) (n : ℕ) → isAtByte e ≡ true → length (r .done) ≡ n → faultReport e r ≡ report (numberOf e) (n + 1) (columnOf e) (r .offset)
 unfolding if_then_else_
 report-byte e r n q l = let z : suc n ≡ n + 1 = omega arith in rw (q, l, z)
 
@@ -99,7 +106,8 @@ report-byte e r n q l = let z : suc n ≡ n + 1 = omega arith in rw (q, l, z)
 
 by-records :
     (d : Dialect) (t : Target) (done : List Rec) (vs : List Value) →
-    ((if isEmpty done then headerFault d vs else dataFault (columnsOf done) vs) orElse targetFault t (isEmpty done) (length (tableText t (rows done))) vs) ≡ recordFault d (some t) done vs
+    ((if isEmpty done then headerFault d vs else dataFault (columnsOf done) vs) orElse targetFault t (isEmpty done)
+    (length (tableText t (rows done))) vs) ≡ recordFault d (some t) done vs
 unfolding recordFault rows if_then_else_
 by-records d t [] vs = refl
 by-records d t (x ∷ xs) vs = refl

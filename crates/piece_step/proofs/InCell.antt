@@ -42,13 +42,23 @@ module _ (d : Dialect) (limit : ℕ) (c : Cell) (q : ℕ) (stops : runStop d c �
   -- the scan after them
   abbrev behind : Scan → Bytes → Scan
   behind s xs =
-      record { state = Inside c; offset = s .offset + length xs; start = s .start; size = s .size + length xs; opened = s .opened; raw = s .raw ++ xs; cells = s .cells }
+      record {
+        state = Inside c;
+        offset = s .offset + length xs;
+        start = s .start;
+        size = s .size + length xs;
+        opened = s .opened;
+        raw = s .raw ++ xs;
+        cells = s .cells;
+      }
 
   steps : (f : FileState) (b : ℕ) → f ≡ Inside c → ordinary (quoteOf d) q b ≡ true → fileStep d f b ≡ To (Inside c) OfCell
   unfolding fileStep inCell
   steps f b e h = rw (e, run-step d c q b stops h) refl
 
-  scan-run : (xs : Bytes) (s : Scan) → s .state ≡ Inside c → allPass (ordinary (quoteOf d) q) xs ≡ true → s .offset + length xs ≤ limit → s .size + length xs ≤ MAXRECORD → scan d limit s xs ≡ pends (behind s xs)
+  scan-run :
+      (xs : Bytes) (s : Scan) → s .state ≡ Inside c → allPass (ordinary (quoteOf d) q) xs ≡ true → s .offset + length xs ≤ limit →
+      s .size + length xs ≤ MAXRECORD → scan d limit s xs ≡ pends (behind s xs)
   unfolding scan scanStep allPass if_then_else_
   scan-run [] s e all l m = rw (sym e, add-zero (s .offset), add-zero (s .size), append-nil (s .raw)) refl
   scan-run (b ∷ xs) s e all l m =
@@ -60,11 +70,14 @@ module _ (d : Dialect) (limit : ℕ) (c : Cell) (q : ℕ) (stops : runStop d c �
 
 -- ---- a piece
 
-module _ (d : Dialect) (piece : Bytes) (p : Place) (bytes ends : List ℕ) (bounds : InBounds p ends) (long-bytes : length bytes ≡ MAXRECORD) (long-ends : length ends ≡ MAXCOLUMNS)
-    (c : Cell) (q : ℕ) (state : p .state ≡ Inside c) (stops : runStop d c ≡ At q) (all : AllIn (ordinary (quoteOf d) q) piece 0 (length piece)) (fits : Fits p (length piece))
+module _ (d : Dialect) (piece : Bytes) (p : Place) (bytes ends : List ℕ) (bounds : InBounds p ends) (long-bytes : length bytes ≡ MAXRECORD)
+    (long-ends : length ends ≡ MAXCOLUMNS)
+    (c : Cell) (q : ℕ) (state : p .state ≡ Inside c) (stops : runStop d c ≡ At q) (all : AllIn (ordinary (quoteOf d) q) piece 0 (length piece))
+    (fits : Fits p (length piece))
     (bytes′ : List ℕ) (kept : bytes′ ≡ written bytes (p .fill) piece) where
   ready : (out : List ℕ) → StepReady piece (p .offset) 0 p bytes ends out 0
-  ready out = record { bounds = bounds; at = sym (add-zero (p .offset)); inside = omega arith; room = omega arith; long-bytes = long-bytes; long-ends = long-ends }
+  ready out =
+      record { bounds = bounds; at = sym (add-zero (p .offset)); inside = omega arith; room = omega arith; long-bytes = long-bytes; long-ends = long-ends }
 
   abbrev hand : RecordState
   hand = record { start = 0; size = p .size + length piece; opened = 0; cells = 0 }
@@ -88,12 +101,16 @@ module _ (d : Dialect) (piece : Bytes) (p : Place) (bytes ends : List ℕ) (boun
   pended out =
       record {
         s = behind d (MAXFILE - p .offset) c q stops (fresh (p .state) (p .size) 0) piece;
-        came = scan-run d (MAXFILE - p .offset) c q stops piece (fresh (p .state) (p .size) 0) state (in-whole (ordinary (quoteOf d) q) all) (omega (arith, fits .in-file)) (fits .in-record);
+        came =
+            scan-run d (MAXFILE - p .offset) c q stops piece (fresh (p .state) (p .size) 0) state (in-whole (ordinary (quoteOf d) q) all)
+            (omega (arith, fits .in-file)) (fits .in-record);
         state = refl;
         hand = refl;
       }
 
-  place-is : placeBehind (p .fill + length piece) ≡ placeAtPieceEnd p (p .offset) 0 (length piece) (Inside c) hand (p .fill + length (bufferedBytes []) + length (drop 0 piece))
+  place-is :
+      placeBehind (p .fill + length piece) ≡ placeAtPieceEnd p (p .offset) 0 (length piece) (Inside c) hand
+      (p .fill + length (bufferedBytes []) + length (drop 0 piece))
   unfolding bufferedBytes if_then_else_
   place-is = rw (add-zero (p .cells), add-zero (p .fill)) refl
 
@@ -105,7 +122,8 @@ module _ (d : Dialect) (piece : Bytes) (p : Place) (bytes ends : List ℕ) (boun
   told-kept : InCellSound d piece p bytes ends bytes′ (told.Buffered (placeBehind (p .fill + length piece)))
   unfolding pended
   told-kept = all-buffered (within (bounds-pended d piece (p .offset) 0 p bytes ends [] 0 (ready []) _ _ (pended []) [] bytes′ ends _ keeps (λ _. refl)))
-      λ t done k out hold. turns-pended-on d piece (p .offset) 0 p bytes ends out 0 (ready out) _ _ (pended out) [] bytes′ ends _ keeps (λ _. refl) t done k hold keeps
+      λ t done k out hold. turns-pended-on d piece (p .offset) 0 p bytes ends out 0 (ready out) _ _ (pended out) [] bytes′ ends _ keeps
+      (λ _. refl) t done k hold keeps
     where
       within : {q : Place} → StepInBounds piece (p .offset) 0 ends [] (NeedInput q) → InBounds q ends
       within (pending-bounds x) = x

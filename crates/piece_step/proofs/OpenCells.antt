@@ -15,7 +15,8 @@ use Rattle.model.proofs.Tests.{split, impossible}
 use Rattle.model.proofs.cell_laws.CellRuns.{all-snoc}
 use Rattle.model.proofs.file_laws.FileSteps as steps
 use Rattle.model.proofs.file_laws.FileSteps.{Rests, Around, Grown, Free, Starts, Opens, Leaves, Transition, step-transition}
-use Rattle.piece_step.specs.Types.{Dialect, FileState, Top, Begin, Ended, Bom1, Bom2, PlainBom1, PlainBom2, Comment, Blanks, ExpectCell, Inside, After, Cr, OfCell, Between, Tail, Ends, Step, To, Reject, ByteFault, Fault}
+use Rattle.piece_step.specs.Types.{Dialect, FileState, Top, Begin, Ended, Bom1, Bom2, PlainBom1, PlainBom2, Comment, Blanks, ExpectCell, Inside, After}
+use Rattle.piece_step.specs.Types.{Cr, OfCell, Between, Tail, Ends, Step, To, Reject, ByteFault, Fault}
 use Rattle.piece_step.specs.Invariant.{inCell}
 
 -- ---- a byte of a record
@@ -133,12 +134,24 @@ module _ (d : Dialect) (limit began : ℕ) where
   abbrev Firsts : Bytes → Type 0
   Firsts bs = (s : Scan) → First began s → began ≤ s .offset → FirstIn began (scan d limit s bs)
 
-  step-first : (s : Scan) (b : ℕ) (bs : Bytes) → Firsts bs → First began s → began ≤ s .offset → (x : Step) → Proceeds (s .state) x → FirstIn began (scanStep s b bs (λ s′. scan d limit s′ bs) x)
+  step-first :
+      (s : Scan) (b : ℕ) (bs : Bytes) → Firsts bs → First began s → began ≤ s .offset → (x : Step) → Proceeds (s .state) x →
+      FirstIn began (scanStep s b bs (λ s′. scan d limit s′ bs) x)
   unfolding scanStep
   step-first s b bs ih i l (Reject e) go-fault = first-fails
   step-first s b bs ih i l (To g OfCell) (go-cell h) = ih _ (grown i) (omega arith)
     where
-      grown : First began s → First began (record { state = g; offset = suc (s .offset); start = s .start; size = suc (s .size); opened = s .opened; raw = s .raw ++ (b ∷ []); cells = s .cells })
+      grown :
+          First began s →
+          First began (record {
+            state = g;
+            offset = suc (s .offset);
+            start = s .start;
+            size = suc (s .size);
+            opened = s .opened;
+            raw = s .raw ++ (b ∷ []);
+            cells = s .cells;
+          })
       grown (still-open u o c) = still-open h o c
       grown (then-closed u o c) = then-closed (cell-record g h) o c
   step-first s b bs ih i l (To g (Between k)) (go-between h u) = ih _ (then-closed h (omega arith) (closes-first k s i u)) (omega arith)
@@ -153,7 +166,9 @@ module _ (d : Dialect) (limit began : ℕ) where
       step-first s b bs (firsts bs) i l (fileStep d (s .state) b) (proceeds d (s .state) b (first-record i))
 
 -- a part that begins in an open cell
-pub first-closes : (d : Dialect) (limit : ℕ) (s : Scan) (bs : Bytes) → inCell (s .state) ≡ true → s .opened ≡ s .offset → s .cells ≡ [] → FirstIn (s .offset) (scan d limit s bs)
+pub first-closes :
+    (d : Dialect) (limit : ℕ) (s : Scan) (bs : Bytes) → inCell (s .state) ≡ true → s .opened ≡ s .offset → s .cells ≡ [] →
+    FirstIn (s .offset) (scan d limit s bs)
 first-closes d limit s bs h o c = firsts d limit (s .offset) bs s (still-open h o c) (omega arith)
 
 -- ---- every byte of a cell counts
@@ -162,7 +177,8 @@ first-closes d limit s bs h o c = firsts d limit (s .offset) bs s (still-open h 
 pub data Grew (base : ℕ) : ScanResult → Type 0 where
   grew-pends : {s : Scan} → inRecord (s .state) ≡ true → base + (bytesIn (s .cells) + length (s .raw)) ≤ s .size → Grew base (pends s)
   grew-fails : {e : Fault} {s : Scan} → Grew base (fails e s)
-  grew-completes : {s : Scan} {cs : List RawCell} {f : FileState} {next : ℕ} {left : Bytes} → base + bytesIn cs ≤ s .size → Grew base (completes s cs f next left)
+  grew-completes :
+      {s : Scan} {cs : List RawCell} {f : FileState} {next : ℕ} {left : Bytes} → base + bytesIn cs ≤ s .size → Grew base (completes s cs f next left)
 
 pub bytes-snoc : (cs : List RawCell) (c : RawCell) → bytesIn (cs ++ (c ∷ [])) ≡ bytesIn cs + length (c .bytes)
 unfolding bytesIn
@@ -171,14 +187,18 @@ bytes-snoc (x ∷ cs) c = let e : bytesIn (cs ++ (c ∷ [])) ≡ bytesIn cs + le
 
 closing-grew : (base : ℕ) (k : Bool) (s : Scan) → base + (bytesIn (s .cells) + length (s .raw)) ≤ s .size → base + bytesIn (closingRaw k s) ≤ s .size
 closing-grew base true s h =
-    let e : bytesIn (closingRaw true s) ≡ bytesIn (s .cells) + length (s .raw) = bytes-snoc (s .cells) (record { from = s .opened; upto = s .offset; bytes = s .raw }) in omega arith
+    let e : bytesIn (closingRaw true s) ≡ bytesIn (s .cells) + length (s .raw) =
+    bytes-snoc (s .cells) (record { from = s .opened; upto = s .offset; bytes = s .raw }) in
+    omega arith
 closing-grew base false s h = omega arith
 
 module _ (d : Dialect) (limit base : ℕ) where
   abbrev Grow : Bytes → Type 0
   Grow bs = (s : Scan) → inRecord (s .state) ≡ true → base + (bytesIn (s .cells) + length (s .raw)) ≤ s .size → Grew base (scan d limit s bs)
 
-  step-grew : (s : Scan) (b : ℕ) (bs : Bytes) → Grow bs → base + (bytesIn (s .cells) + length (s .raw)) ≤ s .size → (x : Step) → Proceeds (s .state) x → Grew base (scanStep s b bs (λ s′. scan d limit s′ bs) x)
+  step-grew :
+      (s : Scan) (b : ℕ) (bs : Bytes) → Grow bs → base + (bytesIn (s .cells) + length (s .raw)) ≤ s .size → (x : Step) → Proceeds (s .state) x →
+      Grew base (scanStep s b bs (λ s′. scan d limit s′ bs) x)
   unfolding scanStep bytesIn
   step-grew s b bs ih l (Reject e) go-fault = grew-fails
   step-grew s b bs ih l (To g OfCell) (go-cell h) =
@@ -202,5 +222,7 @@ module _ (d : Dialect) (limit base : ℕ) where
       split (Grew base) _ (λ _. grew-fails) λ _. split (Grew base) _ (λ _. grew-fails) λ _.
       step-grew s b bs (grow bs) l (fileStep d (s .state) b) (proceeds d (s .state) b h)
 
-pub grows : (d : Dialect) (limit base : ℕ) (s : Scan) (bs : Bytes) → inRecord (s .state) ≡ true → base + (bytesIn (s .cells) + length (s .raw)) ≤ s .size → Grew base (scan d limit s bs)
+pub grows :
+    (d : Dialect) (limit base : ℕ) (s : Scan) (bs : Bytes) → inRecord (s .state) ≡ true → base + (bytesIn (s .cells) + length (s .raw)) ≤ s .size →
+    Grew base (scan d limit s bs)
 grows d limit base s bs h l = grow d limit base bs s h l

@@ -12,7 +12,8 @@ use Rattle.model.specs.rules.Base.{if_then_else_, _is_, Bytes}
 use Rattle.model.specs.rules.Report.{MAXRECORD, MAXCOLUMNS}
 use Rattle.model.specs.laws.Laws.{All, all-none, all-cons}
 use Rattle.model.specs.laws.RoundTrips.{SameCells}
-use Rattle.model.specs.laws.Scans.{RawCell, Scan, ScanResult, pends, fails, completes, scan, valueOf, inRecord, Buffered, Holds, current, nothing-current, movedCell, joinedRaw, joinedCells, fresh, bytesIn, Sized, SizedTo, sized-pends, sized-completes}
+use Rattle.model.specs.laws.Scans.{RawCell, Scan, ScanResult, pends, fails, completes, scan, valueOf, inRecord, Buffered, Holds, current, nothing-current}
+use Rattle.model.specs.laws.Scans.{movedCell, joinedRaw, joinedCells, fresh, bytesIn, Sized, SizedTo, sized-pends, sized-completes}
 use Rattle.model.specs.laws.Places.{SpanIn, bufferedBytes, bufferedStarts, bufferedEnds}
 use Rattle.model.proofs.Tests.{split, split-on, impossible}
 use Rattle.model.proofs.piece_laws.ScanSize.{scan-size}
@@ -29,12 +30,14 @@ use Rattle.record_scanner.specs.declared.token.ScanOutcome.the-variants as reac
 use Rattle.piece_state.specs.declared.place.Place.{Place}
 use Rattle.model.proofs.cell_laws.CellRuns.{here}
 use Rattle.model.proofs.cell_laws.Cells.{cellAt}
-use Rattle.piece_step.specs.Types.{Dialect, Fresh, FileState, Top, Begin, Ended, Bom1, Bom2, PlainBom1, PlainBom2, Comment, Blanks, ExpectCell, Inside, After, Cr, Fault}
+use Rattle.piece_step.specs.Types.{Dialect, Fresh, FileState, Top, Begin, Ended, Bom1, Bom2, PlainBom1, PlainBom2, Comment, Blanks, ExpectCell, Inside}
+use Rattle.piece_step.specs.Types.{After, Cr, Fault}
 use Rattle.piece_step.specs.Invariant.{Open, in-cell, no-bytes, IsWhole, Shown}
 use Rattle.piece_record.specs.Completion.{startsBy, endOf, bufferedValues}
 use Rattle.piece_step.specs.Steps.{InBounds}
 use Rattle.piece_step.proofs.ScanLaws.{bufferedOf, Preserves, PreservesTo, preserves-pends, scan-preserves}
-use Rattle.piece_step.proofs.OpenCells.{ClosedFirst, closed-first, First, still-open, then-closed, FirstIn, first-pends, first-completes, first-closes, Grew, grew-pends, grew-completes, grows}
+use Rattle.piece_step.proofs.OpenCells.{ClosedFirst, closed-first, First, still-open, then-closed, FirstIn, first-pends, first-completes, first-closes}
+use Rattle.piece_step.proofs.OpenCells.{Grew, grew-pends, grew-completes, grows}
 
 -- ---- the result
 
@@ -46,7 +49,8 @@ pub record CompletedAs (x : ScanResult) (start cells : ℕ) (f : FileState) (nex
   pub starts : s .start ≡ start
   pub count : length cs ≡ cells
 
-pub completed-as : (x : ScanResult) (start cells : ℕ) (f : FileState) (next : ℕ) → foundOf x .answer ≡ reached.Completed start cells f next → CompletedAs x start cells f next
+pub completed-as :
+    (x : ScanResult) (start cells : ℕ) (f : FileState) (next : ℕ) → foundOf x .answer ≡ reached.Completed start cells f next → CompletedAs x start cells f next
 completed-as (pends s) start cells f next e = let z : _≡_ {A = ℕ} 0 1 = cc in absurd (omega arith)
 completed-as (fails y s) start cells f next e = let z : _≡_ {A = ℕ} 0 1 = cc in absurd (omega arith)
 completed-as (completes s cs g o left) start cells f next e = record { s = s; cs = cs; left = left; came = (cc); starts = (cc); count = (cc) }
@@ -74,13 +78,15 @@ failed-as (completes s cs g q left) y o e = let z : _≡_ {A = ℕ} 0 1 = cc in 
 
 -- ---- the lists
 
-shown-first : (room m : ℕ) (xs old new : List ℕ) → new ≡ storedFrom room 0 xs old → length xs ≡ m → m ≤ room → room ≤ length old → take (m - 0) (drop 0 new) ≡ xs
+shown-first :
+    (room m : ℕ) (xs old new : List ℕ) → new ≡ storedFrom room 0 xs old → length xs ≡ m → m ≤ room → room ≤ length old → take (m - 0) (drop 0 new) ≡ xs
 shown-first room m xs old new e n h l =
     let z : m - 0 ≡ length xs = omega arith in
     ap₂ (λ (k : ℕ) (x : List ℕ). take k x) z (e ∙ stored-from-all room 0 xs old (omega arith) l) ∙ take-append-seam xs (drop (0 + length xs) old)
 
 pub lists-show :
-    {piece : Bytes} {cs : List RawCell} (m : ℕ) (starts stops starts′ stops′ : List ℕ) → starts′ ≡ storedFrom MAXCOLUMNS 0 (rawStarts cs) starts → stops′ ≡ storedFrom MAXCOLUMNS 0 (rawEnds cs) stops →
+    {piece : Bytes} {cs : List RawCell} (m : ℕ) (starts stops starts′ stops′ : List ℕ) → starts′ ≡ storedFrom MAXCOLUMNS 0 (rawStarts cs) starts →
+    stops′ ≡ storedFrom MAXCOLUMNS 0 (rawEnds cs) stops →
     length cs ≡ m → m ≤ MAXCOLUMNS → MAXCOLUMNS ≤ length starts → MAXCOLUMNS ≤ length stops → All (SpanIn piece) cs → Shows piece starts′ stops′ 0 m cs
 lists-show {cs = cs} m starts stops starts′ stops′ e f n h l k all =
     record {
@@ -96,10 +102,13 @@ unfolding bytesIn bufferedBytes
 bytes-in [] = refl
 bytes-in (c ∷ cs) = omega (arith, bytes-in cs, length-append (c .bytes) (bufferedBytes cs))
 
-sized-done : {s : Scan} {cs : List RawCell} {f : FileState} {next : ℕ} {left : Bytes} → SizedTo (completes s cs f next left) → (s .size ≤ MAXRECORD) × (bytesIn cs ≤ s .size)
+sized-done :
+    {s : Scan} {cs : List RawCell} {f : FileState} {next : ℕ} {left : Bytes} → SizedTo (completes s cs f next left) →
+    (s .size ≤ MAXRECORD) × (bytesIn cs ≤ s .size)
 sized-done (sized-completes z b) = (z .limit, b)
 
-grew-done : {base : ℕ} {s : Scan} {cs : List RawCell} {f : FileState} {next : ℕ} {left : Bytes} → Grew base (completes s cs f next left) → base + bytesIn cs ≤ s .size
+grew-done :
+    {base : ℕ} {s : Scan} {cs : List RawCell} {f : FileState} {next : ℕ} {left : Bytes} → Grew base (completes s cs f next left) → base + bytesIn cs ≤ s .size
 grew-done (grew-completes h) = h
 
 sized-pending : {s : Scan} → SizedTo (pends s) → Sized s
@@ -139,7 +148,9 @@ module _ (d : Dialect) (limit : ℕ) (p : Place) (ends : List ℕ) (b : InBounds
   unfolding bytesIn
   grew-here h = grows d limit (p .size) (fresh (p .state) (p .size) i) bs h (omega arith)
 
-  pub room-done : (s : Scan) (cs : List RawCell) (f : FileState) (next : ℕ) (left : Bytes) → from-here ≡ completes s cs f next left → p .fill + length (bufferedBytes cs) ≤ MAXRECORD
+  pub room-done :
+      (s : Scan) (cs : List RawCell) (f : FileState) (next : ℕ) (left : Bytes) → from-here ≡ completes s cs f next left →
+      p .fill + length (bufferedBytes cs) ≤ MAXRECORD
   room-done s cs f next left e = split-on (inRecord (p .state)) in-one between
     where
       z : (s .size ≤ MAXRECORD) × (bytesIn cs ≤ s .size)
@@ -184,7 +195,9 @@ module _ (d : Dialect) (limit : ℕ) (p : Place) (ends : List ℕ) (b : InBounds
 
 -- ---- the current record
 
-pub shown-of : (p : Place) (k : Buffered) {bytes : Bytes} {fill : ℕ} {ends : List ℕ} → CurrentRecord bytes fill ends (k .cells) (k .raw) → p .fill ≡ fill → Shown p k bytes ends
+pub shown-of :
+    (p : Place) (k : Buffered) {bytes : Bytes} {fill : ℕ} {ends : List ℕ} → CurrentRecord bytes fill ends (k .cells) (k .raw) → p .fill ≡ fill →
+    Shown p k bytes ends
 shown-of p k h e =
     record {
       fill = e ∙ h .filled ∙ sym (length-append (bufferedBytes (k .cells)) (k .raw));
@@ -217,7 +230,8 @@ module _ {bytes : Bytes} {fill : ℕ} {ends : List ℕ} {cells : List RawCell} {
 
   pub kept-followed : All (IsWhole d) cells → EdFollowed (take (endOf 0 (take (length cells) ends)) bytes)
   kept-followed w =
-      let all : bytes ≡ bufferedBytes cells ++ (raw ++ drop fill bytes) = sym (take-append-drop fill bytes) ∙ ap (λ (l : Bytes). l ++ drop fill bytes) (h .held) ∙ append-assoc (bufferedBytes cells) raw (drop fill bytes) in
+      let all : bytes ≡ bufferedBytes cells ++ (raw ++ drop fill bytes) =
+      sym (take-append-drop fill bytes) ∙ ap (λ (l : Bytes). l ++ drop fill bytes) (h .held) ∙ append-assoc (bufferedBytes cells) raw (drop fill bytes) in
       let none : 0 + length (bufferedBytes cells) ≡ length (bufferedBytes cells) = omega arith in
       let n : endOf 0 (take (length cells) ends) ≡ length (bufferedBytes cells) = ap (endOf 0) (h .ended) ∙ end-of-buffered 0 cells ∙ none in
       let first : take (endOf 0 (take (length cells) ends)) bytes ≡ bufferedBytes cells =
@@ -245,16 +259,20 @@ closed-proceeds n i (c ∷ cs) (closed-first e all) = let g : n + c .from ≡ n 
 
 -- the current record with the cells of the part
 pub joined-hand :
-    {bytes : Bytes} {fill : ℕ} {ends : List ℕ} (k : Buffered) (n i : ℕ) (cs : List RawCell) → CurrentRecord bytes fill ends (k .cells) (k .raw) → ProceedsOn k (n + i) (map (movedCell n) cs) → length (k .cells) ≤ length ends →
-    CurrentRecord (written bytes fill (bufferedBytes cs)) (fill + length (bufferedBytes cs)) (written ends (length (k .cells)) (bufferedEnds fill cs)) (joinedCells k (n + i) (map (movedCell n) cs)) []
+    {bytes : Bytes} {fill : ℕ} {ends : List ℕ} (k : Buffered) (n i : ℕ) (cs : List RawCell) → CurrentRecord bytes fill ends (k .cells) (k .raw) →
+    ProceedsOn k (n + i) (map (movedCell n) cs) → length (k .cells) ≤ length ends →
+    CurrentRecord (written bytes fill (bufferedBytes cs)) (fill + length (bufferedBytes cs))
+    (written ends (length (k .cells)) (bufferedEnds fill cs)) (joinedCells k (n + i) (map (movedCell n) cs)) []
 joined-hand {bytes} {fill} {ends} k n i cs h g l =
     rw (moved-bytes n cs, moved-ends n fill cs) at (buffered-more k (n + i) (map (movedCell n) cs) h g l)
 
 pub proceeds-on :
-    {k : Buffered} (d : Dialect) (limit : ℕ) (f : FileState) (size n i : ℕ) (bs : Bytes) → Open f (k .raw) → (s : Scan) (cs : List RawCell) (g : FileState) (next : ℕ) (left : Bytes) →
+    {k : Buffered} (d : Dialect) (limit : ℕ) (f : FileState) (size n i : ℕ) (bs : Bytes) → Open f (k .raw) →
+    (s : Scan) (cs : List RawCell) (g : FileState) (next : ℕ) (left : Bytes) →
     scan d limit (fresh f size i) bs ≡ completes s cs g next left → ProceedsOn k (n + i) (map (movedCell n) cs)
 proceeds-on d limit f size n i bs (no-bytes z) s cs g next left e = nothing-open z
-proceeds-on d limit f size n i bs (in-cell h) s cs g next left e = closed-proceeds n i cs (go (subst (FirstIn i) e (first-closes d limit (fresh f size i) bs h refl refl)))
+proceeds-on d limit f size n i bs (in-cell h) s cs g next left e =
+    closed-proceeds n i cs (go (subst (FirstIn i) e (first-closes d limit (fresh f size i) bs h refl refl)))
   where
     go : FirstIn i (completes s cs g next left) → ClosedFirst i cs
     go (first-completes c) = c
@@ -270,10 +288,12 @@ moved-is n a b e = eq-eqb (n + a) (n + b) (ap (λ (x : ℕ). n + x) e)
 moved-not : (n a b : ℕ) → suc b ≤ a → ((n + a) is (n + b)) ≡ false
 moved-not n a b l = ne-eqb (n + a) (n + b) (λ e. omega arith)
 
-module _ {bytes : Bytes} {fill : ℕ} {ends : List ℕ} (k : Buffered) (h : CurrentRecord bytes fill ends (k .cells) (k .raw)) (l : length (k .cells) ≤ length ends) (n i : ℕ) (s : Scan) where
+module _ {bytes : Bytes} {fill : ℕ} {ends : List ℕ} (k : Buffered) (h : CurrentRecord bytes fill ends (k .cells) (k .raw))
+    (l : length (k .cells) ≤ length ends) (n i : ℕ) (s : Scan) where
   abbrev pub HandThen : Type 0
   HandThen =
-      CurrentRecord (written (written bytes fill (bufferedBytes (s .cells))) (fill + length (bufferedBytes (s .cells))) (s .raw)) (fill + length (bufferedBytes (s .cells)) + length (s .raw)) (written ends (length (k .cells)) (bufferedEnds fill (s .cells)))
+      CurrentRecord (written (written bytes fill (bufferedBytes (s .cells))) (fill + length (bufferedBytes (s .cells))) (s .raw))
+      (fill + length (bufferedBytes (s .cells)) + length (s .raw)) (written ends (length (k .cells)) (bufferedEnds fill (s .cells)))
       (joinedCells k (n + i) (map (movedCell n) (s .cells))) (joinedRaw k (n + i) (n + s .opened) (s .raw))
 
   closed-then : ProceedsOn k (n + i) (map (movedCell n) (s .cells)) → joinedRaw k (n + i) (n + s .opened) (s .raw) ≡ s .raw → HandThen

@@ -39,7 +39,9 @@ pub record Preserves (d : Dialect) (s : Scan) : Type 0 where
 pub data PreservesTo (d : Dialect) : ScanResult → Type 0 where
   preserves-pends : {s : Scan} → Preserves d s → PreservesTo d (pends s)
   preserves-fails : {e : Fault} {s : Scan} → PreservesTo d (fails e s)
-  preserves-completes : {s : Scan} {cs : List RawCell} {f : FileState} {next : ℕ} {left : Bytes} → All (IsWhole d) cs → cellAt f ≡ Fresh → PreservesTo d (completes s cs f next left)
+  preserves-completes :
+      {s : Scan} {cs : List RawCell} {f : FileState} {next : ℕ} {left : Bytes} → All (IsWhole d) cs → cellAt f ≡ Fresh →
+      PreservesTo d (completes s cs f next left)
 
 closing-whole : {d : Dialect} (k : Bool) (s : Scan) → Preserves d s → Closes d (cellAt (s .state)) k → All (IsWhole d) (closingRaw k s)
 unfolding validateCell
@@ -55,7 +57,9 @@ module _ (d : Dialect) (limit : ℕ) where
   abbrev Keep : Bytes → Type 0
   Keep bs = (s : Scan) → Preserves d s → PreservesTo d (scan d limit s bs)
 
-  step-keeps : (s : Scan) (b : ℕ) (bs : Bytes) → Keep bs → Preserves d s → (x : Step) → Transition d (s .state) b x → Fits d (cellAt (s .state)) b x → PreservesTo d (scanStep s b bs (λ s′. scan d limit s′ bs) x)
+  step-keeps :
+      (s : Scan) (b : ℕ) (bs : Bytes) → Keep bs → Preserves d s → (x : Step) → Transition d (s .state) b x → Fits d (cellAt (s .state)) b x →
+      PreservesTo d (scanStep s b bs (λ s′. scan d limit s′ bs) x)
   unfolding scanStep
   step-keeps s b bs ih z (Reject e) (steps.refuses t) y = preserves-fails
   step-keeps s b bs ih z (To f Outside) (steps.outside t a r) (cell.leaves e) =
@@ -95,7 +99,8 @@ pub data WithinTo (began limit : ℕ) : ScanResult → Type 0 where
   within-pends : {s : Scan} → Within began limit s → WithinTo began limit (pends s)
   within-fails : {e : Fault} {s : Scan} → Within began limit s → WithinTo began limit (fails e s)
   within-completes :
-      {s : Scan} {cs : List RawCell} {f : FileState} {next : ℕ} {left : Bytes} → Within began limit s → suc (s .offset) ≤ limit → began + length cs ≤ suc (s .offset) →
+      {s : Scan} {cs : List RawCell} {f : FileState} {next : ℕ} {left : Bytes} → Within began limit s → suc (s .offset) ≤ limit →
+      began + length cs ≤ suc (s .offset) →
       WithinTo began limit (completes s cs f next left)
 
 closing-few : (began : ℕ) (k : Bool) (s : Scan) → began + length (s .cells) ≤ s .offset → began + length (closingRaw k s) ≤ suc (s .offset)
@@ -108,7 +113,9 @@ module _ (d : Dialect) (began limit : ℕ) where
   abbrev Goes-in : Bytes → Type 0
   Goes-in bs = (s : Scan) → Within began limit s → WithinTo began limit (scan d limit s bs)
 
-  step-within : (s : Scan) (b : ℕ) (bs : Bytes) → Goes-in bs → Within began limit s → suc (s .offset) ≤ limit → (x : Step) → WithinTo began limit (scanStep s b bs (λ s′. scan d limit s′ bs) x)
+  step-within :
+      (s : Scan) (b : ℕ) (bs : Bytes) → Goes-in bs → Within began limit s → suc (s .offset) ≤ limit → (x : Step) →
+      WithinTo began limit (scanStep s b bs (λ s′. scan d limit s′ bs) x)
   unfolding scanStep
   step-within s b bs ih z l (Reject e) = within-fails z
   step-within s b bs ih z l (To f Outside) =
@@ -148,7 +155,8 @@ pub data FaultsAt : ScanResult → Type 0 where
   faults-completes : {s : Scan} {cs : List RawCell} {f : FileState} {next : ℕ} {left : Bytes} → FaultsAt (completes s cs f next left)
 
 module _ (d : Dialect) (limit : ℕ) where
-  step-faults : (s : Scan) (b : ℕ) (bs : Bytes) → ((s : Scan) → FaultsAt (scan d limit s bs)) → (x : Step) → FaultsAt (scanStep s b bs (λ s′. scan d limit s′ bs) x)
+  step-faults :
+      (s : Scan) (b : ℕ) (bs : Bytes) → ((s : Scan) → FaultsAt (scan d limit s bs)) → (x : Step) → FaultsAt (scanStep s b bs (λ s′. scan d limit s′ bs) x)
   unfolding scanStep
   step-faults s b bs ih (Reject e) = faults-fails refl
   step-faults s b bs ih (To f Outside) = ih _

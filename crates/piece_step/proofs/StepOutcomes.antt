@@ -13,7 +13,9 @@ use Rattle.model.specs.rules.Text.{Value, recordText, tableText, ending}
 use Rattle.model.specs.rules.Report.{report, numberOf, columnOf, isAtByte, MAXFILE, MAXCOLUMNS}
 use Rattle.model.specs.rules.Records.{Rec, rows, Progress, going, stopped, nothingRead, readFrom, faultReport, recordFault}
 use Rattle.model.specs.laws.Laws.{All, all-none}
-use Rattle.model.specs.laws.Scans.{RawCell, Scan, ScanResult, pends, fails, completes, scan, valueOf, readOf, resume, moved, movedCell, movedTo, Buffered, joinedCell, joinedRaw, joinedPlace, joinedCells, joined, joinedTo, Holds, nothing-current, fresh, standing, bytesIn, Sized, SizedTo, sized-pends}
+use Rattle.model.specs.laws.Scans.{RawCell, Scan, ScanResult, pends, fails, completes, scan, valueOf, readOf, resume, moved, movedCell, movedTo, Buffered}
+use Rattle.model.specs.laws.Scans.{joinedCell, joinedRaw, joinedPlace, joinedCells, joined, joinedTo, Holds, nothing-current, fresh, standing, bytesIn, Sized}
+use Rattle.model.specs.laws.Scans.{SizedTo, sized-pends}
 use Rattle.model.specs.laws.Places.{SpanIn, ScanIn, ScanResultIn, pends-in, completes-in, bufferedBytes, bufferedEnds}
 use Rattle.model.specs.laws.RoundTrips.{SameCells}
 use Rattle.model.proofs.Tests.{split-on, same-byte}
@@ -29,11 +31,13 @@ use Rattle.model.proofs.cell_laws.Cells.{cellAt}
 use Rattle.piece_state.specs.Sound.{atStart}
 use Rattle.piece_step.specs.Types.{Dialect, Target, Fresh, FileState, Fault, Sound, Faulty}
 use Rattle.piece_state.specs.declared.place.Place.{Place}
-use Rattle.piece_step.specs.Invariant.{no-bytes, IsWhole, scanAt, readAt, columnsOf, Shown, StateInvariant, columnsWith, placeAfter, bufferedNone, startFrom, placePending}
+use Rattle.piece_step.specs.Invariant.{no-bytes, IsWhole, scanAt, readAt, columnsOf, Shown, StateInvariant, columnsWith, placeAfter, bufferedNone}
+use Rattle.piece_step.specs.Invariant.{startFrom, placePending}
 use Rattle.piece_step.specs.Steps.{Follows}
 use Rattle.piece_record.specs.Completion.{faultAt, textAt}
 use Rattle.piece_step.proofs.Faults.{fault-start, report-start, report-byte, is-first, fault-of, text-of}
-use Rattle.piece_step.proofs.ScanLaws.{bufferedOf, Preserves, PreservesTo, preserves-pends, preserves-completes, scan-preserves, FaultsAt, faults-fails, scan-faults}
+use Rattle.piece_step.proofs.ScanLaws.{bufferedOf, Preserves, PreservesTo, preserves-pends, preserves-completes, scan-preserves, FaultsAt, faults-fails}
+use Rattle.piece_step.proofs.ScanLaws.{scan-faults}
 
 -- ---- a part in its file
 
@@ -52,7 +56,8 @@ pub part-scans :
 part-scans d n k f size began bs l h =
     let limit : n + (MAXFILE - n) ≡ MAXFILE = omega arith in
     let s : Scan = fresh f size began in
-    let first : joined k (n + began) (moved n s) ≡ standing n k f size began = rw (place-buffered (k .start) (n + began), place-buffered (k .opened) (n + began), raw-buffered k (n + began), append-nil (k .cells)) in
+    let first : joined k (n + began) (moved n s) ≡ standing n k f size began =
+    rw (place-buffered (k .start) (n + began), place-buffered (k .opened) (n + began), raw-buffered k (n + began), append-nil (k .cells)) in
     ap (λ x. scan d MAXFILE x bs) (sym first)
     ∙ view d MAXFILE k (n + began) (moved n s) bs h (omega arith)
     ∙ ap (λ x. joinedTo k (n + began) (scan d x (moved n s) bs)) (sym limit)
@@ -77,7 +82,9 @@ start-from p k n i start e = rw (same-place n start i, e)
 pending : {d : Dialect} {s : Scan} → PreservesTo d (pends s) → Preserves d s
 pending (preserves-pends z) = z
 
-completed : {d : Dialect} {s : Scan} {cs : List RawCell} {f : FileState} {next : ℕ} {left : Bytes} → PreservesTo d (completes s cs f next left) → All (IsWhole d) cs × (cellAt f ≡ Fresh)
+completed :
+    {d : Dialect} {s : Scan} {cs : List RawCell} {f : FileState} {next : ℕ} {left : Bytes} → PreservesTo d (completes s cs f next left) →
+    All (IsWhole d) cs × (cellAt f ≡ Fresh)
 completed (preserves-completes w c) = (w, c)
 
 pending-size : {s : Scan} → SizedTo (pends s) → Sized s
@@ -93,7 +100,9 @@ pub record EndsIn (piece : Bytes) (s : Scan) (cs : List RawCell) (next : ℕ) (l
   pub inside : next ≤ length piece
   pub rest : left ≡ drop next piece
 
-pub ended-in : {piece : Bytes} {s : Scan} {cs : List RawCell} {f : FileState} {next : ℕ} {left : Bytes} → ScanResultIn piece (completes s cs f next left) → EndsIn piece s cs next left
+pub ended-in :
+    {piece : Bytes} {s : Scan} {cs : List RawCell} {f : FileState} {next : ℕ} {left : Bytes} → ScanResultIn piece (completes s cs f next left) →
+    EndsIn piece s cs next left
 ended-in (completes-in i c l r) = record { stand = c; place = refl; inside = l; rest = r }
 
 -- where the part ends
@@ -170,13 +179,17 @@ module _ (u : Step) where
     scans-on = rw at (part-scans d n k (p .state) (p .size) i (drop i piece) under (h .holds))
 
     keeps-on : PreservesTo d (joinedTo k (n + i) (movedTo n scanned))
-    keeps-on = subst (PreservesTo d) scans-on (scan-preserves d MAXFILE (scanAt p k) (drop i piece) (record { runs = h .runs; whole = h .whole; opens = h .opens; holds = h .holds }))
+    keeps-on =
+        subst (PreservesTo d) scans-on
+        (scan-preserves d MAXFILE (scanAt p k) (drop i piece) (record { runs = h .runs; whole = h .whole; opens = h .opens; holds = h .holds }))
 
     sized-on : SizedTo (joinedTo k (n + i) (movedTo n scanned))
     sized-on = subst SizedTo scans-on (scan-size d MAXFILE (scanAt p k) (drop i piece) (h .sized))
 
     stands-on : ScanResultIn piece scanned
-    stands-on = stretches d (MAXFILE - n) piece (fresh (p .state) (p .size) i) (record { raw = part-none piece i; forward = omega arith; within = inside; cells = all-none })
+    stands-on =
+        stretches d (MAXFILE - n) piece (fresh (p .state) (p .size) i)
+        (record { raw = part-none piece i; forward = omega arith; within = inside; cells = all-none })
 
     -- the scan of the whole file
     file-on : (file : Bytes) → Follows file piece i p k → ScanResultIn file (joinedTo k (n + i) (movedTo n scanned))
@@ -286,7 +299,10 @@ module _ (u : Step) where
           unfolding if_then_else_
           columns-then = rw (is-first d t p done (h .records), h .columns, same-length same) (columns-more done)
             where
-              columns-more : (xs : List Rec) → (if isEmpty xs then length valuesNow else columnsOf xs) ≡ columnsOf (xs ++ (record { start = inFile s .start; size = s .size; cells = valuesNow } ∷ []))
+              columns-more :
+                  (xs : List Rec) →
+                  (if isEmpty xs then length valuesNow else columnsOf xs) ≡ columnsOf
+                  (xs ++ (record { start = inFile s .start; size = s .size; cells = valuesNow } ∷ []))
               columns-more [] = refl
               columns-more (y ∷ xs) = refl
 
@@ -298,7 +314,8 @@ module _ (u : Step) where
           sound-holds bytes′ ends′ =
               let rec : Rec = record { start = inFile s .start; size = s .size; cells = valuesNow } in
               let more = length-append done (rec ∷ []) in
-              let grown = ap length (table-snoc t done rec) ∙ length-append (tableText t (rows done)) (recordText t (isEmpty done) valuesNow ++ ending (t .dialect)) in
+              let grown =
+              ap length (table-snoc t done rec) ∙ length-append (tableText t (rows done)) (recordText t (isEmpty done) valuesNow ++ ending (t .dialect)) in
               let text : length (textAt t p ws) ≡ length (recordText t (isEmpty done) valuesNow ++ ending (t .dialect)) = ap length text-here in
               record {
                 starts = refl;

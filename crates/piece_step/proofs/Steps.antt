@@ -16,7 +16,8 @@ use Rattle.model.specs.rules.Report.{report, numberOf, columnOf, MAXFILE, MAXRE
 use Rattle.model.specs.rules.Records.{Rec, going, readFrom, _orElse_, when, headerFault, dataFault, targetFault}
 use Rattle.model.specs.laws.Laws.{all-none}
 use Rattle.model.specs.laws.RoundTrips.{SameCells, no-cells, and-cell}
-use Rattle.model.specs.laws.Scans.{RawCell, Scan, ScanResult, pends, fails, completes, scanStep, scan, valueOf, readOf, inRecord, Buffered, movedCell, joinedCell, fresh}
+use Rattle.model.specs.laws.Scans.{RawCell, Scan, ScanResult, pends, fails, completes, scanStep, scan, valueOf, readOf, inRecord, Buffered, movedCell}
+use Rattle.model.specs.laws.Scans.{joinedCell, fresh}
 use Rattle.model.specs.laws.Places.{ScanIn, ScanResultIn, bufferedBytes, bufferedEnds}
 use Rattle.model.proofs.Tests.{split}
 use Rattle.model.proofs.file_laws.CheckResults.{else-sound, target-sound}
@@ -29,26 +30,34 @@ use Rattle.piece_state.proofs.CurrentRecord.{shown-are, shown-lie}
 use Rattle.record_scanner.specs.Stored.{storedFrom}
 use Rattle.record_scanner.specs.Parts.{foundOf, currentOf, rawStarts, rawEnds}
 use Rattle.piece_state.specs.declared.place.Place.{Place}
-use Rattle.piece_step.specs.Types.{Dialect, Target, FileState, Outside, Passed, OfCell, Between, Tail, Ends, Step, To, Reject, Fault, TooManyColumns, CheckResult, Sound, Faulty}
+use Rattle.piece_step.specs.Types.{Dialect, Target, FileState, Outside, Passed, OfCell, Between, Tail, Ends, Step, To, Reject, Fault, TooManyColumns}
+use Rattle.piece_step.specs.Types.{CheckResult, Sound, Faulty}
 use Rattle.piece_record.specs.declared.RecordResult.{RecordResult}
 use Rattle.piece_record.specs.declared.RecordResult.the-variants.{Written, Refused, Invalid}
 use Rattle.piece_step.specs.Invariant.{scanAt, readAt, Shown, StateInvariant, placeAfter, bufferedNone, startFrom, placePending}
 use Rattle.piece_record.specs.Completion.{faultAt, textAt, FinishSound, is-written, is-refused, has-no-room, CompleteSound, not-encoded, ruled, bufferedValues}
 use Rattle.piece_step.specs.declared.PieceStep.the-variants.{Failed, NeedInput}
-use Rattle.piece_step.specs.Steps.{InBounds, Lists, RecordCompleted, too-many, from-buffered, placeAtPieceEnd, RecordBuffered, too-many-yet, buffered-on, StepReady, stepAfter, Fitting, StepInBounds, next-bounds, pending-bounds, stopped-bounds, nowhere-bounds, EncodedInFile, Follows, StepSound, steps-next, steps-pending, steps-stopped, steps-nowhere}
+use Rattle.piece_step.specs.Steps.{InBounds, Lists, RecordCompleted, too-many, from-buffered, placeAtPieceEnd, RecordBuffered, too-many-yet, buffered-on}
+use Rattle.piece_step.specs.Steps.{StepReady, stepAfter, Fitting, StepInBounds, next-bounds, pending-bounds, stopped-bounds, nowhere-bounds}
+use Rattle.piece_step.specs.Steps.{EncodedInFile, Follows, StepSound, steps-next, steps-pending, steps-stopped, steps-nowhere}
 use Rattle.record_scanner.specs.declared.record_state.RecordState.{RecordState}
 use Rattle.piece_step.proofs.BufferedParts.{order-then, order-more}
 use Rattle.piece_step.proofs.ScanLaws.{bufferedOf, Within, WithinTo, within-pends, within-fails, within-completes, scan-within}
 use Rattle.piece_step.proofs.StepOutcomes as turning
-use Rattle.piece_step.proofs.StepOutcomes.{EndsIn, ended-in, PendsIn, pending-in, pend-reads, pend-stands, pend-holds, fail-reads, fail-reports, part-none, allCells, inFile, complete-whole, complete-stands, valuesNow, doneThen, faulty-reads, faulty-reports, placeThen, sound-reads, text-here, sound-holds}
+use Rattle.piece_step.proofs.StepOutcomes.{EndsIn, ended-in, PendsIn, pending-in, pend-reads, pend-stands, pend-holds, fail-reads, fail-reports}
+use Rattle.piece_step.proofs.StepOutcomes.{part-none, allCells, inFile, complete-whole, complete-stands, valuesNow, doneThen, faulty-reads}
+use Rattle.piece_step.proofs.StepOutcomes.{faulty-reports, placeThen, sound-reads, text-here, sound-holds}
 use Rattle.piece_step.proofs.BufferedSpans.{encoded-buffered}
-use Rattle.piece_step.proofs.ScanAnswers.{CompletedAs, PendingAs, FailedAs, room-pended, none-pended, shown-of, hand-then, lists-show, room-done, current-of, joined-hand, proceeds-on, kept-same, kept-followed}
+use Rattle.piece_step.proofs.ScanAnswers.{CompletedAs, PendingAs, FailedAs, room-pended, none-pended, shown-of, hand-then, lists-show, room-done}
+use Rattle.piece_step.proofs.ScanAnswers.{current-of, joined-hand, proceeds-on, kept-same, kept-followed}
 
 none-bytes : length (bufferedBytes []) ≡ 0
 unfolding bufferedBytes
 none-bytes = refl
 
-place-same : (p : Place) (n i fill : ℕ) (s : Scan) (size : ℕ) (f : FileState) (h : RecordState) → s .offset ≡ size → s .state ≡ f → currentOf s ≡ h → placePending p n i fill s ≡ placeAtPieceEnd p n i size f h fill
+place-same :
+    (p : Place) (n i fill : ℕ) (s : Scan) (size : ℕ) (f : FileState) (h : RecordState) → s .offset ≡ size → s .state ≡ f → currentOf s ≡ h →
+    placePending p n i fill s ≡ placeAtPieceEnd p n i size f h fill
 place-same p n i fill s size f h e g k = rw (sym k, sym e, sym g)
 
 -- ---- checks
@@ -70,7 +79,9 @@ sound-fits d t p ws e =
     target-sound t (p .records is 0) (p .written) ws (s .1) .fits
 
 -- a text that was written fits into the file
-finish-fits : (d : Dialect) (t : Target) (p : Place) (ws : List Value) (o : ℕ) (out out′ : List ℕ) (r : RecordResult) → FinishSound (faultAt d t p ws) (textAt t p ws) o out out′ r → Fitting p o r
+finish-fits :
+    (d : Dialect) (t : Target) (p : Place) (ws : List Value) (o : ℕ) (out out′ : List ℕ) (r : RecordResult) →
+    FinishSound (faultAt d t p ws) (textAt t p ws) o out out′ r → Fitting p o r
 finish-fits d t p ws o out out′ (Written end) (is-written v l w e) =
     let f : p .written + length (textAt t p ws) ≤ MAXFILE = sound-fits d t p ws v in (omega arith, omega arith)
 finish-fits d t p ws o out out′ (Refused x) (is-refused v w) = tt
@@ -90,7 +101,9 @@ scanned-behind : {i : ℕ} {s : Scan} {cs : List RawCell} {f : FileState} {next 
 scanned-behind (behind-completes h) = h
 
 module _ (d : Dialect) (limit i : ℕ) where
-  step-behind : (s : Scan) (b : ℕ) (bs : Bytes) → ((s : Scan) → i ≤ s .offset → Behind i (scan d limit s bs)) → i ≤ s .offset → (x : Step) → Behind i (scanStep s b bs (λ s′. scan d limit s′ bs) x)
+  step-behind :
+      (s : Scan) (b : ℕ) (bs : Bytes) → ((s : Scan) → i ≤ s .offset → Behind i (scan d limit s bs)) → i ≤ s .offset → (x : Step) →
+      Behind i (scanStep s b bs (λ s′. scan d limit s′ bs) x)
   unfolding scanStep
   step-behind s b bs ih l (Reject e) = behind-fails l
   step-behind s b bs ih l (To f Outside) = ih _ (omega arith)
@@ -104,11 +117,14 @@ module _ (d : Dialect) (limit i : ℕ) where
   unfolding scan
   scan-behind [] s l = behind-pends l
   scan-behind (b ∷ bs) s l =
-      split (Behind i) _ (λ _. behind-fails l) λ _. split (Behind i) _ (λ _. behind-fails l) λ _. step-behind s b bs (scan-behind bs) l (fileStep d (s .state) b)
+      split (Behind i) _ (λ _. behind-fails l) λ _. split (Behind i) _ (λ _. behind-fails l) λ _. step-behind s b bs (scan-behind bs) l
+      (fileStep d (s .state) b)
 
 -- ---- a complete record
 
-within-done : {i limit : ℕ} {s : Scan} {cs : List RawCell} {f : FileState} {next : ℕ} {left : Bytes} → WithinTo i limit (completes s cs f next left) → (suc (s .offset) ≤ limit) × (i + length cs ≤ suc (s .offset)) × (s .start ≤ s .offset)
+within-done :
+    {i limit : ℕ} {s : Scan} {cs : List RawCell} {f : FileState} {next : ℕ} {left : Bytes} → WithinTo i limit (completes s cs f next left) →
+    (suc (s .offset) ≤ limit) × (i + length cs ≤ suc (s .offset)) × (s .start ≤ s .offset)
 within-done (within-completes z l c) = (l, c, z .started)
 
 module _ (d : Dialect) (piece : Bytes) (n i : ℕ) (p : Place) (bytes ends out : List ℕ) (o : ℕ) (ready : StepReady piece n i p bytes ends out o) where
@@ -119,7 +135,9 @@ module _ (d : Dialect) (piece : Bytes) (n i : ℕ) (p : Place) (bytes ends out :
   here = scan d (MAXFILE - n) (fresh (p .state) (p .size) i) (drop i piece)
 
   pub stands : ScanResultIn piece here
-  stands = stretches d (MAXFILE - n) piece (fresh (p .state) (p .size) i) (record { raw = part-none piece i; forward = omega arith; within = ready .inside; cells = all-none })
+  stands =
+      stretches d (MAXFILE - n) piece (fresh (p .state) (p .size) i)
+      (record { raw = part-none piece i; forward = omega arith; within = ready .inside; cells = all-none })
 
   pub within : WithinTo i (MAXFILE - n) here
   within =
@@ -148,7 +166,8 @@ module _ (d : Dialect) (piece : Bytes) (n i : ℕ) (p : Place) (bytes ends out :
     pub start-in : start ≤ next
     start-in = omega (arith, bounded .2, in-piece .place, a .starts)
 
-    module _ (starts stops starts′ stops′ : List ℕ) (es : starts′ ≡ storedFrom MAXCOLUMNS 0 (rawStarts (foundOf here .cells)) starts) (ee : stops′ ≡ storedFrom MAXCOLUMNS 0 (rawEnds (foundOf here .cells)) stops) (ls : MAXCOLUMNS ≤ length starts) (le : MAXCOLUMNS ≤ length stops) where
+    module _ (starts stops starts′ stops′ : List ℕ) (es : starts′ ≡ storedFrom MAXCOLUMNS 0 (rawStarts (foundOf here .cells)) starts)
+        (ee : stops′ ≡ storedFrom MAXCOLUMNS 0 (rawEnds (foundOf here .cells)) stops) (ls : MAXCOLUMNS ≤ length starts) (le : MAXCOLUMNS ≤ length stops) where
       shows : p .cells + cells ≤ MAXCOLUMNS → Shows piece starts′ stops′ 0 cells (a .cs)
       shows h =
           let e : foundOf here .cells ≡ a .cs = ap (λ (x : ScanResult). foundOf x .cells) (a .came) in
@@ -161,7 +180,9 @@ module _ (d : Dialect) (piece : Bytes) (n i : ℕ) (p : Place) (bytes ends out :
       lists-done x y m =
           record {
             stand = λ h. shown-lie (shows h) (omega (arith, a .count)) (omega arith) (omega arith);
-            room = λ h. rw (cells-shown h) (omega (arith, room-done d (MAXFILE - n) p ends (ready .bounds) i (drop i piece) (a .s) (a .cs) f next (a .left) (a .came), ready .long-bytes));
+            room =
+                λ h. rw (cells-shown h) (omega
+                (arith, room-done d (MAXFILE - n) p ends (ready .bounds) i (drop i piece) (a .s) (a .cs) f next (a .left) (a .came), ready .long-bytes));
             ordered = ready .bounds .ordered;
             long-bytes = ready .long-bytes;
             long-ends = ready .long-ends;
@@ -169,7 +190,8 @@ module _ (d : Dialect) (piece : Bytes) (n i : ℕ) (p : Place) (bytes ends out :
           }
 
     -- the step
-    module _ (t : Target) (cs : List RawCell) (bytes′ ends′ out′ : List ℕ) (r : RecordResult) (c : RecordCompleted d t p cs (p .cells + cells) bytes ends o out bytes′ ends′ out′ r) where
+    module _ (t : Target) (cs : List RawCell) (bytes′ ends′ out′ : List ℕ) (r : RecordResult)
+        (c : RecordCompleted d t p cs (p .cells + cells) bytes ends o out bytes′ ends′ out′ r) where
       pub fits-done : Fitting p o r
       fits-done = go c
         where
@@ -195,7 +217,9 @@ module _ (d : Dialect) (piece : Bytes) (n i : ℕ) (p : Place) (bytes ends out :
 
           ruling : CompleteSound d t p bytes′ (take (p .cells + cells) ends′) o out out′ r → end ≤ length out
           ruling (not-encoded z w x) = not-lost z
-          ruling (ruled y) = finish-room (faultAt d t p (bufferedValues d bytes′ (take (p .cells + cells) ends′))) (textAt t p (bufferedValues d bytes′ (take (p .cells + cells) ends′))) o out out′ end (rw e at y)
+          ruling (ruled y) =
+              finish-room (faultAt d t p (bufferedValues d bytes′ (take (p .cells + cells) ends′)))
+              (textAt t p (bufferedValues d bytes′ (take (p .cells + cells) ends′))) o out out′ end (rw e at y)
 
           go : RecordCompleted d t p cs (p .cells + cells) bytes ends o out bytes′ ends′ out′ r → end ≤ length out
           go (too-many h z x) = not-refused z
@@ -237,12 +261,16 @@ module _ (d : Dialect) (piece : Bytes) (n i : ℕ) (p : Place) (bytes ends out :
         abbrev Then : RecordResult → Type 0
         Then x = StepSound d t piece i p done k o out bytes′ ends′ out′ (stepAfter p n i start (p .cells + cells) f next o x)
 
-        refused : (x : Fault) (ws : List Value) → SameCells ws (valuesNow u hold (ready .at) under (ready .inside) (a .s) (a .cs) f next (a .left) (a .came)) → faultAt d t p ws ≡ Faulty x → out′ ≡ out → Then (Refused x)
+        refused :
+            (x : Fault) (ws : List Value) →
+            SameCells ws (valuesNow u hold (ready .at) under (ready .inside) (a .s) (a .cs) f next (a .left) (a .came)) →
+            faultAt d t p ws ≡ Faulty x → out′ ≡ out → Then (Refused x)
         refused x ws same q w =
             steps-stopped x (readOf d done (inFile u (a .s)))
             (faulty-reads u hold (ready .at) under (ready .inside) (a .s) (a .cs) f next (a .left) (a .came) ws same x q)
             refl
-            (sym (faulty-reports u hold (ready .at) under (ready .inside) (a .s) (a .cs) f next (a .left) (a .came) ws same x q ∙ ap (λ (y : ℕ). report (numberOf x) (p .records + 1) (columnOf x) (startFrom p n i y)) (a .starts)))
+            (sym (faulty-reports u hold (ready .at) under (ready .inside) (a .s) (a .cs) f next (a .left) (a .came) ws same x q
+            ∙ ap (λ (y : ℕ). report (numberOf x) (p .records + 1) (columnOf x) (startFrom p n i y)) (a .starts)))
             w
 
         -- the record
@@ -253,22 +281,31 @@ module _ (d : Dialect) (piece : Bytes) (n i : ℕ) (p : Place) (bytes ends out :
         Spells = (file : Bytes) → Follows file piece i p k → EncodedInFile file bytes′ 0 ends′ (this .cells)
 
         written-on :
-            (end : ℕ) (ws : List Value) → Spells → SameCells ws (valuesNow u hold (ready .at) under (ready .inside) (a .s) (a .cs) f next (a .left) (a .came)) → faultAt d t p ws ≡ Sound → length ws ≡ p .cells + cells →
+            (end : ℕ) (ws : List Value) → Spells →
+            SameCells ws (valuesNow u hold (ready .at) under (ready .inside) (a .s) (a .cs) f next (a .left) (a .came)) → faultAt d t p ws ≡ Sound →
+            length ws ≡ p .cells + cells →
             out′ ≡ written out o (textAt t p ws) → end ≡ o + length (textAt t p ws) → Then (Written end)
         written-on end ws spelt same q m w e =
             let text = text-here u hold (ready .at) under (ready .inside) (a .s) (a .cs) f next (a .left) (a .came) ws same q in
             let long : length (textAt t p ws) ≡ end - o = omega arith in
-            let place : placeThen u hold (ready .at) under (ready .inside) (a .s) (a .cs) f next (a .left) (a .came) ws same q ≡ placeAfter p (p .cells + cells) (end - o) f (n + next) = ap₂ (λ (x y : ℕ). placeAfter p x y f (n + next)) m long in
+            let place : placeThen u hold (ready .at) under (ready .inside) (a .s) (a .cs) f next (a .left) (a .came) ws same q ≡ placeAfter p
+            (p .cells + cells) (end - o) f (n + next) =
+            ap₂ (λ (x y : ℕ). placeAfter p x y f (n + next)) m long in
             steps-next this (bufferedNone (n + next))
-            (subst (λ (y : Place). readFrom d (some t) (going (readAt d p done k)) (drop i piece) ≡ readFrom d (some t) (going (readAt d y (doneThen u hold (ready .at) under (ready .inside) (a .s) (a .cs) f next (a .left) (a .came)) (bufferedNone (n + next)))) (drop next piece)) place
+            (subst (λ (y : Place). readFrom d (some t) (going (readAt d p done k)) (drop i piece) ≡ readFrom d (some t)
+            (going (readAt d y (doneThen u hold (ready .at) under (ready .inside) (a .s) (a .cs) f next (a .left) (a .came))
+            (bufferedNone (n + next)))) (drop next piece)) place
             (sound-reads u hold (ready .at) under (ready .inside) (a .s) (a .cs) f next (a .left) (a .came) ws same q))
-            (subst (λ (y : Place). StateInvariant d t y bytes′ ends′ (doneThen u hold (ready .at) under (ready .inside) (a .s) (a .cs) f next (a .left) (a .came)) (bufferedNone (n + next))) place
+            (subst (λ (y : Place). StateInvariant d t y bytes′ ends′
+            (doneThen u hold (ready .at) under (ready .inside) (a .s) (a .cs) f next (a .left) (a .came)) (bufferedNone (n + next))) place
             (sound-holds u hold (ready .at) under (ready .inside) (a .s) (a .cs) f next (a .left) (a .came) ws same q bytes′ ends′))
             spelt
             (w ∙ ap (written out o) text)
             (e ∙ ap (λ (x : Bytes). o + length x) text)
 
-        no-room : (ws : List Value) → SameCells ws (valuesNow u hold (ready .at) under (ready .inside) (a .s) (a .cs) f next (a .left) (a .came)) → faultAt d t p ws ≡ Sound → length out < o + length (textAt t p ws) → Then Invalid
+        no-room :
+            (ws : List Value) → SameCells ws (valuesNow u hold (ready .at) under (ready .inside) (a .s) (a .cs) f next (a .left) (a .came)) →
+            faultAt d t p ws ≡ Sound → length out < o + length (textAt t p ws) → Then Invalid
         no-room ws same q l =
             let text = text-here u hold (ready .at) under (ready .inside) (a .s) (a .cs) f next (a .left) (a .came) ws same q in
             steps-nowhere this _ next
@@ -276,7 +313,10 @@ module _ (d : Dialect) (piece : Bytes) (n i : ℕ) (p : Place) (bytes ends out :
             refl
             (rw text at l)
 
-        finishing : (x : RecordResult) (ws : List Value) → Spells → SameCells ws (valuesNow u hold (ready .at) under (ready .inside) (a .s) (a .cs) f next (a .left) (a .came)) → length ws ≡ p .cells + cells → FinishSound (faultAt d t p ws) (textAt t p ws) o out out′ x → Then x
+        finishing :
+            (x : RecordResult) (ws : List Value) → Spells →
+            SameCells ws (valuesNow u hold (ready .at) under (ready .inside) (a .s) (a .cs) f next (a .left) (a .came)) →
+            length ws ≡ p .cells + cells → FinishSound (faultAt d t p ws) (textAt t p ws) o out out′ x → Then x
         finishing (Written end) ws spelt same m (is-written v l w e) = written-on end ws spelt same v m w e
         finishing (Refused x) ws spelt same m (is-refused v w) = refused x ws same v w
         finishing Invalid ws spelt same m (has-no-room v l w) = no-room ws same v l
@@ -284,21 +324,36 @@ module _ (d : Dialect) (piece : Bytes) (n i : ℕ) (p : Place) (bytes ends out :
         pub turns-done : StepSound d t piece i p done k o out bytes′ ends′ out′ (stepAfter p n i start (p .cells + cells) f next o r)
         turns-done = go c
           where
-            hand : p .cells + cells ≤ MAXCOLUMNS → bytes′ ≡ written bytes (p .fill) (bufferedBytes cs) → ends′ ≡ written ends (p .cells) (bufferedEnds (p .fill) cs) → CurrentRecord bytes′ (p .fill + length (bufferedBytes (a .cs))) ends′ (allCells u (a .cs)) []
+            hand :
+                p .cells + cells ≤ MAXCOLUMNS → bytes′ ≡ written bytes (p .fill) (bufferedBytes cs) →
+                ends′ ≡ written ends (p .cells) (bufferedEnds (p .fill) cs) →
+                CurrentRecord bytes′ (p .fill + length (bufferedBytes (a .cs))) ends′ (allCells u (a .cs)) []
             hand h x y =
                 let few : length (k .cells) ≤ MAXCOLUMNS = omega (arith, hold .cells) in
-                let z = joined-hand k n i (a .cs) (current-of (hold .shown few)) (proceeds-on d (MAXFILE - n) (p .state) (p .size) n i (drop i piece) (hold .opens) (a .s) (a .cs) f next (a .left) (a .came)) (omega (arith, hold .cells, ready .long-ends)) in
-                let x′ : bytes′ ≡ written bytes (p .fill) (bufferedBytes (a .cs)) = x ∙ ap (λ (l : List RawCell). written bytes (p .fill) (bufferedBytes l)) (same-cs h) in
-                let y′ : ends′ ≡ written ends (length (k .cells)) (bufferedEnds (p .fill) (a .cs)) = y ∙ ap₂ (λ (m : ℕ) (l : List RawCell). written ends m (bufferedEnds (p .fill) l)) (hold .cells) (same-cs h) in
+                let z =
+                joined-hand k n i (a .cs) (current-of (hold .shown few))
+                (proceeds-on d (MAXFILE - n) (p .state) (p .size) n i (drop i piece) (hold .opens) (a .s) (a .cs) f next (a .left) (a .came))
+                (omega (arith, hold .cells, ready .long-ends)) in
+                let x′ : bytes′ ≡ written bytes (p .fill) (bufferedBytes (a .cs)) =
+                x ∙ ap (λ (l : List RawCell). written bytes (p .fill) (bufferedBytes l)) (same-cs h) in
+                let y′ : ends′ ≡ written ends (length (k .cells)) (bufferedEnds (p .fill) (a .cs)) =
+                y ∙ ap₂ (λ (m : ℕ) (l : List RawCell). written ends m (bufferedEnds (p .fill) l)) (hold .cells) (same-cs h) in
                 rw (x′, y′) z
 
-            ruling : p .cells + cells ≤ MAXCOLUMNS → CurrentRecord bytes′ (p .fill + length (bufferedBytes (a .cs))) ends′ (allCells u (a .cs)) [] → CompleteSound d t p bytes′ (take (p .cells + cells) ends′) o out out′ r → Then r
+            ruling :
+                p .cells + cells ≤ MAXCOLUMNS → CurrentRecord bytes′ (p .fill + length (bufferedBytes (a .cs))) ends′ (allCells u (a .cs)) [] →
+                CompleteSound d t p bytes′ (take (p .cells + cells) ends′) o out out′ r → Then r
             ruling h z (not-encoded e w x) =
-                absurd (w (rw counted at (kept-followed z d (complete-whole u hold (ready .at) under (ready .inside) (a .s) (a .cs) f next (a .left) (a .came)))))
+                absurd (w (rw counted at (kept-followed z d
+                (complete-whole u hold (ready .at) under (ready .inside) (a .s) (a .cs) f next (a .left) (a .came)))))
             ruling h z (ruled y) =
-                let same : SameCells (bufferedValues d bytes′ (take (p .cells + cells) ends′)) (map (valueOf d) (allCells u (a .cs))) = rw counted at (kept-same z d) in
-                let spelt : Spells = λ file g. encoded-buffered z d file (complete-stands u hold (ready .at) under (ready .inside) (a .s) (a .cs) f next (a .left) (a .came) file g) in
-                finishing r (bufferedValues d bytes′ (take (p .cells + cells) ends′)) spelt same (same-length same ∙ length-map (allCells u (a .cs)) (valueOf d) ∙ counted) y
+                let same : SameCells (bufferedValues d bytes′ (take (p .cells + cells) ends′)) (map (valueOf d) (allCells u (a .cs))) =
+                rw counted at (kept-same z d) in
+                let spelt : Spells =
+                λ file g. encoded-buffered z d file
+                (complete-stands u hold (ready .at) under (ready .inside) (a .s) (a .cs) f next (a .left) (a .came) file g) in
+                finishing r (bufferedValues d bytes′ (take (p .cells + cells) ends′)) spelt same
+                (same-length same ∙ length-map (allCells u (a .cs)) (valueOf d) ∙ counted) y
 
             go : RecordCompleted d t p cs (p .cells + cells) bytes ends o out bytes′ ends′ out′ r → Then r
             go (too-many h e x) =
@@ -316,11 +371,14 @@ module _ (d : Dialect) (piece : Bytes) (n i : ℕ) (p : Place) (bytes ends out :
         go : WithinTo i (MAXFILE - n) (fails y (a .s)) → n + q ≤ MAXFILE
         go (within-fails z) = omega (arith, z .under, a .place, under)
 
-    pub turns-failed : (t : Target) (bytes′ ends′ : List ℕ) (done : List Rec) (k : Buffered) → StateInvariant d t p bytes ends done k → StepSound d t piece i p done k o out bytes′ ends′ out (Failed (report (numberOf y) (p .records + 1) (columnOf y) (n + q)))
+    pub turns-failed :
+        (t : Target) (bytes′ ends′ : List ℕ) (done : List Rec) (k : Buffered) → StateInvariant d t p bytes ends done k →
+        StepSound d t piece i p done k o out bytes′ ends′ out (Failed (report (numberOf y) (p .records + 1) (columnOf y) (n + q)))
     turns-failed t bytes′ ends′ done k hold =
         let u : turning.Step = record { d = d; t = t; p = p; done = done; k = k; n = n; i = i; piece = piece } in
         steps-stopped y (readOf d done (inFile u (a .s))) (fail-reads u hold (ready .at) under (ready .inside) y (a .s) (a .came)) refl
-        (sym (fail-reports u hold (ready .at) under (ready .inside) y (a .s) (a .came) ∙ ap (λ (x : ℕ). report (numberOf y) (p .records + 1) (columnOf y) (n + x)) (a .place)))
+        (sym (fail-reports u hold (ready .at) under (ready .inside) y (a .s) (a .came)
+        ∙ ap (λ (x : ℕ). report (numberOf y) (p .records + 1) (columnOf y) (n + x)) (a .place)))
         refl
 
   -- ---- the piece ends
@@ -356,7 +414,8 @@ module _ (d : Dialect) (piece : Bytes) (n i : ℕ) (p : Place) (bytes ends out :
     room : (p .fill + (length (bufferedBytes (s .cells)) + length (s .raw)) ≤ s .size) × (s .size ≤ MAXRECORD)
     room = room-pended d (MAXFILE - n) p ends (ready .bounds) i (drop i piece) s (a .came)
 
-    module _ (starts stops starts′ stops′ : List ℕ) (es : starts′ ≡ storedFrom MAXCOLUMNS 0 (rawStarts (foundOf here .cells)) starts) (ee : stops′ ≡ storedFrom MAXCOLUMNS 0 (rawEnds (foundOf here .cells)) stops) (ls : MAXCOLUMNS ≤ length starts) (le : MAXCOLUMNS ≤ length stops) where
+    module _ (starts stops starts′ stops′ : List ℕ) (es : starts′ ≡ storedFrom MAXCOLUMNS 0 (rawStarts (foundOf here .cells)) starts)
+        (ee : stops′ ≡ storedFrom MAXCOLUMNS 0 (rawEnds (foundOf here .cells)) stops) (ls : MAXCOLUMNS ≤ length starts) (le : MAXCOLUMNS ≤ length stops) where
       shows-yet : p .cells + h .cells ≤ MAXCOLUMNS → Shows piece starts′ stops′ 0 (h .cells) (s .cells)
       shows-yet m =
           let e : foundOf here .cells ≡ s .cells = ap (λ (x : ScanResult). foundOf x .cells) (a .came) in
@@ -376,7 +435,9 @@ module _ (d : Dialect) (piece : Bytes) (n i : ℕ) (p : Place) (bytes ends out :
             few = (omega (arith, ready .bounds .cells, ready .bounds .offset), omega (arith, cells-are, within-all .few, within-all .under));
           }
 
-      pub room-open : p .cells + h .cells ≤ MAXCOLUMNS → p .fill + length (bufferedBytes (rawCellsAt piece starts′ stops′ 0 (h .cells))) + length piece ≤ length bytes + h .opened
+      pub room-open :
+          p .cells + h .cells ≤ MAXCOLUMNS →
+          p .fill + length (bufferedBytes (rawCellsAt piece starts′ stops′ 0 (h .cells))) + length piece ≤ length bytes + h .opened
       room-open m =
           rw (cells-yet m) (omega (arith, room .0, room .1, ready .long-bytes, ap length raw-is, length-drop (h .opened) piece))
 
@@ -392,12 +453,16 @@ module _ (d : Dialect) (piece : Bytes) (n i : ℕ) (p : Place) (bytes ends out :
     place-is : (fill : ℕ) → placePending p n i fill s ≡ placeAtPieceEnd p n i (length piece) f h fill
     place-is fill = place-same p n i fill s (length piece) f h (all-read .place) (a .state) (a .hand)
 
-    module _ (cs : List RawCell) (bytes′ ends′ : List ℕ) (r : Place) (c : RecordBuffered p n i f h piece cs (p .cells + h .cells) bytes ends bytes′ ends′ r) (same-cs : p .cells + h .cells ≤ MAXCOLUMNS → cs ≡ s .cells) where
+    module _ (cs : List RawCell) (bytes′ ends′ : List ℕ) (r : Place)
+        (c : RecordBuffered p n i f h piece cs (p .cells + h .cells) bytes ends bytes′ ends′ r)
+        (same-cs : p .cells + h .cells ≤ MAXCOLUMNS → cs ≡ s .cells) where
       -- outside records nothing is buffered
       none-kept : inRecord f ≡ false → (inRecord (p .state) ≡ false) × (s .cells ≡ []) × (s .raw ≡ [])
       none-kept out = none-pended d (MAXFILE - n) p ends (ready .bounds) i (drop i piece) s (a .came) (rw (a .state) out)
 
-      bounds-of : (fill : ℕ) → fill ≤ s .size → (p .cells + h .cells ≤ MAXCOLUMNS → InOrder 0 (take (p .cells + h .cells) ends′) fill) → (inRecord f ≡ false → fill ≡ 0) → InBounds (placeAtPieceEnd p n i (length piece) f h fill) ends′
+      bounds-of :
+          (fill : ℕ) → fill ≤ s .size → (p .cells + h .cells ≤ MAXCOLUMNS → InOrder 0 (take (p .cells + h .cells) ends′) fill) →
+          (inRecord f ≡ false → fill ≡ 0) → InBounds (placeAtPieceEnd p n i (length piece) f h fill) ends′
       bounds-of fill l ordered none =
           record {
             size = omega (arith, size-is, room .1);
@@ -419,16 +484,22 @@ module _ (d : Dialect) (piece : Bytes) (n i : ℕ) (p : Place) (bytes ends out :
           by e z = pending-bounds (subst (λ (x : Place). InBounds x ends′) (sym e) z)
 
           go : RecordBuffered p n i f h piece cs (p .cells + h .cells) bytes ends bytes′ ends′ r → StepInBounds piece n i ends′ out (NeedInput r)
-          go (too-many-yet m e) = by e (bounds-of (p .fill) (omega (arith, room .0)) (λ x. absurd (omega arith)) (λ out. ready .bounds .between (none-kept out .0) .0))
+          go (too-many-yet m e) =
+              by e (bounds-of (p .fill) (omega (arith, room .0)) (λ x. absurd (omega arith)) (λ out. ready .bounds .between (none-kept out .0) .0))
           go (buffered-on m x y e) =
               let cs-is : cs ≡ s .cells = same-cs m in
               let kept : length (bufferedBytes cs) ≡ length (bufferedBytes (s .cells)) = ap (λ (l : List RawCell). length (bufferedBytes l)) cs-is in
               let raw : length (drop (h .opened) piece) ≡ length (s .raw) = ap length (sym raw-is) in
               let count : p .cells + length cs ≡ p .cells + h .cells = omega (arith, ap length cs-is, cells-are) in
-              let ordered = order-then ends ends′ (p .fill) (p .cells) cs (p .cells + h .cells) count (omega (arith, ready .long-ends)) y (ready .bounds .ordered (omega arith)) in
-              by e (bounds-of (p .fill + length (bufferedBytes cs) + length (drop (h .opened) piece)) (omega (arith, room .0)) (λ _. order-more ordered (omega arith)) (none-fill kept raw))
+              let ordered =
+              order-then ends ends′ (p .fill) (p .cells) cs (p .cells + h .cells) count (omega (arith, ready .long-ends)) y
+              (ready .bounds .ordered (omega arith)) in
+              by e (bounds-of (p .fill + length (bufferedBytes cs) + length (drop (h .opened) piece)) (omega (arith, room .0))
+              (λ _. order-more ordered (omega arith)) (none-fill kept raw))
             where
-              none-fill : length (bufferedBytes cs) ≡ length (bufferedBytes (s .cells)) → length (drop (h .opened) piece) ≡ length (s .raw) → inRecord f ≡ false → p .fill + length (bufferedBytes cs) + length (drop (h .opened) piece) ≡ 0
+              none-fill :
+                  length (bufferedBytes cs) ≡ length (bufferedBytes (s .cells)) → length (drop (h .opened) piece) ≡ length (s .raw) →
+                  inRecord f ≡ false → p .fill + length (bufferedBytes cs) + length (drop (h .opened) piece) ≡ 0
               none-fill kept raw out =
                   let z = none-kept out in
                   omega (arith, ready .bounds .between (z .0) .0, ap (λ (l : List RawCell). length (bufferedBytes l)) (z .1) ∙ none-bytes, ap length (z .2))
@@ -447,24 +518,38 @@ module _ (d : Dialect) (piece : Bytes) (n i : ℕ) (p : Place) (bytes ends out :
             let z = length-map (s .cells) (movedCell n) in
             omega (arith, x, y, z, hold .cells, cells-are)
 
-        by : (fill : ℕ) → r ≡ placeAtPieceEnd p n i (length piece) f h fill → (length (allCells v (s .cells)) ≤ MAXCOLUMNS → Shown (placePending p n i fill s) k′ bytes′ ends′) → StepSound d t piece i p done k o out bytes′ ends′ out (NeedInput r)
+        by :
+            (fill : ℕ) → r ≡ placeAtPieceEnd p n i (length piece) f h fill →
+            (length (allCells v (s .cells)) ≤ MAXCOLUMNS → Shown (placePending p n i fill s) k′ bytes′ ends′) →
+            StepSound d t piece i p done k o out bytes′ ends′ out (NeedInput r)
         by fill e shown =
             let same : placePending p n i fill s ≡ r = place-is fill ∙ sym e in
             steps-pending k′
-            (subst (λ (x : Place). readFrom d (some t) (going (readAt d p done k)) (drop i piece) ≡ going (readAt d x done k′)) same (pend-reads v hold (ready .at) under (ready .inside) s (a .came) fill))
-            (subst (λ (x : Place). StateInvariant d t x bytes′ ends′ done k′) same (pend-holds v hold (ready .at) under (ready .inside) s (a .came) fill bytes′ ends′ shown))
-            (subst (λ (x : Place). (file : Bytes) → Follows file piece i p k → ScanIn file (scanAt x k′)) same (pend-stands v hold (ready .at) under (ready .inside) s (a .came)))
+            (subst (λ (x : Place). readFrom d (some t) (going (readAt d p done k)) (drop i piece) ≡ going (readAt d x done k′)) same
+            (pend-reads v hold (ready .at) under (ready .inside) s (a .came) fill))
+            (subst (λ (x : Place). StateInvariant d t x bytes′ ends′ done k′) same
+            (pend-holds v hold (ready .at) under (ready .inside) s (a .came) fill bytes′ ends′ shown))
+            (subst (λ (x : Place). (file : Bytes) → Follows file piece i p k → ScanIn file (scanAt x k′)) same
+            (pend-stands v hold (ready .at) under (ready .inside) s (a .came)))
             refl
 
-        pub turns-pended-on : RecordBuffered p n i f h piece cs (p .cells + h .cells) bytes ends bytes′ ends′ r → StepSound d t piece i p done k o out bytes′ ends′ out (NeedInput r)
+        pub turns-pended-on :
+            RecordBuffered p n i f h piece cs (p .cells + h .cells) bytes ends bytes′ ends′ r →
+            StepSound d t piece i p done k o out bytes′ ends′ out (NeedInput r)
         turns-pended-on (too-many-yet m e) = by (p .fill) e (λ x. absurd (omega (arith, counted-yet)))
         turns-pended-on (buffered-on m x y e) =
             let cs-is : cs ≡ s .cells = same-cs m in
             let few : length (k .cells) ≤ MAXCOLUMNS = omega (arith, hold .cells) in
-            let z = hand-then k (current-of (hold .shown few)) (omega (arith, hold .cells, ready .long-ends)) n i s d (MAXFILE - n) (p .state) (p .size) (drop i piece) (hold .opens) (a .came) in
-            let x′ : bytes′ ≡ written (written bytes (p .fill) (bufferedBytes (s .cells))) (p .fill + length (bufferedBytes (s .cells))) (s .raw) = x ∙ ap₂ (λ (l : List RawCell) (w : Bytes). written (written bytes (p .fill) (bufferedBytes l)) (p .fill + length (bufferedBytes l)) w) cs-is (sym raw-is) in
-            let y′ : ends′ ≡ written ends (length (k .cells)) (bufferedEnds (p .fill) (s .cells)) = y ∙ ap₂ (λ (m : ℕ) (l : List RawCell). written ends m (bufferedEnds (p .fill) l)) (hold .cells) cs-is in
-            let fill : p .fill + length (bufferedBytes cs) + length (drop (h .opened) piece) ≡ p .fill + length (bufferedBytes (s .cells)) + length (s .raw) = ap₂ (λ (l : List RawCell) (w : Bytes). p .fill + length (bufferedBytes l) + length w) cs-is (sym raw-is) in
+            let z =
+            hand-then k (current-of (hold .shown few)) (omega (arith, hold .cells, ready .long-ends)) n i s d (MAXFILE - n) (p .state) (p .size)
+            (drop i piece) (hold .opens) (a .came) in
+            let x′ : bytes′ ≡ written (written bytes (p .fill) (bufferedBytes (s .cells))) (p .fill + length (bufferedBytes (s .cells))) (s .raw) =
+            x ∙ ap₂ (λ (l : List RawCell) (w : Bytes). written (written bytes (p .fill) (bufferedBytes l)) (p .fill + length (bufferedBytes l)) w)
+            cs-is (sym raw-is) in
+            let y′ : ends′ ≡ written ends (length (k .cells)) (bufferedEnds (p .fill) (s .cells)) =
+            y ∙ ap₂ (λ (m : ℕ) (l : List RawCell). written ends m (bufferedEnds (p .fill) l)) (hold .cells) cs-is in
+            let fill : p .fill + length (bufferedBytes cs) + length (drop (h .opened) piece) ≡ p .fill + length (bufferedBytes (s .cells)) + length (s .raw) =
+            ap₂ (λ (l : List RawCell) (w : Bytes). p .fill + length (bufferedBytes l) + length w) cs-is (sym raw-is) in
             let hand : CurrentRecord bytes′ (p .fill + length (bufferedBytes (s .cells)) + length (s .raw)) ends′ (k′ .cells) (k′ .raw) = rw (x′, y′) z in
             by (p .fill + length (bufferedBytes cs) + length (drop (h .opened) piece)) e
             (λ _. shown-of (placePending p n i (p .fill + length (bufferedBytes cs) + length (drop (h .opened) piece)) s) k′ hand fill)

@@ -34,13 +34,17 @@ module _ (d : Dialect) (t : Target) where
         length (tableText t (rows (q .done))) ≤ length (tableText t (rows (r .done))) + LEASTOUTPUT
     piece-room piece rest q l s =
         let all : readBytes d (some t) (xs ++ piece) ≡ readFrom d (some t) (going q) rest = reads-on piece ∙ s in
-        let most : length (tableText t (rows (recordsOf (readBytes d (some t) (xs ++ piece))))) ≤ length (tableText t (rows (r .done))) + 49152 = piece-writes d t xs piece r e l in
-        let most′ : length (tableText t (rows (recordsOf (readFrom d (some t) (going q) rest)))) ≤ length (tableText t (rows (r .done))) + 49152 = rw all at most in
-        let some-of : length (tableText t (rows (q .done))) ≤ length (tableText t (rows (recordsOf (readFrom d (some t) (going q) rest)))) = grown-length (table-grows t (read-grows d (some t) (going q) rest)) in
+        let most : length (tableText t (rows (recordsOf (readBytes d (some t) (xs ++ piece))))) ≤ length (tableText t (rows (r .done))) + 49152 =
+        piece-writes d t xs piece r e l in
+        let most′ : length (tableText t (rows (recordsOf (readFrom d (some t) (going q) rest)))) ≤ length (tableText t (rows (r .done))) + 49152 =
+        rw all at most in
+        let some-of : length (tableText t (rows (q .done))) ≤ length (tableText t (rows (recordsOf (readFrom d (some t) (going q) rest)))) =
+        grown-length (table-grows t (read-grows d (some t) (going q) rest)) in
         omega arith
 
     -- the end has room for the last record
-    pub end-room : (q : Read) → readEnd d (some t) (going r) ≡ going q → length (tableText t (rows (q .done))) ≤ length (tableText t (rows (r .done))) + LEASTOUTPUT
+    pub end-room :
+        (q : Read) → readEnd d (some t) (going r) ≡ going q → length (tableText t (rows (q .done))) ≤ length (tableText t (rows (r .done))) + LEASTOUTPUT
     unfolding readFile
     end-room q s =
         let all : readFile d (some t) xs ≡ going q = ap (readEnd d (some t)) e ∙ s in
@@ -54,14 +58,16 @@ module _ (t : Target) where
   pub new-length : {a b : List Rec} → Grows a b → length (tableText t (rows a)) + length (newText t a b) ≡ length (tableText t (rows b))
   unfolding newText
   new-length {a} {b} g =
-      let l : length (tableText t (rows a) ++ drop (length (tableText t (rows a))) (tableText t (rows b))) ≡ length (tableText t (rows b)) = ap length (rest-of (table-grows t g)) in
+      let l : length (tableText t (rows a) ++ drop (length (tableText t (rows a))) (tableText t (rows b))) ≡ length (tableText t (rows b)) =
+      ap length (rest-of (table-grows t g)) in
       omega (arith, length-append (tableText t (rows a)) (drop (length (tableText t (rows a))) (tableText t (rows b))))
 
   pub new-none : (done : List Rec) → newText t done done ≡ []
   new-none done = new-text t .nothing done
 
   -- one record more
-  pub new-more : {a b : List Rec} (x : Rec) → Grows a b → newText t a (b ++ (x ∷ [])) ≡ newText t a b ++ (recordText t (isEmpty b) (x .cells) ++ ending (t .dialect))
+  pub new-more :
+      {a b : List Rec} (x : Rec) → Grows a b → newText t a (b ++ (x ∷ [])) ≡ newText t a b ++ (recordText t (isEmpty b) (x .cells) ++ ending (t .dialect))
   new-more {a} {b} x g =
       let s : b ≡ a ++ g .added = g .sum in
       rw s (new-text t .one-more a (g .added) x)

@@ -54,7 +54,8 @@ pub record ReadyPiece (p : Place) (names name-ends bytes ends : List ℕ) : Type
   pub long-ends : length ends ≡ MAXCOLUMNS
 
 -- a call begins after the bytes `before`, with the header's cells in the first two arrays, and those of another record in the other two
-pub record Begun (d : Dialect) (t : Target) (before piece : Bytes) (p : Place) (names name-ends bytes ends out : List ℕ) (done : List Rec) (k : Buffered) : Type 0 where
+pub record Begun (d : Dialect) (t : Target) (before piece : Bytes) (p : Place) (names name-ends bytes ends out : List ℕ) (done : List Rec)
+    (k : Buffered) : Type 0 where
   pub begins : CallStart d t piece p (currentIn p names bytes) (currentIn p name-ends ends) out done k
   pub offset : p .offset ≡ length before
   pub heads : Heads before p names name-ends done k

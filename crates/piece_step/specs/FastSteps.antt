@@ -30,8 +30,10 @@ use Rattle.piece_step.specs.declared.fast.FastStep.the-variants.{Next, F
 -- the text lies from o up to `end` in the output, if the record has no fault and there is room
 pub data FastTextSound (t : Dialect) (columns before : ℕ) (vs : List Value) (o : ℕ) (out out′ : List ℕ) : FastText → Type 0 where
   up-to :
-      {end : ℕ} → dataFault columns vs ≡ Sound → targetFault (into t) false before vs ≡ Sound → o + length (recordText (into t) false vs ++ ending t) ≤ length out →
-      out′ ≡ written out o (recordText (into t) false vs ++ ending t) → end ≡ o + length (recordText (into t) false vs ++ ending t) → FastTextSound t columns before vs o out out′ (put.To end)
+      {end : ℕ} → dataFault columns vs ≡ Sound → targetFault (into t) false before vs ≡ Sound →
+      o + length (recordText (into t) false vs ++ ending t) ≤ length out →
+      out′ ≡ written out o (recordText (into t) false vs ++ ending t) → end ≡ o + length (recordText (into t) false vs ++ ending t) →
+      FastTextSound t columns before vs o out out′ (put.To end)
   no-text : out′ ≡ out → FastTextSound t columns before vs o out out′ put.Fallback
 
 -- ---- a step
@@ -57,9 +59,11 @@ pub record Between (p : Place) : Type 0 where
   pub state : Starts (p .state)
 
 -- the place after a record, and where its text ends; or a fallback, with nothing written
-pub data FastStepWrites (t : Dialect) (p : Place) (n next : ℕ) (f : FileState) (cells : ℕ) (vs : List Value) (o : ℕ) (out out′ : List ℕ) : FastStep → Type 0 where
+pub data FastStepWrites (t : Dialect) (p : Place) (n next : ℕ) (f : FileState) (cells : ℕ) (vs : List Value) (o : ℕ)
+    (out out′ : List ℕ) : FastStep → Type 0 where
   at-next :
-      {end : ℕ} → cells ≤ MAXCOLUMNS → dataFault (p .columns) vs ≡ Sound → targetFault (into t) false (p .written) vs ≡ Sound → o + length (recordText (into t) false vs ++ ending t) ≤ length out →
+      {end : ℕ} → cells ≤ MAXCOLUMNS → dataFault (p .columns) vs ≡ Sound → targetFault (into t) false (p .written) vs ≡ Sound →
+      o + length (recordText (into t) false vs ++ ending t) ≤ length out →
       out′ ≡ written out o (recordText (into t) false vs ++ ending t) → end ≡ o + length (recordText (into t) false vs ++ ending t) →
       FastStepWrites t p n next f cells vs o out out′ (Next (placeAfter p (length vs) (end - o) f (n + next)) next end)
   not-found : out′ ≡ out → FastStepWrites t p n next f cells vs o out out′ Fallback
@@ -72,10 +76,12 @@ pub data FastStepInBounds (piece : Bytes) (n i : ℕ) (out out′ : List ℕ) : 
   nothing-in-bounds : out′ ≡ out → FastStepInBounds piece n i out out′ Fallback
 
 -- what it results in, if its place represents reading after the records `done`
-pub data FastStepSound (d : Dialect) (t : Target) (piece : Bytes) (i : ℕ) (p : Place) (bytes ends : List ℕ) (done : List Rec) (k : Buffered) (o : ℕ) (out out′ : List ℕ) : FastStep → Type 0 where
+pub data FastStepSound (d : Dialect) (t : Target) (piece : Bytes) (i : ℕ) (p : Place) (bytes ends : List ℕ) (done : List Rec) (k : Buffered) (o : ℕ)
+    (out out′ : List ℕ) : FastStep → Type 0 where
   a-record :
       {q : Place} {at end : ℕ} (x : Rec) (k′ : Buffered) →
       readFrom d (some t) (going (readAt d p done k)) (drop i piece) ≡ readFrom d (some t) (going (readAt d q (done ++ (x ∷ [])) k′)) (drop at piece) →
       StateInvariant d t q bytes ends (done ++ (x ∷ [])) k′ → out′ ≡ written out o (recordText t (isEmpty done) (x .cells) ++ ending (t .dialect)) →
-      end ≡ o + length (recordText t (isEmpty done) (x .cells) ++ ending (t .dialect)) → FastStepSound d t piece i p bytes ends done k o out out′ (Next q at end)
+      end ≡ o + length (recordText t (isEmpty done) (x .cells) ++ ending (t .dialect)) →
+      FastStepSound d t piece i p bytes ends done k o out out′ (Next q at end)
   nothing : FastStepSound d t piece i p bytes ends done k o out out′ Fallback

@@ -25,6 +25,7 @@ pub record Fits (p : Place) (size : ℕ) : Type 0 where
 pub data InCellSound (d : Dialect) (piece : Bytes) (p : Place) (bytes ends bytes′ : List ℕ) : InCellStep → Type 0 where
   all-buffered :
       {q : Place} → InBounds q ends →
-      ((t : Target) (done : List Rec) (k : Buffered) (out : List ℕ) → StateInvariant d t p bytes ends done k → StepSound d t piece 0 p done k 0 out bytes′ ends out (NeedInput q)) →
+      ((t : Target) (done : List Rec) (k : Buffered) (out : List ℕ) → StateInvariant d t p bytes ends done k →
+      StepSound d t piece 0 p done k 0 out bytes′ ends out (NeedInput q)) →
       InCellSound d piece p bytes ends bytes′ (told.Buffered q)
   not-found : bytes′ ≡ bytes → InCellSound d piece p bytes ends bytes′ told.Fallback

@@ -4,7 +4,8 @@ use mathlib.Core.Path.{_≡_}
 use mathlib.Core.Bool.{Bool, true, false}
 use mathlib.Core.List.{List, [], _∷_, _++_}
 use lib.ListN.{length, take}
-use Rattle.piece_step.specs.Types.{Dialect, Target, Fresh, WholeCell, FileState, Top, Begin, Ended, Bom1, Bom2, PlainBom1, PlainBom2, Comment, Blanks, ExpectCell, Inside, After, Cr}
+use Rattle.piece_step.specs.Types.{Dialect, Target, Fresh, WholeCell, FileState, Top, Begin, Ended, Bom1, Bom2, PlainBom1, PlainBom2, Comment, Blanks}
+use Rattle.piece_step.specs.Types.{ExpectCell, Inside, After, Cr}
 use Rattle.model.specs.rules.Base.{if_then_else_, _is_, Bytes}
 use Rattle.model.specs.rules.Cell.{Runs}
 use Rattle.model.specs.rules.File.{cellAt}
@@ -93,7 +94,17 @@ columnsWith p cells = if p .records is 0 then cells else p .columns
 -- the place after a record
 abbrev pub placeAfter : Place → (cells size : ℕ) → FileState → (offset : ℕ) → Place
 placeAfter p cells size f o =
-    record { state = f; offset = o; start = o; size = 0; fill = 0; cells = 0; columns = columnsWith p cells; records = p .records + 1; written = p .written + size }
+    record {
+      state = f;
+      offset = o;
+      start = o;
+      size = 0;
+      fill = 0;
+      cells = 0;
+      columns = columnsWith p cells;
+      records = p .records + 1;
+      written = p .written + size;
+    }
 
 -- nothing is buffered after a record
 abbrev pub bufferedNone : (offset : ℕ) → Buffered

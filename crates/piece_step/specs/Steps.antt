@@ -60,7 +60,8 @@ pub record Lists (piece starts stops : List ℕ) (cells : ℕ) (p : Place) (byte
 -- ---- a complete record
 
 -- the cells are appended to the buffered ones, and the record is checked from there; or they are too many
-pub data RecordCompleted (d : Dialect) (t : Target) (p : Place) (cs : List RawCell) (total : ℕ) (bytes ends : List ℕ) (o : ℕ) (out bytes′ ends′ out′ : List ℕ) (r : RecordResult) : Type 0 where
+pub data RecordCompleted (d : Dialect) (t : Target) (p : Place) (cs : List RawCell) (total : ℕ) (bytes ends : List ℕ) (o : ℕ)
+    (out bytes′ ends′ out′ : List ℕ) (r : RecordResult) : Type 0 where
   too-many : MAXCOLUMNS < total → r ≡ Refused TooManyColumns → out′ ≡ out → RecordCompleted d t p cs total bytes ends o out bytes′ ends′ out′ r
   from-buffered :
       total ≤ MAXCOLUMNS → bytes′ ≡ written bytes (p .fill) (bufferedBytes cs) → ends′ ≡ written ends (p .cells) (bufferedEnds (p .fill) cs) →
@@ -84,7 +85,8 @@ placeAtPieceEnd p n i size f h fill =
     }
 
 -- the cells are appended to the buffered ones, and so are the bytes of the open cell; or they are too many
-pub data RecordBuffered (p : Place) (n i : ℕ) (f : FileState) (h : RecordState) (piece : Bytes) (cs : List RawCell) (total : ℕ) (bytes ends bytes′ ends′ : List ℕ) (r : Place) : Type 0 where
+pub data RecordBuffered (p : Place) (n i : ℕ) (f : FileState) (h : RecordState) (piece : Bytes) (cs : List RawCell) (total : ℕ)
+    (bytes ends bytes′ ends′ : List ℕ) (r : Place) : Type 0 where
   too-many-yet : MAXCOLUMNS < total → r ≡ placeAtPieceEnd p n i (length piece) f h (p .fill) → RecordBuffered p n i f h piece cs total bytes ends bytes′ ends′ r
   buffered-on :
       total ≤ MAXCOLUMNS → bytes′ ≡ written (written bytes (p .fill) (bufferedBytes cs)) (p .fill + length (bufferedBytes cs)) (drop (h .opened) piece) →
@@ -117,7 +119,9 @@ Fitting p o Invalid = Unit {0}
 
 -- a step stays in bounds, whatever state it began with
 pub data StepInBounds (piece : Bytes) (n i : ℕ) (ends′ out : List ℕ) : PieceStep → Type 0 where
-  next-bounds : {q : Place} {at end : ℕ} → InBounds q ends′ → q .offset ≡ n + at → i < at → at ≤ length piece → end ≤ length out → (q .fill ≡ 0) × (q .cells ≡ 0) → StepInBounds piece n i ends′ out (Next q at end)
+  next-bounds :
+      {q : Place} {at end : ℕ} → InBounds q ends′ → q .offset ≡ n + at → i < at → at ≤ length piece → end ≤ length out →
+      (q .fill ≡ 0) × (q .cells ≡ 0) → StepInBounds piece n i ends′ out (Next q at end)
   pending-bounds : {q : Place} → InBounds q ends′ → StepInBounds piece n i ends′ out (NeedInput q)
   stopped-bounds : {e : Report} → StepInBounds piece n i ends′ out (Failed e)
   nowhere-bounds : StepInBounds piece n i ends′ out BadState
@@ -136,20 +140,26 @@ pub record Follows (file piece : Bytes) (i : ℕ) (p : Place) (k : Buffered) : T
   pub kept : ScanIn file (scanAt p k)
 
 -- what a step results in, if its place represents reading after the records `done`
-pub data StepSound (d : Dialect) (t : Target) (piece : Bytes) (i : ℕ) (p : Place) (done : List Rec) (k : Buffered) (o : ℕ) (out bytes′ ends′ out′ : List ℕ) : PieceStep → Type 0 where
+pub data StepSound (d : Dialect) (t : Target) (piece : Bytes) (i : ℕ) (p : Place) (done : List Rec) (k : Buffered) (o : ℕ)
+    (out bytes′ ends′ out′ : List ℕ) : PieceStep → Type 0 where
   steps-next :
       {q : Place} {at end : ℕ} (x : Rec) (k′ : Buffered) →
       readFrom d (some t) (going (readAt d p done k)) (drop i piece) ≡ readFrom d (some t) (going (readAt d q (done ++ (x ∷ [])) k′)) (drop at piece) →
-      StateInvariant d t q bytes′ ends′ (done ++ (x ∷ [])) k′ → ((file : Bytes) → Follows file piece i p k → EncodedInFile file bytes′ 0 ends′ (x .cells)) → out′ ≡ written out o (recordText t (isEmpty done) (x .cells) ++ ending (t .dialect)) →
+      StateInvariant d t q bytes′ ends′ (done ++ (x ∷ [])) k′ →
+      ((file : Bytes) → Follows file piece i p k → EncodedInFile file bytes′ 0 ends′ (x .cells)) →
+      out′ ≡ written out o (recordText t (isEmpty done) (x .cells) ++ ending (t .dialect)) →
       end ≡ o + length (recordText t (isEmpty done) (x .cells) ++ ending (t .dialect)) → StepSound d t piece i p done k o out bytes′ ends′ out′ (Next q at end)
   steps-pending :
-      {q : Place} (k′ : Buffered) → readFrom d (some t) (going (readAt d p done k)) (drop i piece) ≡ going (readAt d q done k′) → StateInvariant d t q bytes′ ends′ done k′ →
+      {q : Place} (k′ : Buffered) → readFrom d (some t) (going (readAt d p done k)) (drop i piece) ≡ going (readAt d q done k′) →
+      StateInvariant d t q bytes′ ends′ done k′ →
       ((file : Bytes) → Follows file piece i p k → ScanIn file (scanAt q k′)) → out′ ≡ out →
       StepSound d t piece i p done k o out bytes′ ends′ out′ (NeedInput q)
   steps-stopped :
-      {e : Report} (x : Fault) (r : Read) → readFrom d (some t) (going (readAt d p done k)) (drop i piece) ≡ stopped x r → r .done ≡ done → e ≡ faultReport x r → out′ ≡ out →
+      {e : Report} (x : Fault) (r : Read) → readFrom d (some t) (going (readAt d p done k)) (drop i piece) ≡ stopped x r → r .done ≡ done →
+      e ≡ faultReport x r → out′ ≡ out →
       StepSound d t piece i p done k o out bytes′ ends′ out′ (Failed e)
   -- there was no room in the output
   steps-nowhere :
-      (x : Rec) (q : Read) (at : ℕ) → readFrom d (some t) (going (readAt d p done k)) (drop i piece) ≡ readFrom d (some t) (going q) (drop at piece) → q .done ≡ done ++ (x ∷ []) →
+      (x : Rec) (q : Read) (at : ℕ) →
+      readFrom d (some t) (going (readAt d p done k)) (drop i piece) ≡ readFrom d (some t) (going q) (drop at piece) → q .done ≡ done ++ (x ∷ []) →
       length out < o + length (recordText t (isEmpty done) (x .cells) ++ ending (t .dialect)) → StepSound d t piece i p done k o out bytes′ ends′ out′ BadState

@@ -12,7 +12,8 @@ pub use Rattle.model.specs.declared.Ending.{Ending}
 pub use Rattle.model.specs.declared.Ending.the-variants.{Clean, Final, Cut}
 pub use Rattle.model.specs.declared.ByteFault.{ByteFault}
 pub use Rattle.model.specs.declared.Fault.{Fault}
-pub use Rattle.model.specs.declared.Fault.the-variants.{NoRecord, CutShort, CellCount, RepeatedName, HeaderKind, TooManyColumns, NoCells, LacksKind, LoneSurrogate, Clash, TextTooLong, OutputTooLong}
+pub use Rattle.model.specs.declared.Fault.the-variants.{NoRecord, CutShort, CellCount, RepeatedName, HeaderKind, TooManyColumns, NoCells, LacksKind}
+pub use Rattle.model.specs.declared.Fault.the-variants.{LoneSurrogate, Clash, TextTooLong, OutputTooLong}
 pub use Rattle.model.specs.declared.CheckResult.{CheckResult}
 pub use Rattle.model.specs.declared.CheckResult.the-variants.{Sound, Faulty}
 pub use Rattle.model.specs.declared.CellCheck.the-variants.{WholeCell}

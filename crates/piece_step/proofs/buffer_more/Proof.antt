@@ -16,14 +16,26 @@ shown s = rawCellsAt (s .args .piece .now) (s .args .starts .now) (s .args .stop
 
 buffer-cells-requires : tie.Need-buffer-cells-requires
 buffer-cells-requires c κs =
-    let s = c .before .before .before .before .before .before .before in
+    let c4 = c .before .before .before .before in
+    let s = c4 .before .before .before in
     let a = s .args in
-    let room : a .kept + a .cells ≤ length (a .ends .now) = s .pre .1 .0 in
-    (s .pre .0, ((omega arith, omega (arith, length-take (length (a .ends .now) - a .kept) (drop (a .kept) (a .ends .now)), length-drop (a .kept) (a .ends .now))), s .pre .1 .1))
+    let room : a .kept + a .cells ≤ length (a .ends .now) = s .pre .1 .0 in (
+      s .pre .0,
+      (
+        (
+          omega arith,
+          omega (arith, length-take (length (a .ends .now) - a .kept) (drop (a .kept) (a .ends .now)), length-drop (a .kept) (a .ends .now)),
+        ),
+        s .pre .1 .1,
+      ),
+    )
 
 returns : tie.Need-returns
 returns c =
-    let s = c .before .before .before .before .before .before .before .before .before .before .before .before in
+    let c4 = c .before .before .before .before in
+    let c8 = c4 .before .before .before .before in
+    let c12 = c8 .before .before .before .before in
+    let s = c12 in
     let a = s .args in
     let k = c .before .before .before .before .buffer-cells .ensures in
     let room : a .kept + a .cells ≤ length (a .ends .now) = s .pre .1 .0 in

@@ -25,9 +25,10 @@ write-part-requires c κs =
 
 loop-again : tie.Need-loop-again Inv-loop μ-loop
 loop-again c =
-    let u = c .before .before .before .before .before .before in
+    let c4 = c .before .before .before .before in
+    let u = c4 .before .before in
     let a = u .before .before .before .args in
-    let t = c .before .before .before .before .before .loop-test .taken in
+    let t = c4 .before .loop-test .taken in
     (omega arith, fill-next (a .e) (a .form .now) (u .loop .i) (u .loop .inv .1) t (c .before .before .write-part .ensures))
 
 same-length : tie.Need-same-length Inv-loop μ-loop

@@ -16,7 +16,8 @@ returns-10 c =
     let r = u .match .rest in
     let few = r .0 .0 .0 .0 in
     sentence-as e (a .out .now)
-    (other-form (e .number) (e .column) (few .0 .0 .0 .0 .1) (few .0 .0 .0 .1) (few .0 .0 .1) (few .0 .1) (few .1) (r .0 .0 .0 .1) (r .0 .0 .1) (r .0 .1) (r .1))
+    (other-form (e .number) (e .column) (few .0 .0 .0 .0 .1) (few .0 .0 .0 .1) (few .0 .0 .1) (few .0 .1) (few .1) (r .0 .0 .0 .1) (r .0 .0 .1)
+    (r .0 .1) (r .1))
     (c .fill9 .ensures)
 
 pub sentence-spec : {M : Type 1} → statement M

@@ -13,10 +13,14 @@ spelt : (u : tie.After-decimal) → take (u .decimal .result) (u .decimal .last 
 spelt u = u .decimal .ensures .1 .1 ∙ digits-decimal _ _ (omega (arith, u .before .before .before .fits)) (u .decimal .ensures .1 .0)
 
 copy-requires : tie.Need-copy-requires
-copy-requires c κs = omega (arith, ap length (spelt (c .before .before)), c .before .before .before .before .before .pre)
+copy-requires c κs =
+    let c4 = c .before .before .before .before in
+    omega (arith, ap length (spelt (c .before .before)), c4 .before .pre)
 
 returns : tie.Need-returns
-returns c = rw (← spelt (c .before .before .before .before .before)) (c .before .before .copy .ensures)
+returns c =
+    let c4 = c .before .before .before .before in
+    rw (← spelt (c4 .before)) (c .before .before .copy .ensures)
 
 pub write-number-spec : {M : Type 1} → statement M
 write-number-spec =

@@ -47,12 +47,13 @@ write-number-requires-4 : tie.Need-write-number-requires-4
 unfolding partOf if_then_else_
 write-number-requires-4 c κs =
     let u = c .before in
+    let u4 = u .before .before .before .before in
     rw (
       ne-eqb _ 0x4E (u .before .before .before .if1 .left),
       ne-eqb _ 0x52 (u .before .before .if2 .left),
       ne-eqb _ 0x43 (u .before .if3 .left),
       eq-eqb _ 0x42 (u .if4 .taken),
-    ) at (u .before .before .before .before .before .pre)
+    ) at (u4 .before .pre)
 
 returns-4 : tie.Need-returns-4
 unfolding partOf if_then_else_
@@ -68,24 +69,26 @@ returns-4 c =
 slice-write-out : tie.Need-slice-write-out
 unfolding partOf if_then_else_
 slice-write-out c =
+    let c4 = c .before .before .before .before in
     let h = rw (
       ne-eqb _ 0x4E (c .before .before .before .if1 .left),
       ne-eqb _ 0x52 (c .before .before .if2 .left),
       ne-eqb _ 0x43 (c .before .if3 .left),
       ne-eqb _ 0x42 (c .if4 .left),
-    ) at (c .before .before .before .before .before .pre) in
+    ) at (c4 .before .pre) in
     omega arith
 
 returns-5 : tie.Need-returns-5
 unfolding partOf if_then_else_
 returns-5 c =
-    let a = c .before .before .before .before .before .args in
+    let c4 = c .before .before .before .before in
+    let a = c4 .before .args in
     let h = rw (
       ne-eqb _ 0x4E (c .before .before .before .if1 .left),
       ne-eqb _ 0x52 (c .before .before .if2 .left),
       ne-eqb _ 0x43 (c .before .if3 .left),
       ne-eqb _ 0x42 (c .if4 .left),
-    ) at (c .before .before .before .before .before .pre) in
+    ) at (c4 .before .pre) in
     rw (
       ne-eqb _ 0x4E (c .before .before .before .if1 .left),
       ne-eqb _ 0x52 (c .before .before .if2 .left),

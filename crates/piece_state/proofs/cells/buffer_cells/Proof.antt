@@ -14,7 +14,8 @@ abbrev μ-loop : tie.MeasureT-loop
 
 loop-holds : tie.Need-loop-holds Inv-loop μ-loop
 loop-holds c =
-    let s = c .before .before .before .before .before in
+    let c4 = c .before .before .before .before in
+    let s = c4 .before in
     keeping (s .pre .0) (s .pre .1 .0 .0) (s .pre .1 .0 .1) (s .pre .1 .1)
 
 mul-start : tie.Need-mul-start Inv-loop μ-loop
@@ -31,7 +32,10 @@ shared-slice-read-stop c = omega (arith, c .before .before .before .loop .inv .s
 
 -- the next cell lies in the piece
 stands : (c : tie.After-copy-arg Inv-loop μ-loop)
-    → let s = c .before .before .before .before .before .before .before .before .before .before .args in
+    → let s =
+    let c4 = c .before .before .before .before in
+    let c8 = c4 .before .before .before .before in
+    c8 .before .before .args in
     let k = c .before .before .before .before .loop .k in
     (getD (s .starts .now) k 0 ≤ getD (s .stops .now) k 0) × (getD (s .stops .now) k 0 ≤ length (s .piece .now))
 stands c =
@@ -49,13 +53,21 @@ part-copy-end : tie.Need-part-copy-end Inv-loop μ-loop
 part-copy-end c = stands c .1
 
 copy-requires : tie.Need-copy-requires Inv-loop μ-loop
-copy-requires c κs = cell-fits (c .before .before .before .before .before .loop .inv) (c .before .before .before .before .loop-test .taken)
+copy-requires c κs =
+    let c4 = c .before .before .before .before in
+    cell-fits (c4 .before .loop .inv) (c .before .before .before .before .loop-test .taken)
 
 mul-ends : tie.Need-mul-ends Inv-loop μ-loop
-mul-ends c = omega (arith, end-fits (c .before .before .before .before .before .before .before .before .loop .inv) (c .before .before .before .before .before .before .before .loop-test .taken))
+mul-ends c =
+    let c4 = c .before .before .before .before in
+    let c8 = c4 .before .before .before .before in
+    omega (arith, end-fits (c8 .loop .inv) (c4 .before .before .before .loop-test .taken))
 
 slice-write-ends : tie.Need-slice-write-ends Inv-loop μ-loop
-slice-write-ends c = end-fits (c .before .before .before .before .before .before .before .before .loop .inv) (c .before .before .before .before .before .before .before .loop-test .taken)
+slice-write-ends c =
+    let c4 = c .before .before .before .before in
+    let c8 = c4 .before .before .before .before in
+    end-fits (c8 .loop .inv) (c4 .before .before .before .loop-test .taken)
 
 add-k : tie.Need-add-k Inv-loop μ-loop
 add-k c = omega arith
@@ -64,7 +76,10 @@ loop-less : tie.Need-loop-less Inv-loop μ-loop
 loop-less c = omega arith
 
 loop-again : tie.Need-loop-again Inv-loop μ-loop
-loop-again c = kept-next (c .before .before .before .before .before .before .before .before .loop .inv) (c .before .before .before .before .before .before .before .loop-test .taken) (c .before .before .copy .ensures)
+loop-again c =
+    let c4 = c .before .before .before .before in
+    let c8 = c4 .before .before .before .before in
+    kept-next (c8 .loop .inv) (c4 .before .before .before .loop-test .taken) (c .before .before .copy .ensures)
 
 same-length : tie.Need-same-length Inv-loop μ-loop
 same-length c = c .before .loop .inv .bytes-go .long

@@ -32,7 +32,10 @@ shared-slice-read-end c = omega (arith, c .before .before .before .loop .inv .st
 
 -- the next cell lies in the buffered bytes
 stands : (c : tie.After-shared-slice-known5 Inv-loop μ-loop)
-    → let s = c .before .before .before .before .before .before .before .before .args in
+    → let s =
+    let c4 = c .before .before .before .before in
+    let c8 = c4 .before .before .before .before in
+    c8 .args in
     let k = c .before .before .before .loop .k in
     (getD (s .starts .now) k 0 ≤ getD (s .ends .now) k 0) × (getD (s .ends .now) k 0 ≤ length (s .bytes .now))
 stands c =
@@ -56,7 +59,9 @@ kind-number-requires : tie.Need-kind-number-requires Inv-loop μ-loop
 kind-number-requires c κs = search needs
 
 slice-write-kinds : tie.Need-slice-write-kinds Inv-loop μ-loop
-slice-write-kinds c = kind-fits (c .before .before .before .before .before .before .loop .inv) (c .before .before .before .before .before .loop-test .taken)
+slice-write-kinds c =
+    let c4 = c .before .before .before .before in
+    kind-fits (c4 .before .before .loop .inv) (c4 .before .loop-test .taken)
 
 add-k : tie.Need-add-k Inv-loop μ-loop
 add-k c = omega arith
@@ -65,7 +70,9 @@ loop-less : tie.Need-loop-less Inv-loop μ-loop
 loop-less c = omega arith
 
 loop-again : tie.Need-loop-again Inv-loop μ-loop
-loop-again c = sorted (c .before .before .before .before .before .before .loop .inv) (c .before .before .before .before .before .loop-test .taken) (c .kind-number .ensures ∙ ap kindNumber (c .before .kind-of .ensures))
+loop-again c =
+    let c4 = c .before .before .before .before in
+    sorted (c4 .before .before .loop .inv) (c4 .before .loop-test .taken) (c .kind-number .ensures ∙ ap kindNumber (c .before .kind-of .ensures))
 
 same-length : tie.Need-same-length Inv-loop μ-loop
 same-length c = c .before .loop .inv .kinds-go .long

@@ -39,7 +39,9 @@ call-report-requires-2 c κs = search needs
 
 returns-2 : tie.Need-returns-2
 returns-2 c =
-    let a = c .before .before .before .before .before .before .before .before .args in
+    let c4 = c .before .before .before .before in
+    let c8 = c4 .before .before .before .before in
+    let a = c8 .args in
     let none-named = sym (c .before .before .before .dialect-of2 .ensures) ∙ ap dialectIn (c .before .enum-told2 .given .1) in
     ap Refused (c .call-report2 .ensures) ∙ sym (unknown-target (a .source) (a .target) (a .fault) (a .ended) (a .piece) (a .room) none-named)
 
@@ -48,10 +50,14 @@ check-between-requires c κs = search needs
 
 returns-3 : tie.Need-returns-3
 returns-3 c =
-    let a = c .before .before .before .before .before .before .before .before .before .args in
-    let source = sym (c .before .before .before .before .before .before .before .before .dialect-of .ensures) ∙ ap dialectIn (c .before .before .before .before .before .before .d .given .1) in
+    let c4 = c .before .before .before .before in
+    let c8 = c4 .before .before .before .before in
+    let a = c8 .before .args in
+    let source = sym (c8 .dialect-of .ensures) ∙ ap dialectIn (c4 .before .before .d .given .1) in
     let target = sym (c .before .before .before .before .dialect-of2 .ensures) ∙ ap dialectIn (c .before .before .t .given .1) in
-    c .check-between .ensures ∙ sym (both-known (a .source) (a .target) (a .fault) (a .ended) (a .piece) (a .room) (c .before .before .before .before .before .before .d .given .0 .0) (c .before .before .t .given .0 .0) source target)
+    c .check-between .ensures
+    ∙ sym (both-known (a .source) (a .target) (a .fault) (a .ended) (a .piece) (a .room) (c4 .before .before .d .given .0 .0)
+    (c .before .before .t .given .0 .0) source target)
 
 pub check-call-spec : {M : Type 1} → statement M
 check-call-spec =

@@ -24,7 +24,8 @@ returns-2 c =
 returns-3 : tie.Need-returns-3
 unfolding bufferedInRecord
 returns-3 c =
-    let p = c .before .before .before .before .before .args .p in
+    let c4 = c .before .before .before .before in
+    let p = c4 .before .args .p in
     let no : inRecord (p .state) ≡ false = sym (c .before .before .before .before .in-record .ensures) ∙ c .before .before .before .if1 .left in
     rw (no, le-leb (p .fill) 0 (c .before .if2 .left))
 

@@ -27,7 +27,8 @@ returns : tie.Need-returns Inv-loop μ-loop
 returns c =
     let s = c .before .before .before .before in
     let l = c .before .before .before .loop in
-    sym (l .inv .1 ∙ order-breaks (s .args .ends .now) (s .args .n) (s .args .fill) (l .k) (l .at) (c .before .before .loop-test .taken) (s .pre) (c .if1 .taken))
+    sym (l .inv .1 ∙ order-breaks (s .args .ends .now) (s .args .n) (s .args .fill) (l .k) (l .at) (c .before .before .loop-test .taken) (s .pre)
+    (c .if1 .taken))
 
 mul-at : tie.Need-mul-at Inv-loop μ-loop
 mul-at c = omega arith
@@ -43,9 +44,13 @@ loop-less c = omega arith
 
 loop-again : tie.Need-loop-again Inv-loop μ-loop
 loop-again c =
-    let s = c .before .before .before .before .before in
-    let l = c .before .before .before .before .loop in
-    (omega arith, l .inv .1 ∙ order-goes-on (s .args .ends .now) (s .args .n) (s .args .fill) (l .k) (l .at) (c .before .before .before .loop-test .taken) (s .pre) (c .before .if1 .left))
+    let c4 = c .before .before .before .before in
+    let s = c4 .before in
+    let l = c .before .before .before .before .loop in (
+      omega arith,
+      l .inv .1 ∙ order-goes-on (s .args .ends .now) (s .args .n) (s .args .fill) (l .k) (l .at)
+          (c .before .before .before .loop-test .taken) (s .pre) (c .before .if1 .left),
+    )
 
 returns-2 : tie.Need-returns-2 Inv-loop μ-loop
 returns-2 c =

@@ -13,7 +13,9 @@ use Rattle.piece_step.proofs.fast.data_record.Tie as tie
 
 scan-requires : tie.Need-scan-requires
 scan-requires c κs =
-    let u = c .before .before .before .before .before .before .before .before .before .before .before in
+    let c4 = c .before .before .before .before in
+    let c8 = c4 .before .before .before .before in
+    let u = c8 .before .before .before in
     let r = u .pre .0 in
     let l = u .pre .1 in
     let at = r .at in
@@ -22,31 +24,68 @@ scan-requires c κs =
 
 finish-record-requires : tie.Need-finish-record-requires
 finish-record-requires c κs =
-    let u = c .before .before .before .before .before .before .before .before .before .before .before .before .before .before .before .before .before .before .before .before .before .before .before .before .before in
+    let c4 = c .before .before .before .before in
+    let c8 = c4 .before .before .before .before in
+    let c12 = c8 .before .before .before .before in
+    let c16 = c12 .before .before .before .before in
+    let c20 = c16 .before .before .before .before in
+    let c24 = c20 .before .before .before .before in
+    let u = c24 .before in
     let r = u .pre .0 in
     let l = u .pre .1 in
-    let b = c .before .before .before .before .before .before .before .before .before .before .before .before .before .before .before .before .before .before .is-between .ensures (not-false _ (c .before .before .before .before .before .before .before .before .before .before .before .before .before .before .before .before .before .if2 .left)) in
+    let b = c16 .before .before .is-between .ensures (not-false _ (c16 .before .if2 .left)) in
     let records : u .args .p .records ≤ u .args .p .offset = r .records in
     let offset : u .args .p .offset ≤ MAXFILE = r .offset in (
-      record { long-starts = c .before .before .before .before .before .before .before .before .before .before .before .before .starts .given ∙ l .long-starts; long-stops = c .before .before .before .before .before .before .before .before .before .before .stops .given ∙ l .long-stops; long-kinds = c .before .before .before .before .before .before .before .before .kinds .given ∙ l .long-kinds },
-      (cells-there _ _ _ _ _ (b .state) (u .pre .0 .inside) (c .before .before .before .before .before .before .before .before .before .before .before .before .before .scan .ensures) (u .pre .1) (c .before .before .before .before .before .cells .given .1), (clean-there _ _ _ _ _ (b .state) (u .pre .0 .inside) (c .before .before .before .before .before .before .before .before .before .before .before .before .before .scan .ensures) (u .pre .1) (c .before .before .before .before .before .cells .given .1), ((r .before, omega arith, next-file (u .args .t) (u .pre .0) (c .before .before .before .before .before .before .before .before .before .before .before .before .before .before .before .before .before .before .is-between .ensures (not-false _ (c .before .before .before .before .before .before .before .before .before .before .before .before .before .before .before .before .before .if2 .left))) (c .before .before .before .before .before .before .before .before .before .before .before .before .before .scan .ensures) (u .pre .1) (c .before .before .before .before .before .cells .given .1), r .room), b .later))),
+      record {
+        long-starts = c12 .starts .given ∙ l .long-starts;
+        long-stops = c8 .before .before .stops .given ∙ l .long-stops;
+        long-kinds = c8 .kinds .given ∙ l .long-kinds;
+      },
+      (
+        cells-there _ _ _ _ _ (b .state) (u .pre .0 .inside) (c12 .before .scan .ensures) (u .pre .1) (c4 .before .cells .given .1),
+        (
+          clean-there _ _ _ _ _ (b .state) (u .pre .0 .inside) (c12 .before .scan .ensures) (u .pre .1) (c4 .before .cells .given .1),
+          (
+            (
+              r .before,
+              omega arith,
+              next-file (u .args .t) (u .pre .0) (c16 .before .before .is-between .ensures (not-false _ (c16 .before .if2 .left)))
+                  (c12 .before .scan .ensures) (u .pre .1) (c4 .before .cells .given .1),
+              r .room,
+            ),
+            b .later,
+          ),
+        ),
+      ),
     )
 
 returns-4 : tie.Need-returns-4
 returns-4 c =
-    let u = c .before .before .before .before .before .before .before .before .before .before .before .before .before .before .before .before .before .before .before .before .before .before .before .before .before .before .before .before in
-    let w = c .before .before .finish-record .ensures in
-    (writes-bounds (u .args .t) (u .pre .0) (c .before .before .before .before .before .before .before .before .before .before .before .before .before .before .before .before .before .before .before .before .before .is-between .ensures (not-false _ (c .before .before .before .before .before .before .before .before .before .before .before .before .before .before .before .before .before .before .before .before .if2 .left))) (c .before .before .before .before .before .before .before .before .before .before .before .before .before .before .before .before .scan .ensures) (u .pre .1) (c .before .before .before .before .before .before .before .before .cells .given .1) w, λ bytes ends done k hold. writes-turns (u .args .t) (u .pre .0) (c .before .before .before .before .before .before .before .before .before .before .before .before .before .before .before .before .before .before .before .before .before .is-between .ensures (not-false _ (c .before .before .before .before .before .before .before .before .before .before .before .before .before .before .before .before .before .before .before .before .if2 .left))) (c .before .before .before .before .before .before .before .before .before .before .before .before .before .before .before .before .scan .ensures) (u .pre .1) (c .before .before .before .before .before .before .before .before .cells .given .1) hold w)
+    let c4 = c .before .before .before .before in
+    let c8 = c4 .before .before .before .before in
+    let c12 = c8 .before .before .before .before in
+    let c16 = c12 .before .before .before .before in
+    let c20 = c16 .before .before .before .before in
+    let c24 = c20 .before .before .before .before in
+    let c28 = c24 .before .before .before .before in
+    let u = c28 in
+    let w = c .before .before .finish-record .ensures in (
+      writes-bounds (u .args .t) (u .pre .0) (c20 .before .is-between .ensures (not-false _ (c20 .if2 .left))) (c16 .scan .ensures) (u .pre .1)
+          (c8 .cells .given .1) w,
+      λ bytes ends done k hold. writes-turns (u .args .t) (u .pre .0)
+          (c20 .before .is-between .ensures (not-false _ (c20 .if2 .left))) (c16 .scan .ensures) (u .pre .1) (c8 .cells .given .1) hold w,
+    )
 
 pub data-record-spec : {M : Type 1} → statement M
 data-record-spec =
     tie.close
     (tie.spec
-    (λ c. let inside = c .before .before .before .before .before .pre .0 .inside in omega arith)
+    (λ c. let c4 = c .before .before .before .before in let inside = c4 .before .pre .0 .inside in omega arith)
     (λ c. (nothing-in-bounds refl, λ bytes ends done k hold. nothing))
     (λ c κs. search needs)
     (λ c. (nothing-in-bounds refl, λ bytes ends done k hold. nothing))
-    (λ c. let r = c .before .before .before .before .before .before .before .before .pre .0 in let at = r .at in let offset = r .offset in omega arith)
+    (λ c. let c4 = c .before .before .before .before in let c8 = c4 .before .before .before .before in let r = c8 .pre .0 in let at = r .at in
+    let offset = r .offset in omega arith)
     scan-requires
     (λ c. search needs)
     (λ c. search needs)

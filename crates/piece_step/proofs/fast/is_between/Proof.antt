@@ -8,10 +8,21 @@ use Rattle.piece_step.proofs.fast.is_between.Statement.{statement}
 use Rattle.piece_step.proofs.fast.is_between.Tie as tie
 
 returns-3 : tie.Need-returns-3
-returns-3 c = λ _. record { later = c .before .before .before .before .if1 .left; size = c .before .before .if2 .left; state = subst Starts (sym (c .enum-told .given .1)) begins }
+returns-3 c =
+    λ _. record {
+      later = c .before .before .before .before .if1 .left;
+      size = c .before .before .if2 .left;
+      state = subst Starts (sym (c .enum-told .given .1)) begins;
+    }
 
 returns-4 : tie.Need-returns-4
-returns-4 c = λ _. record { later = c .before .before .before .before .if1 .left; size = c .before .before .if2 .left; state = subst Starts (sym (c .enum-told2 .given .1)) ends }
+returns-4 c =
+    λ _. record {
+      later = c .before .before .before .before .if1 .left;
+      size = c .before .before .if2 .left;
+      state = subst Starts (sym (c .enum-told2 .given .1)) ends;
+    }
 
 pub is-between-spec : {M : Type 1} → statement M
-is-between-spec = tie.close (tie.spec (λ c. λ z. impossible z) (λ c. λ z. impossible z) (λ c. search needs) (λ c. search needs) returns-3 returns-4 (λ c. λ z. impossible z))
+is-between-spec =
+    tie.close (tie.spec (λ c. λ z. impossible z) (λ c. λ z. impossible z) (λ c. search needs) (λ c. search needs) returns-3 returns-4 (λ c. λ z. impossible z))

@@ -25,17 +25,28 @@ abbrev text : tie.Start → Bytes
 text c = recordText (into (c .args .t)) false (cells c) ++ ending (c .args .t)
 
 -- there is room for it
-fits : (c : tie.After-write-data-arg) → let u = c .before .before .before .before .before .before .before .before .before .before .before .before .before .before in u .args .o + length (text u) ≤ length (u .args .out .now)
+fits : (c : tie.After-write-data-arg) →
+    let c4 = c .before .before .before .before in
+    let c8 = c4 .before .before .before .before in
+    let c12 = c8 .before .before .before .before in
+    let u = c12 .before .before in
+    u .args .o + length (text u) ≤ length (u .args .out .now)
 fits c =
-    let u = c .before .before .before .before .before .before .before .before .before .before .before .before .before .before in
-    let l = c .before .before .before .before .before .check-data .ensures .1 (c .before .before .before .enum-told4 .given .1) in
+    let c4 = c .before .before .before .before in
+    let c8 = c4 .before .before .before .before in
+    let c12 = c8 .before .before .before .before in
+    let u = c12 .before .before in
+    let l = c4 .before .check-data .ensures .1 (c .before .before .before .enum-told4 .given .1) in
     let m = c .before .if1 .left in
     let o : u .args .o ≤ length (u .args .out .now) = u .pre .1 .1 .1 in
     omega (arith, l)
 
 write-data-requires : tie.Need-write-data-requires
 write-data-requires c κs =
-    let u = c .before .before .before .before .before .before .before .before .before .before .before .before .before .before in
+    let c4 = c .before .before .before .before in
+    let c8 = c4 .before .before .before .before in
+    let c12 = c8 .before .before .before .before in
+    let u = c12 .before .before in
     (u .pre .0, (u .pre .1 .0, record { measured = λ z. impossible (sym z); inside = λ z. fits c }))
 
 place-of : {old : Bytes} {o : ℕ} {w new : Bytes} {r : ℕ} → WrittenAt true old o w new r → (new ≡ written old o w) × (r ≡ o + length w)
@@ -44,12 +55,18 @@ place-of p = (p .text, p .place)
 
 returns-4 : tie.Need-returns-4
 returns-4 c =
-    let u = c .before .before .before .before .before .before .before .before .before .before .before .before .before .before .before .before .before in
+    let c4 = c .before .before .before .before in
+    let c8 = c4 .before .before .before .before in
+    let c12 = c8 .before .before .before .before in
+    let c16 = c12 .before .before .before .before in
+    let u = c16 .before in
     let a = u .args in
     let y = place-of (c .before .before .write-data .ensures) in
     up-to
-    (sym (c .before .before .before .before .before .before .before .before .before .before .before .«data» .ensures (cells u) (cells-length (File (a .d)) (a .piece .now) (a .starts .now) (a .stops .now) (a .kinds .now) (u .pre .0 .with-ends) (u .pre .0 .with-kinds))) ∙ c .before .before .before .before .before .before .before .before .before .enum-told2 .given .1)
-    (sym (c .before .before .before .before .before .before .before .before .check-data .ensures .0) ∙ c .before .before .before .before .before .before .enum-told4 .given .1)
+    (sym (c8 .before .before .before .«data» .ensures (cells u)
+    (cells-length (File (a .d)) (a .piece .now) (a .starts .now) (a .stops .now) (a .kinds .now) (u .pre .0 .with-ends) (u .pre .0 .with-kinds)))
+    ∙ c8 .before .enum-told2 .given .1)
+    (sym (c8 .check-data .ensures .0) ∙ c4 .before .before .enum-told4 .given .1)
     (fits (c .before .before .before))
     (y .0)
     (y .1)

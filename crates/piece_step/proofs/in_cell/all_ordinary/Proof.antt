@@ -22,7 +22,9 @@ loop-again c =
     (omega arith, in-word (u .loop .inv .1) (c .before .unordinary .ensures) (c .if1 .left) (omega arith) (c .before .before .word .ensures))
 
 returns-2 : tie.Need-returns-2 Inv-loop μ-loop
-returns-2 c e = in-last (c .before .before .before .loop .inv .1) (c .unordinary2 .ensures) (eqb-true (c .unordinary2 .result) 0 e) (omega arith) (c .before .last-word .ensures)
+returns-2 c e =
+    in-last (c .before .before .before .loop .inv .1) (c .unordinary2 .ensures) (eqb-true (c .unordinary2 .result) 0 e) (omega arith)
+    (c .before .last-word .ensures)
 
 pub all-ordinary-spec : {M : Type 1} → statement M
 all-ordinary-spec =

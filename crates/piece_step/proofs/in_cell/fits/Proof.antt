@@ -6,4 +6,6 @@ use Rattle.piece_step.proofs.in_cell.fits.Statement.{statement}
 use Rattle.piece_step.proofs.in_cell.fits.Tie as tie
 
 pub fits-spec : {M : Type 1} → statement M
-fits-spec = tie.close (tie.spec (λ c e. impossible e) (λ c. search needs) (λ c e. impossible e) (λ c. search needs) (λ c e. impossible e) (λ c e. record { columns = omega arith; in-record = omega arith; in-file = omega arith }))
+fits-spec =
+    tie.close (tie.spec (λ c e. impossible e) (λ c. search needs) (λ c e. impossible e) (λ c. search needs) (λ c e. impossible e)
+    (λ c e. record { columns = omega arith; in-record = omega arith; in-file = omega arith }))

@@ -11,26 +11,40 @@ use Rattle.piece_step.proofs.in_cell.step.Tie as tie
 
 buffer-open-requires : tie.Need-buffer-open-requires
 buffer-open-requires c κs =
-    let s = c .before .before .before .before .before .before .before .before .before .before .before .before .before .before .before .before in
-    let fits = c .before .before .before .before .before .before .before .before .before .before .before .before .fits2 .ensures (not-false _ (c .before .before .before .before .before .before .before .before .before .before .before .if1 .left)) in
+    let c4 = c .before .before .before .before in
+    let c8 = c4 .before .before .before .before in
+    let c12 = c8 .before .before .before .before in
+    let c16 = c12 .before .before .before .before in
+    let s = c16 in
+    let fits = c12 .fits2 .ensures (not-false _ (c8 .before .before .before .if1 .left)) in
     omega (arith, fits .in-record, s .pre .0 .fill, s .pre .1 .0)
 
 add-t19 : tie.Need-add-t19
 add-t19 c =
-    let fits = c .before .before .before .before .before .before .before .before .before .before .before .before .before .before .before .before .before .fits2 .ensures (not-false _ (c .before .before .before .before .before .before .before .before .before .before .before .before .before .before .before .before .if1 .left)) in
+    let c4 = c .before .before .before .before in
+    let c8 = c4 .before .before .before .before in
+    let c12 = c8 .before .before .before .before in
+    let c16 = c12 .before .before .before .before in
+    let fits = c16 .before .fits2 .ensures (not-false _ (c16 .if1 .left)) in
     let size = fits .in-record in
     record { fits = omega arith }
 
 returns-5 : tie.Need-returns-5
 returns-5 c =
-    let s = c .before .before .before .before .before .before .before .before .before .before .before .before .before .before .before .before .before .before .before .before .before in
+    let c4 = c .before .before .before .before in
+    let c8 = c4 .before .before .before .before in
+    let c12 = c8 .before .before .before .before in
+    let c16 = c12 .before .before .before .before in
+    let c20 = c16 .before .before .before .before in
+    let s = c20 .before in
     let a = s .args in
-    let fits = c .before .before .before .before .before .before .before .before .before .before .before .before .before .before .before .before .before .fits2 .ensures (not-false _ (c .before .before .before .before .before .before .before .before .before .before .before .before .before .before .before .before .if1 .left)) in
-    let state = c .before .before .before .before .before .before .before .before .before .before .before .before .before .before .state .given .1 in
-    let stops = sym (c .before .before .before .before .before .before .before .before .before .before .before .before .run-stop .ensures) ∙ c .before .before .before .before .before .before .before .before .before .before .q .given .1 in
-    let all = c .before .before .before .before .before .before .before .all-ordinary .ensures (not-false _ (c .before .before .before .before .before .before .if2 .left)) in
+    let fits = c16 .before .fits2 .ensures (not-false _ (c16 .if1 .left)) in
+    let state = c12 .before .before .state .given .1 in
+    let stops = sym (c12 .run-stop .ensures) ∙ c8 .before .before .q .given .1 in
+    let all = c4 .before .before .before .all-ordinary .ensures (not-false _ (c4 .before .before .if2 .left)) in
     let kept = c .before .before .before .before .buffer-open .ensures in
-    piece-kept (a .d) (a .piece .now) (a .p) (a .bytes .now) (a .ends .now) (s .pre .0) (s .pre .1 .0) (s .pre .1 .1) _ _ state stops (rw (c .before .before .before .before .before .before .before .before .quote-of .ensures) at all) fits _ (kept .1) (kept .0)
+    piece-kept (a .d) (a .piece .now) (a .p) (a .bytes .now) (a .ends .now) (s .pre .0) (s .pre .1 .0) (s .pre .1 .1) _ _ state stops
+    (rw (c8 .quote-of .ensures) at all) fits _ (kept .1) (kept .0)
 
 pub step-spec : {M : Type 1} → statement M
 step-spec =
