@@ -86,7 +86,8 @@ module _ (d : Dialect) (t : Target) (p : Place) (done : List Rec) (k : Buffered)
       last-whole = all-snoc (h .whole) (runs-sound 0 (h .runs) (whole-at (file-ends d (p .state)) e))
 
       completes-last : readLast ≡ complete d (some t) (readAt d p done k) lastValues Begin (p .offset)
-      completes-last = ends-as Final e ∙ ap (λ vs. complete d (some t) (readAt d p done k) vs Begin (p .offset)) (values-closing d (some t) done true (scanAt p k))
+      completes-last =
+          ends-as Final e ∙ ap (λ vs. complete d (some t) (readAt d p done k) vs Begin (p .offset)) (values-closing d (some t) done true (scanAt p k))
 
       module _ (ws : List Value) (same : SameCells ws lastValues) where
         fault-last : faultAt d t p ws ≡ recordFault d (some t) done lastValues
@@ -96,7 +97,8 @@ module _ (d : Dialect) (t : Target) (p : Place) (done : List Rec) (k : Buffered)
         unfolding complete
         last-faulty x q = let f : recordFault d (some t) done lastValues ≡ Faulty x = sym fault-last ∙ q in completes-last ∙ rw f
 
-        pub last-reports : (x : Fault) → faultAt d t p ws ≡ Faulty x → faultReport x (readAt d p done k) ≡ report (numberOf x) (p .records + 1) (columnOf x) (p .start)
+        pub last-reports :
+            (x : Fault) → faultAt d t p ws ≡ Faulty x → faultReport x (readAt d p done k) ≡ report (numberOf x) (p .records + 1) (columnOf x) (p .start)
         last-reports x q =
             report-start x (readAt d p done k) (p .records) (fault-start d t p ws x q) (sym (h .records))
             ∙ ap (report (numberOf x) (p .records + 1) (columnOf x)) (sym (h .starts))

@@ -17,7 +17,8 @@ use Rattle.piece_step.specs.Steps.{InBounds, currentIn}
 use Rattle.piece_step.specs.Calls.{Named, Heads, CountsRecords}
 
 -- the steps over the piece are sound, and the header's names are buffered as they are encoded in the file, also after a fault (§15.2)
-pub data PieceRunSound (d : Dialect) (t : Target) (before piece : Bytes) (p : Place) (done : List Rec) (k : Buffered) (out names′ name-ends′ bytes′ ends′ out′ : List ℕ) (r : CallResult) : Type 0 where
+pub data PieceRunSound (d : Dialect) (t : Target) (before piece : Bytes) (p : Place) (done : List Rec) (k : Buffered)
+    (out names′ name-ends′ bytes′ ends′ out′ : List ℕ) (r : CallResult) : Type 0 where
   took-all :
       (done′ : List Rec) (k′ : Buffered) → readFrom d (some t) (going (readAt d p done k)) piece ≡ going (readAt d (r .place) done′ k′) →
       StateInvariant d t (r .place) (currentIn (r .place) names′ bytes′) (currentIn (r .place) name-ends′ ends′) done′ k′ →

@@ -31,20 +31,27 @@ returns-6 c = let h = c .if6 .taken in (λ z. impossible z, λ b. let l = b .cel
 
 returns-7 : tie.Need-returns-7
 returns-7 c =
+    let c4 = c .before .before .before .before in
+    let c8 = c4 .before .before .before .before in
+    let c12 = c8 .before .before .before .before in
     let q = c .before .is-buffered-in-record in
-    (λ z. impossible z, λ b. sym (not-true (q .result) (c .if7 .taken)) ∙ q .ensures ∙ is-buffered (c .before .before .before .before .before .before .before .before .before .before .before .before .before .before .before .args .p) (b .between))
+    (λ z. impossible z, λ b. sym (not-true (q .result) (c .if7 .taken)) ∙ q .ensures ∙ is-buffered (c12 .before .before .before .args .p) (b .between))
 
 returns-8 : tie.Need-returns-8
 returns-8 c =
+    let c4 = c .before .before .before .before in
+    let c8 = c4 .before .before .before .before in
+    let c12 = c8 .before .before .before .before in
+    let c16 = c12 .before .before .before .before in
     let q = c .before .before .before .is-buffered-in-record in
-    let p = c .before .before .before .before .before .before .before .before .before .before .before .before .before .before .before .before .before .args .p in
+    let p = c16 .before .args .p in
     let more : MAXCOLUMNS < p .cells = c .if8 .taken in (
       λ _. record {
-        size = c .before .before .before .before .before .before .before .before .before .before .before .before .before .before .if1 .left;
-        fill = c .before .before .before .before .before .before .before .before .before .before .before .before .if2 .left;
-        offset = c .before .before .before .before .before .before .before .before .before .before .if3 .left;
-        written = c .before .before .before .before .before .before .before .before .if4 .left;
-        records = c .before .before .before .before .before .before .if5 .left;
+        size = c12 .before .before .if1 .left;
+        fill = c12 .if2 .left;
+        offset = c8 .before .before .if3 .left;
+        written = c8 .if4 .left;
+        records = c4 .before .before .if5 .left;
         cells = c .before .before .before .before .if6 .left;
         ordered = λ l. absurd (omega arith);
         between = buffered-outside p (sym (q .ensures) ∙ not-false (q .result) (c .before .before .if7 .left));
@@ -57,17 +64,21 @@ is-in-order-requires c κs = search needs
 
 returns-9 : tie.Need-returns-9
 returns-9 c =
+    let c4 = c .before .before .before .before in
+    let c8 = c4 .before .before .before .before in
+    let c12 = c8 .before .before .before .before in
+    let c16 = c12 .before .before .before .before in
     let q = c .before .before .before .before .is-buffered-in-record in
-    let s = c .before .before .before .before .before .before .before .before .before .before .before .before .before .before .before .before .before .before in
+    let s = c16 .before .before in
     let p = s .args .p in
     let few : p .cells ≤ MAXCOLUMNS = c .before .if8 .left in (
       λ z. record {
-        size = c .before .before .before .before .before .before .before .before .before .before .before .before .before .before .before .if1 .left;
-        fill = c .before .before .before .before .before .before .before .before .before .before .before .before .before .if2 .left;
-        offset = c .before .before .before .before .before .before .before .before .before .before .before .if3 .left;
-        written = c .before .before .before .before .before .before .before .before .before .if4 .left;
-        records = c .before .before .before .before .before .before .before .if5 .left;
-        cells = c .before .before .before .before .before .if6 .left;
+        size = c12 .before .before .before .if1 .left;
+        fill = c12 .before .if2 .left;
+        offset = c8 .before .before .before .if3 .left;
+        written = c8 .before .if4 .left;
+        records = c4 .before .before .before .if5 .left;
+        cells = c4 .before .if6 .left;
         ordered = λ _. ordered 0 (take (p .cells) (s .args .ends .now)) (p .fill) (sym (c .is-in-order .ensures) ∙ z);
         between = buffered-outside p (sym (q .ensures) ∙ not-false (q .result) (c .before .before .before .if7 .left));
       },

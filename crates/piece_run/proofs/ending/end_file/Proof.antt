@@ -7,21 +7,29 @@ use Rattle.piece_run.proofs.ending.end_file.Statement.{statement}
 use Rattle.piece_run.proofs.ending.end_file.Tie as tie
 
 end-record-requires : tie.Need-end-record-requires
-end-record-requires c κs = ready-header (c .before .before .before .before .before .before .before .before .before .pre) (c .before .before .if1 .taken)
+end-record-requires c κs =
+    let c4 = c .before .before .before .before in
+    let c8 = c4 .before .before .before .before in
+    ready-header (c8 .before .pre) (c .before .before .if1 .taken)
 
 returns : tie.Need-returns
 returns c =
+    let c4 = c .before .before .before .before in
     let r = c .before .before .before .before .end-record .ensures in
-    let none = c .before .before .before .before .before .before .before .if1 .taken in
+    let none = c4 .before .before .before .if1 .taken in
     (λ before done k b. (r .0 done k (begun-header b none), named-none before _ _ done (sym (b .begins .hold .records) ∙ none)), r .1)
 
 end-record-requires-2 : tie.Need-end-record-requires-2
-end-record-requires-2 c κs = ready-later (c .before .before .before .before .before .before .before .before .before .pre) (c .before .before .if1 .left)
+end-record-requires-2 c κs =
+    let c4 = c .before .before .before .before in
+    let c8 = c4 .before .before .before .before in
+    ready-later (c8 .before .pre) (c .before .before .if1 .left)
 
 returns-2 : tie.Need-returns-2
 returns-2 c =
+    let c4 = c .before .before .before .before in
     let r = c .before .before .before .before .end-record2 .ensures in
-    (λ before done k b. (r .0 done k (begun-later b (c .before .before .before .before .before .before .before .if1 .left)), b .heads .named), r .1)
+    (λ before done k b. (r .0 done k (begun-later b (c4 .before .before .before .if1 .left)), b .heads .named), r .1)
 
 pub end-file-spec : {M : Type 1} → statement M
 end-file-spec =

@@ -11,17 +11,25 @@ use Rattle.piece_run.proofs.ending.end_record.Statement.{statement}
 use Rattle.piece_run.proofs.ending.end_record.Tie as tie
 
 fault-at-requires : tie.Need-fault-at-requires
-fault-at-requires c κs = let s = c .before .before .before .before .before .before in let records = s .pre .bounds .records in let offset = s .pre .bounds .offset in omega arith
+fault-at-requires c κs =
+    let c4 = c .before .before .before .before in
+    let s = c4 .before .before in let records = s .pre .bounds .records in let offset = s .pre .bounds .offset in omega arith
 
 fault-at-requires-2 : tie.Need-fault-at-requires-2
-fault-at-requires-2 c κs = let s = c .before .before .before .before .before .before .before .before in let records = s .pre .bounds .records in let offset = s .pre .bounds .offset in omega arith
+fault-at-requires-2 c κs =
+    let c4 = c .before .before .before .before in
+    let c8 = c4 .before .before .before .before in
+    let s = c8 in let records = s .pre .bounds .records in let offset = s .pre .bounds .offset in omega arith
 
 returns : tie.Need-returns
 returns c =
-    let a = c .before .before .before .before .before .before .before .before .before .args in
-    let f = sym (c .before .before .before .before .before .file-end .ensures) ∙ c .before .before .before .enum-told2 .given .1 in
+    let c4 = c .before .before .before .before in
+    let c8 = c4 .before .before .before .before in
+    let a = c8 .before .args in
+    let f = sym (c4 .before .file-end .ensures) ∙ c .before .before .before .enum-told2 .given .1 in
     let none = ap (λ (x : CallResult). x .length) (c .fault-at2 .ensures) in (
-      λ done k b. finish-fault (a .d) (into (a .t)) (a .p) done k (a .out .now) _ NoRecord (none-reads (a .d) (into (a .t)) (a .p) done k (b .hold) f (c .before .if1 .taken))
+      λ done k b. finish-fault (a .d) (into (a .t)) (a .p) done k (a .out .now) _ NoRecord
+          (none-reads (a .d) (into (a .t)) (a .p) done k (b .hold) f (c .before .if1 .taken))
           (ap (λ (x : CallResult). x .place) (c .fault-at2 .ensures))
           (ap (λ (x : CallResult). x .report) (c .fault-at2 .ensures) ∙ sym (none-reports (a .d) (into (a .t)) (a .p) done k (b .hold)))
           none,
@@ -30,7 +38,8 @@ returns c =
 
 returns-2 : tie.Need-returns-2
 returns-2 c =
-    let a = c .before .before .before .before .before .before .before .args in
+    let c4 = c .before .before .before .before in
+    let a = c4 .before .before .before .args in
     let f = sym (c .before .before .before .file-end .ensures) ∙ c .before .enum-told .given .1 in
     let none = ap (λ (x : CallResult). x .length) (c .fault-at .ensures) in (
       λ done k b. finish-fault (a .d) (into (a .t)) (a .p) done k (a .out .now) _ CutShort (cut-reads (a .d) (into (a .t)) (a .p) done k (b .hold) f)
@@ -42,16 +51,24 @@ returns-2 c =
 
 returns-3 : tie.Need-returns-3
 returns-3 c =
-    let a = c .before .before .before .before .before .before .before .before .before .args in
-    let f = sym (c .before .before .before .before .before .file-end .ensures) ∙ c .before .before .before .enum-told2 .given .1 in
-    let no = c .before .if1 .left in
-    (λ done k b. finish-clean (a .d) (into (a .t)) (a .p) done k (a .out .now) _ (clean-reads (a .d) (into (a .t)) (a .p) done k (b .hold) f (omega arith)) refl (c .call-report .ensures) refl, omega arith)
+    let c4 = c .before .before .before .before in
+    let c8 = c4 .before .before .before .before in
+    let a = c8 .before .args in
+    let f = sym (c4 .before .file-end .ensures) ∙ c .before .before .before .enum-told2 .given .1 in
+    let no = c .before .if1 .left in (
+      λ done k b. finish-clean (a .d) (into (a .t)) (a .p) done k (a .out .now) _
+          (clean-reads (a .d) (into (a .t)) (a .p) done k (b .hold) f (omega arith)) refl (c .call-report .ensures) refl,
+      omega arith,
+    )
 
 returns-4 : tie.Need-returns-4
 returns-4 c = c .before .before .before .before .last-record .ensures
 
 last-record-requires : tie.Need-last-record-requires
-last-record-requires c κs = (c .before .before .before .before .before .before .before .before .pre, sym (c .before .before .before .before .file-end .ensures) ∙ c .before .before .enum-told3 .given .1)
+last-record-requires c κs =
+    let c4 = c .before .before .before .before in
+    let c8 = c4 .before .before .before .before in
+    (c8 .pre, sym (c .before .before .before .before .file-end .ensures) ∙ c .before .before .enum-told3 .given .1)
 
 pub end-record-spec : {M : Type 1} → statement M
 end-record-spec =

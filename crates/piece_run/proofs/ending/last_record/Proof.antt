@@ -15,14 +15,17 @@ use Rattle.piece_run.proofs.ending.last_record.Statement.{statement}
 use Rattle.piece_run.proofs.ending.last_record.Tie as tie
 
 fault-at-requires : tie.Need-fault-at-requires
-fault-at-requires c κs = let s = c .before .before .before .before in let records = s .pre .0 .bounds .records in let offset = s .pre .0 .bounds .offset in omega arith
+fault-at-requires c κs =
+    let s = c .before .before .before .before in let records = s .pre .0 .bounds .records in let offset = s .pre .0 .bounds .offset in omega arith
 
 returns : tie.Need-returns
 returns c =
-    let s = c .before .before .before .before .before in
+    let c4 = c .before .before .before .before in
+    let s = c4 .before in
     let a = s .args in
     let none = ap (λ (x : CallResult). x .length) (c .fault-at .ensures) in (
-      λ done k b. finish-many (a .d) (into (a .t)) (a .p) (a .bytes .now) (a .ends .now) (a .out .now) done k b (s .pre .1) (c .before .if1 .taken) _ (ap (λ (x : CallResult). x .place) (c .fault-at .ensures)) (ap (λ (x : CallResult). x .report) (c .fault-at .ensures)) none,
+      λ done k b. finish-many (a .d) (into (a .t)) (a .p) (a .bytes .now) (a .ends .now) (a .out .now) done k b (s .pre .1)
+          (c .before .if1 .taken) _ (ap (λ (x : CallResult). x .place) (c .fault-at .ensures)) (ap (λ (x : CallResult). x .report) (c .fault-at .ensures)) none,
       omega arith,
     )
 
@@ -35,7 +38,8 @@ slice-reshare-prefix-complete c =
 
 slice-aggregate-complete : tie.Need-slice-aggregate-complete
 slice-aggregate-complete c =
-    let s = c .before .before .before .before .before in
+    let c4 = c .before .before .before .before in
+    let s = c4 .before in
     let a = s .args in
     let long : length (a .ends .now) ≡ 64 = s .pre .0 .long-ends in
     let few : a .p .cells < 64 = c .before .if1 .left in
@@ -43,7 +47,9 @@ slice-aggregate-complete c =
 
 complete-requires : tie.Need-complete-requires
 complete-requires c κs =
-    let s = c .before .before .before .before .before .before .before .before in
+    let c4 = c .before .before .before .before in
+    let c8 = c4 .before .before .before .before in
+    let s = c8 in
     let a = s .args in
     let long : length (a .ends .now) ≡ 64 = s .pre .0 .long-ends in
     let size : length (a .bytes .now) ≡ 4096 = s .pre .0 .long-bytes in
@@ -60,32 +66,65 @@ complete-requires c κs =
     )
 
 fault-at-requires-2 : tie.Need-fault-at-requires-2
-fault-at-requires-2 c κs = let s = c .before .before .before .before .before .before .before .before .before .before .before .before .before .before .before .before in let records = s .pre .0 .bounds .records in let offset = s .pre .0 .bounds .offset in omega arith
+fault-at-requires-2 c κs =
+    let c4 = c .before .before .before .before in
+    let c8 = c4 .before .before .before .before in
+    let c12 = c8 .before .before .before .before in
+    let c16 = c12 .before .before .before .before in
+    let s = c16 in let records = s .pre .0 .bounds .records in let offset = s .pre .0 .bounds .offset in omega arith
 
 returns-2 : tie.Need-returns-2
 returns-2 c =
-    let s = c .before .before .before .before .before .before .before .before .before .before .before .before .before .before .before .before .before in
+    let c4 = c .before .before .before .before in
+    let c8 = c4 .before .before .before .before in
+    let c12 = c8 .before .before .before .before in
+    let c16 = c12 .before .before .before .before in
+    let s = c16 .before in
     let a = s .args in
-    let q = c .before .before .before .before .before .before .before .before .complete in
-    let ruling = subst (CompleteSound (a .d) (into (a .t)) (a .p) (a .bytes .now) (take (a .p .cells + 1) (set (a .ends .now) (a .p .cells) (a .p .fill))) 0 (a .out .now) _) (c .before .before .end .given .1) (q .ensures) in
-    (λ done k b. finish-kept (a .d) (into (a .t)) (a .p) (a .bytes .now) (a .ends .now) (a .out .now) done k b (s .pre .1) (c .before .before .before .before .before .before .before .before .before .before .before .before .before .if1 .left) (s .pre .0 .long-ends) (set (a .ends .now) (a .p .cells) (a .p .fill)) refl _ (Written _) _ ruling (c .call-report .ensures, refl, refl), last-room ruling)
+    let q = c8 .complete in
+    let ruling =
+    subst (CompleteSound (a .d) (into (a .t)) (a .p) (a .bytes .now) (take (a .p .cells + 1) (set (a .ends .now) (a .p .cells) (a .p .fill))) 0
+    (a .out .now) _) (c .before .before .end .given .1) (q .ensures) in (
+      λ done k b. finish-kept (a .d) (into (a .t)) (a .p) (a .bytes .now) (a .ends .now) (a .out .now) done k b (s .pre .1) (c12 .before .if1 .left)
+          (s .pre .0 .long-ends) (set (a .ends .now) (a .p .cells) (a .p .fill)) refl _ (Written _) _ ruling (c .call-report .ensures, refl, refl),
+      last-room ruling,
+    )
 
 returns-3 : tie.Need-returns-3
 returns-3 c =
-    let s = c .before .before .before .before .before .before .before .before .before .before .before .before .before .before .before .before .before in
+    let c4 = c .before .before .before .before in
+    let c8 = c4 .before .before .before .before in
+    let c12 = c8 .before .before .before .before in
+    let c16 = c12 .before .before .before .before in
+    let s = c16 .before in
     let a = s .args in
-    let q = c .before .before .before .before .before .before .before .before .complete in
+    let q = c8 .complete in
     let none = ap (λ (x : CallResult). x .length) (c .fault-at2 .ensures) in
-    let ruling = subst (CompleteSound (a .d) (into (a .t)) (a .p) (a .bytes .now) (take (a .p .cells + 1) (set (a .ends .now) (a .p .cells) (a .p .fill))) 0 (a .out .now) _) (c .before .before .e .given .1) (q .ensures) in
-    (λ done k b. finish-kept (a .d) (into (a .t)) (a .p) (a .bytes .now) (a .ends .now) (a .out .now) done k b (s .pre .1) (c .before .before .before .before .before .before .before .before .before .before .before .before .before .if1 .left) (s .pre .0 .long-ends) (set (a .ends .now) (a .p .cells) (a .p .fill)) refl _ (Refused _) _ ruling (ap (λ (x : CallResult). x .report) (c .fault-at2 .ensures), none, ap (λ (x : CallResult). x .place) (c .fault-at2 .ensures)), omega arith)
+    let ruling =
+    subst (CompleteSound (a .d) (into (a .t)) (a .p) (a .bytes .now) (take (a .p .cells + 1) (set (a .ends .now) (a .p .cells) (a .p .fill))) 0
+    (a .out .now) _) (c .before .before .e .given .1) (q .ensures) in (
+      λ done k b. finish-kept (a .d) (into (a .t)) (a .p) (a .bytes .now) (a .ends .now) (a .out .now) done k b (s .pre .1) (c12 .before .if1 .left)
+          (s .pre .0 .long-ends) (set (a .ends .now) (a .p .cells) (a .p .fill)) refl _ (Refused _) _ ruling
+          (ap (λ (x : CallResult). x .report) (c .fault-at2 .ensures), none, ap (λ (x : CallResult). x .place) (c .fault-at2 .ensures)),
+      omega arith,
+    )
 
 returns-4 : tie.Need-returns-4
 returns-4 c =
-    let s = c .before .before .before .before .before .before .before .before .before .before .before .before .before .before .before .before in
+    let c4 = c .before .before .before .before in
+    let c8 = c4 .before .before .before .before in
+    let c12 = c8 .before .before .before .before in
+    let c16 = c12 .before .before .before .before in
+    let s = c16 in
     let a = s .args in
-    let q = c .before .before .before .before .before .before .before .complete in
-    let ruling = subst (CompleteSound (a .d) (into (a .t)) (a .p) (a .bytes .now) (take (a .p .cells + 1) (set (a .ends .now) (a .p .cells) (a .p .fill))) 0 (a .out .now) _) (c .before .enum-told .given .1) (q .ensures) in
-    (λ done k b. finish-kept (a .d) (into (a .t)) (a .p) (a .bytes .now) (a .ends .now) (a .out .now) done k b (s .pre .1) (c .before .before .before .before .before .before .before .before .before .before .before .before .if1 .left) (s .pre .0 .long-ends) (set (a .ends .now) (a .p .cells) (a .p .fill)) refl _ Invalid _ ruling tt, omega arith)
+    let q = c4 .before .before .before .complete in
+    let ruling =
+    subst (CompleteSound (a .d) (into (a .t)) (a .p) (a .bytes .now) (take (a .p .cells + 1) (set (a .ends .now) (a .p .cells) (a .p .fill))) 0
+    (a .out .now) _) (c .before .enum-told .given .1) (q .ensures) in (
+      λ done k b. finish-kept (a .d) (into (a .t)) (a .p) (a .bytes .now) (a .ends .now) (a .out .now) done k b (s .pre .1) (c12 .if1 .left)
+          (s .pre .0 .long-ends) (set (a .ends .now) (a .p .cells) (a .p .fill)) refl _ Invalid _ ruling tt,
+      omega arith,
+    )
 
 pub last-record-spec : {M : Type 1} → statement M
 last-record-spec =
