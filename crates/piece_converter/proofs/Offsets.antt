@@ -17,7 +17,8 @@ use Rattle.model.specs.declared.ByteRole.the-variants.{Outside, Passed, OfCell,
 use Rattle.model.specs.rules.Base.{Bytes}
 use Rattle.model.specs.rules.File.{fileStep}
 use Rattle.model.specs.rules.Text.{Value}
-use Rattle.model.specs.rules.Records.{Read, Progress, going, stopped, nothingRead, complete, validated, closing, move, readByte, readFrom, readBytes, recordFault}
+use Rattle.model.specs.rules.Records.{Read, Progress, going, stopped, nothingRead, complete, validated, closing, move, readByte, readFrom, readBytes}
+use Rattle.model.specs.rules.Records.{recordFault}
 use Rattle.model.proofs.Tests.{split}
 
 -- reading that continues is at this offset

@@ -23,7 +23,8 @@ use Rattle.model.specs.rules.Api.{Written}
 use Rattle.model.specs.laws.Laws.{all-none}
 use Rattle.model.specs.rules.Ledger as ledger
 use Rattle.model.specs.rules.Ledger.{Entry, piece, finish, consumedIn, tooSmall, taken, callLeaves}
-use Rattle.model.specs.laws.Machine.{ConverterStage, taking, faulted, ended, stageThen, LiesAt, stood-taking, stood-faulted, stood-ended, newText, carries-known, carries-source, carries-target}
+use Rattle.model.specs.laws.Machine.{ConverterStage, taking, faulted, ended, stageThen, LiesAt, stood-taking, stood-faulted, stood-ended, newText}
+use Rattle.model.specs.laws.Machine.{carries-known, carries-source, carries-target}
 use Rattle.model.specs.laws.Scans.{Buffered}
 use Rattle.model.proofs.Tests.{impossible, within-true}
 use Rattle.model.proofs.piece_laws.Histories.{fault-number}
@@ -44,7 +45,8 @@ use Rattle.piece_step.proofs.StepOutcomes.{first-holds, first-reads}
 use Rattle.piece_step.proofs.Writes.{reads-on}
 use Rattle.piece_step.proofs.BufferedSpans.{named-grows}
 use Rattle.piece_converter.specs.States.{placeIn, placeOf, numbersOf}
-use Rattle.piece_converter.specs.Representation.{StateShows, Unfaulted, Takes, StageOf, stage-taking, stage-faulted, stage-ended, stage-no-source, stage-no-target, Models}
+use Rattle.piece_converter.specs.Representation.{StateShows, Unfaulted, Takes, StageOf, stage-taking, stage-faulted, stage-ended, stage-no-source}
+use Rattle.piece_converter.specs.Representation.{stage-no-target, Models}
 use Rattle.piece_converter.specs.Contract.{converterOf, newConverter, Represents}
 use Rattle.piece_converter.specs.declared.Converter.{Converter}
 use Rattle.piece_converter.proofs.Offsets.{offset-is}
@@ -52,7 +54,17 @@ use Rattle.piece_converter.proofs.Offsets.{offset-is}
 -- a place is decoded from the numbers it was encoded in
 pub place-back : (p : Place) (over : ℕ) (e : Report) → placeIn (numbersOf p over e) ≡ p
 place-back p over e =
-    ap (λ (f : FileState). record { state = f; offset = p .offset; start = p .start; size = p .size; fill = p .fill; cells = p .cells; columns = p .columns; records = p .records; written = p .written }) (state-back (p .state))
+    ap (λ (f : FileState). record {
+      state = f;
+      offset = p .offset;
+      start = p .start;
+      size = p .size;
+      fill = p .fill;
+      cells = p .cells;
+      columns = p .columns;
+      records = p .records;
+      written = p .written;
+    }) (state-back (p .state))
 
 or-none : (a b : Bool) → (a || b) ≡ false → (a ≡ false) × (b ≡ false)
 or-none true b h = impossible (sym h)
@@ -95,7 +107,9 @@ module _ (d t : Dialect) (consumed : Bytes) (s : Converter) (done : List Rec) (k
   stood = readAt d (placeOf s) done k
 
   -- it has begun
-  begun : (bs out : Bytes) → length bs ≤ MAXPIECE → LEASTOUTPUT ≤ length out → Begun d (into t) consumed bs (placeOf s) (s .names) (s .«name_ends») (s .bytes) (s .ends) out done k
+  begun :
+      (bs out : Bytes) → length bs ≤ MAXPIECE → LEASTOUTPUT ≤ length out →
+      Begun d (into t) consumed bs (placeOf s) (s .names) (s .«name_ends») (s .bytes) (s .ends) out done k
   begun bs out short room =
       record {
         begins = record { hold = h .hold; reached = record { consumed = consumed; reads = h .reads }; short = short; room = room };
@@ -103,19 +117,24 @@ module _ (d t : Dialect) (consumed : Bytes) (s : Converter) (done : List Rec) (k
         heads = h .heads;
       }
 
-  pub begun-piece : (bs out : Bytes) → tooSmall (piece bs (length out)) ≡ false → Begun d (into t) consumed bs (placeOf s) (s .names) (s .«name_ends») (s .bytes) (s .ends) out done k
+  pub begun-piece :
+      (bs out : Bytes) → tooSmall (piece bs (length out)) ≡ false →
+      Begun d (into t) consumed bs (placeOf s) (s .names) (s .«name_ends») (s .bytes) (s .ends) out done k
   begun-piece bs out e =
       let x = or-none (ltb MAXPIECE (length bs)) (ltb (length out) LEASTOUTPUT) e in
       begun bs out (ltb-false MAXPIECE (length bs) (x .0)) (ltb-false (length out) LEASTOUTPUT (x .1))
 
-  pub begun-end : (out : Bytes) → tooSmall (finish (length out)) ≡ false → Begun d (into t) consumed [] (placeOf s) (s .names) (s .«name_ends») (s .bytes) (s .ends) out done k
+  pub begun-end :
+      (out : Bytes) → tooSmall (finish (length out)) ≡ false →
+      Begun d (into t) consumed [] (placeOf s) (s .names) (s .«name_ends») (s .bytes) (s .ends) out done k
   begun-end out e =
       let x = or-none (ltb MAXPIECE 0) (ltb (length out) LEASTOUTPUT) e in
       begun [] out (omega arith) (ltb-false (length out) LEASTOUTPUT (x .1))
 
   says :
       (q : Progress) (r : CallResult) (out out′ : Bytes) → r .report ≡ reportOf q → out′ ≡ callLeaves (taken (into t) (tableText (into t) (rows done)) q) out →
-      r .length ≡ length (taken (into t) (tableText (into t) (rows done)) q .text) → Says (callAnswer r) out out′ (taken (into t) (tableText (into t) (rows done)) q)
+      r .length ≡ length (taken (into t) (tableText (into t) (rows done)) q .text) →
+      Says (callAnswer r) out out′ (taken (into t) (tableText (into t) (rows done)) q)
   says q r out out′ g w l = record { answer = ap₂ (λ (x : Report) (n : ℕ). record { report = x; length = n }) g l; leaves = w }
 
   module _ (m n : ℕ) (p : dialectOf m ≡ some d) (q : dialectOf n ≡ some t) where
@@ -129,11 +148,14 @@ module _ (d t : Dialect) (consumed : Bytes) (s : Converter) (done : List Rec) (k
       piece-says (took-fault x z reads counts named g w l) = rw reads (says (stopped x z) r out out′ g w l)
 
       pub piece-left :
-          PieceRunSound d (into t) consumed bs (placeOf s) done k out names′ name-ends′ bytes′ ends′ out′ r → length names′ ≡ MAXRECORD → length name-ends′ ≡ MAXCOLUMNS → length bytes′ ≡ MAXRECORD →
-          length ends′ ≡ MAXCOLUMNS → Left m n d t (consumed ++ bs) (stageThen false (readFrom d (some (into t)) (going stood) bs)) (stateThen s r 0 ends′ name-ends′ bytes′ names′)
+          PieceRunSound d (into t) consumed bs (placeOf s) done k out names′ name-ends′ bytes′ ends′ out′ r → length names′ ≡ MAXRECORD →
+          length name-ends′ ≡ MAXCOLUMNS → length bytes′ ≡ MAXRECORD →
+          length ends′ ≡ MAXCOLUMNS →
+          Left m n d t (consumed ++ bs) (stageThen false (readFrom d (some (into t)) (going stood) bs)) (stateThen s r 0 ends′ name-ends′ bytes′ names′)
       piece-left (took-all done′ k′ reads hold heads b g w l) long-names long-name-ends long-bytes long-ends =
           let back : r .place ≡ placeIn (numbersOf (r .place) 0 (r .report)) = sym (place-back (r .place) 0 (r .report)) in
-          let on : readBytes d (some (into t)) (consumed ++ bs) ≡ going (readAt d (r .place) done′ k′) = reads-on d (into t) consumed stood (h .reads) bs ∙ reads in
+          let on : readBytes d (some (into t)) (consumed ++ bs) ≡ going (readAt d (r .place) done′ k′) =
+          reads-on d (into t) consumed stood (h .reads) bs ∙ reads in
           let takes : Takes d t (consumed ++ bs) (stateThen s r 0 ends′ name-ends′ bytes′ names′) done′ k′ = record {
             hold = subst (λ (x : Place). StateInvariant d (into t) x (currentIn x names′ bytes′) (currentIn x name-ends′ ends′) done′ k′) back hold;
             heads = subst (λ (x : Place). Heads (consumed ++ bs) x names′ name-ends′ done′ k′) back heads;
@@ -173,15 +195,19 @@ module _ (d t : Dialect) (consumed : Bytes) (s : Converter) (done : List Rec) (k
           go (stopped x y) g = stage-faulted (subst (λ (e : Report). StageEncoded (faulted (faultReport x y)) e 1) (sym g) (reports-faulted (numbered x y)))
 
       -- the bytes consumed and the place do not change
-      pub end-left : Named consumed names′ name-ends′ done → Left m n d t (consumed ++ []) (stageThen true (readEnd d (some (into t)) (going stood))) (stateThen s r 1 ends′ name-ends′ bytes′ names′)
+      pub end-left :
+          Named consumed names′ name-ends′ done →
+          Left m n d t (consumed ++ []) (stageThen true (readEnd d (some (into t)) (going stood))) (stateThen s r 1 ends′ name-ends′ bytes′ names′)
       unfolding readFrom
       end-left named =
           record {
             stage = end-stage;
             shows =
-                shows-by (going stood) (reads-on d (into t) consumed stood (h .reads) []) (ap (λ (x : Place). x .records) (f .place) ∙ h .hold .records) (ap (λ (x : Place). x .columns) (f .place) ∙ h .hold .columns)
+                shows-by (going stood) (reads-on d (into t) consumed stood (h .reads) [])
+                (ap (λ (x : Place). x .records) (f .place) ∙ h .hold .records) (ap (λ (x : Place). x .columns) (f .place) ∙ h .hold .columns)
                 (named-grows consumed [] names′ name-ends′ done named);
-            offset = λ _. ap (λ (x : Place). x .offset) (f .place) ∙ offset-is d (some (into t)) consumed stood (h .reads) ∙ ap length (sym (append-nil consumed));
+            offset =
+                λ _. ap (λ (x : Place). x .offset) (f .place) ∙ offset-is d (some (into t)) consumed stood (h .reads) ∙ ap length (sym (append-nil consumed));
           }
 
 -- ---- a new converter
@@ -200,11 +226,24 @@ new-takes :
 unfolding readBytes readFrom
 new-takes d t m n ends name-ends bytes names long-names long-name-ends long-bytes long-ends =
     let z : 0 ≤ 0 = omega arith in
-    let bounds : InBounds atStart (currentIn atStart name-ends ends) = record { size = omega arith; fill = z; offset = omega arith; written = omega arith; records = z; cells = z; ordered = λ _. order-end z; between = λ _. (refl, refl) } in
-    let heads : Heads [] atStart names name-ends [] (bufferedNone 0) = record { named = tt; kept = λ _. record { raw = refl; forward = z; within = z; cells = all-none } } in
+    let bounds : InBounds atStart (currentIn atStart name-ends ends) =
+    record {
+      size = omega arith;
+      fill = z;
+      offset = omega arith;
+      written = omega arith;
+      records = z;
+      cells = z;
+      ordered = λ _. order-end z;
+      between = λ _. (refl, refl);
+    } in
+    let heads : Heads [] atStart names name-ends [] (bufferedNone 0) =
+    record { named = tt; kept = λ _. record { raw = refl; forward = z; within = z; cells = all-none } } in
     let reads : readBytes d (some (into t)) [] ≡ going (readAt d atStart [] (bufferedNone 0)) = ap going (sym (first-reads d)) in
     record {
-      hold = subst (λ (x : Place). StateInvariant d (into t) x (currentIn x names bytes) (currentIn x name-ends ends) [] (bufferedNone 0)) (sym first-place) (first-holds d (into t) (currentIn atStart names bytes) (currentIn atStart name-ends ends));
+      hold =
+          subst (λ (x : Place). StateInvariant d (into t) x (currentIn x names bytes) (currentIn x name-ends ends) [] (bufferedNone 0))
+          (sym first-place) (first-holds d (into t) (currentIn atStart names bytes) (currentIn atStart name-ends ends));
       heads = subst (λ (x : Place). Heads [] x names name-ends [] (bufferedNone 0)) (sym first-place) heads;
       bounds = subst (λ (x : Place). InBounds x (currentIn x name-ends ends)) (sym first-place) bounds;
       reads = subst (λ (x : Place). readBytes d (some (into t)) [] ≡ going (readAt d x [] (bufferedNone 0))) (sym first-place) reads;
@@ -231,14 +270,20 @@ new-carries m n = go (dialectOf m) (dialectOf n) refl refl
     go none y p q = carries-source p (new-models ended (stage-no-source p))
     go (some d) none p q = carries-target q (new-models ended (stage-no-target q))
     go (some d) (some t) p q =
-        let takes : Takes d t [] (newConverter m n) [] (bufferedNone 0) = new-takes d t m n (replicate MAXCOLUMNS 0) (replicate MAXCOLUMNS 0) (replicate MAXRECORD 0) (replicate MAXRECORD 0) (zeros MAXRECORD) (zeros MAXCOLUMNS) (zeros MAXRECORD) (zeros MAXCOLUMNS) in
-        let reads : nothingRead ≡ readAt d (placeIn (replicate 14 0)) [] (bufferedNone 0) = sym (first-reads d) ∙ ap (λ (x : Place). readAt d x [] (bufferedNone 0)) (sym first-place) in
-        carries-known d t (taking nothingRead) p q (machine m n d t p q .new) (new-models (taking nothingRead) (stage-taking d t [] (bufferedNone 0) p q reads (reports-taking refl) takes))
+        let takes : Takes d t [] (newConverter m n) [] (bufferedNone 0) =
+        new-takes d t m n (replicate MAXCOLUMNS 0) (replicate MAXCOLUMNS 0) (replicate MAXRECORD 0) (replicate MAXRECORD 0) (zeros MAXRECORD)
+        (zeros MAXCOLUMNS) (zeros MAXRECORD) (zeros MAXCOLUMNS) in
+        let reads : nothingRead ≡ readAt d (placeIn (replicate 14 0)) [] (bufferedNone 0) =
+        sym (first-reads d) ∙ ap (λ (x : Place). readAt d x [] (bufferedNone 0)) (sym first-place) in
+        carries-known d t (taking nothingRead) p q (machine m n d t p q .new)
+        (new-models (taking nothingRead) (stage-taking d t [] (bufferedNone 0) p q reads (reports-taking refl) takes))
 
 -- ---- after any calls
 
 -- a state shows what the bytes consumed complete
-pub shown-after : {m n : ℕ} {past : List Entry} {s : Converter} → Represents m n past s → (d t : Dialect) → dialectOf m ≡ some d → dialectOf n ≡ some t → StateShows d t (consumedIn past) s
+pub shown-after :
+    {m n : ℕ} {past : List Entry} {s : Converter} → Represents m n past s → (d t : Dialect) → dialectOf m ≡ some d → dialectOf n ≡ some t →
+    StateShows d t (consumedIn past) s
 shown-after (carries-known d t w p q stood model) = model .shows
 shown-after (carries-source p model) = model .shows
 shown-after (carries-target q model) = model .shows

@@ -47,4 +47,5 @@ placeOf s =
 
 abbrev pub numbersOf : Place → (ended : ℕ) → Report → List ℕ
 numbersOf p ended e =
-    stateNumber (p .state) ∷ p .offset ∷ p .start ∷ p .size ∷ p .fill ∷ p .cells ∷ p .columns ∷ p .records ∷ p .written ∷ ended ∷ e .number ∷ e .record_number ∷ e .column ∷ e .offset ∷ []
+    stateNumber (p .state) ∷ p .offset ∷ p .start ∷ p .size ∷ p .fill ∷ p .cells ∷ p .columns ∷ p .records ∷ p .written ∷ ended
+    ∷ e .number ∷ e .record_number ∷ e .column ∷ e .offset ∷ []

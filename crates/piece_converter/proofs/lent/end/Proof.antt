@@ -62,22 +62,35 @@ refused-returns c =
 
 -- after the check that the run stays in bounds
 abbrev checkedAt : tie.After-is-in-bounds → tie.After-check-call
-checkedAt v = v .before .before .before .before .before .before .before .before .before
+checkedAt v =
+    let v4 = v .before .before .before .before in
+    let v8 = v4 .before .before .before .before in
+    v8 .before
 
 abbrev source : tie.After-is-in-bounds → Dialect
-source v = v .before .before .before .before .before .before .before .d .given .0 .0
+source v =
+    let v4 = v .before .before .before .before in
+    v4 .before .before .before .d .given .0 .0
 
 abbrev target : tie.After-is-in-bounds → Dialect
-target v = v .before .before .before .before .before .before .before .d .given .0 .1 .0
+target v =
+    let v4 = v .before .before .before .before in
+    v4 .before .before .before .d .given .0 .1 .0
 
 is-taken : (v : tie.After-is-in-bounds) → checkOf (stateAt (checkedAt v)) (callAt (checkedAt v)) ≡ checks.Proceed (source v) (target v)
-is-taken v = sym (check-is (checkedAt v)) ∙ v .before .before .before .before .before .before .before .d .given .1
+is-taken v =
+    let v4 = v .before .before .before .before in
+    sym (check-is (checkedAt v)) ∙ v4 .before .before .before .d .given .1
 
 abbrev placeAt : tie.After-is-in-bounds → Place
-placeAt v = v .before .before .before .before .before .place-in .result
+placeAt v =
+    let v4 = v .before .before .before .before in
+    v4 .before .place-in .result
 
 place-is : (v : tie.After-is-in-bounds) → placeAt v ≡ placeOf (stateAt (checkedAt v))
-place-is v = v .before .before .before .before .before .place-in .ensures
+place-is v =
+    let v4 = v .before .before .before .before in
+    v4 .before .place-in .ensures
 
 lost-returns : tie.Need-returns
 lost-returns c =
@@ -85,15 +98,18 @@ lost-returns c =
     let s = stateAt (checkedAt v) in
     let none = ap (λ (x : TextAnswer). x .length) (c .refusal2 .ensures) in
     let within : c .refusal2 .result .length ≤ length (checkedAt v .before .before .before .before .args .out .now) = omega arith in
-    lost-called s (source v) (target v) (checkedAt v .before .before .before .before .args .out .now) (callAt (checkedAt v)) (c .refusal2 .result) (is-taken v) within λ inside.
+    lost-called s (source v) (target v) (checkedAt v .before .before .before .before .args .out .now) (callAt (checkedAt v)) (c .refusal2 .result)
+    (is-taken v) within λ inside.
     let inside-here = subst (λ (p : Place). InBounds p (currentIn p (s .«name_ends») (s .ends))) (sym (place-is v)) inside in
     impossible (sym (not-true (v .is-in-bounds .result) (c .before .before .if1 .taken)) ∙ v .is-in-bounds .ensures .1 inside-here)
 
 end-file-requires : tie.Need-end-file-requires
 end-file-requires c κs =
-    let v = c .before .before .before .before .before .before .before .before in
+    let c4 = c .before .before .before .before in
+    let c8 = c4 .before .before .before .before in
+    let v = c8 in
     record {
-      bounds = v .is-in-bounds .ensures .0 (not-false (v .is-in-bounds .result) (c .before .before .before .before .before .before .before .if1 .left));
+      bounds = v .is-in-bounds .ensures .0 (not-false (v .is-in-bounds .result) (c4 .before .before .before .if1 .left));
       long-names = search needs;
       long-name-ends = search needs;
       long-bytes = search needs;
@@ -102,20 +118,29 @@ end-file-requires c κs =
 
 finished-returns : tie.Need-returns-3
 finished-returns c =
+    let c4 = c .before .before .before .before in
+    let c8 = c4 .before .before .before .before in
+    let c12 = c8 .before .before .before .before in
     let w = c .before .before .before .before .end-file in
-    let v = c .before .before .before .before .before .before .before .before .before .before .before .before .before in
+    let v = c12 .before in
     let u = checkedAt v in
     let a = u .before .before .before .before .args in
     let name-ends′ : List ℕ = w .last .1 .1 .1 .1 .0 in
     let ends′ : List ℕ = w .last .1 .1 .1 .1 .1 .1 .0 in
     let out′ : List ℕ = w .last .1 .1 .1 .1 .1 .1 .1 .0 in
-    let finished = subst (λ (p : Place). (before : Bytes) (done : List Rec) (k : Buffered) → Begun (source v) (into (target v)) before [] p (a .names .now) (a .name-ends .now) (a .bytes .now) (a .ends .now) (a .out .now) done k → Finished (source v) (into (target v)) p done k (a .out .now) out′ (w .result) × Named before (a .names .now) name-ends′ done) (place-is v) (w .ensures .0) in
+    let finished =
+    subst (λ (p : Place). (before : Bytes) (done : List Rec) (k : Buffered) →
+    Begun (source v) (into (target v)) before [] p (a .names .now) (a .name-ends .now) (a .bytes .now) (a .ends .now) (a .out .now) done k →
+    Finished (source v) (into (target v)) p done k (a .out .now) out′ (w .result) × Named before (a .names .now) name-ends′ done) (place-is v)
+    (w .ensures .0) in
     let as-long : length out′ ≡ length (a .out .now) = w .kept .1 .1 .1 .1 .1 .1 .1 .0 in
     let after : c .numbers-of .result ≡ numbersOf (w .result .place) 1 (w .result .report) = c .numbers-of .ensures in
     subst
-    (λ (n : List ℕ). CallContract (stateAt u) (callAt u) (a .out .now) (callAnswer (w .result)) (converterOf (a .source) (a .target) n ends′ name-ends′ (a .bytes .now) (a .names .now)) out′)
+    (λ (n : List ℕ). CallContract (stateAt u) (callAt u) (a .out .now) (callAnswer (w .result))
+    (converterOf (a .source) (a .target) n ends′ name-ends′ (a .bytes .now) (a .names .now)) out′)
     (sym after)
-    (end-called (stateAt u) (source v) (target v) (a .out .now) (w .result) ends′ name-ends′ (a .bytes .now) (a .names .now) out′ (w .ensures .1) as-long (is-taken v) finished)
+    (end-called (stateAt u) (source v) (target v) (a .out .now) (w .result) ends′ name-ends′ (a .bytes .now) (a .names .now) out′
+    (w .ensures .1) as-long (is-taken v) finished)
 
 pub end-spec : {M : Type 1} → statement M
 end-spec =

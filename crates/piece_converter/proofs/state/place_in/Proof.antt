@@ -10,7 +10,17 @@ returns : tie.Need-returns
 returns c =
     let n = c .before .args .t1 in
     ap
-    (λ (f : FileState). record { state = f; offset = getD n 1 0; start = getD n 2 0; size = getD n 3 0; fill = getD n 4 0; cells = getD n 5 0; columns = getD n 6 0; records = getD n 7 0; written = getD n 8 0 })
+    (λ (f : FileState). record {
+      state = f;
+      offset = getD n 1 0;
+      start = getD n 2 0;
+      size = getD n 3 0;
+      fill = getD n 4 0;
+      cells = getD n 5 0;
+      columns = getD n 6 0;
+      records = getD n 7 0;
+      written = getD n 8 0;
+    })
     (c .state-of .ensures)
 
 pub place-in-spec : {M : Type 1} → statement M
