@@ -1,5 +1,5 @@
 // The C boundary for conversion: the converter's call under its C name, with no logic of its own. `include/hemakuliwi.h` declares it for
-// C. Its contract is the converter's. It is a crate of its own, so that it has a scanner for itself and the reader keeps its speed.
+// C. Its contract is the converter's. It is a crate of its own, so that it has its own copy of the scanner and the reader loses no speed.
 ghost use mathlib.Core.Path.{_≡_};
 ghost use lib.ListN.{length};
 ghost use Rattle.model.specs.rules.Api.{converter, converterLeaves};

@@ -1,4 +1,4 @@
--- The answer, by what the first pass comes to and by the dialects that the numbers name.
+-- The answer, by the result of the first pass and by the dialects that the numbers name.
 use Prim.Native.Nat.{ℕ, _-_, _≤_, _<_}
 use native.Mathlib.Omega.{arith}
 use mathlib.Core.Path.{_≡_, refl, sym, ap, _∙_}

@@ -1,4 +1,4 @@
--- What holds at each turn of the two passes, and what each visit makes of it.
+-- The invariants of the two passes, and how each result of the cursor preserves them or ends the pass.
 use Prim.Native.Nat.{ℕ, _+_, _≤_}
 use native.Mathlib.Omega.{arith}
 use mathlib.Core.Path.{_≡_, refl, sym, ap, subst, _∙_}
@@ -9,8 +9,6 @@ use lib.ListN.{length, take, length-append}
 use lib.Dec.{eqb}
 use borrow.Author.Tests.{le-ltb}
 use Rattle.model.specs.declared.Dialect.{Dialect}
-use Rattle.model.specs.declared.FileState.{FileState}
-use Rattle.model.specs.declared.FileState.the-variants.{Top}
 use Rattle.model.specs.declared.Report.{Report}
 use Rattle.model.specs.rules.Base.{Bytes, isEmpty, over, if_then_else_}
 use Rattle.model.specs.rules.Dialect.{into}
@@ -24,10 +22,10 @@ use Rattle.buffer.proofs.WriteProgress.{Emitting, emitting, room-next, room-res
 use Rattle.cell_decoder.specs.declared.source.Source.the-variants.{File}
 use Rattle.cell_decoder.specs.Sources.{cellsIn}
 use Rattle.file_cursor.specs.declared.Aim.the-variants.{Reading, Into}
-use Rattle.file_cursor.specs.declared.CheckedRecord.{CheckedRecord}
+use Rattle.file_cursor.specs.declared.Cursor.{Cursor}
 use Rattle.file_cursor.specs.declared.NextRecord.{NextRecord}
 use Rattle.file_cursor.specs.declared.NextRecord.the-variants as outcomes
-use Rattle.file_cursor.specs.NextRecord.{Next, NextRecordSound, refused}
+use Rattle.file_cursor.specs.NextRecord.{atStart, Next, NextRecordSound, refused}
 use Rattle.file_cursor.proofs.RecordChecks.{empty-none}
 use Rattle.file_cursor.proofs.Traversal.{Walking, sets-out, sets-rs, walks-on, walks-rs, grows, at-end, at-fault}
 use Rattle.file_converter.specs.declared.Measurement.the-variants.{Accepted, Refused}
@@ -36,14 +34,14 @@ use Rattle.file_converter.specs.Converts.{answerIn, textIn, MeasureSound
 
 -- ---- local lists
 
--- so many cells lie in a list of that many places
+-- n cells fit into a list of that many places
 pub lie-in : {n places m : ℕ} → n ≤ places → places ≡ m → n ≤ m
 lie-in {n} h e = subst (λ (x : ℕ). n ≤ x) e h
 
 -- ---- the first pass
 
-module _ {d t : Dialect} {file : Bytes} {f : FileState} {i done columns n : ℕ} (y : Walking d (Into t) file f i done columns n) {s e k : List ℕ} {o : NextRecord} (v : NextRecordSound d (Into t) file (y .rs) f i s e k o) where
-  pub measured-all : o ≡ outcomes.End → MeasureSound d t file (Accepted n)
+module _ {d t : Dialect} {file : Bytes} {c : Cursor} (y : Walking d (Into t) file c) {s e k : List ℕ} {o : NextRecord} (v : NextRecordSound d (Into t) file (y .rs) (c .state) (c .offset) s e k o) where
+  pub measured-all : o ≡ outcomes.End → MeasureSound d t file (Accepted (c .written))
   measured-all q =
       let a = at-end v q in
       converts.accepted (a .r) (y .rest ∙ a .rest) (ap (λ (l : List Rec). length (tableText (into t) (rows l))) (a .done) ∙ y .after .text)
@@ -65,44 +63,40 @@ unfolding if_then_else_
 written-text p = p .text
 
 -- the records so far are written
-pub record Filling (d t : Dialect) (file old out : Bytes) (f : FileState) (i done columns at : ℕ) : Type 0 where
-  pub walk : Walking d Reading file f i done columns 0
+pub record Filling (d t : Dialect) (file old out : Bytes) (c : Cursor) (at : ℕ) : Type 0 where
+  pub walk : Walking d Reading file c
   pub puts : WrittenAt true old 0 (tableText (into t) (rows (walk .rs))) out at
   pub long : length out ≡ length old
 
-pub fills : (d t : Dialect) (file old : Bytes) → Filling d t file old old Top 0 0 0 0
+pub fills : (d t : Dialect) (file old : Bytes) (c : Cursor) → c ≡ atStart → Filling d t file old old c 0
 unfolding tableText rows
-fills d t file old =
+fills d t file old c q =
     let p : WrittenAt true old 0 [] old 0 = put-whole (emitting true (record { measured = λ z. omega arith; inside = λ z. omega arith })) in
-    record { walk = sets-out d Reading file; puts = rw (sets-rs d Reading file) p; long = refl }
+    record { walk = sets-out d Reading file c q; puts = rw (sets-rs d Reading file c q) p; long = refl }
 
-module _ {d t : Dialect} {file old out : Bytes} {f : FileState} {i done columns at : ℕ} (y : Filling d t file old out f i done columns at) (a : Accepts d t file (length old)) where
+module _ {d t : Dialect} {file old out : Bytes} {c : Cursor} {at : ℕ} (y : Filling d t file old out c at) (a : Accepts d t file (length old)) where
   -- without its target the file is read to the same records
   alone : readFile d none file ≡ going (a .r)
   alone = file-alone d (into t) file (a .r) (a .reads)
 
-  module _ {s e k : List ℕ} {v : CheckedRecord} (n : Next d Reading file (y .walk .rs) f i s e k v) where
+  module _ {s e k : List ℕ} {v : Cursor} (n : Next d Reading file (y .walk .rs) (c .state) (c .offset) s e k v) where
     abbrev Cells-of : List Value
-    Cells-of = cellsIn (File d) file (take (v .cells) s) (take (v .cells) e) (take (v .cells) k)
+    Cells-of = cellsIn (File d) file (take (v .columns) s) (take (v .columns) e) (take (v .columns) k)
 
     abbrev Text-of : Bytes
-    Text-of = recordText (into t) (eqb done 0) Cells-of ++ ending t
-
-    -- no text is measured
-    none-written : v .written ≡ 0
-    none-written = sym (n .after .text)
+    Text-of = recordText (into t) (eqb (c .done) 0) Cells-of ++ ending t
 
     -- the text with one record more
     snoc : tableText (into t) (rows (y .walk .rs ++ (n .rec ∷ []))) ≡ tableText (into t) (rows (y .walk .rs)) ++ Text-of
     snoc =
         table-snoc (into t) (y .walk .rs) (n .rec)
-        ∙ ap (λ (b : Bool). tableText (into t) (rows (y .walk .rs)) ++ (recordText (into t) b (n .rec .cells) ++ ending t)) (sym (empty-none (y .walk .rs) done (y .walk .after .count)))
-        ∙ ap (λ (vs : List Value). tableText (into t) (rows (y .walk .rs)) ++ (recordText (into t) (eqb done 0) vs ++ ending t)) (sym (n .values))
+        ∙ ap (λ (b : Bool). tableText (into t) (rows (y .walk .rs)) ++ (recordText (into t) b (n .rec .cells) ++ ending t)) (sym (empty-none (y .walk .rs) (c .done) (y .walk .after .count)))
+        ∙ ap (λ (vs : List Value). tableText (into t) (rows (y .walk .rs)) ++ (recordText (into t) (eqb (c .done) 0) vs ++ ending t)) (sym (n .values))
 
     -- it is no longer than the text of all
     within : length (tableText (into t) (rows (y .walk .rs ++ (n .rec ∷ [])))) ≤ length old
     within =
-        let g : Grows (y .walk .rs ++ (n .rec ∷ [])) (a .r .done) = subst (λ (p : Progress). Grows (y .walk .rs ++ (n .rec ∷ [])) (recordsOf p)) alone (subst (λ (l : List Rec). Grows l (recordsOf (readFile d none file))) (walks-rs (y .walk) n none-written) (grows (walks-on (y .walk) n none-written))) in
+        let g : Grows (y .walk .rs ++ (n .rec ∷ [])) (a .r .done) = subst (λ (p : Progress). Grows (y .walk .rs ++ (n .rec ∷ [])) (recordsOf p)) alone (subst (λ (l : List Rec). Grows l (recordsOf (readFile d none file))) (walks-rs (y .walk) n) (grows (walks-on (y .walk) n))) in
         let h = table-grows (into t) g in
         let l : length (textIn t (a .r)) ≡ length (tableText (into t) (rows (y .walk .rs ++ (n .rec ∷ [])))) + length (h .added) = ap length (h .sum) ∙ length-append (tableText (into t) (rows (y .walk .rs ++ (n .rec ∷ [])))) (h .added) in
         omega (arith, a .fits)
@@ -119,27 +113,27 @@ module _ {d t : Dialect} {file old out : Bytes} {f : FileState} {i done columns 
     pub room-there : Room true at Text-of out
     room-there = room-rest both
 
-    pub fills-on : {new : Bytes} {o : ℕ} → WrittenAt true out at Text-of new o → Filling d t file old new (v .state) (v .next) (done + 1) (v .cells) o
+    pub fills-on : {new : Bytes} {o : ℕ} → WrittenAt true out at Text-of new o → Filling d t file old new v o
     fills-on {new} {o} p =
         let q : Emitting true old 0 (tableText (into t) (rows (y .walk .rs)) ++ Text-of) new o [] = put-next Text-of (subst (Emitting true old 0 (tableText (into t) (rows (y .walk .rs)) ++ Text-of) out at) (sym (append-nil Text-of)) both) p in
         record {
-          walk = walks-on (y .walk) n none-written;
-          puts = rw (walks-rs (y .walk) n none-written, snoc) (put-whole q);
+          walk = walks-on (y .walk) n;
+          puts = rw (walks-rs (y .walk) n, snoc) (put-whole q);
           long = same-long q;
         }
 
     -- the same of a data record
     module _ (later : isEmpty (y .walk .rs) ≡ false) where
-      no-header : eqb done 0 ≡ false
-      no-header = empty-none (y .walk .rs) done (y .walk .after .count) ∙ later
+      no-header : eqb (c .done) 0 ≡ false
+      no-header = empty-none (y .walk .rs) (c .done) (y .walk .after .count) ∙ later
 
       pub room-data : Room true at (recordText (into t) false Cells-of ++ ending t) out
       room-data = subst (λ (b : Bool). Room true at (recordText (into t) b Cells-of ++ ending t) out) no-header room-there
 
-      pub fills-data : {new : Bytes} {o : ℕ} → WrittenAt true out at (recordText (into t) false Cells-of ++ ending t) new o → Filling d t file old new (v .state) (v .next) (done + 1) (v .cells) o
+      pub fills-data : {new : Bytes} {o : ℕ} → WrittenAt true out at (recordText (into t) false Cells-of ++ ending t) new o → Filling d t file old new v o
       fills-data {new} {o} p = fills-on (subst (λ (b : Bool). WrittenAt true out at (recordText (into t) b Cells-of ++ ending t) new o) (sym no-header) p)
 
-  module _ {s e k : List ℕ} {o : NextRecord} (v : NextRecordSound d Reading file (y .walk .rs) f i s e k o) where
+  module _ {s e k : List ℕ} {o : NextRecord} (v : NextRecordSound d Reading file (y .walk .rs) (c .state) (c .offset) s e k o) where
     pub filled-all : o ≡ outcomes.End → out ≡ over (answerIn d t file (length old) .text) old
     filled-all q =
         let b = at-end v q in

@@ -1,4 +1,4 @@
--- What each pass of a conversion comes to, in terms of reading with a target.
+-- The contract of each pass of a conversion, in terms of reading with a target.
 use Prim.Native.Nat.{ℕ, _≤_}
 use mathlib.Core.Path.{_≡_}
 use mathlib.Core.Option.{some}
@@ -21,7 +21,7 @@ answerIn d t file room = convertedAs (into t) room (readFile d (some (into t)) f
 abbrev pub textIn : Dialect → Read → Bytes
 textIn t r = tableText (into t) (rows (r .done))
 
--- what the first pass comes to: the length of the text, or the report of a fault
+-- the result of the first pass: the length of the text, or the report of a fault
 pub data MeasureSound (d t : Dialect) (file : Bytes) : Measurement → Type 0 where
   accepted : {n : ℕ} (r : Read) → readFile d (some (into t)) file ≡ going r → length (textIn t r) ≡ n → MeasureSound d t file (Accepted n)
   refused : (e : Fault) (r : Read) → readFile d (some (into t)) file ≡ stopped e r → MeasureSound d t file (Refused (faultReport e r))

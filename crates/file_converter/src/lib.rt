@@ -1,9 +1,8 @@
-// The whole-file converter. The numbers of two dialects and a file go in, with room for the text; out comes the length of the file's
-// canonical text in the second dialect, which then stands in the room, or a refusal that leaves the room as it was.
-//
-// It goes twice from visit to visit: the first pass validates and measures, the second writes, so that nothing is written before the
-// whole file is known to be accepted and to have room. The second pass asks the target nothing more. The definition is `converter` of
-// model's specs/rules/Api.antt.
+// The whole-file converter. In: the numbers of two dialects and a file, with room for the text. Out: the length of the file's canonical
+// text in the second dialect, which is then in the room; or a refusal that leaves the room as it was. It runs the cursor twice over the
+// file: the first pass checks and measures, the second writes, so that nothing is written before the whole file is known to be accepted
+// and to have room. The second pass checks nothing for the target. The definition is `converter` of model's specs/rules/Api.antt; the
+// invariants of the passes are in proofs/Passes.antt.
 ghost use mathlib.Core.Path.{_≡_};
 ghost use mathlib.Core.Bool.{true};
 ghost use mathlib.Core.List.{_++_};
@@ -25,72 +24,58 @@ use file_cursor::Aim;
 use file_cursor::NextRecord;
 use file_cursor::fast::FastNext;
 use model::Dialect;
-use model::FileState;
 use model::Report;
 use record_writer::record;
 
-// What the first pass comes to.
+// The result of the first pass.
 pub enum Measurement {
-    // So many bytes of text.
+    // The length of the text.
     Accepted { length: usize },
     Refused(Report),
 }
 
-// All records of a file, validated for the target and measured.
+// All records of a file, checked for the target and measured.
 fn measure(d: Dialect, t: Dialect, file: &[u8]) -> Measurement
     ensures { λ r. ⌜ MeasureSound d t (now (file .entry)) r ⌝ }
 {
     let mut starts = [0usize; MAX_COLUMNS];
     let mut ends = [0usize; MAX_COLUMNS];
     let mut kinds = [0u8; MAX_COLUMNS];
-    let mut state = FileState::Top;
-    let mut i: usize = 0;
-    let mut done: usize = 0;
-    let mut columns: usize = 0;
-    let mut length: usize = 0;
+    let mut cursor = file_cursor::at_start();
     loop {
+        let state = cursor.state;
         match file_cursor::fast::next_data_record(
             d,
             Aim::Into(t),
             file,
-            i,
+            cursor.offset,
             state,
-            done,
-            columns,
-            length,
+            cursor.done,
+            cursor.columns,
+            cursor.written,
             &mut starts,
             &mut ends,
             &mut kinds,
         ) {
             FastNext::Record(v, _) => {
-                state = v.state;
-                i = v.next;
-                columns = v.cells;
-                length = v.written;
-                done += 1;
+                cursor = v;
             }
             FastNext::Fallback => match file_cursor::next_record(
                 d,
                 Aim::Into(t),
                 file,
-                i,
-                state,
-                done,
-                columns,
-                length,
+                cursor,
                 &mut starts,
                 &mut ends,
                 &mut kinds,
             ) {
                 NextRecord::Record(v) => {
-                    state = v.state;
-                    i = v.next;
-                    columns = v.cells;
-                    length = v.written;
-                    done += 1;
+                    cursor = v;
                 }
                 NextRecord::End => {
-                    return Measurement::Accepted { length };
+                    return Measurement::Accepted {
+                        length: cursor.written,
+                    };
                 }
                 NextRecord::Refused(e) => {
                     return Measurement::Refused(e);
@@ -100,7 +85,7 @@ fn measure(d: Dialect, t: Dialect, file: &[u8]) -> Measurement
     }
 }
 
-// One record with its ending, whose cells stand in these spans of the file.
+// One record with its ending, from the spans of its cells in the file.
 fn write_record(
     d: Dialect,
     t: Dialect,
@@ -139,27 +124,25 @@ fn write_records(d: Dialect, t: Dialect, file: &[u8], room: &mut [u8])
     let mut starts = [0usize; MAX_COLUMNS];
     let mut ends = [0usize; MAX_COLUMNS];
     let mut kinds = [0u8; MAX_COLUMNS];
-    let mut state = FileState::Top;
-    let mut i: usize = 0;
-    let mut done: usize = 0;
-    let mut columns: usize = 0;
+    let mut cursor = file_cursor::at_start();
     let mut at: usize = 0;
     loop {
+        let state = cursor.state;
         match file_cursor::fast::next_data_record(
             d,
             Aim::Reading,
             file,
-            i,
+            cursor.offset,
             state,
-            done,
-            columns,
-            0,
+            cursor.done,
+            cursor.columns,
+            cursor.written,
             &mut starts,
             &mut ends,
             &mut kinds,
         ) {
             FastNext::Record(v, clean) => {
-                let cells = v.cells;
+                let cells = v.columns;
                 at = record_target::write_data(
                     d,
                     t,
@@ -171,26 +154,19 @@ fn write_records(d: Dialect, t: Dialect, file: &[u8], room: &mut [u8])
                     room,
                     at,
                 );
-                state = v.state;
-                i = v.next;
-                columns = cells;
-                done += 1;
+                cursor = v;
             }
             FastNext::Fallback => match file_cursor::next_record(
                 d,
                 Aim::Reading,
                 file,
-                i,
-                state,
-                done,
-                columns,
-                0,
+                cursor,
                 &mut starts,
                 &mut ends,
                 &mut kinds,
             ) {
                 NextRecord::Record(v) => {
-                    let cells = v.cells;
+                    let cells = v.columns;
                     at = write_record(
                         d,
                         t,
@@ -198,14 +174,11 @@ fn write_records(d: Dialect, t: Dialect, file: &[u8], room: &mut [u8])
                         &starts[..cells],
                         &ends[..cells],
                         &kinds[..cells],
-                        done == 0,
+                        cursor.done == 0,
                         room,
                         at,
                     );
-                    state = v.state;
-                    i = v.next;
-                    columns = cells;
-                    done += 1;
+                    cursor = v;
                 }
                 NextRecord::End => {
                     return;

@@ -1,4 +1,4 @@
--- What a complete record comes to, by the fault that is found in it, with a target or without.
+-- A complete record results in one record more or in a fault, by its check result, with a target or without.
 use Prim.Native.Nat.{ℕ, suc}
 use mathlib.Core.Path.{_≡_, refl}
 use mathlib.Core.Bool.{true, false}

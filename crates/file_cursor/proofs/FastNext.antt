@@ -1,4 +1,4 @@
--- A data record that was told is what a visit comes to.
+-- A data record that the fast path returns is the one that the cursor returns.
 use Prim.Native.Nat.{ℕ, _+_, _≤_, _<_}
 use native.Mathlib.Omega.{arith}
 use mathlib.Core.Path.{_≡_, refl, sym, ap, subst, _∙_}
@@ -23,7 +23,7 @@ use Rattle.file_cursor.specs.Next.{nextRecord}
 use Rattle.file_cursor.specs.declared.scan.FileScan.the-variants.{Completed}
 use Rattle.file_cursor.proofs.FastRecords.{told-record, told-clean, told-long}
 use Rattle.file_cursor.specs.declared.Aim.{Aim}
-use Rattle.file_cursor.specs.declared.CheckedRecord.{CheckedRecord}
+use Rattle.file_cursor.specs.declared.Cursor.{Cursor}
 use Rattle.file_cursor.specs.NextRecord as visits
 use Rattle.file_cursor.specs.NextRecord.{Long, SameLengths}
 use Rattle.file_cursor.proofs.NextRecords.{Met, record-counts, record-visited}
@@ -40,7 +40,7 @@ pub some-read : (rs : List Rec) (done : ℕ) → length rs ≡ done → (done �
 some-read [] done l n = absurd (n (sym l))
 some-read (r ∷ rs) done l n = refl
 
--- the cells that stand in the lists are clean
+-- the cells that the lists show are verbatim texts
 pub clean-in : {d : Dialect} {file : Bytes} {n : ℕ} {s e : List ℕ} → n ≤ MAXCOLUMNS → Clean d file MAXCOLUMNS 0 n s e → CleanIn d file (take n s) (take n e)
 clean-in {d} {file} {n} {s} {e} few c =
     record {
@@ -68,26 +68,26 @@ module _ {d : Dialect} {file : Bytes} {f : FileState} {i : ℕ} {s₀ e₀ k₀ 
 
   pub tells : (aim : Aim) (rs : List Rec) (done : ℕ) → length rs ≡ done → (done ≡ 0 → ⊥) → {start cells next : ℕ} {g : FileState} {clean : Bool} → q ≡ quick.Record start cells g next clean → {r : FastNext} → FastCheckSound d aim rs (nextRecord d (between-records [] f i) (drop i file) .cells) start g next clean r → FastNextSound d aim file rs f i s e k r
   tells aim rs done l n z unsure = nothing
-  tells aim rs done c₀ n₀ {start} {cells} {next} {g} {clean} z (sound (visits.sound {n = n} {w = w} fault l few text short)) =
+  tells aim rs done c₀ n₀ {start} {cells} {next} {g} {clean} z (sound (visits.sound {m = counted} {n = n} {w = w} fault c l few text short)) =
       let m = met z in
       let same : cells ≡ n = sym (record-counts m refl) ∙ l in
-      a-record (some-read rs done c₀ n₀) (came (record-visited m aim rs refl (visits.sound fault l few text short)) refl)
+      a-record (some-read rs done c₀ n₀) (came (record-visited m aim rs refl (visits.sound fault c l few text short)) refl)
       (λ c. subst (λ (j : ℕ). CleanIn d file (take j s) (take j e)) same (clean-cells z (omega arith) c))
 
--- ---- what was told, by what it is
+-- ---- the fast path by its result
 
 other : {A : Type 0} → _≡_ {A = ℕ} 0 1 → A
 other z = absurd (omega arith)
 
--- a data record that a visit comes to, and its cells where they are clean
-pub record DataRecord (d : Dialect) (aim : Aim) (file : Bytes) (rs : List Rec) (f : FileState) (i : ℕ) (s e k : List ℕ) (v : CheckedRecord) (clean : Bool) : Type 0 where
+-- a data record that the cursor returns, with its cells as verbatim texts where `clean` says so
+pub record DataRecord (d : Dialect) (aim : Aim) (file : Bytes) (rs : List Rec) (f : FileState) (i : ℕ) (s e k : List ℕ) (v : Cursor) (clean : Bool) : Type 0 where
   pub later : isEmpty rs ≡ false
   pub next : visits.Next d aim file rs f i s e k v
-  pub cleans : clean ≡ true → CleanIn d file (take (v .cells) s) (take (v .cells) e)
+  pub cleans : clean ≡ true → CleanIn d file (take (v .columns) s) (take (v .columns) e)
 
-pub data-came : {d : Dialect} {aim : Aim} {file : Bytes} {rs : List Rec} {f : FileState} {i : ℕ} {s e k : List ℕ} {r : FastNext} {v : CheckedRecord} {clean : Bool} → FastNextSound d aim file rs f i s e k r → r ≡ told.Record v clean → DataRecord d aim file rs f i s e k v clean
+pub data-came : {d : Dialect} {aim : Aim} {file : Bytes} {rs : List Rec} {f : FileState} {i : ℕ} {s e k : List ℕ} {r : FastNext} {v : Cursor} {clean : Bool} → FastNextSound d aim file rs f i s e k r → r ≡ told.Record v clean → DataRecord d aim file rs f i s e k v clean
 data-came {d} {aim} {file} {rs} {f} {i} {s} {e} {k} {v = v} {clean = clean} (a-record {v = w} {clean = b} l n c) q =
     let y : w ≡ v = cc in
     let z : b ≡ clean = cc in
-    subst (λ (x : CheckedRecord). DataRecord d aim file rs f i s e k x clean) y (subst (λ (x : Bool). DataRecord d aim file rs f i s e k w x) z (record { later = l; next = n; cleans = c }))
+    subst (λ (x : Cursor). DataRecord d aim file rs f i s e k x clean) y (subst (λ (x : Bool). DataRecord d aim file rs f i s e k w x) z (record { later = l; next = n; cleans = c }))
 data-came nothing q = other cc

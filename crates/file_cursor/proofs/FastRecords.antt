@@ -1,5 +1,5 @@
--- A record that was told before the scanner is what the next record of the file is; and where nothing was told, the first cells that were
--- put into the lists are put there again.
+-- A record that the fast scan finds is the next record of the file. After a fallback the scanner stores the cells that the fast scan
+-- stored already once more at the same places, so that the lists are as if the scanner alone had run (`stored-again`).
 use Prim.Native.Nat.{ℕ, zero, suc, _+_, _≤_, _<_}
 use native.Mathlib.Omega.{arith}
 use mathlib.Core.Path.{_≡_, refl, sym, ap, subst, _∙_}
@@ -37,7 +37,7 @@ use Rattle.record_fast.specs.declared.FastScan.the-variants.{Record, Fallback}
 use Rattle.file_cursor.specs.Types.{FileScan, Completed}
 use Rattle.file_cursor.proofs.WholeFile.{nextOf, next-scans, clean-between, Out, at-record}
 
--- ---- cells that are put twice
+-- ---- cells that are stored twice
 
 set-again : (xs : List ℕ) (k x y : ℕ) → set (set xs k y) k x ≡ set xs k x
 set-again [] k x y = refl
@@ -84,7 +84,7 @@ stored-again room k (x ∷ xs) (y ∷ ys) old l =
     ∙ stored-again room (suc k) xs ys (storeAt room k x (storeAt room k y old)) (omega arith)
     ∙ ap (λ (zs : List ℕ). storedFrom room (suc k) xs zs) (stored-anew room k x y old)
 
--- ---- between records no cell is in hand
+-- ---- between records there is no current cell
 
 abbrev NoneBetween : Scan → Type 0
 NoneBetween s = outer (s .state) ≡ true → s .cells ≡ []
@@ -129,7 +129,7 @@ module _ (d : Dialect) (file : Bytes) (first : FileState) (from room base : ℕ)
   abbrev Whole : Next
   Whole = nextRecord d (between-records [] first from) (drop from file)
 
-  -- where the file ends, the current record has one cell more, or none was in hand
+  -- where the file ends, the current record has one cell more, or there was none
   end-long : (s : Scan) → NoneBetween s → (x : Ending) → fileEnd d (s .state) ≡ x → length (s .cells) ≤ length (ended d (readOf d [] s) x .cells)
   end-long s n Clean e =
       let z : length (s .cells) ≡ 0 = ap length (n (between-outer (s .state) (clean-between d (s .state) e))) in omega arith
@@ -149,7 +149,7 @@ module _ (d : Dialect) (file : Bytes) (first : FileState) (from room base : ℕ)
       rw (next-scans d (drop from file) (fresh first 0 from))
       (all-long Scanned (scan-without d MAXFILE (drop from file) (fresh first 0 from) λ _. refl))
 
-  -- the first cells are put again with the others
+  -- the first cells are stored again with the others
   again : (φ : Value → ℕ) (ψ : RawCell → ℕ) (cs more : List RawCell) → foundOf Scanned .cells ≡ cs ++ more → (old : List ℕ) {new out : List ℕ} → new ≡ storedFrom room base (map ψ cs) old → out ≡ storedFrom room base (map φ (Whole .cells)) new → out ≡ storedFrom room base (map φ (Whole .cells)) old
   again φ ψ cs more q old y z =
       let a : length (map ψ cs) ≡ length cs = length-map cs ψ in
@@ -159,7 +159,7 @@ module _ (d : Dialect) (file : Bytes) (first : FileState) (from room base : ℕ)
       z ∙ ap (λ (xs : List ℕ). storedFrom room base (map φ (Whole .cells)) xs) y ∙ stored-again room base (map φ (Whole .cells)) (map ψ cs) old (omega arith)
 
   module _ {s₀ e₀ k₀ s e k : List ℕ} {q : FastScan} (told : FastScanSound d MAXFILE file from first room base s₀ e₀ k₀ s e k q) where
-    -- a record that was told is the next one
+    -- a record that was found is the next one
     pub told-record : {start cells next : ℕ} {g : FileState} {clean : Bool} → q ≡ Record start cells g next clean → from ≤ length file → Out d file first from room base s₀ e₀ k₀ (Completed start cells g next) s e k
     told-record {start} {cells} {next} {g} {clean} z l = go (subst (λ (x : FastScan). FastScanSound d MAXFILE file from first room base s₀ e₀ k₀ s e k x) z told)
       where
@@ -174,14 +174,14 @@ module _ (d : Dialect) (file : Bytes) (first : FileState) (from room base : ℕ)
             )
             start cells g next refl
 
-    -- its cells are clean where that was told
+    -- its cells are verbatim texts where `clean` says so
     pub told-clean : {start cells next : ℕ} {g : FileState} {clean : Bool} → q ≡ Record start cells g next clean → clean ≡ true → CleanCells d file room base cells s e
     told-clean {start} {cells} {next} {g} {clean} z = go (subst (λ (x : FastScan). FastScanSound d MAXFILE file from first room base s₀ e₀ k₀ s e k x) z told)
       where
         go : FastScanSound d MAXFILE file from first room base s₀ e₀ k₀ s e k (Record start cells g next clean) → clean ≡ true → CleanCells d file room base cells s e
         go (is-found cs f b y c) = c
 
-    -- where nothing was told, the scanner tells the next record, and the lists are as if it alone had been asked
+    -- after a fallback the scanner finds the next record, and the lists are as if it alone had run
     pub told-nothing : q ≡ Fallback → {v : FileScan} {s′ e′ k′ : List ℕ} → (v ≡ Whole .event) × ((s′ ≡ storedFrom room base (startsOf (Whole .cells)) s) × ((e′ ≡ storedFrom room base (endsOf (Whole .cells)) e) × ((k′ ≡ storedFrom room base (kindsOf (Whole .cells)) k) × EventInBounds (length file) from base v))) → Out d file first from room base s₀ e₀ k₀ v s′ e′ k′
     told-nothing z {v} {s′} {e′} {k′} o = go (subst (λ (x : FastScan). FastScanSound d MAXFILE file from first room base s₀ e₀ k₀ s e k x) z told)
       where

@@ -1,4 +1,4 @@
--- The lists show the cells that the scanner found: each stands in the file, and its number names its kind.
+-- The lists show the cells that the scanner found: each lies in the file, and its number names its kind.
 use Prim.Native.Nat.{ℕ, _-_, _≤_}
 use native.Mathlib.Omega.{arith}
 use mathlib.Core.Path.{_≡_, sym, ap, _∙_}

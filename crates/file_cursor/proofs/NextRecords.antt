@@ -1,4 +1,4 @@
--- What each event of the next record comes to, as a visit.
+-- The cursor's result for each event of the next record.
 use Prim.Native.Nat.{ℕ, suc, _+_, _-_, _≤_, _<_}
 use native.Mathlib.Omega.{arith}
 use mathlib.Core.Path.{_≡_, refl, sym, ap, subst, _∙_}
@@ -39,7 +39,7 @@ use Rattle.file_cursor.proofs.Spans.{cells-lie, EndsOuter, record-outer
 use Rattle.file_cursor.specs.declared.Aim.{Aim}
 use Rattle.file_cursor.specs.declared.NextRecord.{NextRecord}
 use Rattle.file_cursor.specs.declared.NextRecord.the-variants.{Record, Refused}
-use Rattle.file_cursor.specs.NextRecord.{targetOf, textOf, textNext, Long, SameLengths, Shows, RecordChecked, sound, faulty, FileEnded, no-record, at-end, NextRecordSound, read, finished, refused}
+use Rattle.file_cursor.specs.NextRecord.{targetOf, textOf, textNext, cursorOf, Long, SameLengths, Shows, RecordChecked, sound, faulty, FileEnded, no-record, at-end, NextRecordSound, read, finished, refused}
 use Rattle.file_cursor.proofs.Lists.{still-kept, still-long, stand-there, shows}
 use Rattle.file_cursor.proofs.RecordChecks.{text-snoc, columns-snoc}
 
@@ -79,9 +79,9 @@ last-inside d file f i s n o e =
     let z : drop i file ≡ [] = drop-of-length-le file l in
     absurd (none-at-end d f i s n o (ap (λ (l : Bytes). nextRecord d (between-records [] f i) l .event) (sym z) ∙ e))
 
--- ---- a visit
+-- ---- the next record
 
--- what a visit is given, and what the scanner made of it
+-- what the cursor is given, and what the scanner returned and stored
 pub record Met (d : Dialect) (file : Bytes) (f : FileState) (i : ℕ) (s₀ e₀ k₀ s e k : List ℕ) (v : FileScan) : Type 0 where
   pub between : outer f ≡ true
   pub inside : i ≤ length file
@@ -108,7 +108,7 @@ module _ {d : Dialect} {file : Bytes} {f : FileState} {i : ℕ} {s₀ e₀ k₀ 
   follows : (target : Option Target) (rs : List Rec) → ReadsAs d target file rs Here (restOf d target file rs f i)
   follows target rs = reads-on d target file rs f i (m .inside)
 
-  -- the lists, where so many cells were found
+  -- the lists, where n cells were found
   pub now-stand : (n : ℕ) → length (Here .cells) ≡ n → n ≤ MAXCOLUMNS → Cells (File d) file (take n s) (take n e) (take n k)
   now-stand n c h = stand-there d file (Here .cells) all-stand s₀ e₀ k₀ s e k (m .long) (m .at-starts) (m .at-ends) (m .at-kinds) n c h
 
@@ -126,15 +126,15 @@ module _ {d : Dialect} {file : Bytes} {f : FileState} {i : ℕ} {s₀ e₀ k₀ 
     Rest = restOf d (targetOf aim) file rs f i
 
     -- a record that is sound
-    next-record : (r : Read) (g : FileState) (o n w : ℕ) → r .done ≡ rs → Rest ≡ restOf d (targetOf aim) file (rs ++ (recOf r (Here .cells) ∷ [])) g o → recordFault d (targetOf aim) rs (Here .cells) ≡ Sound → length (Here .cells) ≡ n → n ≤ MAXCOLUMNS → length (textOf aim rs) + length (textNext aim (isEmpty rs) (Here .cells)) ≡ w → w ≤ MAXFILE → i < o → o ≤ length file → o ≤ MAXFILE → outer g ≡ true → NextRecordSound d aim file rs f i s e k (Record (record { cells = n; written = w; state = g; next = o }))
-    next-record r g o n w done rest fault c few text short onward inside under between =
+    next-record : (r : Read) (g : FileState) (o m n w : ℕ) → r .done ≡ rs → Rest ≡ restOf d (targetOf aim) file (rs ++ (recOf r (Here .cells) ∷ [])) g o → recordFault d (targetOf aim) rs (Here .cells) ≡ Sound → length rs + 1 ≡ m → length (Here .cells) ≡ n → n ≤ MAXCOLUMNS → length (textOf aim rs) + length (textNext aim (isEmpty rs) (Here .cells)) ≡ w → w ≤ MAXFILE → i < o → o ≤ length file → o ≤ MAXFILE → outer g ≡ true → NextRecordSound d aim file rs f i s e k (Record (cursorOf m n w o g))
+    next-record r g o m n w done rest fault counted c few text short onward inside under between =
         let x : Rec = recOf r (Here .cells) in
         read
         (record {
           rec = x;
           found = refl;
           rest = rest;
-          after = record { count = length-append rs (x ∷ []); headed = columns-snoc d (targetOf aim) rs x n fault c; text = text-snoc aim rs x ∙ text };
+          after = record { count = length-append rs (x ∷ []) ∙ counted; headed = columns-snoc d (targetOf aim) rs x n fault c; text = text-snoc aim rs x ∙ text };
           few = few;
           stand = now-stand n c few;
           values = now-shown n c .values few;
@@ -163,25 +163,25 @@ module _ {d : Dialect} {file : Bytes} {f : FileState} {i : ℕ} {s₀ e₀ k₀ 
     -- ---- each event
 
     pub record-visited : {start n : ℕ} {g : FileState} {o : ℕ} {r : NextRecord} → v ≡ Completed start n g o → RecordChecked d aim rs (Here .cells) start g o r → NextRecordSound d aim file rs f i s e k r
-    record-visited {start} {n} {g} {o} w (sound {n = c} {w = t} fault l few text short) =
+    record-visited {start} {n} {g} {o} w (sound {m = m′} {n = c} {w = t} fault counted l few text short) =
         let at = on-record d (targetOf aim) file rs Here _ (follows (targetOf aim) rs) start n g o (sym (m .event) ∙ w) in
         let b : (i < o) × (o ≤ length file) × (o ≤ MAXFILE) × (0 + n ≤ o) = subst (EventInBounds (length file) i 0) w (m .bounds) in
         let u : outer g ≡ true = subst EndsOuter (sym (m .event) ∙ w) (record-outer d (drop i file) (between-records [] f i)) in
-        next-record (at .r) g o c t (at .done)
+        next-record (at .r) g o m′ c t (at .done)
         (at .rest ∙ ap (λ (p : Progress). readEnd d (targetOf aim) (readFrom d (targetOf aim) p (drop o file))) (sound-rest (at .r) g o (at .done) fault))
-        fault l few text short (b .0) (b .1) (b .2) u
+        fault counted l few text short (b .0) (b .1) (b .2) u
     record-visited {start} {n} {g} {o} w (faulty x fault) =
         let at = on-record d (targetOf aim) file rs Here _ (follows (targetOf aim) rs) start n g o (sym (m .event) ∙ w) in
         refused-record (at .r) start x (at .done) (at .starts) fault
         (at .rest ∙ ap (λ (p : Progress). readEnd d (targetOf aim) (readFrom d (targetOf aim) p (drop o file))) (faulty-rest (at .r) g o x (at .done) fault) ∙ sym (stays d (targetOf aim) x (at .r) (drop o file)))
 
     pub last-visited : {start n : ℕ} {r : NextRecord} → v ≡ LastRecord start n → RecordChecked d aim rs (Here .cells) start Begin (length file) r → NextRecordSound d aim file rs f i s e k r
-    last-visited {start} {n} w (sound {n = c} {w = t} fault l few text short) =
+    last-visited {start} {n} w (sound {m = m′} {n = c} {w = t} fault counted l few text short) =
         let at = on-last d (targetOf aim) file rs Here _ (follows (targetOf aim) rs) start n (sym (m .event) ∙ w) in
         let b : (length file ≤ MAXFILE) × (0 + n ≤ length file + 1) = subst (EventInBounds (length file) i 0) w (m .bounds) in
-        next-record (at .r) Begin (length file) c t (at .done)
+        next-record (at .r) Begin (length file) m′ c t (at .done)
         (at .rest ∙ sound-rest (at .r) Begin (length file) (at .done) fault ∙ sym (end-after d (targetOf aim) file rs (recOf (at .r) (Here .cells))))
-        fault l few text short (last-inside d file f i start n (m .between) (sym (m .event) ∙ w)) (omega arith) (b .0) refl
+        fault counted l few text short (last-inside d file f i start n (m .between) (sym (m .event) ∙ w)) (omega arith) (b .0) refl
     last-visited {start} {n} w (faulty x fault) =
         let at = on-last d (targetOf aim) file rs Here _ (follows (targetOf aim) rs) start n (sym (m .event) ∙ w) in
         refused-record (at .r) start x (at .done) (at .starts) fault (at .rest ∙ faulty-rest (at .r) Begin (length file) x (at .done) fault)

@@ -1,4 +1,4 @@
--- Reading a file goes from record to record.
+-- Reading a file is a sequence of next records.
 use Prim.Native.Nat.{ℕ, _+_, _≤_}
 use native.Mathlib.Numerals.{add-one}
 use native.Mathlib.Omega.{arith}
@@ -91,7 +91,7 @@ module _ (d : Dialect) (target : Option Target) (file : Bytes) (rs : List Rec) w
   choose r b bs e l ih false true s = faulty RecordTooLong r bs refl
   choose r b bs e l ih false false s = on-byte r b bs e l ih s
 
-  -- after the records rs, what reading comes to next, and in the end
+  -- after the records rs, the next event and the result of reading on
   pub reads-as : (bs : Bytes) → Ih bs
   unfolding nextRecord readFrom readEnd readByte fileFull recordFull
   reads-as [] r e l = at-end r (fileEnd d (r .state)) (omega arith)

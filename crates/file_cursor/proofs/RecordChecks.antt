@@ -1,4 +1,4 @@
--- What is asked of a complete record: by its source, then by its target, and what it comes to then.
+-- The checks of a complete record, by its source and then by its target, and the cursor's result by them.
 use Prim.Native.Nat.{ℕ, suc, _+_, _≤_, _<_}
 use native.Mathlib.Omega.{arith}
 use mathlib.Core.Path.{_≡_, refl, sym, ap, subst, _∙_}
@@ -27,11 +27,12 @@ use Rattle.model.proofs.TargetLaws.{record-target}
 use Rattle.file_cursor.proofs.Complete.{header-fault, data-fault}
 use Rattle.record_target.specs.declared.TargetCheck.{TargetCheck}
 use Rattle.file_cursor.specs.declared.Aim.{Aim}
+use Rattle.file_cursor.specs.declared.Cursor.{Cursor}
 use Rattle.file_cursor.specs.declared.Aim.the-variants.{Reading, Into}
 use Rattle.file_cursor.specs.declared.NextRecord.the-variants.{Record, End, Refused}
-use Rattle.file_cursor.specs.NextRecord.{targetOf, textOf, textNext, Columns, After, CheckSound, Shows, RecordChecked, sound, faulty, FileEnded, no-record, at-end}
+use Rattle.file_cursor.specs.NextRecord.{targetOf, textOf, textNext, cursorOf, Columns, After, CheckSound, Shows, RecordChecked, sound, faulty, FileEnded, no-record, at-end}
 
--- ---- what its source asks
+-- ---- the source's checks
 
 pub header-checked : (d : Dialect) (vs : List Value) (v : CheckResult) (done columns : ℕ) → done ≡ 0 → v ≡ headerFault d vs → (rs : List Rec) → length rs ≡ done → Columns rs columns → v ≡ recordFault d none rs vs
 header-checked d vs v done columns z e [] l c = e ∙ sym (header-fault d vs)
@@ -41,7 +42,7 @@ pub data-checked : (d : Dialect) (vs : List Value) (v : CheckResult) (done colum
 data-checked d vs v done columns n e [] l c = absurd (n (sym l))
 data-checked d vs v done columns n e (h ∷ rs) l c = e ∙ ap (λ (m : ℕ). dataFault m vs) (sym c) ∙ sym (data-fault d h rs vs)
 
--- ---- and then its target
+-- ---- the target's checks
 
 -- a fault in its source stays, whatever the target says
 source-first : (d : Dialect) (aim : Aim) (rs : List Rec) (vs : List Value) (e : Fault) → recordFault d none rs vs ≡ Faulty e → recordFault d (targetOf aim) rs vs ≡ Faulty e
@@ -58,8 +59,8 @@ pub empty-none : (rs : List Rec) (done : ℕ) → length rs ≡ done → eqb don
 empty-none [] done l = rw (sym l) refl
 empty-none (h ∷ rs) done l = ne-eqb done 0 (λ z. omega arith)
 
-module _ (d : Dialect) (done columns written : ℕ) (vs : List Value) (u : CheckResult) (by-source : (rs : List Rec) → length rs ≡ done → Columns rs columns → u ≡ recordFault d none rs vs) where
-  pub asked-faulty : (aim : Aim) (e : Fault) → u ≡ Faulty e → CheckSound d aim done columns written vs (record { verdict = Faulty e; length = 0 })
+module _ (d : Dialect) (at : Cursor) (vs : List Value) (u : CheckResult) (by-source : (rs : List Rec) → length rs ≡ at .done → Columns rs (at .columns) → u ≡ recordFault d none rs vs) where
+  pub asked-faulty : (aim : Aim) (e : Fault) → u ≡ Faulty e → CheckSound d aim at vs (record { verdict = Faulty e; length = 0 })
   asked-faulty aim e h =
       record {
         verdict = λ rs a. sym (source-first d aim rs vs e (sym (by-source rs (a .count) (a .headed)) ∙ h));
@@ -67,7 +68,7 @@ module _ (d : Dialect) (done columns written : ℕ) (vs : List Value) (u : Check
         fits = λ s. fault-sound s;
       }
 
-  pub asked-reading : (aim : Aim) → aim ≡ Reading → u ≡ Sound → written ≤ MAXFILE → CheckSound d aim done columns written vs (record { verdict = Sound; length = 0 })
+  pub asked-reading : (aim : Aim) → aim ≡ Reading → u ≡ Sound → at .written ≤ MAXFILE → CheckSound d aim at vs (record { verdict = Sound; length = 0 })
   asked-reading aim q h w =
       rw q
       (record {
@@ -76,23 +77,23 @@ module _ (d : Dialect) (done columns written : ℕ) (vs : List Value) (u : Check
         fits = λ s. omega arith;
       })
 
-  pub asked-into : (aim : Aim) (t : Dialect) (r : TargetCheck) → aim ≡ Into t → u ≡ Sound → r .verdict ≡ targetFault (into t) (eqb done 0) written vs → (r .verdict ≡ Sound → r .length ≡ length (recordText (into t) (eqb done 0) vs ++ ending t)) → CheckSound d aim done columns written vs r
+  pub asked-into : (aim : Aim) (t : Dialect) (r : TargetCheck) → aim ≡ Into t → u ≡ Sound → r .verdict ≡ targetFault (into t) (eqb (at .done) 0) (at .written) vs → (r .verdict ≡ Sound → r .length ≡ length (recordText (into t) (eqb (at .done) 0) vs ++ ending t)) → CheckSound d aim at vs r
   asked-into aim t r q h v l = rw q (record { verdict = verdict; text = text; fits = fits })
     where
-      verdict : (rs : List Rec) → After (Into t) done columns written rs → r .verdict ≡ recordFault d (some (into t)) rs vs
+      verdict : (rs : List Rec) → After (Into t) at rs → r .verdict ≡ recordFault d (some (into t)) rs vs
       verdict rs a =
           let e : recordFault d (some (into t)) rs vs ≡ targetFault (into t) (isEmpty rs) (length (tableText (into t) (rows rs))) vs = target-next d t rs vs (sym (by-source rs (a .count) (a .headed)) ∙ h) in
-          v ∙ ap (λ (b : Bool). targetFault (into t) b written vs) (empty-none rs done (a .count)) ∙ ap (λ (n : ℕ). targetFault (into t) (isEmpty rs) n vs) (sym (a .text)) ∙ sym e
+          v ∙ ap (λ (b : Bool). targetFault (into t) b (at .written) vs) (empty-none rs (at .done) (a .count)) ∙ ap (λ (n : ℕ). targetFault (into t) (isEmpty rs) n vs) (sym (a .text)) ∙ sym e
 
-      text : (rs : List Rec) → length rs ≡ done → r .verdict ≡ Sound → r .length ≡ length (textNext (Into t) (isEmpty rs) vs)
-      text rs c s = l s ∙ ap (λ (b : Bool). length (recordText (into t) b vs ++ ending t)) (empty-none rs done c)
+      text : (rs : List Rec) → length rs ≡ at .done → r .verdict ≡ Sound → r .length ≡ length (textNext (Into t) (isEmpty rs) vs)
+      text rs c s = l s ∙ ap (λ (b : Bool). length (recordText (into t) b vs ++ ending t)) (empty-none rs (at .done) c)
 
-      fits : r .verdict ≡ Sound → written + r .length ≤ MAXFILE
+      fits : r .verdict ≡ Sound → at .written + r .length ≤ MAXFILE
       fits s =
-          let f = target-sound (into t) (eqb done 0) written vs (sym v ∙ s) in
+          let f = target-sound (into t) (eqb (at .done) 0) (at .written) vs (sym v ∙ s) in
           rw (l s) (f .fits)
 
--- ---- what it comes to
+-- ---- the result
 
 -- more cells than a record may have
 pub columns-fault : (d : Dialect) (target : Option Target) (rs : List Rec) (vs : List Value) → MAXCOLUMNS < length vs → recordFault d target rs vs ≡ Faulty TooManyColumns
@@ -106,24 +107,24 @@ numbered rs done e start t l h =
     let n : suc (length rs) ≡ done + 1 = omega arith in
     ap (λ (m : ℕ). report (numberOf e) m (columnOf e) start) n ∙ sym h
 
-module _ (d : Dialect) (aim : Aim) (file : Bytes) (starts ends kinds : List ℕ) (done columns written start cells : ℕ) (f : FileState) (o : ℕ) (rs : List Rec) (vs : List Value) (a : After aim done columns written rs) (y : Shows d file vs cells starts ends kinds) where
-  completes-faulty : (e : Fault) (t : Report) → recordFault d (targetOf aim) rs vs ≡ Faulty e → t ≡ report (numberOf e) (done + 1) (columnOf e) start → RecordChecked d aim rs vs start f o (Refused t)
-  completes-faulty e t h q = subst (λ (x : Report). RecordChecked d aim rs vs start f o (Refused x)) (numbered rs done e start t (a .count) q) (faulty e h)
+module _ (d : Dialect) (aim : Aim) (file : Bytes) (starts ends kinds : List ℕ) (at : Cursor) (start cells : ℕ) (f : FileState) (o : ℕ) (rs : List Rec) (vs : List Value) (a : After aim at rs) (y : Shows d file vs cells starts ends kinds) where
+  completes-faulty : (e : Fault) (t : Report) → recordFault d (targetOf aim) rs vs ≡ Faulty e → t ≡ report (numberOf e) (at .done + 1) (columnOf e) start → RecordChecked d aim rs vs start f o (Refused t)
+  completes-faulty e t h q = subst (λ (x : Report). RecordChecked d aim rs vs start f o (Refused x)) (numbered rs (at .done) e start t (a .count) q) (faulty e h)
 
-  pub too-many : (t : Report) → MAXCOLUMNS < cells → t ≡ report (numberOf TooManyColumns) (done + 1) (columnOf TooManyColumns) start → RecordChecked d aim rs vs start f o (Refused t)
+  pub too-many : (t : Report) → MAXCOLUMNS < cells → t ≡ report (numberOf TooManyColumns) (at .done + 1) (columnOf TooManyColumns) start → RecordChecked d aim rs vs start f o (Refused t)
   too-many t h q = completes-faulty TooManyColumns t (columns-fault d (targetOf aim) rs vs (omega (arith, y .count))) q
 
-  -- what was asked, of the cells that the lists show
-  module _ (ws : List Value) (same : cells ≤ MAXCOLUMNS → ws ≡ vs) (few : cells ≤ MAXCOLUMNS) (r : TargetCheck) (z : CheckSound d aim done columns written ws r) where
-    pub ruled-faulty : (e : Fault) (t : Report) → r .verdict ≡ Faulty e → t ≡ report (numberOf e) (done + 1) (columnOf e) start → RecordChecked d aim rs vs start f o (Refused t)
+  -- the check was of the cells that the lists show
+  module _ (ws : List Value) (same : cells ≤ MAXCOLUMNS → ws ≡ vs) (few : cells ≤ MAXCOLUMNS) (r : TargetCheck) (z : CheckSound d aim at ws r) where
+    pub ruled-faulty : (e : Fault) (t : Report) → r .verdict ≡ Faulty e → t ≡ report (numberOf e) (at .done + 1) (columnOf e) start → RecordChecked d aim rs vs start f o (Refused t)
     ruled-faulty e t h q =
         completes-faulty e t (ap (recordFault d (targetOf aim) rs) (sym (same few)) ∙ sym (z .verdict rs a) ∙ h) q
 
-    pub ruled-sound : r .verdict ≡ Sound → RecordChecked d aim rs vs start f o (Record (record { cells = cells; written = written + r .length; state = f; next = o }))
+    pub ruled-sound : r .verdict ≡ Sound → RecordChecked d aim rs vs start f o (Record (cursorOf (at .done + 1) cells (at .written + r .length) o f))
     ruled-sound h =
         let l : r .length ≡ length (textNext aim (isEmpty rs) vs) = z .text rs (a .count) h ∙ ap (λ (l : List Value). length (textNext aim (isEmpty rs) l)) (same few) in
-        let t : length (textOf aim rs) ≡ written = a .text in
-        sound {w = written + r .length} (ap (recordFault d (targetOf aim) rs) (sym (same few)) ∙ sym (z .verdict rs a) ∙ h) (y .count) few (omega arith) (z .fits h)
+        let t : length (textOf aim rs) ≡ at .written = a .text in
+        sound {w = at .written + r .length} (ap (recordFault d (targetOf aim) rs) (sym (same few)) ∙ sym (z .verdict rs a) ∙ h) (ap (λ (n : ℕ). n + 1) (a .count)) (y .count) few (omega arith) (z .fits h)
 
 -- ---- the end of the file
 

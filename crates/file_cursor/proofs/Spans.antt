@@ -1,4 +1,4 @@
--- Every cell that the scanner finds stands in the file.
+-- Every cell that the scanner finds lies in the file.
 use Prim.Native.Nat.{ℕ, suc, _+_, _-_, _≤_, _<_}
 use native.Mathlib.Omega.{arith}
 use mathlib.Core.Path.{_≡_, refl, sym, ap, _∙_}
@@ -48,8 +48,8 @@ next-byte : (xs : Bytes) (n b : ℕ) (bs : Bytes) → b ∷ bs ≡ drop n xs →
 next-byte xs n b bs e = ap (λ (l : Bytes). getD l 0 0) (e ∙ drop-cons xs n 0 (next-inside xs n b bs e))
 
 module _ (d : Dialect) (file : Bytes) where
-  -- the current cell is a span of the file, no longer than what is counted of its record, and its bytes lead to where reading
-  -- stands; the complete cells stand in the file
+  -- the current cell is a span of the file, no longer than what is counted of its record, and its bytes lead to the state of
+  -- reading; the complete cells lie in the file
   record Standing (r : Read) : Type 0 where
     stands : r .raw ≡ slice file (r .opened) (r .offset)
     forward : r .opened ≤ r .offset
@@ -59,7 +59,7 @@ module _ (d : Dialect) (file : Bytes) where
     runs : Runs d Fresh (r .raw) (cellAt (r .state))
     cells : All (LiesIn d file) (r .cells)
 
-  -- the cells, with the one in hand where it closes
+  -- the cells, with the current one where it closes
   closed : (r : Read) (k : Bool) → Closes d (cellAt (r .state)) k → Standing r → All (LiesIn d file) (closing d k r)
   unfolding validateCell
   closed r true w s =
@@ -75,7 +75,7 @@ module _ (d : Dialect) (file : Bytes) where
       })
   closed r false w s = s .cells
 
-  -- no byte of a cell is in hand
+  -- there is no current cell
   opens : (r : Read) → r .raw ≡ [] → r .opened ≡ r .offset → r .offset ≤ length file → r .size ≤ MAXRECORD → cellAt (r .state) ≡ Fresh → All (LiesIn d file) (r .cells) → Standing r
   opens r e o l m c vs =
       record { stands = e ∙ sym (part-end file (r .offset)) ∙ ap (λ (i : ℕ). slice file i (r .offset)) (sym o); forward = omega arith; within = l; short = omega arith; sized = m; runs = rw (e, c) here; cells = vs }
@@ -135,7 +135,7 @@ module _ (d : Dialect) (file : Bytes) where
           split (λ (n : Next). All (LiesIn d file) (n .cells)) (recordFull r b) (λ _. s .cells) λ full.
           on-byte r b bs e ih s full (fileStep d (r .state) b) (step-calm d (r .state) b) (step-fits d (r .state) b)
 
--- where no cell is in hand, the next byte is a cell's first
+-- where there is no current cell, the next byte is a cell's first
 outer-fresh : (f : FileState) → outer f ≡ true → cellAt f ≡ Fresh
 unfolding cellAt
 outer-fresh Top o = refl
@@ -152,12 +152,12 @@ outer-fresh (Inside c) o = impossible o
 outer-fresh After o = refl
 outer-fresh Cr o = refl
 
--- every cell of the next record, from wherever no cell is in hand, stands in the file
+-- every cell of the next record lies in the file, from wherever there is no current cell
 pub cells-lie : (d : Dialect) (file : Bytes) (f : FileState) (o : ℕ) → outer f ≡ true → o ≤ length file → All (LiesIn d file) (nextRecord d (between-records [] f o) (drop o file) .cells)
 cells-lie d file f o u l =
     all-stand d file (drop o file) (between-records [] f o) refl (opens d file (between-records [] f o) refl refl l (omega arith) (outer-fresh f u) all-none)
 
--- ---- where a record ends, no cell is in hand
+-- ---- where a record ends, there is no current cell
 
 abbrev pub EndsOuter : FileScan → Type 0
 EndsOuter (Completed start n f o) = outer f ≡ true

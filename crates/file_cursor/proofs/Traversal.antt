@@ -1,10 +1,10 @@
--- Reading a file from visit to visit: what holds between two visits, and how each outcome keeps it or ends it.
+-- Reading a file by its cursor: the invariant between two records, and how each result preserves it or ends reading.
 use Prim.Native.Nat.{ℕ, _+_, _-_, _≤_, _<_}
 use native.Mathlib.Omega.{arith}
 use mathlib.Core.Path.{_≡_, refl, sym, ap, subst, _∙_}
 use mathlib.Core.Bool.{true}
 use mathlib.Core.List.{List, [], _∷_, _++_}
-use lib.ListN.{length, drop}
+use lib.ListN.{length, drop, length-append}
 use Rattle.model.specs.declared.Dialect.{Dialect}
 use Rattle.model.specs.declared.FileState.{FileState}
 use Rattle.model.specs.declared.FileState.the-variants.{Top}
@@ -19,26 +19,30 @@ use Rattle.model.proofs.file_laws.ReadAppend.{read-grows, end-grows, grows-tran
 use Rattle.record_scanner.specs.Tokens.{outer}
 use Rattle.file_cursor.specs.declared.Aim.{Aim}
 use Rattle.file_cursor.specs.declared.Aim.the-variants.{Reading, Into}
-use Rattle.file_cursor.specs.declared.CheckedRecord.{CheckedRecord}
+use Rattle.file_cursor.specs.declared.Cursor.{Cursor}
 use Rattle.file_cursor.specs.declared.NextRecord.{NextRecord}
 use Rattle.file_cursor.specs.declared.NextRecord.the-variants.{Record, End, Refused}
 use Rattle.file_cursor.specs.NextRecord as visits
 use Rattle.file_cursor.specs.FileOutcome.{restOf}
-use Rattle.file_cursor.specs.NextRecord.{targetOf, After, Long, SameLengths, NextRecordSound}
+use Rattle.file_cursor.specs.NextRecord.{targetOf, cursorOf, atStart, After, Long, SameLengths, NextRecordSound}
 
--- the whole file is what is left from i on, after the records rs
-pub record Walking (d : Dialect) (aim : Aim) (file : Bytes) (f : FileState) (i done columns written : ℕ) : Type 0 where
+-- the whole file is what is left from the cursor on, after the records rs
+pub record Walking (d : Dialect) (aim : Aim) (file : Bytes) (c : Cursor) : Type 0 where
   pub rs : List Rec
-  pub rest : readFile d (targetOf aim) file ≡ restOf d (targetOf aim) file rs f i
-  pub after : After aim done columns written rs
-  pub inside : i ≤ length file
-  pub under : i ≤ MAXFILE
-  pub between : outer f ≡ true
-  pub many : done ≤ i
-  pub short : written ≤ MAXFILE
+  pub rest : readFile d (targetOf aim) file ≡ restOf d (targetOf aim) file rs (c .state) (c .offset)
+  pub after : After aim c rs
+  pub inside : c .offset ≤ length file
+  pub under : c .offset ≤ MAXFILE
+  pub between : outer (c .state) ≡ true
+  pub many : c .done ≤ c .offset
+  pub short : c .written ≤ MAXFILE
 
--- before the first visit
-pub nothing-yet : (aim : Aim) → After aim 0 0 0 []
+-- the same of the cursor's fields
+pub by-fields : {aim : Aim} {c : Cursor} {rs : List Rec} → After aim c rs → After aim (cursorOf (c .done) (c .columns) (c .written) (c .offset) (c .state)) rs
+by-fields a = record { count = a .count; headed = a .headed; text = a .text }
+
+-- before the first record
+pub nothing-yet : (aim : Aim) → After aim atStart []
 unfolding rows tableText
 nothing-yet Reading = record { count = refl; headed = tt; text = refl }
 nothing-yet (Into t) = record { count = refl; headed = tt; text = refl }
@@ -47,30 +51,40 @@ pub whole-rest : (d : Dialect) (aim : Aim) (file : Bytes) → readFile d (target
 unfolding readFile readBytes nothingRead
 whole-rest d aim file = refl
 
-pub sets-out : (d : Dialect) (aim : Aim) (file : Bytes) → Walking d aim file Top 0 0 0 0
-sets-out d aim file =
-    record { rs = []; rest = whole-rest d aim file; after = nothing-yet aim; inside = omega arith; under = omega arith; between = refl; many = omega arith; short = omega arith }
+module _ (d : Dialect) (aim : Aim) (file : Bytes) (c : Cursor) (q : c ≡ atStart) where
+  pub sets-out : Walking d aim file c
+  sets-out =
+      rw q
+      (record {
+        rs = [];
+        rest = whole-rest d aim file;
+        after = nothing-yet aim;
+        inside = omega arith;
+        under = omega arith;
+        between = refl;
+        many = omega arith;
+        short = omega arith;
+      })
 
-pub sets-rs : (d : Dialect) (aim : Aim) (file : Bytes) → sets-out d aim file .rs ≡ []
-unfolding sets-out
-sets-rs d aim file = refl
+  pub sets-rs : sets-out .rs ≡ []
+  unfolding sets-out
+  sets-rs = refl
 
-module _ {d : Dialect} {aim : Aim} {file : Bytes} {f : FileState} {i done columns written : ℕ} (y : Walking d aim file f i done columns written) where
+module _ {d : Dialect} {aim : Aim} {file : Bytes} {c : Cursor} (y : Walking d aim file c) where
   -- one record more
-  module _ {starts ends kinds : List ℕ} {v : CheckedRecord} {w : ℕ} (n : visits.Next d aim file (y .rs) f i starts ends kinds v) (t : v .written ≡ w) where
-    pub walks-on : Walking d aim file (v .state) (v .next) (done + 1) (v .cells) w
+  module _ {starts ends kinds : List ℕ} {v : Cursor} (n : visits.Next d aim file (y .rs) (c .state) (c .offset) starts ends kinds v) where
+    pub walks-on : Walking d aim file v
     walks-on =
-        let c : length (y .rs) ≡ done = y .after .count in
-        let a : After aim (length (y .rs) + 1) (v .cells) (v .written) (y .rs ++ (n .rec ∷ [])) = n .after in
+        let l : length (y .rs ++ (n .rec ∷ [])) ≡ length (y .rs) + 1 = length-append (y .rs) (n .rec ∷ []) in
         record {
           rs = y .rs ++ (n .rec ∷ []);
           rest = y .rest ∙ n .rest;
-          after = record { count = a .count ∙ ap (λ (m : ℕ). m + 1) c; headed = a .headed; text = a .text ∙ t };
+          after = n .after;
           inside = n .inside;
           under = n .under;
           between = n .between;
-          many = omega (arith, y .many, n .onward);
-          short = omega (arith, n .short, t);
+          many = omega (arith, l, y .after .count, n .after .count, y .many, n .onward);
+          short = n .short;
         }
 
     pub walks-rs : walks-on .rs ≡ y .rs ++ (n .rec ∷ [])
@@ -81,18 +95,18 @@ module _ {d : Dialect} {aim : Aim} {file : Bytes} {f : FileState} {i done column
   pub grows : Grows (y .rs) (recordsOf (readFile d (targetOf aim) file))
   grows =
       rw (y .rest)
-      (grows-trans (read-grows d (targetOf aim) (going (between-records (y .rs) f i)) (drop i file))
-      (end-grows d (targetOf aim) (readFrom d (targetOf aim) (going (between-records (y .rs) f i)) (drop i file))))
+      (grows-trans (read-grows d (targetOf aim) (going (between-records (y .rs) (c .state) (c .offset))) (drop (c .offset) file))
+      (end-grows d (targetOf aim) (readFrom d (targetOf aim) (going (between-records (y .rs) (c .state) (c .offset))) (drop (c .offset) file))))
 
-  -- what a visit may ask
-  pub walk-bounds : ((i ≤ length file) × (i ≤ MAXFILE) × (outer f ≡ true)) × ((done ≤ i) × (written ≤ MAXFILE))
+  -- what the cursor's call requires
+  pub walk-bounds : ((c .offset ≤ length file) × (c .offset ≤ MAXFILE) × (outer (c .state) ≡ true)) × ((c .done ≤ c .offset) × (c .written ≤ MAXFILE))
   walk-bounds = ((y .inside, y .under, y .between), (y .many, y .short))
 
   -- less is left after one record more
-  pub walk-less : {starts ends kinds : List ℕ} {v : CheckedRecord} → visits.Next d aim file (y .rs) f i starts ends kinds v → length file - v .next < length file - i
+  pub walk-less : {starts ends kinds : List ℕ} {v : Cursor} → visits.Next d aim file (y .rs) (c .state) (c .offset) starts ends kinds v → length file - v .offset < length file - c .offset
   walk-less n = omega (arith, n .onward, n .inside)
 
--- ---- a visit by its outcome
+-- ---- the cursor by its result
 
 other : {A : Type 0} → _≡_ {A = ℕ} 0 1 → A
 other z = absurd (omega arith)
@@ -111,7 +125,7 @@ pub record AtFault (p : Progress) (t : Report) : Type 0 where
   pub report : t ≡ faultReport fault r
 
 module _ {d : Dialect} {aim : Aim} {file : Bytes} {rs : List Rec} {f : FileState} {i : ℕ} {starts ends kinds : List ℕ} where
-  pub came : {o : NextRecord} {v : CheckedRecord} → NextRecordSound d aim file rs f i starts ends kinds o → o ≡ Record v → visits.Next d aim file rs f i starts ends kinds v
+  pub came : {o : NextRecord} {v : Cursor} → NextRecordSound d aim file rs f i starts ends kinds o → o ≡ Record v → visits.Next d aim file rs f i starts ends kinds v
   came {v = v} (visits.read {v = w} n) q = let z : w ≡ v = cc in subst (visits.Next d aim file rs f i starts ends kinds) z n
   came (visits.finished r p h) q = other cc
   came (visits.refused x r p) q = other cc

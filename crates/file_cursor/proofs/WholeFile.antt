@@ -1,4 +1,4 @@
--- The next record of a whole file is what scanning its bytes comes to, and then the file's end.
+-- The next record of a whole file is the result of scanning its bytes, and then of the file's end.
 use Prim.Native.Nat.{ℕ, suc, _+_, _≤_}
 use native.Mathlib.Numerals.{add-one}
 use native.Mathlib.Omega.{arith}
@@ -47,7 +47,7 @@ use Rattle.record_scanner.proofs.ScanInvariant.{cellHere, closing-written}
 -- ---- by scanning
 
 module _ (d : Dialect) where
-  -- what scanning a file comes to, as its next record: where its bytes are at an end, so is the file
+  -- the result of scanning a file as its next record: where its bytes end, so does the file
   abbrev pub nextOf : ScanResult → Next
   nextOf (pends s) = ended d (readOf d [] s) (fileEnd d (s .state))
   nextOf (fails e s) = failed e (readOf d [] s)
@@ -72,13 +72,13 @@ module _ (d : Dialect) where
   choose-comes s b bs ih false true x = refl
   choose-comes s b bs ih false false x = step-comes s b bs ih x
 
-  -- the next record of a file is told by scanning its bytes
+  -- the next record of a file is found by scanning its bytes
   pub next-scans : (bs : Bytes) → Comes bs
   unfolding nextRecord fileFull recordFull scan
   next-scans [] s = refl
   next-scans (b ∷ bs) s = choose-comes s b bs (next-scans bs) (leb MAXFILE (s .offset)) (leb MAXRECORD (s .size) && counts (s .state) b) (fileStep d (s .state) b)
 
--- ---- a file ends between records where no record is in hand
+-- ---- a file ends between records where there is no current record
 
 last-unclean : {A : Type 0} (d : Dialect) (c : Cell) → lastCell d c ≡ Clean → A
 last-unclean Csvj c e = let z : _≡_ {A = ℕ} 0 1 = cc in absurd (omega arith)
@@ -108,7 +108,7 @@ clean-between d (Inside c) e = last-unclean d c e
 clean-between d After e = cut-unclean e
 clean-between d Cr e = cut-unclean e
 
--- ---- the end of the file, by the numbers in hand
+-- ---- the end of the file, over the numbers of the current record
 
 module _ (d : Dialect) where
   -- the event of a file of n bytes, of which this was reached
@@ -117,7 +117,7 @@ module _ (d : Dialect) where
   eventOf n (reached.NeedInput f h) = endEvent (fileEnd d f) h n
   eventOf n (reached.Failed e offset) = Failed e offset
 
-  -- a list in which the last cell of a last record is put, as this number
+  -- a list in which the last cell of a last record is stored, as this number
   abbrev lastPut : (room base : ℕ) → (RecordState → ℕ) → ScanOutcome → List ℕ → List ℕ
   lastPut room base number (reached.Completed start cells f next) xs = xs
   lastPut room base number (reached.NeedInput f h) xs = storeIf (isFinal (fileEnd d f)) room (base + h .cells) (number h) xs

@@ -1,4 +1,4 @@
--- The end of a file after its bytes, as the code tells it by the numbers in hand.
+-- The end of a file after its last byte, over the numbers that the code has of the current record.
 use Prim.Native.Nat.{ℕ, _+_}
 use mathlib.Core.Bool.{Bool, true, false}
 use Rattle.model.specs.declared.Ending.{Ending}
@@ -13,7 +13,7 @@ isFinal Clean = false
 isFinal Final = true
 isFinal Cut = false
 
--- what the end at this offset comes to
+-- the event at the file's end, which lies at this offset
 abbrev pub endEvent : Ending → RecordState → (offset : ℕ) → FileScan
 endEvent Clean h o = End o
 endEvent Final h o = LastRecord (h .start) (h .cells + 1)

@@ -1,4 +1,4 @@
--- What is told of the next data record: what a visit comes to, or nothing.
+-- Soundness of the fast path: a record that it returns is the one that the cursor returns. Of a fallback nothing is claimed.
 use Prim.Native.Nat.{ℕ}
 use mathlib.Core.Path.{_≡_}
 use mathlib.Core.Bool.{Bool, true, false}
@@ -11,20 +11,20 @@ use Rattle.model.specs.rules.Text.{Value}
 use Rattle.model.specs.rules.Records.{Rec}
 use Rattle.cell_fast.specs.Ends.{CleanIn}
 use Rattle.file_cursor.specs.declared.Aim.{Aim}
-use Rattle.file_cursor.specs.declared.CheckedRecord.{CheckedRecord}
+use Rattle.file_cursor.specs.declared.Cursor.{Cursor}
 use Rattle.file_cursor.specs.declared.NextRecord.the-variants as outcome
 use Rattle.file_cursor.specs.NextRecord.{RecordChecked, Next}
 use Rattle.file_cursor.specs.declared.fast.FastNext.{FastNext}
 use Rattle.file_cursor.specs.declared.fast.FastNext.the-variants.{Record, Fallback}
 
--- what is told of a complete record with these cells, after the records rs
+-- a complete record with these cells, after the records rs
 pub data FastCheckSound (d : Dialect) (aim : Aim) (rs : List Rec) (vs : List Value) (start : ℕ) (f : FileState) (o : ℕ) (clean : Bool) : FastNext → Type 0 where
-  sound : {v : CheckedRecord} → RecordChecked d aim rs vs start f o (outcome.Record v) → FastCheckSound d aim rs vs start f o clean (Record v clean)
+  sound : {v : Cursor} → RecordChecked d aim rs vs start f o (outcome.Record v) → FastCheckSound d aim rs vs start f o clean (Record v clean)
   unsure : FastCheckSound d aim rs vs start f o clean Fallback
 
--- what is told of the record from i on, after the records rs
+-- the record from i on, after the records rs
 pub data FastNextSound (d : Dialect) (aim : Aim) (file : Bytes) (rs : List Rec) (f : FileState) (i : ℕ) (starts ends kinds : List ℕ) : FastNext → Type 0 where
   a-record :
-      {v : CheckedRecord} {clean : Bool} → isEmpty rs ≡ false → Next d aim file rs f i starts ends kinds v →
-      (clean ≡ true → CleanIn d file (take (v .cells) starts) (take (v .cells) ends)) → FastNextSound d aim file rs f i starts ends kinds (Record v clean)
+      {v : Cursor} {clean : Bool} → isEmpty rs ≡ false → Next d aim file rs f i starts ends kinds v →
+      (clean ≡ true → CleanIn d file (take (v .columns) starts) (take (v .columns) ends)) → FastNextSound d aim file rs f i starts ends kinds (Record v clean)
   nothing : FastNextSound d aim file rs f i starts ends kinds Fallback

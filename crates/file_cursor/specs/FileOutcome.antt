@@ -1,4 +1,4 @@
--- What reading a whole file comes to, for a target or none, given its next record.
+-- The result of reading a whole file, with a target or without, given its next record.
 use Prim.Native.Nat.{ℕ}
 use mathlib.Core.Path.{_≡_}
 use mathlib.Core.Bool.{true}
@@ -35,7 +35,7 @@ redone rs r =
       cells = r .cells;
     }
 
--- after the records rs, reading comes to this next, and in the end to that
+-- after the records rs this is the next event, and that the result of reading on from it
 pub data ReadsAs (d : Dialect) (target : Option Target) (file : Bytes) (rs : List Rec) : Next → Progress → Type 0 where
   after-record :
       (r : Read) (vs : List Value) (f : FileState) (o : ℕ) → r .done ≡ rs →

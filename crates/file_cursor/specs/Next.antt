@@ -1,5 +1,5 @@
--- The next record of a file. Reading goes from record to record: a byte moves reading as `move` of model's Records says, but a
--- complete record is handed over before it is validated.
+-- The next record of a file. A byte moves reading as `move` of model's Records says, but a complete record is returned before it is
+-- checked, so that reading a file is a sequence of next records.
 use Prim.Native.Nat.{ℕ, _+_, _≤_, _<_}
 use mathlib.Core.Bool.{true}
 use mathlib.Core.List.{List, [], _∷_, _++_}
@@ -64,7 +64,7 @@ readAfter d r b f p =
 
 -- ---- the next record
 
--- what reading comes to next, and the cells of the current record then
+-- the next event of reading, and the cells of the current record at that point
 pub record Next : Type 0 where
   pub event : FileScan
   pub cells : List Value
@@ -72,7 +72,7 @@ pub record Next : Type 0 where
 abbrev pub failed : Fault → Read → Next
 failed e r = record { event = Failed e (r .offset); cells = r .cells }
 
--- the record is complete with these cells; where the file stands after it, and the next offset
+-- the record is complete with these cells; the state after it, and the next offset
 abbrev pub completed : Read → List Value → FileState → ℕ → Next
 completed r vs f o = record { event = Completed (r .start) (length vs) f o; cells = vs }
 
@@ -82,7 +82,7 @@ stepped d r b rest (Reject e) = failed (Byte e) r
 stepped d r b rest (To f p) =
     if endsRecord p then completed r (closing d (closesCell p) r) f (r .offset + 1) else rest (readAfter d r b f p)
 
--- the file ends here; between records no cell is in hand
+-- the file ends here; between records there is no current cell
 abbrev pub ended : Dialect → Read → Ending → Next
 ended d r Clean = record { event = End (r .offset); cells = [] }
 ended d r Final = record { event = LastRecord (r .start) (length (closing d true r)); cells = closing d true r }

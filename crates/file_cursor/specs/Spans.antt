@@ -10,7 +10,7 @@ use Rattle.model.specs.rules.Api.{slice}
 use Rattle.model.specs.declared.Dialect.{Dialect}
 use Rattle.model.specs.declared.CellCheck.the-variants.{WholeCell}
 
--- a cell that stands in a file: its span is a whole cell, no longer than a record may be, and has its kind and content
+-- a cell that lies in a file: its span is a whole cell, no longer than a record may be, and has its kind and content
 pub record LiesIn (d : Dialect) (file : Bytes) (v : Value) : Type 0 where
   pub kind : v .kind ≡ kindOf d (slice file (v .from) (v .upto))
   pub content : v .content ≡ contentOf d (slice file (v .from) (v .upto))

@@ -1,6 +1,6 @@
-// From record to record of a whole file: the scanner up to the end of the next one, and then the file's end. A complete record is handed
-// over before it is validated. The definition is `nextRecord` of specs/Next.antt, and proofs/RecordByRecord.antt has the law that reading a file
-// goes from record to record so.
+// The next record of a whole file, by form and limits: the scanner up to the record's end, and then the file's end. A complete record is
+// returned before it is checked. The definition is `nextRecord` of specs/Next.antt; proofs/RecordByRecord.antt has the law that reading a
+// file is a sequence of next records, and proofs/WholeFile.antt what is proved again with this file.
 ghost use mathlib.Core.Path.{_≡_};
 ghost use mathlib.Core.List.{[]};
 ghost use Prim.Native.Nat.{_+_, _≤_};
@@ -22,9 +22,9 @@ use record_scanner::record_state::RecordState;
 use record_scanner::store;
 use record_scanner::token::ScanOutcome;
 
-// What reading comes to next.
+// The next event of reading.
 pub enum FileScan {
-    // A record is complete: where it starts, how many cells it has, where the file stands after it, and the next offset.
+    // A record is complete: its start, its number of cells, and the state and the offset after it.
     Completed {
         start: usize,
         cells: usize,
@@ -47,7 +47,7 @@ pub enum FileScan {
     },
 }
 
-// The end of the file, in this record.
+// The end of the file, in this state and this record.
 fn at_end(
     d: Dialect,
     file: &[u8],
@@ -94,7 +94,7 @@ fn at_end(
     }
 }
 
-// The next record from `from` on. Its cells go into the lists from place `base` on, up to `room`.
+// The next record from `from` on. Its cells are stored in the lists from place `base` on, up to `room`.
 pub fn scan_next(
     d: Dialect,
     file: &[u8],

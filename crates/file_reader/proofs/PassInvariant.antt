@@ -1,4 +1,4 @@
--- What holds at each turn over the data records, and how each way through a turn keeps it.
+-- The invariant of a pass over the data records, and how each result of the scan preserves it or ends the pass.
 use Prim.Native.Nat.{ℕ, suc, _+_, _≤_, _<_}
 use native.Mathlib.Omega.{arith}
 use mathlib.Core.Path.{_≡_, refl, sym, ap, subst, _∙_}
@@ -32,7 +32,7 @@ use Rattle.file_cursor.proofs.Events.{on-record, on-last, on-fault, on-finish}
 
 -- ---- lists
 
--- more cells are put after those that stand there
+-- more cells are stored after those that are there
 stored-more : (φ : Value → ℕ) (room n : ℕ) (vs ws : List Value) (old new out : List ℕ) → length vs ≡ n → new ≡ storedFrom room 0 (map φ vs) old → out ≡ storedFrom room n (map φ ws) new → out ≡ storedFrom room 0 (map φ (vs ++ ws)) old
 stored-more φ room n vs ws old new out l e f =
     let m : length (map φ vs) ≡ n = length-map vs φ ∙ l in
@@ -83,7 +83,7 @@ pub record Call : Type 0 where
 module _ (call : Call) where
   open Call call using (d, file, from, first, columns, room, s₀, e₀, k₀)
 
-  -- after the header h and so many data records with these cells, reading stands at i
+  -- after the header h and this number of data records with these cells, reading is at i
   pub record Turned (h : Rec) (vs : List Value) (f : FileState) (i records : ℕ) : Type 0 where
     pub ds : List Rec
     pub cells : concat (rows ds) ≡ vs
@@ -132,7 +132,7 @@ module _ (call : Call) where
       two-more : suc (suc records) ≡ records + 2
       two-more = omega arith
 
-      -- a record that is validated faulty
+      -- a record with a fault
       faulty-outcome : (h : Rec) (ds : List Rec) (r : Read) (start : ℕ) (g : FileState) (o : ℕ) (x : Fault) (t : Report) → length (h .cells) ≡ columns → r .done ≡ h ∷ ds → length ds ≡ records → r .start ≡ start → dataFault columns (Here .cells) ≡ Faulty x → t ≡ report (numberOf x) (records + 2) (columnOf x) start → (complete d none r (Here .cells) g o ≡ stopped x r) × (t ≡ faultReport x r)
       faulty-outcome h ds r start g o x t q a c b w z =
           let fault : recordFault d none (r .done) (Here .cells) ≡ Faulty x = ap (λ (l : List Rec). recordFault d none l (Here .cells)) a ∙ data-fault d h ds (Here .cells) ∙ ap (λ (n : ℕ). dataFault n (Here .cells)) q ∙ w in (
@@ -140,7 +140,7 @@ module _ (call : Call) where
             z ∙ rw (sym two-more, sym b) (report-start d none r (Here .cells) x (suc records) fault (number r h ds a c)),
           )
 
-      -- a record that is validated sound
+      -- a record that is sound
       sound-record : (h : Rec) (ds : List Rec) (r : Read) (g : FileState) (o : ℕ) → length (h .cells) ≡ columns → r .done ≡ h ∷ ds → dataFault columns (Here .cells) ≡ Sound → complete d none r (Here .cells) g o ≡ going (between-records (h ∷ (ds ++ (recOf r (Here .cells) ∷ []))) g o)
       sound-record h ds r g o q a w =
           let fault : recordFault d none (r .done) (Here .cells) ≡ Sound = ap (λ (l : List Rec). recordFault d none l (Here .cells)) a ∙ data-fault d h ds (Here .cells) ∙ ap (λ (n : ℕ). dataFault n (Here .cells)) q ∙ w in

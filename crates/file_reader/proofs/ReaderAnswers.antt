@@ -1,4 +1,4 @@
--- What the reader answers, by its header and its passes.
+-- The reader's answer, by its header and its passes.
 use Prim.Native.Nat.{ℕ, _+_, _-_, _≤_, _<_}
 use native.Mathlib.Omega.{arith}
 use mathlib.Core.Path.{_≡_, refl, sym, ap, subst, _∙_}
@@ -33,12 +33,12 @@ use Rattle.file_reader.specs.Passes.{PassOutcome, PassSound}
 use Rattle.file_reader.specs.Headers.{firstOf, HeaderRead}
 use Rattle.record_scanner.proofs.FilledLists.{stored-from-none, stored-from-over}
 use Rattle.file_cursor.specs.declared.Aim.the-variants.{Reading}
-use Rattle.file_cursor.specs.declared.CheckedRecord.{CheckedRecord}
+use Rattle.file_cursor.specs.declared.Cursor.{Cursor}
 use Rattle.file_cursor.specs.declared.NextRecord.the-variants as outcomes
 use Rattle.file_cursor.specs.declared.NextRecord as visitor
 use Rattle.file_cursor.specs.FileOutcome.{restOf}
-use Rattle.file_cursor.specs.NextRecord.{NextRecordSound}
-use Rattle.file_cursor.proofs.Traversal.{whole-rest, came, at-end, at-fault}
+use Rattle.file_cursor.specs.NextRecord.{atStart, After, NextRecordSound}
+use Rattle.file_cursor.proofs.Traversal.{nothing-yet, whole-rest, came, at-end, at-fault}
 
 -- the answer, and the lists after it
 pub record Answered (a : api.Answer) (r : Answer) (s₀ e₀ k₀ s e k : List ℕ) : Type 0 where
@@ -140,7 +140,7 @@ record AcceptedBy (h : Rec) (vs : List Value) (g : Progress) (n c : ℕ) : Type 
 accepted-by : {h : Rec} {vs : List Value} {g : Progress} {n c : ℕ} → PassOutcome h vs g (Accepted n c) → AcceptedBy h vs g n c
 accepted-by (passes.accepted r ds q e) = record { r = r; ds = ds; same = refl; done = q; cells = e; count = refl; sized = refl }
 
--- a second pass meets the same cells
+-- a second pass finds the same cells
 same-cells : (h : Rec) (vs : List Value) (g : Progress) (p : PassResult) (r : Read) (ds : List Rec) → PassOutcome h vs g p → g ≡ going r → r .done ≡ h ∷ ds → concat (rows ds) ≡ vs
 same-cells h vs g p r ds (passes.accepted t es q e) same done =
     let a : t ≡ r = cc in
@@ -213,8 +213,14 @@ module _ (room : ℕ) {d : Dialect} {file : Bytes} {n : ℕ} {f : FileState} {ne
 
 -- ---- a file of a dialect
 
+-- the cursor's result from the start of the file
+pub from-start : {d : Dialect} {file : Bytes} {s e k : List ℕ} {o : visitor.NextRecord} {c : Cursor} → c ≡ atStart → ((rs : List Rec) → After Reading c rs → NextRecordSound d Reading file rs (c .state) (c .offset) s e k o) → NextRecordSound d Reading file [] Top 0 s e k o
+from-start {d} {file} {s} {e} {k} {o} q f =
+    let a : After Reading _ [] = subst (λ (c : Cursor). After Reading c []) (sym q) (nothing-yet Reading) in
+    subst (λ (c : Cursor). NextRecordSound d Reading file [] (c .state) (c .offset) s e k o) q (f [] a)
+
 module _ {d : Dialect} {file : Bytes} {s e k : List ℕ} {o : visitor.NextRecord} (v : NextRecordSound d Reading file [] Top 0 s e k o) where
-  pub begins : {x : CheckedRecord} → o ≡ outcomes.Record x → HeaderRead d file (x .cells) (x .state) (x .next)
+  pub begins : {x : Cursor} → o ≡ outcomes.Record x → HeaderRead d file (x .columns) (x .state) (x .offset)
   begins q =
       let n = came v q in
       record { h = n .rec; first = n .found; count = n .after .headed; rest = whole-rest d Reading file ∙ n .rest; few = n .few; inside = n .inside; under = n .under }

@@ -1,4 +1,4 @@
--- The header of a file, and where reading goes on after it.
+-- The header of a file, and the place after it.
 use Prim.Native.Nat.{ℕ, _≤_}
 use mathlib.Core.Path.{_≡_}
 use mathlib.Core.Option.{none}
@@ -17,7 +17,7 @@ use Rattle.file_cursor.specs.FileOutcome.{restOf}
 abbrev pub firstOf : Dialect → Bytes → Next
 firstOf d file = nextRecord d (between-records [] Top 0) (drop 0 file)
 
--- the header of a file has so many cells, and reading goes on from after it
+-- the header of a file has this number of cells, and reading proceeds from this place
 pub record HeaderRead (d : Dialect) (file : Bytes) (columns : ℕ) (f : FileState) (next : ℕ) : Type 0 where
   pub h : Rec
   pub first : h .cells ≡ firstOf d file .cells

@@ -1,4 +1,4 @@
--- What the data records of a file come to, in terms of reading.
+-- The contract of a pass over the data records, in terms of reading.
 use Prim.Native.Nat.{ℕ, _+_, _≤_}
 use mathlib.Core.Path.{_≡_}
 use mathlib.Core.Option.{none}
@@ -23,13 +23,13 @@ pub record Holds (room : ℕ) (vs : List Value) (starts₀ ends₀ kinds₀ star
   pub at-ends : ends ≡ storedFrom room 0 (endsOf vs) ends₀
   pub at-kinds : kinds ≡ storedFrom room 0 (kindsOf vs) kinds₀
 
--- what the data records come to, after the header h; `vs` are the cells that were met
+-- the result of a pass after the header h; `vs` are the cells that were found
 pub data PassOutcome (h : Rec) (vs : List Value) : Progress → PassResult → Type 0 where
   accepted :
       (r : Read) (ds : List Rec) → r .done ≡ h ∷ ds → concat (rows ds) ≡ vs → PassOutcome h vs (going r) (Accepted (length ds) (length vs))
   refused : (e : Fault) (r : Read) → PassOutcome h vs (stopped e r) (Refused (faultReport e r))
 
--- they are no more cells than a file has bytes, and one
+-- there are no more cells than a file has bytes, and one
 abbrev pub Few : PassResult → Type 0
 Few (Accepted records cells) = cells ≤ MAXFILE + 1
 Few (Refused e) = Unit {0}

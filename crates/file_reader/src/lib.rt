@@ -1,9 +1,8 @@
-// The whole-file reader. A dialect's number and a file go in, with lists to fill; out come the file's columns, data records and cells,
-// and in the lists each cell's start, end and kind, or a refusal that leaves the lists as they were.
-//
-// Its header is visited; then two passes go over the data records: the first validates and counts them, the second fills the lists, so
-// that nothing is written before the whole file is known to be accepted and to have room. The definition is `readCall` of model's
-// specs/rules/Api.antt.
+// The whole-file reader. In: a dialect's number and a file, with lists to fill. Out: the file's columns, data records and cells, and in the
+// lists each cell's start, end and kind; or a refusal that leaves the lists as they were. After the header there are two passes over the
+// data records: the first checks and counts them, the second fills the lists, so that nothing is stored before the whole file is known to
+// be accepted and to have room. The definition is `readCall` of model's specs/rules/Api.antt; proofs/ReaderAnswers.antt is proved again
+// with this file.
 ghost use mathlib.Core.Path.{_≡_};
 ghost use Prim.Native.Nat.{_≤_};
 ghost use lib.ListN.{length};
@@ -22,7 +21,7 @@ use model::Report;
 
 pub mod pass;
 
-// What the reader answers. All is 0 on refusal but the report. It is laid out for C, so that the C boundary hands it on as it is.
+// The reader's answer: on refusal all is 0 but the report. It is laid out for C, so that the C boundary returns it as it is.
 #[repr(C)]
 pub struct Answer {
     pub report: Report,
@@ -42,7 +41,7 @@ fn refused(e: Report) -> Answer
     }
 }
 
-// A file whose header has so many columns. Where the file stands after it, and the next offset.
+// The rest of a file whose header has this number of columns, from the state and the offset after it.
 fn read_records(
     d: Dialect,
     file: &[u8],
@@ -110,20 +109,26 @@ pub fn read_in(
         d,
         Aim::Reading,
         file,
-        0,
-        FileState::Top,
-        0,
-        0,
-        0,
+        file_cursor::at_start(),
         &mut header_starts,
         &mut header_ends,
         &mut header_kinds,
     ) {
         NextRecord::Record(v) => {
             let state = v.state;
-            read_records(d, file, v.cells, state, v.next, room, starts, ends, kinds)
+            read_records(
+                d,
+                file,
+                v.columns,
+                state,
+                v.offset,
+                room,
+                starts,
+                ends,
+                kinds,
+            )
         }
-        // No file comes to its end without a record: that is a fault.
+        // A file that ends without a record is a fault.
         NextRecord::End => refused(codes::call_report(codes::ACCEPTED)),
         NextRecord::Refused(e) => refused(e),
     }

@@ -1,4 +1,6 @@
-// One pass over the data records of a file, each checked when it is complete: by the fast way, or else by the scanner from the record's start.
+// One pass over the data records of a file, each checked when it is complete: by the fast scan, or else by the scanner from the record's
+// start. In: the place after the header, its columns, and lists with room for some cells. Out: the records and cells up to the file's end,
+// or a report. The contract is `PassSound` of specs/Passes.antt; its invariant is in proofs/PassInvariant.antt.
 ghost use Prim.Native.Nat.{_≤_};
 ghost use lib.ListN.{length};
 ghost use Rattle.model.specs.rules.Report.{MAXFILE};
@@ -11,14 +13,13 @@ use model::FileState;
 use model::Report;
 use record_fast::FastScan;
 
-// What the data records come to.
 pub enum PassResult {
-    // So many records and cells, to the end of the file.
+    // The numbers of records and cells up to the file's end.
     Accepted { records: usize, cells: usize },
     Refused(Report),
 }
 
-// The data records from `from` on, under a header of so many columns.
+// The data records from `from` on, under a header of this number of columns.
 pub fn data_records(
     d: Dialect,
     file: &[u8],

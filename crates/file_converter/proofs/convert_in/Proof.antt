@@ -1,3 +1,4 @@
+-- `file_converter::convert_in` meets its contract, by the result of the first pass and the length of the room.
 use borrow.Author.Needs.{needs}
 use Rattle.file_converter.proofs.ConverterAnswers.{conversion-refused, conversion-crowded, conversion-accepts, conversion-roomy, long-filled}
 use Rattle.file_converter.proofs.convert_in.Statement.{statement}

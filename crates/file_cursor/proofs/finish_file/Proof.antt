@@ -1,3 +1,4 @@
+-- `file_cursor::finish_file` meets its contract: a file without a record is refused.
 use borrow.Author.Needs.{needs}
 use Rattle.file_cursor.proofs.RecordChecks.{ends-first, ends-later}
 use Rattle.file_cursor.proofs.finish_file.Statement.{statement}

@@ -1,3 +1,4 @@
+-- `file_cursor::finish_record` meets its contract, by the number of cells and the check result.
 use native.Mathlib.Omega.{arith}
 use mathlib.Core.Path.{sym}
 use Prim.Native.Nat.{_+_, _≤_}
@@ -10,8 +11,10 @@ use Rattle.file_cursor.proofs.finish_record.Tie as tie
 
 returns : tie.Need-returns
 returns c =
-    let a = c .before .before .before .before .before .before .args in
-    λ rs vs y z. too-many (a .d) (a .aim) (a .file .now) (a .starts .now) (a .ends .now) (a .kinds .now) (a .done) (a .columns) (a .written) (a .start) (a .cells) (a .state) (a .next) rs vs y z _ (c .before .if1 .taken) (c .record-report .ensures)
+    let a = c .before .before .before .before .before .before .before .args in
+    λ rs vs y z.
+    too-many (a .d) (a .aim) (a .file .now) (a .starts .now) (a .ends .now) (a .kinds .now) (a .cursor) (a .start) (a .cells) (a .state) (a .next) rs vs y z
+    _ (c .before .before .if1 .taken) (c .record-report .ensures)
 
 slice-aggregate-check-record : tie.Need-slice-aggregate-check-record
 slice-aggregate-check-record c =
@@ -42,31 +45,54 @@ check-record-requires c κs =
     let start = c .before .before .before .before .before .before .before .before in
     (start .pre .1 .0 (c .before .before .before .if1 .left), start .pre .1 .1 .1)
 
-add-t28 : tie.Need-add-t28
-add-t28 c =
-    let u = c .before .before .before in
-    let a = c .before .before .before .before .before .before .before .before .before .before .before .before .args in
-    let f : a .written + u .check-record .result .length ≤ 16777215 = u .check-record .ensures .fits (c .before .enum-told .given .1) in
+-- one record more can be counted
+add-record-report : tie.Need-add-record-report
+add-record-report c =
+    let start = c .before .before .before .before .before .before in
+    let m : start .args .cursor .done ≤ 16777215 = start .pre .1 .1 .0 in
+    omega arith
+
+add-t26 : tie.Need-add-t26
+add-t26 c =
+    let start = c .before .before .before .before .before .before .before .before .before .before .before .before in
+    let m : start .args .cursor .done ≤ 16777215 = start .pre .1 .1 .0 in
+    omega arith
+
+add-record-report-2 : tie.Need-add-record-report-2
+add-record-report-2 c =
+    let start = c .before .before .before .before .before .before .before .before .before .before .before .before .before in
+    let m : start .args .cursor .done ≤ 16777215 = start .pre .1 .1 .0 in
+    omega arith
+
+add-t27 : tie.Need-add-t27
+add-t27 c =
+    let u = c .before .before .before .before .before in
+    let a = u .before .before .before .before .before .before .before .before .before .args in
+    let f : a .cursor .written + u .check-record .result .length ≤ 16777215 = u .check-record .ensures .fits (c .before .before .before .enum-told .given .1) in
     omega arith
 
 returns-2 : tie.Need-returns-2
 returns-2 c =
-    let u = c .before .before .before in
-    let a = c .before .before .before .before .before .before .before .before .before .before .before .before .args in
-    λ rs vs y z. ruled-sound (a .d) (a .aim) (a .file .now) (a .starts .now) (a .ends .now) (a .kinds .now) (a .done) (a .columns) (a .written) (a .start) (a .cells) (a .state) (a .next) rs vs y z _ (z .values) (c .before .before .before .before .before .before .before .if1 .left) _ (u .check-record .ensures) (c .before .enum-told .given .1)
+    let u = c .before .before .before .before .before in
+    let a = u .before .before .before .before .before .before .before .before .before .args in
+    let sound = c .before .before .before .enum-told .given .1 in
+    λ rs vs y z.
+    ruled-sound (a .d) (a .aim) (a .file .now) (a .starts .now) (a .ends .now) (a .kinds .now) (a .cursor) (a .start) (a .cells) (a .state) (a .next) rs vs y z
+    _ (z .values) (u .before .before .before .before .if1 .left) _ (u .check-record .ensures) sound
 
 returns-3 : tie.Need-returns-3
 returns-3 c =
-    let u = c .before .before .before .before in
-    let start = c .before .before .before .before .before .before .before .before .before .before .before .before .before in
-    let a = start .args in
-    λ rs vs y z. ruled-faulty (a .d) (a .aim) (a .file .now) (a .starts .now) (a .ends .now) (a .kinds .now) (a .done) (a .columns) (a .written) (a .start) (a .cells) (a .state) (a .next) rs vs y z _ (z .values) (c .before .before .before .before .before .before .before .before .if1 .left) _ (u .check-record .ensures) _ _ (c .before .before .v .given .1) (c .record-report2 .ensures)
+    let u = c .before .before .before .before .before in
+    let a = u .before .before .before .before .before .before .before .before .before .args in
+    λ rs vs y z.
+    ruled-faulty (a .d) (a .aim) (a .file .now) (a .starts .now) (a .ends .now) (a .kinds .now) (a .cursor) (a .start) (a .cells) (a .state) (a .next) rs vs y z
+    _ (z .values) (u .before .before .before .before .if1 .left) _ (u .check-record .ensures) _ _ (c .before .before .before .v .given .1) (c .record-report2 .ensures)
 
 pub finish-record-spec : {M : Type 1} → statement M
 finish-record-spec =
     tie.close
     (tie.spec
-    (λ c. search needs)
+    add-record-report
     (λ c κs. search needs)
     returns
     slice-aggregate-check-record
@@ -74,9 +100,10 @@ finish-record-spec =
     slice-aggregate-check-record-3
     check-record-requires
     (λ c. search needs)
-    add-t28
+    add-t26
+    add-t27
     (λ c. search needs)
-    (λ c. search needs)
+    add-record-report-2
     (λ c κs. search needs)
     returns-2
     returns-3)

@@ -1,4 +1,4 @@
--- `file_cursor::next_record` meets its contract: what the next record came to is a visit, whichever event it is.
+-- `file_cursor::next_record` meets its contract, by the event of the scanner.
 use native.Mathlib.Omega.{arith}
 use Prim.Native.Nat.{_≤_}
 use borrow.Author.Needs.{needs}
@@ -16,7 +16,7 @@ scan-next-requires c κs =
 met : (u : tie.After-scan-next)
     → let a = u .before .before .before .before .before .before .before .before .args in
     let after = u .scan-next in
-    Met (a .d) (a .file .now) (a .state) (a .from) (a .starts .now) (a .ends .now) (a .kinds .now) (after .last .1 .1 .1 .1 .1 .1 .0) (after .last .1 .1 .1 .1 .1 .1 .1 .0) (after .last .1 .1 .1 .1 .1 .1 .1 .1 .0) (after .result)
+    Met (a .d) (a .file .now) (a .cursor .state) (a .cursor .offset) (a .starts .now) (a .ends .now) (a .kinds .now) (after .last .1 .1 .1 .1 .1 .1 .0) (after .last .1 .1 .1 .1 .1 .1 .1 .0) (after .last .1 .1 .1 .1 .1 .1 .1 .1 .0) (after .result)
 met u =
     let q = u .before .before .before .before .before .before .before .before .pre in
     let n = u .scan-next .ensures in
@@ -27,8 +27,8 @@ finish-record-requires c κs =
     let u = c .before .before .before .before .before .before .before .before .before .before .before .before in
     let start = u .before .before .before .before .before .before .before .before in
     let m = met u in
-    let done : start .args .done ≤ start .args .from = start .pre .1 .0 .0 in
-    let under : start .args .from ≤ 16777215 = start .pre .0 .1 in
+    let done : start .args .cursor .done ≤ start .args .cursor .offset = start .pre .1 .0 .0 in
+    let under : start .args .cursor .offset ≤ 16777215 = start .pre .0 .1 in
     (now-long m, (now-stand m _ (record-counts m (c .before .before .before .before .start .given .1)), (omega arith, start .pre .1 .0 .1)))
 
 finish-record-requires-2 : tie.Need-finish-record-requires-2
@@ -36,15 +36,15 @@ finish-record-requires-2 c κs =
     let u = c .before .before .before .before .before .before .before .before .before .before .before .before in
     let start = u .before .before .before .before .before .before .before .before in
     let m = met u in
-    let done : start .args .done ≤ start .args .from = start .pre .1 .0 .0 in
-    let under : start .args .from ≤ 16777215 = start .pre .0 .1 in
+    let done : start .args .cursor .done ≤ start .args .cursor .offset = start .pre .1 .0 .0 in
+    let under : start .args .cursor .offset ≤ 16777215 = start .pre .0 .1 in
     (now-long m, (now-stand m _ (last-counts m (c .before .before .before .before .start2 .given .1)), (omega arith, start .pre .1 .0 .1)))
 
 add-record-report : tie.Need-add-record-report
 add-record-report c =
-    let start = c .before .before .before .before .before .before .before .before .before .before .before .before .before .before .before .before .before in
-    let done : start .args .done ≤ start .args .from = start .pre .1 .0 .0 in
-    let under : start .args .from ≤ 16777215 = start .pre .0 .1 in
+    let start = c .before .before .before .before .before .before .before .before .before .before .before .before .before .before .before .before .before .before in
+    let done : start .args .cursor .done ≤ start .args .cursor .offset = start .pre .1 .0 .0 in
+    let under : start .args .cursor .offset ≤ 16777215 = start .pre .0 .1 in
     omega arith
 
 returns : tie.Need-returns
@@ -63,9 +63,10 @@ returns-2 c =
 
 returns-3 : tie.Need-returns-3
 returns-3 c =
-    let m = met (c .before .before .before .before .before .before .before .before .before .before) in
-    let a = c .before .before .before .before .before .before .before .before .before .before .before .before .before .before .before .before .before .before .args in
-    (λ rs y. fault-visited m (a .aim) rs (a .done) (c .before .before .fault .given .1) (y .count) _ (c .record-report .ensures), now-kept m)
+    let u = c .before .before .before .before .before .before .before .before .before .before .before in
+    let m = met u in
+    let a = u .before .before .before .before .before .before .before .before .args in
+    (λ rs y. fault-visited m (a .aim) rs (a .cursor .done) (c .before .before .before .fault .given .1) (y .count) _ (c .record-report .ensures), now-kept m)
 
 returns-4 : tie.Need-returns-4
 returns-4 c =

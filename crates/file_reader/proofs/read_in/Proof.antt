@@ -1,52 +1,60 @@
--- `file_reader::read_in` meets its contract, by what the visit to the header comes to.
+-- `file_reader::read_in` meets its contract, by the cursor's result for the header.
 use mathlib.Core.Path.{refl}
-use mathlib.Core.List.{[]}
 use lib.ListN.{length}
 use borrow.Author.Needs.{needs}
 use Rattle.file_cursor.specs.declared.Aim.the-variants.{Reading}
-use Rattle.file_cursor.proofs.Traversal.{nothing-yet, sets-out, walk-bounds, full-long}
-use Rattle.file_reader.proofs.ReaderAnswers.{begins, no-header, no-records, shortest}
+use Rattle.file_cursor.proofs.Traversal.{sets-out, walk-bounds, full-long}
+use Rattle.file_reader.proofs.ReaderAnswers.{from-start, begins, no-header, no-records, shortest}
 use Rattle.file_reader.proofs.read_in.Statement.{statement}
 use Rattle.file_reader.proofs.read_in.Tie as tie
 
 next-record-requires : tie.Need-next-record-requires
 next-record-requires c κs =
-    let a = c .before .before .before .before .before .before .before .before .before .args in
-    let b = walk-bounds (sets-out (a .d) Reading (a .file .now)) in
+    let a = c .before .before .before .before .before .before .before .before .before .before .args in
+    let b = walk-bounds (sets-out (a .d) Reading (a .file .now) _ (c .before .before .before .at-start .ensures)) in
     (b .0, (b .1, full-long (record { at-starts = refl; at-ends = refl; at-kinds = refl })))
 
 read-records-requires : tie.Need-read-records-requires
 read-records-requires c κs =
-    let at-visit = c .before .before .before .before .before .before .before .before .before in
-    let at-least-of2 = at-visit .before .before .before .before in
-    let a = at-least-of2 .before .before .before .before .before .before .args in
-    let m = shortest (length (a .starts .now)) (length (a .ends .now)) (length (a .kinds .now)) _ _ (at-least-of2 .before .min-of .ensures) (at-least-of2 .min-of2 .ensures) in
-    (begins (at-visit .next-record .ensures .0 [] (nothing-yet Reading)) (c .before .before .before .before .v .given .1), m .1)
+    let u = c .before .before .before .before .before .before .before .before .before in
+    let q = u .before .before .before .before .at-start .ensures in
+    let m2 = c .before .before .before .before .before .before .before .before .before .before .before .before .before .before in
+    let a = m2 .before .before .before .before .before .before .args in
+    let lengths = shortest (length (a .starts .now)) (length (a .ends .now)) (length (a .kinds .now)) in
+    let m = lengths _ _ (m2 .before .min-of .ensures) (m2 .min-of2 .ensures) in
+    (begins (from-start q (u .next-record .ensures .0)) (c .before .before .before .before .v .given .1), m .1)
 
 returns : tie.Need-returns
 returns c =
-    let at-header-and-data = c .before .before .before .before .before .before in
-    let at-least-of2 = at-header-and-data .before .before .before .before .before .before .before .before .before .before .before .before .before .before in
-    let a = at-least-of2 .before .before .before .before .before .before .args in
-    let m = shortest (length (a .starts .now)) (length (a .ends .now)) (length (a .kinds .now)) _ _ (at-least-of2 .before .min-of .ensures) (at-least-of2 .min-of2 .ensures) in
-    rw (← m .0) (at-header-and-data .read-records .ensures)
+    let m2 = c .before .before .before .before .before .before .before .before .before .before .before .before .before .before .before .before .before .before .before .before .before in
+    let a = m2 .before .before .before .before .before .before .args in
+    let lengths = shortest (length (a .starts .now)) (length (a .ends .now)) (length (a .kinds .now)) in
+    let m = lengths _ _ (m2 .before .min-of .ensures) (m2 .min-of2 .ensures) in
+    rw (← m .0) (c .before .before .before .before .before .before .read-records .ensures)
 
 returns-2 : tie.Need-returns-2
 returns-2 c =
-    let a = c .before .before .before .before .before .before .before .before .before .before .before .before .before .before .before .before .before .args in
-    let o = no-records (c .before .before .before .before .before .before .before .next-record .ensures .0 [] (nothing-yet Reading)) _ (a .starts .now) (a .ends .now) (a .kinds .now) _ _ (c .refused .ensures) (c .before .before .enum-told .given .1) (c .before .call-report .ensures) in
+    let u = c .before .before .before .before .before .before .before in
+    let q = u .before .before .before .before .at-start .ensures in
+    let a = u .before .before .before .before .before .before .before .before .before .before .before .args in
+    let n = from-start q (u .next-record .ensures .0) in
+    let o = no-records n _ (a .starts .now) (a .ends .now) (a .kinds .now) _ _ (c .refused .ensures) (c .before .before .enum-told .given .1) (c .before .call-report .ensures) in
     (o .answer, (o .at-starts, (o .at-ends, o .at-kinds)))
 
 returns-3 : tie.Need-returns-3
 returns-3 c =
-    let a = c .before .before .before .before .before .before .before .before .before .before .before .before .before .before .before .before .before .args in
-    let o = no-header (c .before .before .before .before .before .before .before .next-record .ensures .0 [] (nothing-yet Reading)) _ (a .starts .now) (a .ends .now) (a .kinds .now) _ _ (c .refused2 .ensures) (c .before .before .e .given .1) in
+    let u = c .before .before .before .before .before .before .before in
+    let q = u .before .before .before .before .at-start .ensures in
+    let a = u .before .before .before .before .before .before .before .before .before .before .before .args in
+    let n = from-start q (u .next-record .ensures .0) in
+    let o = no-header n _ (a .starts .now) (a .ends .now) (a .kinds .now) _ _ (c .refused2 .ensures) (c .before .before .e .given .1) in
     (o .answer, (o .at-starts, (o .at-ends, o .at-kinds)))
 
 pub read-in-spec : {M : Type 1} → statement M
 read-in-spec =
     tie.close
     (tie.spec
+    (λ c κs. search needs)
     (λ c κs. search needs)
     (λ c κs. search needs)
     (λ c. search needs)

@@ -1,3 +1,4 @@
+-- A data record that passes its checks is the one that the cursor returns; all others fall back.
 use Prim.Native.Nat.{_+_, _≤_}
 use native.Mathlib.Omega.{arith}
 use mathlib.Core.Path.{sym}
@@ -34,30 +35,44 @@ check-record-requires : tie.Need-check-record-requires
 check-record-requires c κs =
     let q = c .before .before .before .before .before .before .before .before .pre in
     let m = c .before .before .before .if1 .left in
-    (q .1 .0 m, (q .1 .1 .0 m, q .1 .1 .1))
+    (q .1 .0 m, (q .1 .1 .0 m, (q .1 .1 .1 .0, q .1 .1 .1 .2)))
+
+-- one record more can be counted
+add-t22 : tie.Need-add-t22
+add-t22 c =
+    let start = c .before .before .before .before .before .before .before .before .before .before .before .before in
+    let m : start .args .cursor .done ≤ 16777215 = start .pre .1 .1 .1 .1 in
+    omega arith
 
 add-t23 : tie.Need-add-t23
 add-t23 c =
-    let a = c .before .before .before .before .before .before .before .before .before .before .before .before .args in
-    let f : a .written + c .before .before .before .check-record .result .length ≤ 16777215 = c .before .before .before .check-record .ensures 1 (λ z. omega arith) .fits (c .before .enum-told2 .given .1) in
+    let u = c .before .before .before .before .before in
+    let a = u .before .before .before .before .before .before .before .before .before .args in
+    let f : a .cursor .written + u .check-record .result .length ≤ 16777215 = u .check-record .ensures .fits (c .before .before .before .enum-told2 .given .1) in
     omega arith
 
 returns-3 : tie.Need-returns-3
 returns-3 c =
-    let a = c .before .before .before .before .before .before .before .before .before .before .before .before .args in
-    λ done rs vs start n y z. sound (ruled-sound (a .d) (a .aim) (a .file .now) (a .starts .now) (a .ends .now) (a .kinds .now) done (a .columns) (a .written) start (a .cells) (a .state) (a .next) rs vs y z _ (z .values) (c .before .before .before .before .before .before .before .if1 .left) _ (c .before .before .before .check-record .ensures done n) (c .before .enum-told2 .given .1))
+    let u = c .before .before .before .before .before in
+    let a = u .before .before .before .before .before .before .before .before .before .args in
+    let kept = c .before .before .before .enum-told2 .given .1 in
+    λ rs vs start y z.
+    sound
+    (ruled-sound (a .d) (a .aim) (a .file .now) (a .starts .now) (a .ends .now) (a .kinds .now) (a .cursor) start (a .cells) (a .state) (a .next) rs vs y z
+    _ (z .values) (u .before .before .before .before .if1 .left) _ (u .check-record .ensures) kept)
 
 pub finish-record-spec : {M : Type 1} → statement M
 finish-record-spec =
     tie.close
     (tie.spec
-    (λ c. λ done rs vs start n y z. unsure)
+    (λ c. λ rs vs start y z. unsure)
     slice-aggregate-check-record
     slice-aggregate-check-record-2
     slice-aggregate-check-record-3
     check-record-requires
     (λ c. search needs)
     (λ c. search needs)
+    add-t22
     add-t23
-    (λ c. λ done rs vs start n y z. unsure)
+    (λ c. λ rs vs start y z. unsure)
     returns-3)

@@ -1,3 +1,4 @@
+-- `next_data_record` meets its contract, by the result of the fast scan.
 use Prim.Native.Nat.{_≤_}
 use native.Mathlib.Omega.{arith}
 use mathlib.Core.Path.{refl}
@@ -10,11 +11,15 @@ use Rattle.file_cursor.proofs.fast.next_data_record.Tie as tie
 
 finish-record-requires : tie.Need-finish-record-requires
 finish-record-requires c κs =
-    let q = c .before .before .before .before .before .before .before .before .before .before .before .before .before .before .before .before .before .before .before .before .before .pre in
+    let start = c .before .before .before .before .before .before .before .before .before .before .before .before .before .before .before .before .before .before .before .before .before in
+    let q = start .pre in
     let t = c .before .before .before .before .before .before .before .before .before .before .before .before .scan .ensures in
     let z = c .before .before .before .before .cells .given .1 in
     let m = met t (q .0 .2) (q .0 .0) (q .1 .1) z in
-    (now-long m, (now-stand m _ (record-counts m refl), (clean-cells t (q .0 .2) (q .0 .0) (q .1 .1) z, q .1 .0 .1)))
+    let later = c .before .before .before .before .before .before .before .before .before .before .before .before .before .before .before .before .if1 .left in
+    let under : start .args .done ≤ start .args .from = q .1 .0 .0 in
+    let most : start .args .from ≤ 16777215 = q .0 .1 in
+    (now-long m, (now-stand m _ (record-counts m refl), (clean-cells t (q .0 .2) (q .0 .0) (q .1 .1) z, (later, omega arith, q .1 .0 .1))))
 
 returns-2 : tie.Need-returns-2
 returns-2 c =
@@ -28,7 +33,7 @@ returns-3 c =
     let t = c .before .before .before .before .before .before .before .before .before .before .before .before .before .scan .ensures in
     let z = c .before .before .before .before .before .cells .given .1 in
     let m = met t (q .0 .2) (q .0 .0) (q .1 .1) z in
-    (λ rs y. tells t (q .0 .2) (q .0 .0) (q .1 .1) (a .aim) rs (a .done) (y .count) (c .before .before .before .before .before .before .before .before .before .before .before .before .before .before .before .before .before .if1 .left) z (c .finish-record .ensures (a .done) rs _ _ (c .before .before .before .before .before .before .before .before .before .before .before .before .before .before .before .before .before .if1 .left) y (now-shown m _ (record-counts m refl))), kept t (q .0 .2) (q .0 .0) (q .1 .1))
+    (λ rs y. tells t (q .0 .2) (q .0 .0) (q .1 .1) (a .aim) rs (a .done) (y .count) (c .before .before .before .before .before .before .before .before .before .before .before .before .before .before .before .before .before .if1 .left) z (c .finish-record .ensures rs _ _ y (now-shown m _ (record-counts m refl))), kept t (q .0 .2) (q .0 .0) (q .1 .1))
 
 pub next-data-record-spec : {M : Type 1} → statement M
 next-data-record-spec =

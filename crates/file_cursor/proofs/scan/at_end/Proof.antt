@@ -1,3 +1,4 @@
+-- `at_end` meets its contract, by what the file's end is to the state.
 use mathlib.Core.Path.{sym, ap, _∙_}
 use lib.ListN.{length}
 use borrow.Author.Needs.{needs}

@@ -1,3 +1,4 @@
+-- `scan_next` meets its contract, by the scanner's result; where that needs input, the file ends.
 use borrow.Author.Needs.{needs}
 use Rattle.record_scanner.proofs.StoreLaws.{still-room}
 use Rattle.file_cursor.proofs.WholeFile.{at-record, at-fault, at-end, in-hand}

@@ -1,4 +1,4 @@
--- The invariant: after the header and so many data records, with the cells that the lists hold, reading stands at i.
+-- The invariant: after the header and this number of data records, with the cells that the lists hold, reading is at i.
 use Prim.Native.Nat.{_-_, _≤_}
 use native.Mathlib.Omega.{arith}
 use mathlib.Core.Path.{_≡_, refl, _∙_}
