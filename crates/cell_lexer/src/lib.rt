@@ -3,7 +3,7 @@
 // its tests in the same order; a step that changes needs the proof of its function.
 //
 // `ByteClass` leaves most functions on the path of a byte with one call site, so that the compiler inlines them into the loop that calls
-// them; `benchmark.sh` measures the effect.
+// them; `make benchmark` measures the effect.
 use model::Advance;
 use model::ByteFault;
 use model::Cell;

@@ -3,7 +3,7 @@
 // in the same order; a step that changes needs the proof of its function.
 //
 // `Dispatched` leaves the cell to the caller, so that most functions on the path of a byte have one call site and the compiler inlines
-// them into the loop that calls them; `benchmark.sh` measures the effect.
+// them into the loop that calls them; `make benchmark` measures the effect.
 use crate::separators::is_blank;
 use model::Advance;
 use model::ByteFault;

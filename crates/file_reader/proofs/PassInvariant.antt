@@ -15,7 +15,8 @@ use Rattle.model.specs.declared.CheckResult.the-variants.{Sound, Faulty}
 use Rattle.model.specs.rules.Base.{Bytes, concat}
 use Rattle.model.specs.rules.Text.{Value}
 use Rattle.model.specs.rules.Report.{report, numberOf, columnOf, MAXFILE}
-use Rattle.model.specs.rules.Records.{Rec, rows, Read, between-records, Progress, going, stopped, complete, readFrom, readEnd, recordFault, dataFault, faultReport}
+use Rattle.model.specs.rules.Records.{Rec, rows, Read, between-records, Progress, going, stopped, complete, readFrom, readEnd, recordFault, dataFault}
+use Rattle.model.specs.rules.Records.{faultReport}
 use Rattle.model.specs.rules.Api.{startsOf, endsOf, kindsOf}
 use Rattle.file_cursor.specs.Next.{Next, nextRecord, EventInBounds}
 use Rattle.record_scanner.specs.Stored.{storedFrom}
@@ -33,7 +34,9 @@ use Rattle.file_cursor.proofs.Events.{on-record, on-last, on-fault, on-finish}
 -- ---- lists
 
 -- more cells are stored after those that are there
-stored-more : (φ : Value → ℕ) (room n : ℕ) (vs ws : List Value) (old new out : List ℕ) → length vs ≡ n → new ≡ storedFrom room 0 (map φ vs) old → out ≡ storedFrom room n (map φ ws) new → out ≡ storedFrom room 0 (map φ (vs ++ ws)) old
+stored-more :
+    (φ : Value → ℕ) (room n : ℕ) (vs ws : List Value) (old new out : List ℕ) → length vs ≡ n → new ≡ storedFrom room 0 (map φ vs) old →
+    out ≡ storedFrom room n (map φ ws) new → out ≡ storedFrom room 0 (map φ (vs ++ ws)) old
 stored-more φ room n vs ws old new out l e f =
     let m : length (map φ vs) ≡ n = length-map vs φ ∙ l in
     let z : n ≡ 0 + length (map φ vs) = omega arith in
@@ -43,7 +46,10 @@ stored-more φ room n vs ws old new out l e f =
     ∙ sym (stored-from-append room 0 (map φ vs) (map φ ws) old)
     ∙ ap (λ (xs : List ℕ). storedFrom room 0 xs old) (sym (map-append φ vs ws))
 
-pub more-held : (room n : ℕ) (vs ws : List Value) (s₀ e₀ k₀ s e ks s′ e′ k′ : List ℕ) → length vs ≡ n → Holds room vs s₀ e₀ k₀ s e ks → (s′ ≡ storedFrom room n (startsOf ws) s) → (e′ ≡ storedFrom room n (endsOf ws) e) → (k′ ≡ storedFrom room n (kindsOf ws) ks) → Holds room (vs ++ ws) s₀ e₀ k₀ s′ e′ k′
+pub more-held :
+    (room n : ℕ) (vs ws : List Value) (s₀ e₀ k₀ s e ks s′ e′ k′ : List ℕ) → length vs ≡ n → Holds room vs s₀ e₀ k₀ s e ks →
+    (s′ ≡ storedFrom room n (startsOf ws) s) → (e′ ≡ storedFrom room n (endsOf ws) e) → (k′ ≡ storedFrom room n (kindsOf ws) ks) →
+    Holds room (vs ++ ws) s₀ e₀ k₀ s′ e′ k′
 more-held room n vs ws s₀ e₀ k₀ s e ks s′ e′ k′ l y a b c =
     record {
       at-starts = stored-more _ room n vs ws s₀ s s′ l (y .at-starts) a;
@@ -51,7 +57,9 @@ more-held room n vs ws s₀ e₀ k₀ s e ks s′ e′ k′ l y a b c =
       at-kinds = stored-more _ room n vs ws k₀ ks k′ l (y .at-kinds) c;
     }
 
-pub held-lengths : {room : ℕ} {vs : List Value} {s₀ e₀ k₀ s e ks : List ℕ} → Holds room vs s₀ e₀ k₀ s e ks → (length s ≡ length s₀) × (length e ≡ length e₀) × (length ks ≡ length k₀)
+pub held-lengths :
+    {room : ℕ} {vs : List Value} {s₀ e₀ k₀ s e ks : List ℕ} → Holds room vs s₀ e₀ k₀ s e ks →
+    (length s ≡ length s₀) × (length e ≡ length e₀) × (length ks ≡ length k₀)
 held-lengths {room} {vs} {s₀} {e₀} {k₀} y = (
   ap length (y .at-starts) ∙ length-stored-from room 0 (startsOf vs) s₀,
   ap length (y .at-ends) ∙ length-stored-from room 0 (endsOf vs) e₀,
@@ -119,7 +127,8 @@ module _ (call : Call) where
     Here = nextRecord d (between-records [] f i) (drop i file)
 
     -- the scanner's answer
-    module _ {v : FileScan} (ev : v ≡ Here .event) {s′ e′ k′ : List ℕ} (ps : s′ ≡ storedFrom room cells (startsOf (Here .cells)) s) (pe : e′ ≡ storedFrom room cells (endsOf (Here .cells)) e) (pk : k′ ≡ storedFrom room cells (kindsOf (Here .cells)) k) where
+    module _ {v : FileScan} (ev : v ≡ Here .event) {s′ e′ k′ : List ℕ} (ps : s′ ≡ storedFrom room cells (startsOf (Here .cells)) s)
+        (pe : e′ ≡ storedFrom room cells (endsOf (Here .cells)) e) (pk : k′ ≡ storedFrom room cells (kindsOf (Here .cells)) k) where
       pub now-held : Holds room (y .vs ++ Here .cells) s₀ e₀ k₀ s′ e′ k′
       now-held = more-held room cells (y .vs) (Here .cells) s₀ e₀ k₀ s e k s′ e′ k′ (y .counted) (y .lists) ps pe pk
 
@@ -133,22 +142,33 @@ module _ (call : Call) where
       two-more = omega arith
 
       -- a record with a fault
-      faulty-outcome : (h : Rec) (ds : List Rec) (r : Read) (start : ℕ) (g : FileState) (o : ℕ) (x : Fault) (t : Report) → length (h .cells) ≡ columns → r .done ≡ h ∷ ds → length ds ≡ records → r .start ≡ start → dataFault columns (Here .cells) ≡ Faulty x → t ≡ report (numberOf x) (records + 2) (columnOf x) start → (complete d none r (Here .cells) g o ≡ stopped x r) × (t ≡ faultReport x r)
+      faulty-outcome :
+          (h : Rec) (ds : List Rec) (r : Read) (start : ℕ) (g : FileState) (o : ℕ) (x : Fault) (t : Report) → length (h .cells) ≡ columns →
+          r .done ≡ h ∷ ds → length ds ≡ records → r .start ≡ start → dataFault columns (Here .cells) ≡ Faulty x →
+          t ≡ report (numberOf x) (records + 2) (columnOf x) start →
+          (complete d none r (Here .cells) g o ≡ stopped x r) × (t ≡ faultReport x r)
       faulty-outcome h ds r start g o x t q a c b w z =
-          let fault : recordFault d none (r .done) (Here .cells) ≡ Faulty x = ap (λ (l : List Rec). recordFault d none l (Here .cells)) a ∙ data-fault d h ds (Here .cells) ∙ ap (λ (n : ℕ). dataFault n (Here .cells)) q ∙ w in (
+          let fault : recordFault d none (r .done) (Here .cells) ≡ Faulty x = ap (λ (l : List Rec). recordFault d none l (Here .cells))
+          a ∙ data-fault d h ds (Here .cells) ∙ ap (λ (n : ℕ). dataFault n (Here .cells)) q ∙ w in (
             complete-faulty d none r (Here .cells) g o x fault,
             z ∙ rw (sym two-more, sym b) (report-start d none r (Here .cells) x (suc records) fault (number r h ds a c)),
           )
 
       -- a record that is sound
-      sound-record : (h : Rec) (ds : List Rec) (r : Read) (g : FileState) (o : ℕ) → length (h .cells) ≡ columns → r .done ≡ h ∷ ds → dataFault columns (Here .cells) ≡ Sound → complete d none r (Here .cells) g o ≡ going (between-records (h ∷ (ds ++ (recOf r (Here .cells) ∷ []))) g o)
+      sound-record :
+          (h : Rec) (ds : List Rec) (r : Read) (g : FileState) (o : ℕ) → length (h .cells) ≡ columns → r .done ≡ h ∷ ds →
+          dataFault columns (Here .cells) ≡ Sound →
+          complete d none r (Here .cells) g o ≡ going (between-records (h ∷ (ds ++ (recOf r (Here .cells) ∷ []))) g o)
       sound-record h ds r g o q a w =
-          let fault : recordFault d none (r .done) (Here .cells) ≡ Sound = ap (λ (l : List Rec). recordFault d none l (Here .cells)) a ∙ data-fault d h ds (Here .cells) ∙ ap (λ (n : ℕ). dataFault n (Here .cells)) q ∙ w in
+          let fault : recordFault d none (r .done) (Here .cells) ≡ Sound
+          = ap (λ (l : List Rec). recordFault d none l (Here .cells)) a ∙ data-fault d h ds (Here .cells)
+          ∙ ap (λ (n : ℕ). dataFault n (Here .cells)) q ∙ w in
           complete-sound d none r (Here .cells) g o fault ∙ ap (λ (l : List Rec). going (between-records (l ++ (recOf r (Here .cells) ∷ [])) g o)) a
 
       -- ---- a complete record
 
-      module _ (start n : ℕ) (g : FileState) (o : ℕ) (w : v ≡ Completed start n g o) (fits : EventInBounds (length file) i cells v) (u : CheckResult) (j : (ws : List Value) → length ws ≡ n → u ≡ dataFault columns ws) where
+      module _ (start n : ℕ) (g : FileState) (o : ℕ) (w : v ≡ Completed start n g o) (fits : EventInBounds (length file) i cells v)
+          (u : CheckResult) (j : (ws : List Value) → length ws ≡ n → u ≡ dataFault columns ws) where
         here : Here .event ≡ Completed start n g o
         here = sym ev ∙ w
 
@@ -193,20 +213,27 @@ module _ (call : Call) where
                       (sound-record h (x .ds) (at .r) g o t (at .done) (sym validated-here ∙ z));
                 }
 
-        pub record-refused : (x : Fault) → u ≡ Faulty x → (t : Report) → t ≡ report (numberOf x) (records + 2) (columnOf x) start → PassSound d file from first columns room s₀ e₀ k₀ (Refused t) s′ e′ k′
+        pub record-refused :
+            (x : Fault) → u ≡ Faulty x → (t : Report) → t ≡ report (numberOf x) (records + 2) (columnOf x) start →
+            PassSound d file from first columns room s₀ e₀ k₀ (Refused t) s′ e′ k′
         record-refused x z t te =
             record { vs = y .vs ++ Here .cells; lists = now-held; outcome = λ h q. out h q (y .turn h q); few = tt }
           where
-            out : (h : Rec) → length (h .cells) ≡ columns → Turned h (y .vs) f i records → PassOutcome h (y .vs ++ Here .cells) (restOf d none file (h ∷ []) first from) (Refused t)
+            out :
+                (h : Rec) → length (h .cells) ≡ columns → Turned h (y .vs) f i records →
+                PassOutcome h (y .vs ++ Here .cells) (restOf d none file (h ∷ []) first from) (Refused t)
             out h q a =
                 let at = on-record d none file (h ∷ a .ds) Here _ (next-follows h (a .ds)) start n g o here in
                 let both = faulty-outcome h (a .ds) (at .r) start g o x t q (at .done) (a .count) (at .starts) (sym validated-here ∙ z) te in
-                let p : restOf d none file (h ∷ []) first from ≡ stopped x (at .r) = a .rest ∙ at .rest ∙ ap (λ (r : Progress). readEnd d none (readFrom d none r (drop o file))) (both .0) ∙ sym (stays d none x (at .r) (drop o file)) in
+                let p : restOf d none file (h ∷ []) first from ≡ stopped x (at .r)
+                = a .rest ∙ at .rest ∙ ap (λ (r : Progress). readEnd d none (readFrom d none r (drop o file))) (both .0)
+                ∙ sym (stays d none x (at .r) (drop o file)) in
                 rw (p, both .1) (refused x (at .r))
 
       -- ---- a last record
 
-      module _ (start n : ℕ) (w : v ≡ LastRecord start n) (fits : EventInBounds (length file) i cells v) (u : CheckResult) (j : (ws : List Value) → length ws ≡ n → u ≡ dataFault columns ws) where
+      module _ (start n : ℕ) (w : v ≡ LastRecord start n) (fits : EventInBounds (length file) i cells v) (u : CheckResult)
+          (j : (ws : List Value) → length ws ≡ n → u ≡ dataFault columns ws) where
         last-here : Here .event ≡ LastRecord start n
         last-here = sym ev ∙ w
 
@@ -219,11 +246,15 @@ module _ (call : Call) where
         last-validated : u ≡ dataFault columns (Here .cells)
         last-validated = j (Here .cells) last-counts
 
-        pub last-refused : (x : Fault) → u ≡ Faulty x → (t : Report) → t ≡ report (numberOf x) (records + 2) (columnOf x) start → PassSound d file from first columns room s₀ e₀ k₀ (Refused t) s′ e′ k′
+        pub last-refused :
+            (x : Fault) → u ≡ Faulty x → (t : Report) → t ≡ report (numberOf x) (records + 2) (columnOf x) start →
+            PassSound d file from first columns room s₀ e₀ k₀ (Refused t) s′ e′ k′
         last-refused x z t te =
             record { vs = y .vs ++ Here .cells; lists = now-held; outcome = λ h q. out h q (y .turn h q); few = tt }
           where
-            out : (h : Rec) → length (h .cells) ≡ columns → Turned h (y .vs) f i records → PassOutcome h (y .vs ++ Here .cells) (restOf d none file (h ∷ []) first from) (Refused t)
+            out :
+                (h : Rec) → length (h .cells) ≡ columns → Turned h (y .vs) f i records →
+                PassOutcome h (y .vs ++ Here .cells) (restOf d none file (h ∷ []) first from) (Refused t)
             out h q a =
                 let at = on-last d none file (h ∷ a .ds) Here _ (next-follows h (a .ds)) start n last-here in
                 let both = faulty-outcome h (a .ds) (at .r) start Begin (length file) x t q (at .done) (a .count) (at .starts) (sym last-validated ∙ z) te in
@@ -239,27 +270,37 @@ module _ (call : Call) where
             total : length (y .vs ++ Here .cells) ≡ cells + n
             total = length-append (y .vs) (Here .cells) ∙ ap (λ (x : ℕ). x + length (Here .cells)) (y .counted) ∙ ap (λ (x : ℕ). cells + x) last-counts
 
-            out : (h : Rec) → length (h .cells) ≡ columns → Turned h (y .vs) f i records → PassOutcome h (y .vs ++ Here .cells) (restOf d none file (h ∷ []) first from) (Accepted (records + 1) (cells + n))
+            out :
+                (h : Rec) → length (h .cells) ≡ columns → Turned h (y .vs) f i records →
+                PassOutcome h (y .vs ++ Here .cells) (restOf d none file (h ∷ []) first from) (Accepted (records + 1) (cells + n))
             out h q a =
                 let at = on-last d none file (h ∷ a .ds) Here _ (next-follows h (a .ds)) start n last-here in
                 let rec : Rec = recOf (at .r) (Here .cells) in
                 let ds : List Rec = a .ds ++ (rec ∷ []) in
-                let p : restOf d none file (h ∷ []) first from ≡ going (between-records (h ∷ ds) Begin (length file)) = a .rest ∙ at .rest ∙ sound-record h (a .ds) (at .r) Begin (length file) q (at .done) (sym last-validated ∙ z) in
+                let p : restOf d none file (h ∷ []) first from ≡ going (between-records (h ∷ ds) Begin (length file))
+                = a .rest ∙ at .rest ∙ sound-record h (a .ds) (at .r) Begin (length file) q (at .done) (sym last-validated ∙ z) in
                 let c : length ds ≡ records + 1 = length-snoc (a .ds) rec ∙ ap (λ (m : ℕ). m + 1) (a .count) in
                 let t : concat (rows ds) ≡ y .vs ++ Here .cells = rows-snoc (a .ds) rec ∙ ap (λ (l : List Value). l ++ Here .cells) (a .cells) in
                 rw (p, sym c, sym total) (accepted (between-records (h ∷ ds) Begin (length file)) ds refl t)
 
       -- ---- a fault, and the end of the file
 
-      pub fault-refused : (x : Fault) (o : ℕ) → v ≡ Failed x o → (t : Report) → t ≡ report (numberOf x) (records + 2) (columnOf x) o → PassSound d file from first columns room s₀ e₀ k₀ (Refused t) s′ e′ k′
+      pub fault-refused :
+          (x : Fault) (o : ℕ) → v ≡ Failed x o → (t : Report) → t ≡ report (numberOf x) (records + 2) (columnOf x) o →
+          PassSound d file from first columns room s₀ e₀ k₀ (Refused t) s′ e′ k′
       fault-refused x o w t te =
           record { vs = y .vs ++ Here .cells; lists = now-held; outcome = λ h q. out h q (y .turn h q); few = tt }
         where
-          out : (h : Rec) → length (h .cells) ≡ columns → Turned h (y .vs) f i records → PassOutcome h (y .vs ++ Here .cells) (restOf d none file (h ∷ []) first from) (Refused t)
+          out :
+              (h : Rec) → length (h .cells) ≡ columns → Turned h (y .vs) f i records →
+              PassOutcome h (y .vs ++ Here .cells) (restOf d none file (h ∷ []) first from) (Refused t)
           out h q a =
               let at = on-fault d none file (h ∷ a .ds) Here _ (next-follows h (a .ds)) x o (sym ev ∙ w) in
               let p : restOf d none file (h ∷ []) first from ≡ stopped x (at .r) = a .rest ∙ at .rest in
-              let z : t ≡ faultReport x (at .r) = te ∙ ap (λ (m : ℕ). report (numberOf x) m (columnOf x) o) (sym two-more) ∙ ap (λ (m : ℕ). report (numberOf x) (suc (suc records)) (columnOf x) m) (sym (at .place)) ∙ (report-byte x (at .r) (suc records) (at .byte) (number (at .r) h (a .ds) (at .done) (a .count))) in
+              let z : t ≡ faultReport x (at .r)
+              = te ∙ ap (λ (m : ℕ). report (numberOf x) m (columnOf x) o) (sym two-more)
+              ∙ ap (λ (m : ℕ). report (numberOf x) (suc (suc records)) (columnOf x) m) (sym (at .place))
+              ∙ (report-byte x (at .r) (suc records) (at .byte) (number (at .r) h (a .ds) (at .done) (a .count))) in
               rw (p, z) (refused x (at .r))
 
       pub finish-accepted : (o : ℕ) → v ≡ End o → PassSound d file from first columns room s₀ e₀ k₀ (Accepted records cells) s′ e′ k′
@@ -269,7 +310,9 @@ module _ (call : Call) where
           small : cells ≤ MAXFILE + 1
           small = let a : cells ≤ i = y .few in let b : i ≤ MAXFILE = y .under in omega arith
 
-          out : (h : Rec) → length (h .cells) ≡ columns → Turned h (y .vs) f i records → PassOutcome h (y .vs ++ Here .cells) (restOf d none file (h ∷ []) first from) (Accepted records cells)
+          out :
+              (h : Rec) → length (h .cells) ≡ columns → Turned h (y .vs) f i records →
+              PassOutcome h (y .vs ++ Here .cells) (restOf d none file (h ∷ []) first from) (Accepted records cells)
           out h q a =
               let at = on-finish d none file (h ∷ a .ds) Here _ (next-follows h (a .ds)) o (sym ev ∙ w) in
               let p : restOf d none file (h ∷ []) first from ≡ going (at .r) = a .rest ∙ at .rest in

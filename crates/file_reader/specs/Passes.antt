@@ -34,7 +34,8 @@ abbrev pub Few : PassResult → Type 0
 Few (Accepted records cells) = cells ≤ MAXFILE + 1
 Few (Refused e) = Unit {0}
 
-pub record PassSound (d : Dialect) (file : Bytes) (from : ℕ) (f : FileState) (columns room : ℕ) (starts₀ ends₀ kinds₀ : List ℕ) (p : PassResult) (starts ends kinds : List ℕ) : Type 0 where
+pub record PassSound (d : Dialect) (file : Bytes) (from : ℕ) (f : FileState) (columns room : ℕ) (starts₀ ends₀ kinds₀ : List ℕ)
+    (p : PassResult) (starts ends kinds : List ℕ) : Type 0 where
   pub vs : List Value
   pub lists : Holds room vs starts₀ ends₀ kinds₀ starts ends kinds
   pub outcome : (h : Rec) → length (h .cells) ≡ columns → PassOutcome h vs (restOf d none file (h ∷ []) f from) p

@@ -36,7 +36,9 @@ kind-back True = refl
 kind-back False = refl
 kind-back Null = refl
 
-pub cells-are : (d : Dialect) (s : Bytes) (starts ends : List ℕ) → cellsIn (File d) s starts ends (kindsOf (valuesIn d s starts ends)) ≡ valuesIn d s starts ends
+pub cells-are :
+    (d : Dialect) (s : Bytes) (starts ends : List ℕ) →
+    cellsIn (File d) s starts ends (kindsOf (valuesIn d s starts ends)) ≡ valuesIn d s starts ends
 unfolding cellsIn valuesIn
 cells-are d s [] ends = refl
 cells-are d s (i ∷ starts) [] = refl
@@ -58,7 +60,9 @@ order-over : {at upto : ℕ} {ends : List ℕ} → InOrder at ends upto → at �
 order-over (order-end h) = h
 order-over (order-next h hs) = let k = order-over hs in omega arith
 
-ordered-at : (at upto : ℕ) (ends : List ℕ) → InOrder at ends upto → (k : ℕ) → k < length ends → (getD (startsBy at ends) k 0 ≤ getD ends k 0) × (getD ends k 0 ≤ upto)
+ordered-at :
+    (at upto : ℕ) (ends : List ℕ) → InOrder at ends upto → (k : ℕ) → k < length ends →
+    (getD (startsBy at ends) k 0 ≤ getD ends k 0) × (getD ends k 0 ≤ upto)
 unfolding startsBy
 ordered-at at upto (e ∷ es) (order-next h hs) zero l = (h, order-over hs)
 ordered-at at upto (e ∷ es) (order-next h hs) (suc k) l = ordered-at e upto es hs k (omega arith)
@@ -67,7 +71,12 @@ ordered-at at upto [] (order-end h) k l = absurd (omega arith)
 pub lie-of : {s : Bytes} {ends : List ℕ} → InOrder 0 ends (length s) → SpansIn s (startsBy 0 ends) ends 0 (length ends)
 lie-of {s} {ends} h =
     let n = starts-count 0 ends in
-    record { in-starts = omega arith; in-stops = omega arith; forward = λ k _ l. ordered-at 0 (length s) ends h k l .0; within = λ k _ l. ordered-at 0 (length s) ends h k l .1 }
+    record {
+      in-starts = omega arith;
+      in-stops = omega arith;
+      forward = λ k _ l. ordered-at 0 (length s) ends h k l .0;
+      within = λ k _ l. ordered-at 0 (length s) ends h k l .1;
+    }
 
 -- starts by an array
 pub starts-by : (at : ℕ) (ends : List ℕ) → take (length ends) (at ∷ ends) ≡ startsBy at ends
@@ -162,7 +171,9 @@ module _ (d : Dialect) (s : Bytes) (short : length s ≤ MAXRECORD) (n : ℕ) (f
       in-file (slice-short s at e short) (slice-followed s n at e (omega (arith, end-from e upto es hs)) followed) (kind-back (kindOf d (slice s at e)))
   spelt-at at upto (e ∷ es) (order-next h hs) w (suc k) l = spelt-at e upto es hs w k (omega arith)
 
-pub cells-buffered : (d : Dialect) (s : Bytes) (ends : List ℕ) → length s ≤ MAXRECORD → InOrder 0 ends (length s) → EdFollowed (take (endOf 0 ends) s) → Cells (File d) s (startsBy 0 ends) ends (kindsOf (valuesIn d s (startsBy 0 ends) ends))
+pub cells-buffered :
+    (d : Dialect) (s : Bytes) (ends : List ℕ) → length s ≤ MAXRECORD → InOrder 0 ends (length s) → EdFollowed (take (endOf 0 ends) s) →
+    Cells (File d) s (startsBy 0 ends) ends (kindsOf (valuesIn d s (startsBy 0 ends) ends))
 cells-buffered d s ends short h w =
     let n = starts-count 0 ends in
     let m = kinds-count d s 0 ends in
@@ -196,16 +207,22 @@ module _ (d : Dialect) (s : Bytes) (starts ends : List ℕ) (e : starts ≡ star
   pub starts-stand : InOrder 0 ends (length s) → SpansIn s starts ends 0 (length ends)
   starts-stand h = rw e (lie-of h)
 
-  pub kinds-made : (old new : List ℕ) → new ≡ over (kindsAt d s starts ends (length ends)) old → take (length ends) new ≡ kindsOf (valuesIn d s (startsBy 0 ends) ends)
+  pub kinds-made :
+      (old new : List ℕ) → new ≡ over (kindsAt d s starts ends (length ends)) old →
+      take (length ends) new ≡ kindsOf (valuesIn d s (startsBy 0 ends) ends)
   kinds-made old new f =
       let n : length ends ≡ length (startsBy 0 ends) = sym (starts-count 0 ends) in
-      let a : take (length ends) starts ≡ startsBy 0 ends = ap (take (length ends)) e ∙ ap (λ (m : ℕ). take m (startsBy 0 ends)) n ∙ take-length (startsBy 0 ends) in
+      let a : take (length ends) starts ≡ startsBy 0 ends
+      = ap (take (length ends)) e ∙ ap (λ (m : ℕ). take m (startsBy 0 ends)) n ∙ take-length (startsBy 0 ends) in
       let b : take (length ends) ends ≡ ends = take-length ends in
       let k : kindsAt d s starts ends (length ends) ≡ kindsOf (valuesIn d s (startsBy 0 ends) ends) = ap₂ (λ (x y : List ℕ). kindsOf (valuesIn d s x y)) a b in
-      ap (take (length ends)) (f ∙ ap (λ (x : List ℕ). over x old) k) ∙ take-over (length ends) (kindsOf (valuesIn d s (startsBy 0 ends) ends)) old (kinds-count d s 0 ends)
+      ap (take (length ends)) (f ∙ ap (λ (x : List ℕ). over x old) k)
+      ∙ take-over (length ends) (kindsOf (valuesIn d s (startsBy 0 ends) ends)) old (kinds-count d s 0 ends)
 
   module _ (old new : List ℕ) (f : new ≡ over (kindsAt d s starts ends (length ends)) old) where
-    pub made-cells : length s ≤ MAXRECORD → InOrder 0 ends (length s) → EdFollowed (take (endOf 0 ends) s) → Cells (File d) s starts ends (take (length ends) new)
+    pub made-cells :
+        length s ≤ MAXRECORD → InOrder 0 ends (length s) → EdFollowed (take (endOf 0 ends) s) →
+        Cells (File d) s starts ends (take (length ends) new)
     made-cells short h w = rw (e, kinds-made old new f) (cells-buffered d s ends short h w)
 
     pub made-values : cellsIn (File d) s starts ends (take (length ends) new) ≡ valuesIn d s (startsBy 0 ends) ends

@@ -48,7 +48,9 @@ textAt t p vs = recordText t (p .records is 0) vs ++ ending (t .dialect)
 
 -- its text is written at o, if it has no fault and there is room
 pub data FinishSound (v : CheckResult) (text : Bytes) (o : ℕ) (out out′ : List ℕ) : RecordResult → Type 0 where
-  is-written : {end : ℕ} → v ≡ Sound → o + length text ≤ length out → out′ ≡ written out o text → end ≡ o + length text → FinishSound v text o out out′ (Written end)
+  is-written :
+      {end : ℕ} → v ≡ Sound → o + length text ≤ length out → out′ ≡ written out o text → end ≡ o + length text →
+      FinishSound v text o out out′ (Written end)
   is-refused : {e : Fault} → v ≡ Faulty e → out′ ≡ out → FinishSound v text o out out′ (Refused e)
   has-no-room : v ≡ Sound → length out < o + length text → out′ ≡ out → FinishSound v text o out out′ Invalid
 
@@ -59,4 +61,6 @@ bufferedValues d bytes ends = valuesIn d bytes (startsBy 0 ends) ends
 -- the same for a record whose cells are first checked for what writing requires
 pub data CompleteSound (d : Dialect) (t : Target) (p : Place) (bytes ends : List ℕ) (o : ℕ) (out out′ : List ℕ) (r : RecordResult) : Type 0 where
   not-encoded : r ≡ Invalid → (EdFollowed (take (endOf 0 ends) bytes) → ⊥) → out′ ≡ out → CompleteSound d t p bytes ends o out out′ r
-  ruled : FinishSound (faultAt d t p (bufferedValues d bytes ends)) (textAt t p (bufferedValues d bytes ends)) o out out′ r → CompleteSound d t p bytes ends o out out′ r
+  ruled :
+      FinishSound (faultAt d t p (bufferedValues d bytes ends)) (textAt t p (bufferedValues d bytes ends)) o out out′ r →
+      CompleteSound d t p bytes ends o out out′ r

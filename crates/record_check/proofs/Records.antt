@@ -64,7 +64,8 @@ not-text-cells n src s [] ends (x ∷ kinds) e k = absurd (omega arith)
 not-text-cells n src s (i ∷ starts) [] kinds e k = absurd (omega arith)
 not-text-cells n src s (i ∷ starts) (j ∷ ends) [] e k = absurd (omega arith)
 not-text-cells n src s (i ∷ starts) (j ∷ ends) (x ∷ kinds) e k =
-    ap (λ (v : CheckResult). when (not (isText (kindFrom x))) (HeaderKind n) orElse v) (not-text-cells (suc n) src s starts ends kinds (omega arith) (omega arith))
+    ap (λ (v : CheckResult). when (not (isText (kindFrom x))) (HeaderKind n) orElse v)
+    (not-text-cells (suc n) src s starts ends kinds (omega arith) (omega arith))
 
 -- ---- headers
 

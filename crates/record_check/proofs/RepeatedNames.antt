@@ -43,4 +43,7 @@ module _ (src : Source) (rule : Dialect) (fault : ℕ → Fault) (s : Bytes) (st
       unfolding repeatFrom if_then_else_
       repeat-next e =
           rw (cells-next src s starts ends kinds p (sym q) n h, e, keys-next n)
-          (ap (λ (k : ℕ). repeatFrom rule fault (keyOf src rule s starts ends n ∷ keysBefore src rule s starts ends n) k (cellsFrom src s starts ends kinds (n + 1))) (sym (add-one (n + 1))))
+          (ap
+          (λ (k : ℕ).
+          repeatFrom rule fault (keyOf src rule s starts ends n ∷ keysBefore src rule s starts ends n) k
+          (cellsFrom src s starts ends kinds (n + 1))) (sym (add-one (n + 1))))

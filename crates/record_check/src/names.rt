@@ -4,8 +4,8 @@
 // each time it is compared: at most 64 passes over a header of at most 4,096 bytes, and no room for all names at once. A name given as
 // content is compared where it lies, however long.
 //
-// The definitions are those of specs/Keys.antt. Another rule for upper and lower case changes `fold_byte` and the laws of a key in
-// proofs/Keys.antt, and no other function.
+// The definition is `nameKey` of model's specs/rules/Records.antt, byte by byte in specs/Keys.antt. Another rule for upper and lower case
+// changes `fold_byte`, `folded` there and the laws of a key in proofs/Keys.antt; one that changes a name's length changes `same_name` too.
 ghost use mathlib.Core.Path.{_≡_};
 ghost use mathlib.Core.List.{List};
 ghost use Prim.Native.Nat.{ℕ, _<_, _≤_};

@@ -29,7 +29,8 @@ use Rattle.record_target.specs.Sized.{lengthFault, Sized}
 -- a measure within a record is the length itself
 pub measure-is : (n end : ℕ) → end ≡ measure n → end ≤ MAXRECORD → end ≡ n
 measure-is n end e h =
-    split-on (leb MAXFILE n) (λ b. absurd (omega (arith, e, measure-beyond n (leb-true MAXFILE n b)))) (λ b. e ∙ measure-within n (omega (arith, leb-false MAXFILE n b)))
+    split-on (leb MAXFILE n) (λ b. absurd (omega (arith, e, measure-beyond n (leb-true MAXFILE n b))))
+    (λ b. e ∙ measure-within n (omega (arith, leb-false MAXFILE n b)))
 
 -- a measure beyond a record is that of a text beyond one
 pub measure-over : (n end : ℕ) → end ≡ measure n → MAXRECORD < end → MAXRECORD < n

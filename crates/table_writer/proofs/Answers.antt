@@ -35,7 +35,9 @@ refuses p q e = (p ∙ ap (λ (x : Report). textAnswer (unwritten x)) q ∙ ap t
 pub answers-as : {w v : Written} {r : TextAnswer} (old : Bytes) {new : Bytes} → w ≡ v → Answers v r old new → Answers w r old new
 answers-as old e p = rw e p
 
-pub writes : {w : Written} {e : Report} {n : ℕ} {text : Bytes} (old : Bytes) {new : Bytes} → w ≡ record { report = accepted; text = text } → e ≡ accepted → n ≡ length text → new ≡ over text old
+pub writes :
+    {w : Written} {e : Report} {n : ℕ} {text : Bytes} (old : Bytes) {new : Bytes} → w ≡ record { report = accepted; text = text } →
+    e ≡ accepted → n ≡ length text → new ≡ over text old
     → Answers w (record { report = e; length = n }) old new
 writes old p q l t = rw (p, q, l) (refl, t)
 
@@ -87,7 +89,10 @@ pub in-dialect : (n : ℕ) (t : Dialect) (table : Table) (room : ℕ) → dialec
 unfolding writer
 in-dialect n t table room e = rw (writer, e) (go (rowsIn table))
   where
-    go : (o : Option (List (List Value))) → (elim o as (λ _. Written) [ none ↦ unwritten (refusal 12) | some rs ↦ writtenRows (into t) room rs (rowsFault (into t) rs) ]) ≡ writtenIn t room o
+    go :
+        (o : Option (List (List Value))) →
+        (elim o as (λ _. Written) [ none ↦ unwritten (refusal 12) | some rs ↦ writtenRows (into t) room rs (rowsFault (into t) rs) ])
+        ≡ writtenIn t room o
     go none = refl
     go (some rs) = refl
 

@@ -36,7 +36,14 @@ ed-low h b l u =
 pub ed-above : (h : Bool) (b : ℕ) → 0xBF < b → wideStep (ed h) b ≡ none
 unfolding wideStep if_then_else_
 ed-above h b l =
-    rw (le-leb 0x80 b (omega arith), lt-leb b 0x9F (omega arith), le-leb 0xA0 b (omega arith), lt-leb b 0xAF (omega arith), le-leb 0xB0 b (omega arith), lt-leb b 0xBF l)
+    rw (
+      le-leb 0x80 b (omega arith),
+      lt-leb b 0x9F (omega arith),
+      le-leb 0xA0 b (omega arith),
+      lt-leb b 0xAF (omega arith),
+      le-leb 0xB0 b (omega arith),
+      lt-leb b 0xBF l,
+    )
 
 -- ---- one byte more
 
@@ -64,7 +71,9 @@ ascii-step b h = rw (ne-eqb b 0xED λ e. omega arith) (ap settle (ascii-whole b 
 pub passes-none : {o : Option Wide} {s : Bytes} {i : ℕ} → i ≤ length s → SameContentState o s i i
 passes-none h = record { on = omega arith; inside = h; same = refl }
 
-pub passes-ascii : {s : Bytes} {i j : ℕ} → SameContentState (some (gap false)) s i j → j < length s → getD s j 0 ≤ 0x7F → SameContentState (some (gap false)) s i (j + 1)
+pub passes-ascii :
+    {s : Bytes} {i j : ℕ} → SameContentState (some (gap false)) s i j → j < length s → getD s j 0 ≤ 0x7F →
+    SameContentState (some (gap false)) s i (j + 1)
 passes-ascii {s} {i} {j} p h b =
     record {
       on = omega (arith, p .on);
@@ -77,7 +86,9 @@ passes-ascii {s} {i} {j} p h b =
     }
 
 -- a step, and the run after it
-pub step-passes : (o : Option Wide) {w : Option Wide} {s : Bytes} {i j : ℕ} → i < length s → w ≡ stepIn o (getD s i 0) → SameContentState w s (i + 1) j → contentFrom o (drop i s) ≡ contentFrom w (drop j s)
+pub step-passes :
+    (o : Option Wide) {w : Option Wide} {s : Bytes} {i j : ℕ} → i < length s → w ≡ stepIn o (getD s i 0) → SameContentState w s (i + 1) j →
+    contentFrom o (drop i s) ≡ contentFrom w (drop j s)
 step-passes o {w} {s} {i} {j} h e p =
     ap (contentFrom o) (drop-next s i (i + 1) h refl)
     ∙ content-next o (getD s i 0) (drop (i + 1) s)

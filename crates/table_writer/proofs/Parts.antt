@@ -17,7 +17,9 @@ part-is : (xs : List ℕ) (at m : ℕ) → slice xs at (at + m) ≡ take m (drop
 part-is xs at m = let e : at + m - at ≡ m = omega arith in ap (λ (n : ℕ). take n (drop at xs)) e
 
 part-length : (xs : List ℕ) (at m : ℕ) → at + m ≤ length xs → length (slice xs at (at + m)) ≡ m
-part-length xs at m h = ap length (part-is xs at m) ∙ (length-take m (drop at xs) ∙ (let e : length (drop at xs) ≡ length xs - at = length-drop at xs in omega arith))
+part-length xs at m h =
+    ap length (part-is xs at m)
+    ∙ (length-take m (drop at xs) ∙ (let e : length (drop at xs) ≡ length xs - at = length-drop at xs in omega arith))
 
 part-at : (xs : List ℕ) (at m k : ℕ) → k < m → getD (slice xs at (at + m)) k 0 ≡ getD xs (at + k) 0
 part-at xs at m k h = ap (λ (l : List ℕ). getD l k 0) (part-is xs at m) ∙ getD-take m (drop at xs) k 0 h ∙ getD-drop at xs k 0
@@ -54,7 +56,9 @@ module _ (src : Source) (s : Bytes) where
 
   module _ (ss es ks : List ℕ) (at m : ℕ) where
     pub part-cells : cellsIn src s (slice ss at (at + m)) (slice es at (at + m)) (slice ks at (at + m)) ≡ take m (drop at (cellsIn src s ss es ks))
-    part-cells = rw (part-is ss at m, part-is es at m, part-is ks at m) (cells-take m (drop at ss) (drop at es) (drop at ks) ∙ ap (take m) (cells-drop at ss es ks))
+    part-cells =
+        rw (part-is ss at m, part-is es at m, part-is ks at m)
+        (cells-take m (drop at ss) (drop at es) (drop at ks) ∙ ap (take m) (cells-drop at ss es ks))
 
     pub part-stands : Cells src s ss es ks → at + m ≤ length ss → Cells src s (slice ss at (at + m)) (slice es at (at + m)) (slice ks at (at + m))
     part-stands c h =

@@ -84,7 +84,9 @@ empty-count : (done : List (List Value)) (n : ℕ) → length done ≡ n → isE
 empty-count [] n e = rw (← e)
 empty-count (r ∷ rs) n e = sym (ne-eqb n 0 λ z. omega (arith, e, z))
 
-row-check : (t : Dialect) (done : List (List Value)) (r : List Value) → rowFault (into t) done r ≡ rowCheck t (isEmpty done) (length (tableText (into t) done)) r
+row-check :
+    (t : Dialect) (done : List (List Value)) (r : List Value) →
+    rowFault (into t) done r ≡ rowCheck t (isEmpty done) (length (tableText (into t) done)) r
 unfolding _orElse_
 row-check t [] r = refl
 row-check t (h ∷ rs) r = refl
@@ -117,7 +119,8 @@ module _ {t : Dialect} {vs : List Value} {columns records n at size : ℕ} (m : 
     -- the check of the next record, and of those after it
     next-fault :
         rowsFault (into t) (rowsOf records columns vs)
-        ≡ orNext (suc n) (rowCheck t (eqb n 0) size (rowAt vs columns at)) (rowsFrom (into t) (m .done ++ (rowAt vs columns at ∷ [])) (rowsLeft vs columns records (n + 1) (at + columns)))
+        ≡ orNext (suc n) (rowCheck t (eqb n 0) size (rowAt vs columns at))
+        (rowsFrom (into t) (m .done ++ (rowAt vs columns at ∷ [])) (rowsLeft vs columns records (n + 1) (at + columns)))
     unfolding rowsFrom
     next-fault =
         let r : List Value = rowAt vs columns at in
@@ -136,7 +139,9 @@ module _ {t : Dialect} {vs : List Value} {columns records n at size : ℕ} (m : 
         let f : rowsFault (into t) (rowsOf records columns vs) ≡ some (report (numberOf e) (suc n) (columnOf e) 0) = next-fault ∙ rw v in
         ap (sumBy (into t) (rowsOf records columns vs)) f ∙ ap (λ (k : ℕ). Refused (report (numberOf e) k (columnOf e) 0)) (sym (add-one n))
 
-    row-fits : rowCheck t (eqb n 0) size (rowAt vs columns at) ≡ Sound → size + length (recordText (into t) (eqb n 0) (rowAt vs columns at) ++ ending t) ≤ MAXFILE
+    row-fits :
+        rowCheck t (eqb n 0) size (rowAt vs columns at) ≡ Sound →
+        size + length (recordText (into t) (eqb n 0) (rowAt vs columns at) ++ ending t) ≤ MAXFILE
     row-fits v =
         let r : List Value = rowAt vs columns at in
         target-sound (into t) (eqb n 0) size r (else-sound (headerIf t (eqb n 0) r) (targetFault (into t) (eqb n 0) size r) v .1) .fits
@@ -154,7 +159,9 @@ module _ {t : Dialect} {vs : List Value} {columns records n at size : ℕ} (m : 
           done = m .done ++ (r ∷ []);
           count = length-append (m .done) (r ∷ []) ∙ ap (λ (j : ℕ). j + 1) (m .count);
           text = sym (row-length (into t) (m .done) r ∙ rw (first, ← l, ← m .text));
-          all-rows = m .all-rows ∙ ap (λ (l : List (List Value)). m .done ++ l) (rows-next vs columns records n at h) ∙ sym (append-assoc (m .done) (r ∷ []) rs);
+          all-rows =
+              m .all-rows ∙ ap (λ (l : List (List Value)). m .done ++ l) (rows-next vs columns records n at h)
+              ∙ sym (append-assoc (m .done) (r ∷ []) rs);
           faults = next-fault ∙ rw v;
         }
 
@@ -164,7 +171,8 @@ module _ {t : Dialect} {vs : List Value} {columns records n at size : ℕ} (m : 
       let e : rowsLeft vs columns records n at ≡ [] = rows-end vs columns records n at h in
       let f : rowsFault (into t) (rowsOf records columns vs) ≡ none = m .faults ∙ ap (rowsFrom (into t) (m .done)) e in
       let g : rowsOf records columns vs ≡ m .done = m .all-rows ∙ ap (λ (l : List (List Value)). m .done ++ l) e ∙ append-nil (m .done) in
-      ap (sumBy (into t) (rowsOf records columns vs)) f ∙ ap (λ (l : List (List Value)). Accepted (length (tableText (into t) l))) g ∙ ap Accepted (sym (m .text))
+      ap (sumBy (into t) (rowsOf records columns vs)) f ∙ ap (λ (l : List (List Value)). Accepted (length (tableText (into t) l))) g
+      ∙ ap Accepted (sym (m .text))
 
 -- ---- writing
 
@@ -173,7 +181,9 @@ abbrev restText : Target → (header : Bool) → List (List Value) → Bytes
 restText t true rs = tableText t rs
 restText t false rs = dataText t rs
 
-rest-next : (t : Target) (header : Bool) (r : List Value) (rs : List (List Value)) → restText t header (r ∷ rs) ≡ (recordText t header r ++ ending (t .dialect)) ++ dataText t rs
+rest-next :
+    (t : Target) (header : Bool) (r : List Value) (rs : List (List Value)) →
+    restText t header (r ∷ rs) ≡ (recordText t header r ++ ending (t .dialect)) ++ dataText t rs
 unfolding tableText dataText
 rest-next t true r rs = refl
 rest-next t false r rs = refl
@@ -191,7 +201,9 @@ pub record WritingRows (t : Dialect) (vs : List Value) (columns records : ℕ) (
   pub stands-at : Lies vs columns records n at
   pub going : Emitting true old 0 (tableText (into t) (rowsOf records columns vs)) room o (restText (into t) (eqb n 0) (rowsLeft vs columns records n at))
 
-pub writing-rows : {t : Dialect} {vs : List Value} {columns records : ℕ} {old : Bytes} → length vs ≡ columns * records → length (tableText (into t) (rowsOf records columns vs)) ≤ length old → WritingRows t vs columns records old old 0 0 0
+pub writing-rows :
+    {t : Dialect} {vs : List Value} {columns records : ℕ} {old : Bytes} → length vs ≡ columns * records →
+    length (tableText (into t) (rowsOf records columns vs)) ≤ length old → WritingRows t vs columns records old old 0 0 0
 writing-rows {t} {vs} {columns} {records} {old} e l =
     let start : Emitting true old 0 (tableText (into t) (rowsOf records columns vs)) old 0 (tableText (into t) (rowsOf records columns vs)) =
     emitting true (record { measured = λ x. omega arith; inside = λ x. omega arith }) in
@@ -218,13 +230,16 @@ module _ {t : Dialect} {vs : List Value} {columns records : ℕ} {old room : Byt
     pub row-room : Room true o (recordText (into t) (eqb n 0) (rowAt vs columns at) ++ ending t) room
     row-room = room-next rowText later going-next
 
-    pub row-written : {new : Bytes} {r : ℕ} → WrittenAt true room o (recordText (into t) (eqb n 0) (rowAt vs columns at) ++ ending t) new r → WritingRows t vs columns records old new (n + 1) (at + columns) r
+    pub row-written :
+        {new : Bytes} {r : ℕ} → WrittenAt true room o (recordText (into t) (eqb n 0) (rowAt vs columns at) ++ ending t) new r →
+        WritingRows t vs columns records old new (n + 1) (at + columns) r
     row-written p = record { stands-at = stands-next (w .stands-at) h; going = put-next rowText going-next p }
 
   pub rows-written : records ≤ n → room ≡ over (tableText (into t) (rowsOf records columns vs)) old
   unfolding if_then_else_
   rows-written h =
-      let e : restText (into t) (eqb n 0) (rowsLeft vs columns records n at) ≡ [] = ap (restText (into t) (eqb n 0)) (rows-end vs columns records n at h) ∙ rest-end (into t) (eqb n 0) in
+      let e : restText (into t) (eqb n 0) (rowsLeft vs columns records n at) ≡ []
+      = ap (restText (into t) (eqb n 0)) (rows-end vs columns records n at h) ∙ rest-end (into t) (eqb n 0) in
       put-whole (rw e at (w .going)) .text ∙ written-first old (tableText (into t) (rowsOf records columns vs))
 
   pub rows-long : length room ≡ length old

@@ -34,7 +34,14 @@ cell-by : (bs : Bytes) (s e n : ℕ) → tableCell bs s e n ≡ cellOf bs s e (k
 unfolding tableCell
 cell-by bs s e n = go (kindNamed n)
   where
-    go : (o : Option Kind) → (elim o as (λ _. Option Value) [ none ↦ none | some k ↦ if leb s e && leb e (length bs) && isValue k (slice bs s e) then some (record { from = s; upto = e; kind = k; content = slice bs s e }) else none ]) ≡ cellOf bs s e o
+    go :
+        (o : Option Kind) → (elim o as (λ _. Option Value) [
+          | none ↦ none
+          | some k ↦
+              if leb s e && leb e (length bs) && isValue k (slice bs s e) then some
+              (record { from = s; upto = e; kind = k; content = slice bs s e })
+              else none
+        ]) ≡ cellOf bs s e o
     go none = refl
     go (some k) = refl
 
@@ -116,7 +123,9 @@ pub cells-here : (bs : Bytes) (ss es ks : List ℕ) (n : ℕ) → length ss ≡ 
     → isThere (tableCell bs (getD ss n 0) (getD es n 0) (getD ks n 0)) ≡ false → isThere (cellsFrom bs ss es ks n) ≡ false
 cells-here bs ss es ks n p q l h = cells-at bs ss es ks n p q l ∙ rw h
 
-pub cells-end : (bs : Bytes) (ss es ks : List ℕ) (n : ℕ) → length ss ≡ length es → length ss ≡ length ks → length ss ≤ n → isThere (cellsFrom bs ss es ks n) ≡ true
+pub cells-end :
+    (bs : Bytes) (ss es ks : List ℕ) (n : ℕ) → length ss ≡ length es → length ss ≡ length ks → length ss ≤ n →
+    isThere (cellsFrom bs ss es ks n) ≡ true
 unfolding tableCells
 cells-end bs ss es ks n p q l =
     let a : drop n ss ≡ [] = drop-of-length-le ss l in
@@ -129,7 +138,9 @@ pub record AllThere (bs : Bytes) (ss es ks : List ℕ) : Type 0 where
   pub cells : Cells Contents bs ss es ks
   pub same : tableCells bs ss es ks ≡ some (cellsIn Contents bs ss es ks)
 
-more-cells : {bs : Bytes} {s e k : ℕ} {ss es ks : List ℕ} → CellSpan Contents bs s e k → Cells Contents bs ss es ks → Cells Contents bs (s ∷ ss) (e ∷ es) (k ∷ ks)
+more-cells :
+    {bs : Bytes} {s e k : ℕ} {ss es ks : List ℕ} → CellSpan Contents bs s e k → Cells Contents bs ss es ks →
+    Cells Contents bs (s ∷ ss) (e ∷ es) (k ∷ ks)
 more-cells {bs} {s} {e} {k} {ss} {es} {ks} x xs = record { with-ends = ap suc (xs .with-ends); with-kinds = ap suc (xs .with-kinds); each = at }
   where
     at : (n : ℕ) → n < length (s ∷ ss) → CellSpan Contents bs (getD (s ∷ ss) n 0) (getD (e ∷ es) n 0) (getD (k ∷ ks) n 0)
@@ -172,7 +183,11 @@ module _ (bs : Bytes) (ss es ks : List ℕ) (columns records : ℕ) where
   missing h = no-rows (tableCells bs ss es ks) h
 
   -- with all cells valid, their number decides whether there are records
-  by-number : AllThere bs ss es ks → rowsIn (given bs ss es ks columns records) ≡ (if eqb (length ss) (columns * records) && ltb 0 records then some (rowsOf records columns (cellsIn Contents bs ss es ks)) else none)
+  by-number :
+      AllThere bs ss es ks →
+      rowsIn (given bs ss es ks columns records)
+      ≡ (if eqb (length ss) (columns * records) && ltb 0 records then some (rowsOf records columns (cellsIn Contents bs ss es ks))
+      else none)
   unfolding rowsIn
   by-number a = rw (a .same, cells-length Contents bs ss es ks (a .cells .with-ends) (a .cells .with-kinds))
 
@@ -196,7 +211,9 @@ module _ (bs : Bytes) (ss es ks : List ℕ) (columns records : ℕ) where
   no-product e = table-there ∙ rw e (and-false (isThere (tableCells bs ss es ks)))
 
   -- the right number of cells
-  pub by-cells : (records ≡ 0 → ⊥) → eqb (length ss) (columns * records) ≡ true → isThere (rowsIn (given bs ss es ks columns records)) ≡ isThere (tableCells bs ss es ks)
+  pub by-cells :
+      (records ≡ 0 → ⊥) → eqb (length ss) (columns * records) ≡ true →
+      isThere (rowsIn (given bs ss es ks columns records)) ≡ isThere (tableCells bs ss es ks)
   by-cells n e =
       let p : ltb 0 records ≡ true = lt-ltb 0 records (omega arith) in
       table-there ∙ rw (e, p) (and-yes (isThere (tableCells bs ss es ks)))

@@ -26,10 +26,15 @@ text s = textAt (into (s .args .t)) (s .args .p) (cells s)
 
 -- the start of the call, from the point after the checks
 abbrev start : tie.After-check-record → tie.Start
-start c = c .before .before .before .before .before .before .before .before
+start c =
+    let c4 = c .before .before .before .before in
+    let c8 = c4 .before .before .before .before in
+    c8
 
 is-clean-record-requires : tie.Need-is-clean-record-requires
-is-clean-record-requires c κs = parts-of (c .before .before .before .before .before .before .pre .0)
+is-clean-record-requires c κs =
+    let c4 = c .before .before .before .before in
+    parts-of (c4 .before .before .pre .0)
 
 -- the fault is that of the record at this place
 fault : (c : tie.After-check-record)

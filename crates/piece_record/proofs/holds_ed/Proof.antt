@@ -33,4 +33,5 @@ returns c = λ none i l. c .before .loop .inv .1 none i (omega arith)
 pub holds-ed-spec : {M : Type 1} → statement M
 holds-ed-spec =
     tie.close
-    (tie.spec Inv-loop μ-loop (λ c. (omega arith, λ none j l. absurd (omega arith))) (λ c. omega arith) (λ c. omega arith) (λ c. omega arith) loop-again returns)
+    (tie.spec Inv-loop μ-loop (λ c. (omega arith, λ none j l. absurd (omega arith))) (λ c. omega arith) (λ c. omega arith)
+    (λ c. omega arith) loop-again returns)

@@ -20,17 +20,30 @@ loop-holds c = (omega arith, λ j l. absurd (omega arith))
 
 returns : tie.Need-returns Inv-loop μ-loop
 returns c =
-    let l = c .before .before .before .before .before .loop in
-    let s = c .before .before .before .before .before .before .args .s .now in
-    let low = c .if2 .taken in
-    (λ e. impossible e, λ f. absurd (not-followed s (l .i) (l .inv .0) (c .before .before .before .before .loop-test .taken) (c .before .before .if1 .taken) (λ least most. absurd (omega arith)) f))
+    let c4 = c .before .before .before .before in
+    let l = c4 .before .loop in
+    let s = c4 .before .before .args .s .now in
+    let low = c .if2 .taken in (
+      λ e.
+          impossible e,
+      λ f. absurd
+          (not-followed s (l .i) (l .inv .0) (c .before .before .before .before .loop-test .taken) (c .before .before .if1 .taken)
+          (λ least most. absurd (omega arith)) f),
+    )
 
 returns-2 : tie.Need-returns-2 Inv-loop μ-loop
 returns-2 c =
-    let l = c .before .before .before .before .before .before .before .loop in
-    let s = c .before .before .before .before .before .before .before .before .args .s .now in
-    let high = c .if3 .taken in
-    (λ e. impossible e, λ f. absurd (not-followed s (l .i) (l .inv .0) (c .before .before .before .before .before .before .loop-test .taken) (c .before .before .before .before .if1 .taken) (λ least most. absurd (omega arith)) f))
+    let c4 = c .before .before .before .before in
+    let c8 = c4 .before .before .before .before in
+    let l = c4 .before .before .before .loop in
+    let s = c8 .args .s .now in
+    let high = c .if3 .taken in (
+      λ e.
+          impossible e,
+      λ f. absurd
+          (not-followed s (l .i) (l .inv .0) (c4 .before .before .loop-test .taken)
+          (c .before .before .before .before .if1 .taken) (λ least most. absurd (omega arith)) f),
+    )
 
 loop-again : tie.Need-loop-again Inv-loop μ-loop
 loop-again c =

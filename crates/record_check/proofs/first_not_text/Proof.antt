@@ -25,16 +25,23 @@ told c = c .is-text .ensures ∙ ap isText (c .before .kind-of-number .ensures)
 
 returns : tie.Need-returns Inv-loop μ-loop
 returns c =
-    let u = c .before .before .before .before .before in
+    let c4 = c .before .before .before .before in
+    let u = c4 .before in
     let kinds = u .before .before .args .kinds .now in
-    sym (u .loop .inv .1 ∙ not-text-here kinds (u .loop .n) (c .before .before .before .before .loop-test .taken) (sym (told (c .before)) ∙ not-true (c .before .is-text .result) (c .if1 .taken)))
+    sym
+    (u .loop .inv .1
+    ∙ not-text-here kinds (u .loop .n) (c .before .before .before .before .loop-test .taken)
+    (sym (told (c .before)) ∙ not-true (c .before .is-text .result) (c .if1 .taken)))
 
 loop-again : tie.Need-loop-again Inv-loop μ-loop
 loop-again c =
-    let u = c .before .before .before .before .before in
+    let c4 = c .before .before .before .before in
+    let u = c4 .before in
     let kinds = u .before .before .args .kinds .now in (
       omega (arith, c .before .before .before .before .loop-test .taken),
-      u .loop .inv .1 ∙ not-text-next kinds (u .loop .n) (c .before .before .before .before .loop-test .taken) (sym (told (c .before)) ∙ not-false (c .before .is-text .result) (c .if1 .left)),
+      u .loop .inv .1
+          ∙ not-text-next kinds (u .loop .n) (c .before .before .before .before .loop-test .taken)
+          (sym (told (c .before)) ∙ not-false (c .before .is-text .result) (c .if1 .left)),
     )
 
 returns-2 : tie.Need-returns-2 Inv-loop μ-loop

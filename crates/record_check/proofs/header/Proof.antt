@@ -19,11 +19,14 @@ abbrev cells : tie.Start → List Value
 cells c = cellsIn (c .args .src) (c .args .s .now) (c .args .starts .now) (c .args .ends .now) (c .args .kinds .now)
 
 counted : (c : tie.Start) → length (cells c) ≡ length (c .args .starts .now)
-counted c = cells-length (c .args .src) (c .args .s .now) (c .args .starts .now) (c .args .ends .now) (c .args .kinds .now) (c .pre .with-ends) (c .pre .with-kinds)
+counted c =
+    cells-length (c .args .src) (c .args .s .now) (c .args .starts .now) (c .args .ends .now) (c .args .kinds .now) (c .pre .with-ends)
+    (c .pre .with-kinds)
 
 returns : tie.Need-returns
 returns c =
-    let u = c .before .before .before .before .before in
+    let c4 = c .before .before .before .before in
+    let u = c4 .before in
     header-too-many (u .args .rule) (cells u) (omega (arith, counted u, c .if1 .taken))
 
 -- the result for the kinds is that for the cells
@@ -31,8 +34,12 @@ kinds : (c : tie.After-first-not-text)
     → let u = c .before .before .before .before .before .before in
     headerKindFrom 1 (cells u) ≡ c .first-not-text .result
 kinds c =
-    let u = c .before .before .before .before .before .before in
-    sym (c .first-not-text .ensures ∙ not-text-cells 1 (u .args .src) (u .args .s .now) (u .args .starts .now) (u .args .ends .now) (u .args .kinds .now) (u .pre .with-ends) (u .pre .with-kinds))
+    let c4 = c .before .before .before .before in
+    let u = c4 .before .before in
+    sym
+    (c .first-not-text .ensures
+    ∙ not-text-cells 1 (u .args .src) (u .args .s .now) (u .args .starts .now) (u .args .ends .now) (u .args .kinds .now)
+    (u .pre .with-ends) (u .pre .with-kinds))
 
 returns-2 : tie.Need-returns-2
 returns-2 c =
@@ -65,7 +72,10 @@ header-spec =
     (λ c. search needs)
     returns-2
     (λ c. search needs)
-    (λ c κs. cells-named (c .before .before .before .before .before .before .before .before .pre))
+    (λ c κs.
+    let c4 = c .before .before .before .before in
+    let c8 = c4 .before .before .before .before in
+    cells-named (c8 .pre))
     (λ c. search needs)
     (λ c. search needs)
     returns-3

@@ -18,7 +18,8 @@ returns-2 c text e =
     let a = u .args in
     let short = c .before .before .before .if1 .left in
     let is = measure-is (length text) (a .end) e (omega (arith, short)) in
-    output-too-long (a .t) (a .written) text _ _ (omega (arith, is, short)) (c .refused2 .ensures) (omega (arith, is, c .before .if2 .taken, c .before .before .with-ending .ensures, u .pre))
+    output-too-long (a .t) (a .written) text _ _ (omega (arith, is, short)) (c .refused2 .ensures)
+    (omega (arith, is, c .before .if2 .taken, c .before .before .with-ending .ensures, u .pre))
 
 returns-3 : tie.Need-returns-3
 returns-3 c text e =
@@ -26,7 +27,8 @@ returns-3 c text e =
     let a = u .args in
     let short = c .before .before .if1 .left in
     let is = measure-is (length text) (a .end) e (omega (arith, short)) in
-    fits (a .t) (a .written) text _ _ (omega (arith, is, short)) refl (omega (arith, is, c .before .with-ending .ensures)) (omega (arith, c .if2 .left, c .before .with-ending .ensures, u .pre))
+    fits (a .t) (a .written) text _ _ (omega (arith, is, short)) refl (omega (arith, is, c .before .with-ending .ensures))
+    (omega (arith, c .if2 .left, c .before .with-ending .ensures, u .pre))
 
 pub check-size-spec : {M : Type 1} → statement M
 check-size-spec =

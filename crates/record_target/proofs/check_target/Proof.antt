@@ -25,9 +25,13 @@ counted c = let a = c .args in cells-length (a .src) (a .s .now) (a .starts .now
 
 returns : tie.Need-returns
 returns c =
-    let u = c .before .before .before .before .before .before .before in
+    let c4 = c .before .before .before .before in
+    let u = c4 .before .before .before in
     let a = u .args in (
-      c .refused .ensures ∙ sym (no-cells (a .t) (a .header) (a .written) (cells u) (sym (c .before .before .lacks-cells .ensures (cells u) (counted u)) ∙ c .before .if1 .taken)),
+      c .refused .ensures
+          ∙ sym
+          (no-cells (a .t) (a .header) (a .written) (cells u)
+          (sym (c .before .before .lacks-cells .ensures (cells u) (counted u)) ∙ c .before .if1 .taken)),
       λ s. fault-sound (sym (c .refused .ensures) ∙ s),
     )
 
@@ -36,7 +40,8 @@ has : (c : tie.After-measure)
     → let u = c .before .before .before .before .before .before .before in
     (u .args .header && isEmpty (cells u) && not (isCsvj (u .args .t))) ≡ false
 has c =
-    let u = c .before .before .before .before .before .before .before in
+    let c4 = c .before .before .before .before in
+    let u = c4 .before .before .before in
     sym (c .before .before .lacks-cells .ensures (cells u) (counted u)) ∙ c .before .if1 .left
 
 returns-2 : tie.Need-returns-2
@@ -44,7 +49,10 @@ returns-2 c =
     let m = c .before .before .before .before in
     let u = m .before .before .before .before .before .before .before in
     let a = u .args in (
-      c .refused2 .ensures ∙ sym (lacks (a .t) (a .header) (a .written) (cells u) (has m) _ (sym (m .measure .ensures .1) ∙ c .before .before .carries .given .1)),
+      c .refused2 .ensures
+          ∙ sym
+          (lacks (a .t) (a .header) (a .written) (cells u) (has m) _
+          (sym (m .measure .ensures .1) ∙ c .before .before .carries .given .1)),
       λ s. fault-sound (sym (c .refused2 .ensures) ∙ s),
     )
 
@@ -59,7 +67,9 @@ clash : (c : tie.After-name-clash)
     → let u = c .before .before .before .before .before .before .before .before .before .before in
     clashFault (u .args .t) (u .args .header) (cells u) ≡ c .name-clash .result
 clash c =
-    let u = c .before .before .before .before .before .before .before .before .before .before in
+    let c4 = c .before .before .before .before in
+    let c8 = c4 .before .before .before .before in
+    let u = c8 .before .before in
     sym (c .name-clash .ensures (u .args .kinds .now) (sym (u .pre .0 .with-kinds)))
 
 returns-3 : tie.Need-returns-3
@@ -93,10 +103,17 @@ check-target-spec =
     (λ c κs. search needs)
     returns-2
     (λ c. search needs)
-    (λ c κs. cells-named (c .before .before .before .before .before .before .before .before .before .pre .0))
+    (λ c κs.
+    let c4 = c .before .before .before .before in
+    let c8 = c4 .before .before .before .before in
+    cells-named (c8 .before .pre .0))
     (λ c. search needs)
     (λ c κs. search needs)
     returns-3
     (λ c. search needs)
-    (λ c κs. c .before .before .before .before .before .before .before .before .before .before .before .before .pre .1 .1)
+    (λ c κs.
+    let c4 = c .before .before .before .before in
+    let c8 = c4 .before .before .before .before in
+    let c12 = c8 .before .before .before .before in
+    c12 .pre .1 .1)
     returns-4)

@@ -20,19 +20,22 @@ returns-3 : tie.Need-returns-3
 returns-3 c vs n =
     let u = c .before .before in
     let a = u .before .before .args in
-    ap (λ (t : Dialect). not (isCsvj t)) (sym (c .enum-told .given .1)) ∙ empty-header (a .header) (isCsvj (a .t)) vs (not-false (a .header) (u .before .if1 .left)) (omega (arith, u .if2 .left, n))
+    ap (λ (t : Dialect). not (isCsvj t)) (sym (c .enum-told .given .1))
+    ∙ empty-header (a .header) (isCsvj (a .t)) vs (not-false (a .header) (u .before .if1 .left)) (omega (arith, u .if2 .left, n))
 
 returns-4 : tie.Need-returns-4
 returns-4 c vs n =
     let u = c .before .before in
     let a = u .before .before .args in
-    ap (λ (t : Dialect). not (isCsvj t)) (sym (c .enum-told2 .given .1)) ∙ empty-header (a .header) (isCsvj (a .t)) vs (not-false (a .header) (u .before .if1 .left)) (omega (arith, u .if2 .left, n))
+    ap (λ (t : Dialect). not (isCsvj t)) (sym (c .enum-told2 .given .1))
+    ∙ empty-header (a .header) (isCsvj (a .t)) vs (not-false (a .header) (u .before .if1 .left)) (omega (arith, u .if2 .left, n))
 
 returns-5 : tie.Need-returns-5
 returns-5 c vs n =
     let u = c .before .before in
     let a = u .before .before .args in
-    ap (λ (t : Dialect). not (isCsvj t)) (sym (c .enum-told3 .given .1)) ∙ empty-header (a .header) (isCsvj (a .t)) vs (not-false (a .header) (u .before .if1 .left)) (omega (arith, u .if2 .left, n))
+    ap (λ (t : Dialect). not (isCsvj t)) (sym (c .enum-told3 .given .1))
+    ∙ empty-header (a .header) (isCsvj (a .t)) vs (not-false (a .header) (u .before .if1 .left)) (omega (arith, u .if2 .left, n))
 
 pub lacks-cells-spec : {M : Type 1} → statement M
 lacks-cells-spec =

@@ -20,12 +20,14 @@ text c =
 
 write-text-requires : tie.Need-write-text-requires
 write-text-requires c κs =
-    let u = c .before .before .before .before .before in
+    let c4 = c .before .before .before .before in
+    let u = c4 .before in
     (u .pre .0, (u .pre .1, room-measured _ _ _ (omega arith)))
 
 returns : tie.Need-returns
 returns c =
-    let u = c .before .before .before .before .before .before .before in
+    let c4 = c .before .before .before .before in
+    let u = c4 .before .before .before in
     let w = text u in
     let from-zero : 0 + length w ≡ length w = omega arith in
     let p = c .before .write-text .ensures in

@@ -24,13 +24,16 @@ returns c kinds k =
 
 returns-2 : tie.Need-returns-2
 returns-2 c kinds k =
-    let u = c .before .before .before .before .before .before .before in
+    let c4 = c .before .before .before .before in
+    let u = c4 .before .before .before in
     sym (ap (repeatedAs Clash) (c .enum-told .given .1)) ∙ c .before .before .first-repeat .ensures Clash kinds k
     ∙ ap (answer u kinds) (sym (not-false (u .args .header) (c .before .before .before .if1 .left)))
 
 returns-3 : tie.Need-returns-3
 returns-3 c kinds k =
-    let u = c .before .before .before .before .before .before .before .before in
+    let c4 = c .before .before .before .before in
+    let c8 = c4 .before .before .before .before in
+    let u = c8 in
     sym (ap (repeatedAs Clash) (c .before .column .given .1)) ∙ c .before .before .before .first-repeat .ensures Clash kinds k
     ∙ ap (answer u kinds) (sym (not-false (u .args .header) (c .before .before .before .before .if1 .left)))
 

@@ -13,7 +13,8 @@ use Rattle.record_target.proofs.with_ending.Tie as tie
 returns : tie.Need-returns
 returns c =
     let u = c .before .before .before in
-    place-measured (c .before .write-ending .ensures) ∙ measure-within (u .args .end + length (ending (u .args .t))) (omega (arith, ending-length (u .args .t), u .pre))
+    place-measured (c .before .write-ending .ensures)
+    ∙ measure-within (u .args .end + length (ending (u .args .t))) (omega (arith, ending-length (u .args .t), u .pre))
 
 pub with-ending-spec : {M : Type 1} → statement M
 with-ending-spec = tie.close (tie.spec (λ c. search needs) (λ c κs. room-measured _ _ _ (omega (arith, c .before .pre))) returns)

@@ -6,7 +6,8 @@ use Rattle.record_target.proofs.write_data.Tie as tie
 
 write-line-requires : tie.Need-write-line-requires
 write-line-requires c κs =
-    let u = c .before .before .before .before .before .before in
+    let c4 = c .before .before .before .before in
+    let u = c4 .before .before in
     (u .pre .0, (λ e. clean-data (u .pre .1 .0 e), u .pre .1 .1))
 
 pub write-data-spec : {M : Type 1} → statement M

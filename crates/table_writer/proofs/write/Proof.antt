@@ -16,17 +16,22 @@ table c = given (c .args .content .now) (c .args .starts .now) (c .args .ends .n
 returns : tie.Need-returns
 unfolding writerLeaves
 returns c =
-    let at-dialect = c .before .before .before .before .before .before .before in
+    let c4 = c .before .before .before .before in
+    let at-dialect = c4 .before .before .before in
     let s = at-dialect .before .before .before .before .before .before in
-    let told = c .before .before .before .before .before .t .given in
-    answers-as (s .args .room .now) (in-dialect (s .args .dialect) (told .0 .0) (table s) (length (s .args .room .now)) (sym (at-dialect .dialect-of .ensures) ∙ ap dialectIn (told .1))) (c .before .before .write-in .ensures)
+    let told = c4 .before .t .given in
+    answers-as (s .args .room .now)
+    (in-dialect (s .args .dialect) (told .0 .0) (table s) (length (s .args .room .now))
+    (sym (at-dialect .dialect-of .ensures) ∙ ap dialectIn (told .1))) (c .before .before .write-in .ensures)
 
 returns-2 : tie.Need-returns-2
 unfolding writerLeaves
 returns-2 c =
     let at-dialect = c .before .before .before .before in
     let s = at-dialect .before .before .before .before .before .before in
-    refuses (c .refusal .ensures) (c .before .call-report .ensures) (no-dialect (s .args .dialect) (table s) (length (s .args .room .now)) (sym (at-dialect .dialect-of .ensures) ∙ ap dialectIn (c .before .before .enum-told .given .1)))
+    refuses (c .refusal .ensures) (c .before .call-report .ensures)
+    (no-dialect (s .args .dialect) (table s) (length (s .args .room .now))
+    (sym (at-dialect .dialect-of .ensures) ∙ ap dialectIn (c .before .before .enum-told .given .1)))
 
 pub write-spec : {M : Type 1} → statement M
 write-spec =

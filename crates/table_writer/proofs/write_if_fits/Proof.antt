@@ -14,21 +14,29 @@ use Rattle.table_writer.proofs.write_if_fits.Tie as tie
 
 -- the table's text
 abbrev text : tie.Start → Bytes
-text c = tableText (into (c .args .t)) (rowsOf (c .args .records) (c .args .columns) (cellsIn Contents (c .args .content .now) (c .args .starts .now) (c .args .ends .now) (c .args .kinds .now)))
+text c =
+    tableText (into (c .args .t))
+    (rowsOf (c .args .records) (c .args .columns)
+    (cellsIn Contents (c .args .content .now) (c .args .starts .now) (c .args .ends .now) (c .args .kinds .now)))
 
 returns : tie.Need-returns
 returns c =
-    let s = c .before .before .before .before .before .before .before .before in
-    refuses (c .refusal .ensures) (c .before .call-report .ensures) (too-short (length (s .args .room .now)) (text s) (omega (arith, c .before .before .if1 .taken, s .pre .1 .1)))
+    let c4 = c .before .before .before .before in
+    let c8 = c4 .before .before .before .before in
+    let s = c8 in
+    refuses (c .refusal .ensures) (c .before .call-report .ensures)
+    (too-short (length (s .args .room .now)) (text s) (omega (arith, c .before .before .if1 .taken, s .pre .1 .1)))
 
 write-records-requires : tie.Need-write-records-requires
 write-records-requires c κs = search needs
 
 returns-2 : tie.Need-returns-2
 returns-2 c =
-    let at-else = c .before .before .before .before .before in
+    let c4 = c .before .before .before .before in
+    let at-else = c4 .before in
     let s = at-else .before .before .before .before .before .before in
-    writes (s .args .room .now) (long-enough (length (s .args .room .now)) (text s) (omega (arith, at-else .if1 .left, s .pre .1 .1))) (c .call-report2 .ensures) (s .pre .1 .1) (c .before .before .before .write-records .ensures)
+    writes (s .args .room .now) (long-enough (length (s .args .room .now)) (text s) (omega (arith, at-else .if1 .left, s .pre .1 .1)))
+    (c .call-report2 .ensures) (s .pre .1 .1) (c .before .before .before .write-records .ensures)
 
 pub write-if-fits-spec : {M : Type 1} → statement M
 write-if-fits-spec =

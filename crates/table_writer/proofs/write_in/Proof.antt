@@ -19,15 +19,19 @@ returns : tie.Need-returns
 returns c =
     let at-table = c .before .before .before in
     let s = at-table .before .before .before .before .before .before in
-    refuses (c .refusal .ensures) (c .before .call-report .ensures) (no-table (s .args .t) (table s) (length (s .args .room .now)) (sym (at-table .is-table .ensures) ∙ not-true (at-table .is-table .result) (c .before .before .if1 .taken)))
+    refuses (c .refusal .ensures) (c .before .call-report .ensures)
+    (no-table (s .args .t) (table s) (length (s .args .room .now))
+    (sym (at-table .is-table .ensures) ∙ not-true (at-table .is-table .result) (c .before .before .if1 .taken)))
 
 -- it is a table
 is-one : (c : tie.Else1)
     → let a = c .before .before .before .before .before .before .before .args in
     Tabled (a .content .now) (a .starts .now) (a .ends .now) (a .kinds .now) (a .columns) (a .records)
 is-one c =
-    let a = c .before .before .before .before .before .before .before .args in
-    tabled (a .content .now) (a .starts .now) (a .ends .now) (a .kinds .now) (a .columns) (a .records) (sym (c .before .is-table .ensures) ∙ not-false (c .before .is-table .result) (c .if1 .left))
+    let c4 = c .before .before .before .before in
+    let a = c4 .before .before .before .args in
+    tabled (a .content .now) (a .starts .now) (a .ends .now) (a .kinds .now) (a .columns) (a .records)
+    (sym (c .before .is-table .ensures) ∙ not-false (c .before .is-table .result) (c .if1 .left))
 
 write-table-requires : tie.Need-write-table-requires
 write-table-requires c κs = (is-one (c .before) .cells, is-one (c .before) .count)

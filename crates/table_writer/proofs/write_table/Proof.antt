@@ -13,7 +13,9 @@ use Rattle.table_writer.proofs.write_table.Tie as tie
 
 -- the table's records
 abbrev rows : tie.Start → List (List Value)
-rows c = rowsOf (c .args .records) (c .args .columns) (cellsIn Contents (c .args .content .now) (c .args .starts .now) (c .args .ends .now) (c .args .kinds .now))
+rows c =
+    rowsOf (c .args .records) (c .args .columns)
+    (cellsIn Contents (c .args .content .now) (c .args .starts .now) (c .args .ends .now) (c .args .kinds .now))
 
 write-if-fits-requires : tie.Need-write-if-fits-requires
 write-if-fits-requires c κs =
@@ -24,17 +26,21 @@ write-if-fits-requires c κs =
 
 returns : tie.Need-returns
 returns c =
-    let at-measured = c .before .before .before .before .before .before .before in
+    let c4 = c .before .before .before .before in
+    let at-measured = c4 .before .before .before in
     let s = at-measured .before .before .before .before .before .before in
-    let told = c .before .before .before .before .before .length .given in
-    answers-as (s .args .room .now) (accepted-written (s .args .t) (rows s) (told .0 .0) (length (s .args .room .now)) (sym (at-measured .measure .ensures) ∙ told .1)) (c .before .before .write-if-fits .ensures)
+    let told = c4 .before .length .given in
+    answers-as (s .args .room .now)
+    (accepted-written (s .args .t) (rows s) (told .0 .0) (length (s .args .room .now)) (sym (at-measured .measure .ensures) ∙ told .1))
+    (c .before .before .write-if-fits .ensures)
 
 returns-2 : tie.Need-returns-2
 returns-2 c =
     let at-measured = c .before .before .before .before in
     let s = at-measured .before .before .before .before .before .before in
     let told = c .before .before .e .given in
-    refuses (c .refusal .ensures) refl (refused-written (s .args .t) (rows s) (told .0 .0) (length (s .args .room .now)) (sym (at-measured .measure .ensures) ∙ told .1))
+    refuses (c .refusal .ensures) refl
+    (refused-written (s .args .t) (rows s) (told .0 .0) (length (s .args .room .now)) (sym (at-measured .measure .ensures) ∙ told .1))
 
 pub write-table-spec : {M : Type 1} → statement M
 write-table-spec =

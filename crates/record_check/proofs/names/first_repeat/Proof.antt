@@ -12,7 +12,8 @@ use Rattle.record_check.proofs.names.first_repeat.Tie as tie
 abbrev Inv-loop : tie.InvT-loop
 Inv-loop src rule s starts ends n₀ n =
     (n ≤ length starts)
-    × ((fault : ℕ → Fault) (kinds : List ℕ) → length kinds ≡ length starts → repeatAt src rule fault s starts ends kinds 0 ≡ repeatAt src rule fault s starts ends kinds n)
+    × ((fault : ℕ → Fault) (kinds : List ℕ) → length kinds ≡ length starts →
+    repeatAt src rule fault s starts ends kinds 0 ≡ repeatAt src rule fault s starts ends kinds n)
 
 abbrev μ-loop : tie.MeasureT-loop
 μ-loop src rule s starts ends n₀ n = length starts - n
@@ -23,7 +24,8 @@ returns c fault kinds k =
     let p = u .before .before .before .before in
     let a = p .args in
     sym (repeat-start (a .src) (a .rule) fault (a .s .now) (a .starts .now) (a .ends .now) kinds ∙ u .loop .inv .1 fault kinds k
-    ∙ repeat-here (a .src) (a .rule) fault (a .s .now) (a .starts .now) (a .ends .now) kinds (p .pre .paired) k (u .loop .n) (c .before .before .loop-test .taken) (sym (c .before .repeats .ensures) ∙ c .if1 .taken))
+    ∙ repeat-here (a .src) (a .rule) fault (a .s .now) (a .starts .now) (a .ends .now) kinds (p .pre .paired) k (u .loop .n)
+    (c .before .before .loop-test .taken) (sym (c .before .repeats .ensures) ∙ c .if1 .taken))
 
 loop-again : tie.Need-loop-again Inv-loop μ-loop
 loop-again c =
@@ -32,12 +34,14 @@ loop-again c =
     let a = p .args in (
       omega arith,
       λ fault kinds k. u .loop .inv .1 fault kinds k
-          ∙ repeat-next (a .src) (a .rule) fault (a .s .now) (a .starts .now) (a .ends .now) kinds (p .pre .paired) k (u .loop .n) (c .before .before .loop-test .taken) (sym (c .before .repeats .ensures) ∙ c .if1 .left),
+          ∙ repeat-next (a .src) (a .rule) fault (a .s .now) (a .starts .now) (a .ends .now) kinds (p .pre .paired) k (u .loop .n)
+          (c .before .before .loop-test .taken) (sym (c .before .repeats .ensures) ∙ c .if1 .left),
     )
 
 returns-2 : tie.Need-returns-2 Inv-loop μ-loop
 returns-2 c fault kinds k =
-    let p = c .before .before .before .before .before in
+    let c4 = c .before .before .before .before in
+    let p = c4 .before in
     let a = p .args in
     sym (repeat-start (a .src) (a .rule) fault (a .s .now) (a .starts .now) (a .ends .now) kinds ∙ c .before .loop .inv .1 fault kinds k
     ∙ repeat-end (a .src) (a .rule) fault (a .s .now) (a .starts .now) (a .ends .now) kinds (p .pre .paired) k (c .before .loop .n) (c .loop-test .left))
@@ -49,7 +53,9 @@ first-repeat-spec =
     Inv-loop
     μ-loop
     (λ c. (omega arith, λ fault kinds k. refl))
-    (λ c κs. (c .before .before .before .before .before .pre, c .loop-test .taken))
+    (λ c κs.
+    let c4 = c .before .before .before .before in
+    (c4 .before .pre, c .loop-test .taken))
     (λ c. omega arith)
     returns
     (λ c. omega arith)

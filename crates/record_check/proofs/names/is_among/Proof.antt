@@ -24,29 +24,46 @@ before-j : (c : tie.After-shared-slice-known6 Inv-loop μ-loop)
     → let a = c .before .before .before .before .before .before .before .before .args in
     let j = c .before .before .before .loop .j in
     NameIn (a .src) (a .s .now) (getD (a .starts .now) (j - 1) 0) (getD (a .ends .now) (j - 1) 0)
-before-j c = c .before .before .before .before .before .before .before .before .pre .0 .each (c .before .before .before .loop .j - 1) (omega arith)
+before-j c =
+    let c4 = c .before .before .before .before in
+    let c8 = c4 .before .before .before .before in
+    c8 .pre .0 .each (c .before .before .before .loop .j - 1) (omega arith)
 
 is-name-requires : tie.Need-is-name-requires Inv-loop μ-loop
-is-name-requires c κs = (before-j (c .before .before) .short, c .before .before .before .before .before .loop .inv .1)
+is-name-requires c κs =
+    let c4 = c .before .before .before .before in
+    (before-j (c .before .before) .short, c4 .before .loop .inv .1)
 
 returns : tie.Need-returns Inv-loop μ-loop
 returns c =
-    let a = c .before .before .before .before .before .before .before .before .before .before .before .before .before .args in
-    let l = c .before .before .before .before .before .before .before .before .loop in
-    sym (l .inv .2 ∙ among-last (a .src) (a .rule) (a .s .now) (a .starts .now) (a .ends .now) (nameKey (a .rule) (a .name .now)) (l .j) (omega arith) (sym (c .before .before .is-name .ensures) ∙ c .if1 .taken))
+    let c4 = c .before .before .before .before in
+    let c8 = c4 .before .before .before .before in
+    let c12 = c8 .before .before .before .before in
+    let a = c12 .before .args in
+    let l = c8 .loop in
+    sym
+    (l .inv .2
+    ∙ among-last (a .src) (a .rule) (a .s .now) (a .starts .now) (a .ends .now) (nameKey (a .rule) (a .name .now)) (l .j)
+    (omega arith) (sym (c .before .before .is-name .ensures) ∙ c .if1 .taken))
 
 loop-again : tie.Need-loop-again Inv-loop μ-loop
 loop-again c =
-    let a = c .before .before .before .before .before .before .before .before .before .before .before .before .before .args in
-    let l = c .before .before .before .before .before .before .before .before .loop in (
+    let c4 = c .before .before .before .before in
+    let c8 = c4 .before .before .before .before in
+    let c12 = c8 .before .before .before .before in
+    let a = c12 .before .args in
+    let l = c8 .loop in (
       omega arith,
       c .before .before .is-name .kept .1 .1 .1 .1 .0 ∙ l .inv .1,
-      l .inv .2 ∙ among-before (a .src) (a .rule) (a .s .now) (a .starts .now) (a .ends .now) (nameKey (a .rule) (a .name .now)) (l .j) (omega arith) (sym (c .before .before .is-name .ensures) ∙ c .if1 .left),
+      l .inv .2
+          ∙ among-before (a .src) (a .rule) (a .s .now) (a .starts .now) (a .ends .now) (nameKey (a .rule) (a .name .now)) (l .j)
+          (omega arith) (sym (c .before .before .is-name .ensures) ∙ c .if1 .left),
     )
 
 returns-2 : tie.Need-returns-2 Inv-loop μ-loop
 returns-2 c =
-    let a = c .before .before .before .before .before .before .args in
+    let c4 = c .before .before .before .before in
+    let a = c4 .before .before .args in
     let none : c .before .loop .j ≡ 0 = omega arith in
     sym (c .before .loop .inv .2 ∙ rw none (among-none (a .src) (a .rule) (a .s .now) (a .starts .now) (a .ends .now) (nameKey (a .rule) (a .name .now))))
 
@@ -61,7 +78,10 @@ is-among-spec =
     (λ c. omega arith)
     (λ c. omega arith)
     (λ c. omega arith)
-    (λ c. omega (arith, c .before .before .before .before .before .before .before .before .pre .0 .paired))
+    (λ c.
+    let c4 = c .before .before .before .before in
+    let c8 = c4 .before .before .before .before in
+    omega (arith, c8 .pre .0 .paired))
     (λ c. before-j c .forward)
     (λ c. before-j c .forward)
     (λ c. before-j c .within)

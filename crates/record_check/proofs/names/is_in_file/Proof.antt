@@ -13,12 +13,15 @@ held : (c : tie.After-slice-known2)
     → let s = c .before .before .before .before .before .before .before .args in
     Holds (contentOf (s .d) (s .raw .now)) (c .before .before .write-content .last .1 .1 .0) (c .before .before .write-content .result)
 held c =
-    let s = c .before .before .before .before .before .before .before .args in
+    let c4 = c .before .before .before .before in
+    let s = c4 .before .before .before .args in
     holds (contentOf (s .d) (s .raw .now)) (s .room .now) _ _ (c .before .before .write-content .ensures)
 
 returns : tie.Need-returns
 returns c =
-    let s = c .before .before .before .before .before .before .before .before .before .args in
+    let c4 = c .before .before .before .before in
+    let c8 = c4 .before .before .before .before in
+    let s = c8 .before .args in
     c .same-name .ensures ∙ ap (λ (l : Bytes). same (nameKey (s .rule) (s .name .now)) (nameKey (s .rule) l)) (held (c .before .before) .front)
 
 pub is-in-file-spec : {M : Type 1} → statement M

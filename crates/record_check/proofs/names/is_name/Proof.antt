@@ -11,18 +11,23 @@ use Rattle.record_check.proofs.names.is_name.Tie as tie
 
 is-in-file-requires : tie.Need-is-in-file-requires
 is-in-file-requires c κs =
-    let s = c .before .before .before .before .before .before .before in
+    let c4 = c .before .before .before .before in
+    let s = c4 .before .before .before in
     (short-in-file _ (c .before .before .src .given .1) (s .pre .0), s .pre .1)
 
 returns : tie.Need-returns
 returns c =
-    let s = c .before .before .before .before .before .before .before .before .before .before .args in
+    let c4 = c .before .before .before .before in
+    let c8 = c4 .before .before .before .before in
+    let s = c8 .before .before .args in
     c .before .before .is-in-file .ensures
-    ∙ ap (λ (x : Source). same (nameKey (s .rule) (s .name .now)) (nameKey (s .rule) (contentBy x (s .raw .now)))) (sym (c .before .before .before .before .before .src .given .1))
+    ∙ ap (λ (x : Source). same (nameKey (s .rule) (s .name .now)) (nameKey (s .rule) (contentBy x (s .raw .now))))
+    (sym (c4 .before .src .given .1))
 
 returns-2 : tie.Need-returns-2
 returns-2 c =
-    let s = c .before .before .before .before .before .before .args in
+    let c4 = c .before .before .before .before in
+    let s = c4 .before .before .args in
     c .same-name .ensures
     ∙ ap (λ (x : Source). same (nameKey (s .rule) (s .name .now)) (nameKey (s .rule) (contentBy x (s .raw .now)))) (sym (c .before .enum-told .given .1))
 

@@ -19,22 +19,36 @@ name c = contentOf (c .args .d) (c .args .raw .now)
 abbrev zeros : Bytes
 zeros = replicate MAXRECORD 0
 
-held : (c : tie.After-room2) → Holds (name (c .before .before .before .before .before .before .before)) (c .before .write-content .last .1 .1 .0) (c .before .write-content .result)
-held c = holds (name (c .before .before .before .before .before .before .before)) zeros _ _ (c .before .write-content .ensures)
+held :
+    (c : tie.After-room2) →
+    Holds (name (c .before .before .before .before .before .before .before)) (c .before .write-content .last .1 .1 .0)
+    (c .before .write-content .result)
+held c =
+    let c4 = c .before .before .before .before in
+    holds (name (c4 .before .before .before)) zeros _ _ (c .before .write-content .ensures)
 
 returns : tie.Need-returns
 returns c =
-    let s = c .before .before .before .before .before .before .before .before .before .args in
+    let c4 = c .before .before .before .before in
+    let c8 = c4 .before .before .before .before in
+    let s = c8 .before .args in
     c .is-among .ensures
-    ∙ ap (λ (l : Bytes). among (nameKey (s .rule) l) (keysBefore (File (s .d)) (s .rule) (s .s .now) (s .starts .now) (s .ends .now) (s .n))) (held (c .before .before) .front)
+    ∙ ap
+    (λ (l : Bytes). among (nameKey (s .rule) l) (keysBefore (File (s .d)) (s .rule) (s .s .now) (s .starts .now) (s .ends .now) (s .n)))
+    (held (c .before .before) .front)
 
 pub repeats-in-file-spec : {M : Type 1} → statement M
 repeats-in-file-spec =
     tie.close
     (tie.spec
     (λ c. search needs)
-    (λ c κs. c .before .before .before .before .before .pre .0)
+    (λ c κs.
+    let c4 = c .before .before .before .before in
+    c4 .before .pre .0)
     (λ c. held c .inside)
     (λ c. held (c .before) .whole)
-    (λ c κs. c .before .before .before .before .before .before .before .before .pre .1)
+    (λ c κs.
+    let c4 = c .before .before .before .before in
+    let c8 = c4 .before .before .before .before in
+    c8 .pre .1)
     returns)

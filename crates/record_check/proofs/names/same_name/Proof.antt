@@ -21,14 +21,16 @@ returns c =
 
 returns-2 : tie.Need-returns-2 Inv-loop μ-loop
 returns-2 c =
-    let u = c .before .before .before .before .before .before in
+    let c4 = c .before .before .before .before in
+    let u = c4 .before .before in
     let s = u .before .before .before .before .args in
     sym (u .loop .inv .2 ∙ same-differs (s .rule) (s .a .now) (s .b .now) (u .loop .i) (omega arith) (omega arith)
     (λ e. c .if2 .taken (c .before .before .before .fold-byte .ensures ∙ e ∙ sym (c .before .fold-byte2 .ensures))))
 
 loop-again : tie.Need-loop-again Inv-loop μ-loop
 loop-again c =
-    let u = c .before .before .before .before .before .before in
+    let c4 = c .before .before .before .before in
+    let u = c4 .before .before in
     let s = u .before .before .before .before .args in (
       omega arith,
       omega arith,
@@ -38,7 +40,8 @@ loop-again c =
 
 returns-3 : tie.Need-returns-3 Inv-loop μ-loop
 returns-3 c =
-    let s = c .before .before .before .before .before .args in
+    let c4 = c .before .before .before .before in
+    let s = c4 .before .args in
     sym (c .before .loop .inv .2 ∙ same-end (s .rule) (s .a .now) (s .b .now) (c .before .loop .i) (omega arith) (omega arith))
 
 pub same-name-spec : {M : Type 1} → statement M

@@ -44,7 +44,9 @@ returns-2 c =
     let at-validated = c .before .before in
     let first = at-validated .before .before in
     let s = first .before .before .before .args .s .now in
-    sym (ap (isNumber (kindOf Csvj s)) (sym (at-validated .validate-cell .ensures) ∙ c .enum-told .given .1) ∙ sym (by-kind first) ∙ not-false (first .is-number-kind .result) (at-validated .before .if1 .left))
+    sym
+    (ap (isNumber (kindOf Csvj s)) (sym (at-validated .validate-cell .ensures) ∙ c .enum-told .given .1) ∙ sym (by-kind first)
+    ∙ not-false (first .is-number-kind .result) (at-validated .before .if1 .left))
 
 returns-3 : tie.Need-returns-3
 returns-3 c =

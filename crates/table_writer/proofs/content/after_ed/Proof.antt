@@ -21,13 +21,15 @@ returns-4 c = let a = c .before .before .before .before .args in sym (ed-above (
 returns-5 : tie.Need-returns-5
 unfolding if_then_else_
 returns-5 c =
-    let a = c .before .before .before .before .before .args in
+    let c4 = c .before .before .before .before in
+    let a = c4 .before .args in
     sym (ed-low (a .high) (a .b) (omega arith) (omega arith) ∙ rw (c .if5 .taken))
 
 returns-6 : tie.Need-returns-6
 unfolding if_then_else_
 returns-6 c =
-    let a = c .before .before .before .before .before .args in
+    let c4 = c .before .before .before .before in
+    let a = c4 .before .args in
     sym (ed-low (a .high) (a .b) (omega arith) (omega arith) ∙ rw (c .if5 .left))
 
 pub after-ed-spec : {M : Type 1} → statement M

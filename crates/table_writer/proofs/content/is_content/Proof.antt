@@ -24,8 +24,11 @@ loop-holds c = (c .ascii-end .ensures .inside, c .ascii-end .ensures .same)
 loop-again : tie.Need-loop-again Inv-loop μ-loop
 loop-again c =
     let at-loop = c .before .before .before .before in
-    let l = at-loop .loop in
-    (c .run-on .ensures .inside, l .inv .1 ∙ step-passes (wideIn (l .p)) (c .before .before .before .loop-test .taken) (c .before .step .ensures) (c .run-on .ensures))
+    let l = at-loop .loop in (
+      c .run-on .ensures .inside,
+      l .inv .1
+          ∙ step-passes (wideIn (l .p)) (c .before .before .before .loop-test .taken) (c .before .step .ensures) (c .run-on .ensures),
+    )
 
 returns : tie.Need-returns Inv-loop μ-loop
 returns c =

@@ -34,8 +34,12 @@ returns-2 : tie.Need-returns-2
 returns-2 c =
     let at-header = c .before .before .before in
     let s = at-header .before .before .before .before .before in
-    let a = s .args in
-    (c .check-target .ensures .0 ∙ header-sound (a .t) (a .header) (a .written) (cells s) (sym (at-header .header-fault .ensures) ∙ c .before .enum-told .given .1), c .check-target .ensures .1)
+    let a = s .args in (
+      c .check-target .ensures .0
+          ∙ header-sound (a .t) (a .header) (a .written) (cells s)
+          (sym (at-header .header-fault .ensures) ∙ c .before .enum-told .given .1),
+      c .check-target .ensures .1,
+    )
 
 pub check-record-spec : {M : Type 1} → statement M
 check-record-spec =

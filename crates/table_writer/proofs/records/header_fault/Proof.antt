@@ -6,12 +6,14 @@ use Rattle.table_writer.proofs.records.header_fault.Tie as tie
 
 returns : tie.Need-returns
 returns c =
-    let a = c .before .before .before .before .before .args in
+    let c4 = c .before .before .before .before in
+    let a = c4 .before .args in
     rw (not-true (a .header) (c .if1 .taken))
 
 returns-2 : tie.Need-returns-2
 returns-2 c =
-    let a = c .before .before .before .before .before .before .args in
+    let c4 = c .before .before .before .before in
+    let a = c4 .before .before .args in
     rw (not-false (a .header) (c .before .if1 .left)) (c .header .ensures)
 
 pub header-fault-spec : {M : Type 1} → statement M

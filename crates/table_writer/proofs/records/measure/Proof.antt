@@ -31,19 +31,32 @@ cells c = cellsIn Contents (c .args .content .now) (c .args .starts .now) (c .ar
 
 -- as many cells as spans
 count : (c : tie.Start Inv-loop μ-loop) → length (cells c) ≡ length (c .args .starts .now)
-count c = cells-length Contents (c .args .content .now) (c .args .starts .now) (c .args .ends .now) (c .args .kinds .now) (c .pre .0 .with-ends) (c .pre .0 .with-kinds)
+count c =
+    cells-length Contents (c .args .content .now) (c .args .starts .now) (c .args .ends .now) (c .args .kinds .now) (c .pre .0 .with-ends)
+    (c .pre .0 .with-kinds)
 
 -- the next record lies in the lists
-inside : (c : tie.In-loop Inv-loop μ-loop) → let s = c .before .before .before .before .before .before in c .before .loop .at + s .args .columns ≤ length (s .args .starts .now)
+inside :
+    (c : tie.In-loop Inv-loop μ-loop) →
+    let s = c .before .before .before .before .before .before in c .before .loop .at + s .args .columns ≤ length (s .args .starts .now)
 inside c =
-    let s = c .before .before .before .before .before .before in
+    let c4 = c .before .before .before .before in
+    let s = c4 .before .before in
     omega (arith, row-inside (c .before .loop .inv .stands-at) (c .loop-test .taken), count s)
 
-inside-ends : (c : tie.In-loop Inv-loop μ-loop) → let s = c .before .before .before .before .before .before in c .before .loop .at + s .args .columns ≤ length (s .args .ends .now)
-inside-ends c = omega (arith, inside c, c .before .before .before .before .before .before .pre .0 .with-ends)
+inside-ends :
+    (c : tie.In-loop Inv-loop μ-loop) →
+    let s = c .before .before .before .before .before .before in c .before .loop .at + s .args .columns ≤ length (s .args .ends .now)
+inside-ends c =
+    let c4 = c .before .before .before .before in
+    omega (arith, inside c, c4 .before .before .pre .0 .with-ends)
 
-inside-kinds : (c : tie.In-loop Inv-loop μ-loop) → let s = c .before .before .before .before .before .before in c .before .loop .at + s .args .columns ≤ length (s .args .kinds .now)
-inside-kinds c = omega (arith, inside c, c .before .before .before .before .before .before .pre .0 .with-kinds)
+inside-kinds :
+    (c : tie.In-loop Inv-loop μ-loop) →
+    let s = c .before .before .before .before .before .before in c .before .loop .at + s .args .columns ≤ length (s .args .kinds .now)
+inside-kinds c =
+    let c4 = c .before .before .before .before in
+    omega (arith, inside c, c4 .before .before .pre .0 .with-kinds)
 
 loop-holds : tie.Need-loop-holds Inv-loop μ-loop
 loop-holds c =
@@ -64,8 +77,10 @@ verdict-at : (c : tie.After-check-record Inv-loop μ-loop)
     let s = c .before .before .before .before .before .before .before .before .before .before in
     c .check-record .result .verdict ≡ rowCheck (s .args .t) (eqb (l .n) 0) (l .size) (rowAt (cells s) (s .args .columns) (l .at))
 verdict-at c =
-    let l = c .before .before .before .before .before .loop in
-    let s = c .before .before .before .before .before .before .before .before .before .before in
+    let c4 = c .before .before .before .before in
+    let c8 = c4 .before .before .before .before in
+    let l = c4 .before .loop in
+    let s = c8 .before .before in
     let a = s .args in
     c .check-record .ensures .0
     ∙ ap (rowCheck (a .t) (eqb (l .n) 0) (l .size)) (part-cells Contents (a .content .now) (a .starts .now) (a .ends .now) (a .kinds .now) (l .at) (a .columns))
@@ -74,32 +89,41 @@ verdict-at c =
 length-at : (c : tie.After-check-record Inv-loop μ-loop)
     → let l = c .before .before .before .before .before .loop in
     let s = c .before .before .before .before .before .before .before .before .before .before in
-    c .check-record .result .verdict ≡ Sound → c .check-record .result .length ≡ length (recordText (into (s .args .t)) (eqb (l .n) 0) (rowAt (cells s) (s .args .columns) (l .at)) ++ ending (s .args .t))
+    c .check-record .result .verdict ≡ Sound →
+    c .check-record .result .length
+    ≡ length (recordText (into (s .args .t)) (eqb (l .n) 0) (rowAt (cells s) (s .args .columns) (l .at)) ++ ending (s .args .t))
 length-at c e =
-    let l = c .before .before .before .before .before .loop in
-    let s = c .before .before .before .before .before .before .before .before .before .before in
+    let c4 = c .before .before .before .before in
+    let c8 = c4 .before .before .before .before in
+    let l = c4 .before .loop in
+    let s = c8 .before .before in
     let a = s .args in
     c .check-record .ensures .1 e
-    ∙ ap (λ (r : List Value). length (recordText (into (a .t)) (eqb (l .n) 0) r ++ ending (a .t))) (part-cells Contents (a .content .now) (a .starts .now) (a .ends .now) (a .kinds .now) (l .at) (a .columns))
+    ∙ ap (λ (r : List Value). length (recordText (into (a .t)) (eqb (l .n) 0) r ++ ending (a .t)))
+    (part-cells Contents (a .content .now) (a .starts .now) (a .ends .now) (a .kinds .now) (l .at) (a .columns))
 
 returns : tie.Need-returns Inv-loop μ-loop
 returns c =
     let at-validated = c .before .before .before .before in
     let in-loop = at-validated .before .before .before .before in
     ap Refused (c .record-report .ensures)
-    ∙ sym (measured-fault (in-loop .before .loop .inv) (in-loop .loop-test .taken) (c .before .before .v .given .0 .0) (sym (verdict-at at-validated) ∙ c .before .before .v .given .1))
+    ∙ sym
+    (measured-fault (in-loop .before .loop .inv) (in-loop .loop-test .taken) (c .before .before .v .given .0 .0)
+    (sym (verdict-at at-validated) ∙ c .before .before .v .given .1))
 
 -- the record has no fault
 passed : (c : tie.After-struct-known Inv-loop μ-loop)
     → let at-validated = c .before .before .before in
     let at-loop = at-validated .before .before .before .before .before in
     let s = at-loop .before .before .before .before .before in
-    Measuring (s .args .t) (cells s) (s .args .columns) (s .args .records) (at-loop .loop .n + 1) (at-loop .loop .at + s .args .columns) (at-loop .loop .size + at-validated .check-record .result .length)
+    Measuring (s .args .t) (cells s) (s .args .columns) (s .args .records) (at-loop .loop .n + 1) (at-loop .loop .at + s .args .columns)
+    (at-loop .loop .size + at-validated .check-record .result .length)
 passed c =
     let at-validated = c .before .before .before in
     let in-loop = at-validated .before .before .before .before in
     let sound = c .before .enum-told .given .1 in
-    measured-next (in-loop .before .loop .inv) (in-loop .loop-test .taken) (at-validated .check-record .result .length) (sym (verdict-at at-validated) ∙ sound) (length-at at-validated sound)
+    measured-next (in-loop .before .loop .inv) (in-loop .loop-test .taken) (at-validated .check-record .result .length)
+    (sym (verdict-at at-validated) ∙ sound) (length-at at-validated sound)
 
 pub measure-spec : {M : Type 1} → statement M
 measure-spec =

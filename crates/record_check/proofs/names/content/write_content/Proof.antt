@@ -8,13 +8,16 @@ returns : tie.Need-returns
 returns c =
     let at-decode-sound = c .before .before .before .before in
     let s = at-decode-sound .before .before .before .before in
-    never-refused (s .args .d) (s .args .raw .now) (s .args .room .now) (s .pre) (at-decode-sound .decode-sound .result) _ (c .enum-told .given .1) (at-decode-sound .decode-sound .ensures .0)
+    never-refused (s .args .d) (s .args .raw .now) (s .args .room .now) (s .pre) (at-decode-sound .decode-sound .result) _
+    (c .enum-told .given .1) (at-decode-sound .decode-sound .ensures .0)
 
 returns-2 : tie.Need-returns-2
 returns-2 c =
-    let at-decode-sound = c .before .before .before .before .before in
+    let c4 = c .before .before .before .before in
+    let at-decode-sound = c4 .before in
     let s = at-decode-sound .before .before .before .before in
-    decoded (s .args .d) (s .args .raw .now) (s .args .room .now) (s .pre) (at-decode-sound .decode-sound .result) _ _ _ (c .before .size .given .1) (at-decode-sound .decode-sound .ensures)
+    decoded (s .args .d) (s .args .raw .now) (s .args .room .now) (s .pre) (at-decode-sound .decode-sound .result) _ _ _
+    (c .before .size .given .1) (at-decode-sound .decode-sound .ensures)
 
 pub write-content-spec : {M : Type 1} → statement M
 write-content-spec =
