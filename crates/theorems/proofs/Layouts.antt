@@ -1,7 +1,6 @@
 -- Demand 2: rows of values are the rows of some table, and a table's rows are rows of values. The table's content is all contents joined,
 -- and each cell's span begins where the one before it ends (`laid`): so each cell is there with its kind and content, and the rows are
 -- these cells, as many at a time as the header has.
--- Assumes nothing.
 use Prim.Native.Nat.{ℕ, suc, _+_, _*_, _≤_}
 use native.Mathlib.Omega.{arith}
 use native.Mathlib.Nat.{mul-suc}

@@ -1,7 +1,6 @@
 -- Demand 2 over a call of the reader and its three lists. The reader's room is the length of the shortest list, so it has a place for every
 -- cell exactly where each list has (`places-room`); a file that is read and not accepted has too few. The lists begin with the spans and
 -- kinds of the reader's cells, which are those of the derivation; and each cell of the reader decodes from its span.
--- Assumes nothing.
 use Prim.Native.Nat.{ℕ, suc, _+_, _≤_}
 use native.Mathlib.Omega.{arith}
 use mathlib.Core.Path.{_≡_, refl, sym, ap, _∙_}
