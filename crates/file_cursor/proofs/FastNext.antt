@@ -4,8 +4,7 @@ use native.Mathlib.Omega.{arith}
 use mathlib.Core.Path.{_≡_, refl, sym, ap, subst, _∙_}
 use mathlib.Core.Bool.{Bool, true, false}
 use mathlib.Core.List.{List, [], _∷_}
-use lib.ListN.{length, take, drop, getD, length-take}
-use lib.Seq.{getD-take}
+use lib.ListN.{length, take, drop}
 use lib.Dec.{eqb}
 use borrow.Author.Tests.{ne-eqb}
 use Rattle.model.specs.declared.Dialect.{Dialect}
@@ -13,20 +12,20 @@ use Rattle.model.specs.declared.FileState.{FileState}
 use Rattle.model.specs.rules.Base.{Bytes, isEmpty}
 use Rattle.model.specs.rules.Report.{MAXFILE, MAXCOLUMNS}
 use Rattle.model.specs.rules.Records.{Rec, between-records}
-use Rattle.model.specs.rules.Api.{slice}
 use Rattle.record_scanner.specs.Tokens.{outer}
-use Rattle.cell_fast.specs.Ends.{CleanCell, CleanIn}
+use Rattle.cell_fast.specs.Ends.{CleanIn}
 use Rattle.record_fast.specs.declared.FastScan.{FastScan}
 use Rattle.record_fast.specs.declared.FastScan.the-variants as quick
-use Rattle.record_fast.specs.FastScan.{Clean, FastScanSound}
+use Rattle.record_fast.specs.FastScan.{FastScanSound}
 use Rattle.file_cursor.specs.Next.{nextRecord}
 use Rattle.file_cursor.specs.declared.scan.FileScan.the-variants.{Completed}
 use Rattle.file_cursor.proofs.FastRecords.{told-record, told-clean, told-long}
 use Rattle.file_cursor.specs.declared.Aim.{Aim}
 use Rattle.file_cursor.specs.declared.Cursor.{Cursor}
 use Rattle.file_cursor.specs.NextRecord as visits
-use Rattle.file_cursor.specs.NextRecord.{Long, SameLengths}
+use Rattle.record_fast.specs.CellLists.{Long, SameLengths}
 use Rattle.file_cursor.proofs.NextRecords.{Met, record-counts, record-visited}
+use Rattle.record_fast.proofs.CellLists.{clean-in}
 use Rattle.file_cursor.proofs.Traversal.{came}
 use Rattle.file_cursor.specs.declared.fast.FastNext.{FastNext}
 use Rattle.file_cursor.specs.declared.fast.FastNext.the-variants as told
@@ -39,20 +38,6 @@ no-header done n = sym (ne-eqb done 0 n)
 pub some-read : (rs : List Rec) (done : ℕ) → length rs ≡ done → (done ≡ 0 → ⊥) → isEmpty rs ≡ false
 some-read [] done l n = absurd (n (sym l))
 some-read (r ∷ rs) done l n = refl
-
--- the cells that the lists show are verbatim texts
-pub clean-in : {d : Dialect} {file : Bytes} {n : ℕ} {s e : List ℕ} → n ≤ MAXCOLUMNS → Clean d file MAXCOLUMNS 0 n s e → CleanIn d file (take n s) (take n e)
-clean-in {d} {file} {n} {s} {e} few c =
-    record {
-      quotes = c .quotes;
-      each =
-          λ k l.
-          let m : length (take n s) ≤ n = simp length-take (omega arith) in
-          let h : k < n = omega arith in
-          let z : 0 + k ≡ k = omega arith in
-          let x : CleanCell d (slice file (getD s (0 + k) 0) (getD e (0 + k) 0)) = c .each k h (omega arith) in
-          rw (getD-take n s k 0 h, getD-take n e k 0 h) (subst (λ (j : ℕ). CleanCell d (slice file (getD s j 0) (getD e j 0))) z x);
-    }
 
 module _ {d : Dialect} {file : Bytes} {f : FileState} {i : ℕ} {s₀ e₀ k₀ s e k : List ℕ} {q : FastScan} (t : FastScanSound d MAXFILE file i f MAXCOLUMNS 0 s₀ e₀ k₀ s e k q) (between : outer f ≡ true) (inside : i ≤ length file) (long : Long s₀ e₀ k₀) where
   pub met : {start cells next : ℕ} {g : FileState} {clean : Bool} → q ≡ quick.Record start cells g next clean → Met d file f i s₀ e₀ k₀ s e k (Completed start cells g next)

@@ -4,7 +4,6 @@ pub mod Events
 pub mod Complete
 pub mod Spans
 pub mod FastRecords
-pub mod Lists
 pub mod RecordChecks
 pub mod NextRecords
 pub mod Traversal

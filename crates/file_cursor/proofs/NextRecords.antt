@@ -27,7 +27,7 @@ use Rattle.cell_decoder.specs.declared.source.Source.the-variants.{File}
 use Rattle.cell_decoder.specs.Sources.{Cells}
 use Rattle.file_cursor.specs.Next.{Next, nextRecord, ended, EventInBounds}
 use Rattle.record_scanner.specs.Stored.{storedFrom}
-use Rattle.file_cursor.specs.Spans.{LiesIn}
+use Rattle.record_fast.specs.CellLists.{LiesIn}
 use Rattle.file_cursor.specs.FileOutcome.{restOf, ReadsAs}
 use Rattle.record_scanner.specs.Tokens.{outer}
 use Rattle.file_cursor.specs.declared.scan.FileScan.{FileScan}
@@ -39,8 +39,9 @@ use Rattle.file_cursor.proofs.Spans.{cells-lie, EndsOuter, record-outer
 use Rattle.file_cursor.specs.declared.Aim.{Aim}
 use Rattle.file_cursor.specs.declared.NextRecord.{NextRecord}
 use Rattle.file_cursor.specs.declared.NextRecord.the-variants.{Record, Refused}
-use Rattle.file_cursor.specs.NextRecord.{targetOf, textOf, textNext, cursorOf, Long, SameLengths, Shows, RecordChecked, sound, faulty, FileEnded, no-record, at-end, NextRecordSound, read, finished, refused}
-use Rattle.file_cursor.proofs.Lists.{still-kept, still-long, stand-there, shows}
+use Rattle.file_cursor.specs.NextRecord.{targetOf, textOf, textNext, cursorOf, RecordChecked, sound, faulty, FileEnded, no-record, at-end, NextRecordSound, read, finished, refused}
+use Rattle.record_fast.specs.CellLists.{Long, SameLengths, Shows}
+use Rattle.record_fast.proofs.CellLists.{still-kept, still-long, stand-there, shows}
 use Rattle.file_cursor.proofs.RecordChecks.{text-snoc, columns-snoc}
 
 -- ---- the end of the file

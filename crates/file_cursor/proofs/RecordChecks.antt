@@ -30,7 +30,8 @@ use Rattle.file_cursor.specs.declared.Aim.{Aim}
 use Rattle.file_cursor.specs.declared.Cursor.{Cursor}
 use Rattle.file_cursor.specs.declared.Aim.the-variants.{Reading, Into}
 use Rattle.file_cursor.specs.declared.NextRecord.the-variants.{Record, End, Refused}
-use Rattle.file_cursor.specs.NextRecord.{targetOf, textOf, textNext, cursorOf, Columns, After, CheckSound, Shows, RecordChecked, sound, faulty, FileEnded, no-record, at-end}
+use Rattle.file_cursor.specs.NextRecord.{targetOf, textOf, textNext, cursorOf, Columns, After, CheckSound, RecordChecked, sound, faulty, FileEnded, no-record, at-end}
+use Rattle.record_fast.specs.CellLists.{Shows}
 
 -- ---- the source's checks
 

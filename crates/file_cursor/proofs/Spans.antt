@@ -32,7 +32,7 @@ use Rattle.model.specs.declared.Ending.the-variants.{Clean, Final, Cut}
 use Rattle.file_cursor.specs.Next.{Next, readAfter, ended, stepped, nextRecord}
 use Rattle.file_cursor.specs.Types.{FileScan, Completed, LastRecord, Failed, End}
 use Rattle.record_scanner.specs.Tokens.{outer}
-use Rattle.file_cursor.specs.Spans.{LiesIn}
+use Rattle.record_fast.specs.CellLists.{LiesIn}
 use Rattle.record_scanner.proofs.TokenOutcomes.{part-one}
 use Rattle.record_scanner.proofs.OuterStates.{Calm, step-calm, refuses, leaves, passes, grows, blanks, parts, tails, finishes}
 use Rattle.file_cursor.proofs.RecordByRecord.{next-drop}

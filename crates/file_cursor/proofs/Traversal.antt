@@ -24,7 +24,8 @@ use Rattle.file_cursor.specs.declared.NextRecord.{NextRecord}
 use Rattle.file_cursor.specs.declared.NextRecord.the-variants.{Record, End, Refused}
 use Rattle.file_cursor.specs.NextRecord as visits
 use Rattle.file_cursor.specs.FileOutcome.{restOf}
-use Rattle.file_cursor.specs.NextRecord.{targetOf, cursorOf, atStart, After, Long, SameLengths, NextRecordSound}
+use Rattle.file_cursor.specs.NextRecord.{targetOf, cursorOf, atStart, After, NextRecordSound}
+use Rattle.record_fast.specs.CellLists.{Long, SameLengths}
 
 -- the whole file is what is left from the cursor on, after the records rs
 pub record Walking (d : Dialect) (aim : Aim) (file : Bytes) (c : Cursor) : Type 0 where

@@ -2,6 +2,5 @@ pub mod Types
 pub mod Next
 pub mod Ends
 pub mod FileOutcome
-pub mod Spans
 pub mod NextRecord
 pub mod FastNext

@@ -74,23 +74,6 @@ pub record CheckSound (d : Dialect) (aim : Aim) (c : Cursor) (vs : List Value) (
   pub text : (rs : List Rec) → length rs ≡ c .done → r .verdict ≡ Sound → r .length ≡ length (textNext aim (isEmpty rs) vs)
   pub fits : r .verdict ≡ Sound → c .written + r .length ≤ MAXFILE
 
--- lists with room for the cells of any record
-pub record Long (starts ends kinds : List ℕ) : Type 0 where
-  pub at-starts : MAXCOLUMNS ≤ length starts
-  pub at-ends : MAXCOLUMNS ≤ length ends
-  pub at-kinds : MAXCOLUMNS ≤ length kinds
-
--- lists as long as they were
-pub record SameLengths (starts₀ ends₀ kinds₀ starts ends kinds : List ℕ) : Type 0 where
-  pub at-starts : length starts ≡ length starts₀
-  pub at-ends : length ends ≡ length ends₀
-  pub at-kinds : length kinds ≡ length kinds₀
-
--- the number of cells, and the cells that the lists show if they are no more than a record may have
-pub record Shows (d : Dialect) (file : Bytes) (vs : List Value) (cells : ℕ) (starts ends kinds : List ℕ) : Type 0 where
-  pub count : length vs ≡ cells
-  pub values : cells ≤ MAXCOLUMNS → cellsIn (File d) file (take cells starts) (take cells ends) (take cells kinds) ≡ vs
-
 -- the cursor's result for the record with these cells after the records rs, by the check result
 pub data RecordChecked (d : Dialect) (aim : Aim) (rs : List Rec) (vs : List Value) (start : ℕ) (f : FileState) (o : ℕ) : NextRecord → Type 0 where
   sound :
@@ -124,7 +107,8 @@ pub record Next (d : Dialect) (aim : Aim) (file : Bytes) (rs : List Rec) (f : Fi
   pub between : outer (v .state) ≡ true
 
 -- the cursor's result from i on, after the records rs
-pub data NextRecordSound (d : Dialect) (aim : Aim) (file : Bytes) (rs : List Rec) (f : FileState) (i : ℕ) (starts ends kinds : List ℕ) : NextRecord → Type 0 where
+pub data NextRecordSound (d : Dialect) (aim : Aim) (file : Bytes) (rs : List Rec) (f : FileState) (i : ℕ) (starts ends kinds : List ℕ) :
+    NextRecord → Type 0 where
   read : {v : Cursor} → Next d aim file rs f i starts ends kinds v → NextRecordSound d aim file rs f i starts ends kinds (Record v)
   finished : (r : Read) → restOf d (targetOf aim) file rs f i ≡ going r → r .done ≡ rs → NextRecordSound d aim file rs f i starts ends kinds End
   refused :

@@ -28,12 +28,12 @@ use Rattle.cell_fast.specs.Ends.{CleanIn}
 use Rattle.record_fast.specs.declared.FastScan.{FastScan}
 use Rattle.record_fast.specs.declared.FastScan.the-variants.{Record}
 use Rattle.record_fast.specs.FastScan.{Clean, FastScanSound, is-found, is-fallback}
-use Rattle.file_cursor.specs.Spans.{LiesIn}
+use Rattle.record_fast.specs.CellLists.{LiesIn}
 use Rattle.cell_decoder.specs.declared.source.Source.the-variants.{File}
 use Rattle.cell_decoder.specs.Sources.{cellsIn, Cells}
-use Rattle.file_cursor.specs.NextRecord.{Long}
-use Rattle.file_cursor.proofs.Lists.{stand-there, shows}
-use Rattle.file_cursor.proofs.FastNext.{clean-in}
+use Rattle.record_fast.specs.CellLists.{Long}
+use Rattle.record_fast.proofs.CellLists.{stand-there, shows}
+use Rattle.record_fast.proofs.CellLists.{clean-in}
 use Rattle.piece_step.specs.Invariant.{no-bytes, IsWhole}
 use Rattle.piece_step.specs.Steps.{Scratch}
 use Rattle.piece_step.proofs.ScanLaws.{PreservesTo, preserves-completes, scan-preserves}

@@ -257,7 +257,19 @@ pub record Rest (call : Call) (start at n : ℕ) (starts ends kinds : List ℕ) 
 
 abbrev pub callOf : Dialect → (part : Bytes) → FileState → (limit from room base : ℕ) → (starts₀ ends₀ kinds₀ : List ℕ) → Call
 callOf d part first limit from room base starts₀ ends₀ kinds₀ =
-    record { d = d; part = part; first = first; size = 0; limit = limit; from = from; room = room; base = base; starts₀ = starts₀; ends₀ = ends₀; kinds₀ = kinds₀ }
+    record {
+      d = d;
+      part = part;
+      first = first;
+      size = 0;
+      limit = limit;
+      from = from;
+      room = room;
+      base = base;
+      starts₀ = starts₀;
+      ends₀ = ends₀;
+      kinds₀ = kinds₀;
+    }
 
 -- ---- the first cell
 
@@ -414,7 +426,14 @@ module _ (d : Dialect) (part : Bytes) (limit from room base : ℕ) (starts₀ en
     unfolding fileStep counts if_then_else_
     asked-lf first {h} w i u q =
         let s : To Begin (Ends false) ≡ fileStep d Cr (getD part (e + 1) 0) = rw q in
-        record { scanning = w; inside = i; under = u; fits = rw q (no-and (leb MAXRECORD (h .size))); lies = s; comes = byte-results d limit part Cr (e + 1) (h .size) i u (To Begin (Ends false)) s }
+        record {
+          scanning = w;
+          inside = i;
+          under = u;
+          fits = rw q (no-and (leb MAXRECORD (h .size)));
+          lies = s;
+          comes = byte-results d limit part Cr (e + 1) (h .size) i u (To Begin (Ends false)) s;
+        }
 
     -- after an ending the record is complete
     pub last-cell : e < stop → {f : FileState} {next : ℕ} → RecordEndSound d part e stop (closing.After f next) → {tells : Bool}

@@ -1,2 +1,3 @@
 pub mod Endings
 pub mod FastScanInvariant
+pub mod CellLists

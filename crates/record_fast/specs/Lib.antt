@@ -1,1 +1,2 @@
 pub mod FastScan
+pub mod CellLists

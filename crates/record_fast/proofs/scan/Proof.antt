@@ -93,7 +93,9 @@ small : (u : tie.After-both Inv-loop μ-loop)
 small u =
     let l = u .before .before .before .before .loop in
     let e : u .before .before .cell-end .result .at < u .before .before .before .before .before .before .before .min-of2 .result = u .before .if2 .left in
-    let s : u .before .before .before .before .before .before .before .min-of2 .result ≤ u .before .before .before .before .before .before .before .before .before .before .before .before .before .before .before .args .limit =
+    let s : u .before .before .before .before .before .before .before .min-of2 .result
+    ≤ u .before .before .before .before .before .before .before .before .before .before .before .before .before .before .before .args .limit
+    =
     l .inv .bounds .under in
     let m : u .before .before .before .before .before .before .before .before .before .before .before .before .before .before .before .args .limit ≤ MAXFILE =
     l .inv .low in
@@ -121,7 +123,10 @@ store-cell-requires c κs =
     let u = c .before .before .before .before .before .before .before .before .before in
     let v = u .before .before .before .before .loop .inv in
     let x = lies u in
-    let i : u .before .before .cell-end .result .at < length (u .before .before .before .before .before .before .before .before .before .before .before .before .before .before .before .args .part .now) =
+    let i : u .before .before .cell-end .result .at
+    < length
+    (u .before .before .before .before .before .before .before .before .before .before .before .before .before .before .before .args .part .now)
+    =
     x .1 in
     ((x .0, omega arith), (rw (v .long .0) (v .roomy .0), rw (v .long .1) (v .roomy .1), rw (v .long .2) (v .roomy .2)))
 
@@ -168,7 +173,9 @@ returns-4 c =
     .before .before .before .before .before .before .before .before .before .args .part .now) (u
     .before .before .cell-end .result .at) (u .before .before .before .before
     .before
-    .before .before .min-of2 .result) r) (at-state .state .given .1) (at-record-end-at .record-end-at .ensures)) (u .before .before .cell-end .ensures .content (u .before .if2 .left)) (record { put = at-store-cell .store-cell .ensures }) _ (u .before .before .before .before .before .before .before .before .before .before .record-start .ensures))
+    .before .before .min-of2 .result) r) (at-state .state .given .1) (at-record-end-at .record-end-at .ensures))
+    (u .before .before .cell-end .ensures .content (u .before .if2 .left)) (record { put = at-store-cell .store-cell .ensures }) _
+    (u .before .before .before .before .before .before .before .before .before .before .record-start .ensures))
 
 add-store-cell-2 : tie.Need-add-store-cell-2 Inv-loop μ-loop
 add-store-cell-2 c = let u = c .before .before in let x = small u .0 in let y = small u .1 in let z = lies u .0 in omega arith
@@ -178,7 +185,10 @@ store-cell-requires-2 c κs =
     let u = c .before .before .before .before .before in
     let v = u .before .before .before .before .loop .inv in
     let x = lies u in
-    let i : u .before .before .cell-end .result .at < length (u .before .before .before .before .before .before .before .before .before .before .before .before .before .before .before .args .part .now) =
+    let i : u .before .before .cell-end .result .at
+    < length
+    (u .before .before .before .before .before .before .before .before .before .before .before .before .before .before .before .args .part .now)
+    =
     x .1 in
     ((x .0, omega arith), (rw (v .long .0) (v .roomy .0), rw (v .long .1) (v .roomy .1), rw (v .long .2) (v .roomy .2)))
 
@@ -196,7 +206,9 @@ loop-less : tie.Need-loop-less Inv-loop μ-loop
 loop-less c =
     let u = c .before .before .before .before .before .before .before .before .before .before .before .before in
     let x = lies u .0 in let y = u .before .if2 .left in let z = u .before .before .before .loop-test .taken in
-    let w : u .before .before .before .before .before .before .before .min-of2 .result - (u .before .before .cell-end .result .at + 1) < u .before .before .before .before .before .before .before .min-of2 .result - u .before .before .before .before .loop .at =
+    let w : u .before .before .before .before .before .before .before .min-of2 .result -
+    (u .before .before .cell-end .result .at + 1)
+    < u .before .before .before .before .before .before .before .min-of2 .result - u .before .before .before .before .loop .at =
     omega arith in
     w
 
