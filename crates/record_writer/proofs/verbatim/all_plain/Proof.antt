@@ -1,27 +1,26 @@
 -- The invariant: the bytes before i are ordinary.
-use Prim.Native.Nat.{_-_, _≤_}
+use Prim.Native.Nat.{_-_}
 use native.Mathlib.Omega.{arith}
 use borrow.Author.Needs.{needs}
-use borrow.Author.Tests.{eqb-true}
 use Rattle.model.proofs.Tests.{impossible}
-use Rattle.swar.specs.Words.{plainText, AllIn}
-use Rattle.swar.proofs.Spans.{in-none, in-word, in-last}
+use Rattle.swar.specs.Words.{plainText}
+use Rattle.swar.proofs.Spans.{CheckedTo, check-starts, check-word, check-last}
 use Rattle.record_writer.proofs.verbatim.all_plain.Statement.{statement}
 use Rattle.record_writer.proofs.verbatim.all_plain.Tie as tie
 
 abbrev Inv-loop : tie.InvT-loop
-Inv-loop raw from upto i₀ i = (from ≤ i) × (i ≤ upto) × AllIn plainText raw from i
+Inv-loop raw from upto i₀ i = CheckedTo plainText raw from upto i
 
 abbrev μ-loop : tie.MeasureT-loop
 μ-loop raw from upto i₀ i = upto - i
 
 loop-again : tie.Need-loop-again Inv-loop μ-loop
 loop-again c =
-    let u = c .before .before .before .before in
-    (omega arith, omega arith, in-word (u .loop .inv .2) (c .before .unplain-text .ensures) (c .if1 .left) (omega arith) (c .before .before .word .ensures))
+    let at-loop = c .before .before .before .before in
+    check-word (at-loop .loop .inv) (c .before .unplain-text .ensures) (omega arith) (omega arith) (c .before .before .word .ensures) (c .if1 .left)
 
 returns-2 : tie.Need-returns-2 Inv-loop μ-loop
-returns-2 c e = in-last (c .before .before .before .loop .inv .2) (c .unplain-text2 .ensures) (eqb-true (c .unplain-text2 .result) 0 e) (omega arith) (c .before .last-word .ensures)
+returns-2 c e = check-last (c .before .before .before .loop .inv) (c .unplain-text2 .ensures) (omega arith) (c .before .last-word .ensures) e
 
 pub all-plain-spec : {M : Type 1} → statement M
 all-plain-spec =
@@ -29,7 +28,7 @@ all-plain-spec =
     (tie.spec
     Inv-loop
     μ-loop
-    (λ c. let u = c .before in (omega arith, u .pre .0, in-none (u .args .raw .now) (u .args .from)))
+    (λ c. check-starts (c .before .args .raw .now) (c .before .pre .0))
     (λ c. omega arith)
     (λ c κs. omega arith)
     (λ c κs. search needs)
