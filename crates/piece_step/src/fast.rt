@@ -1,6 +1,6 @@
 // The fast path over a data record that lies whole in the piece: it is checked and written from the piece, and nothing of it is buffered.
 // It returns the result of a step, or falls back to `step`. Definition: `FastStepSound` (specs/FastSteps.antt); proofs/FastSteps.antt
-// derives it from the contract of record_fast, and proofs/FastText.antt from that of record_target.
+// derives it from the contract of record_fast, and proofs/FastText.antt from those of record_target and record_writer.
 ghost use mathlib.Core.Path.{_≡_};
 ghost use mathlib.Core.Bool.{true};
 ghost use mathlib.Core.List.{List};
@@ -17,6 +17,7 @@ ghost use Rattle.cell_decoder.specs.Sources.{cellsIn, Cells};
 ghost use Rattle.piece_step.specs.Invariant.{StateInvariant};
 ghost use Rattle.piece_step.specs.Steps.{Scratch};
 ghost use Rattle.piece_step.specs.FastSteps.{FastTextSound, FastStepReady, Between, FastStepWrites, FastStepInBounds, FastStepSound};
+use cell_decoder::source::Source;
 use codes::MAX_COLUMNS;
 use codes::MAX_FILE;
 use model::CheckResult;
@@ -24,6 +25,7 @@ use model::Dialect;
 use model::FileState;
 use piece_state::place::Place;
 use record_fast::FastScan;
+use record_writer::line;
 
 // The result of the fast path.
 pub enum FastStep {
@@ -62,7 +64,8 @@ fn write_record(
     if let CheckResult::Faulty(_) = record_check::data(columns, starts.len()) {
         return FastText::Fallback;
     }
-    let r = record_target::check_data(d, t, piece, starts, stops, kinds, clean, before);
+    let src = Source::File(d);
+    let r = record_target::check_target(src, t, piece, starts, stops, kinds, false, clean, before);
     let v = r.verdict;
     if let CheckResult::Faulty(_) = v {
         return FastText::Fallback;
@@ -70,7 +73,7 @@ fn write_record(
     if out.len() - o < r.length {
         return FastText::Fallback;
     }
-    FastText::To(record_target::write_data(d, t, piece, starts, stops, kinds, clean, out, o))
+    FastText::To(line::write_line(src, t, piece, starts, stops, kinds, false, clean, out, o))
 }
 
 // ---- a step

@@ -14,6 +14,7 @@ use Rattle.buffer.specs.Writes.{Room, WrittenAt, written}
 use Rattle.cell_decoder.specs.declared.source.Source.the-variants.{File}
 use Rattle.cell_decoder.specs.Sources.{cellsIn}
 use Rattle.cell_decoder.proofs.CellsIn.{cells-length}
+use Rattle.record_writer.specs.CleanRecord.{clean-data}
 use Rattle.piece_step.specs.FastSteps.{up-to, no-text}
 use Rattle.piece_step.proofs.fast.write_record.Statement.{statement}
 use Rattle.piece_step.proofs.fast.write_record.Tie as tie
@@ -24,8 +25,14 @@ cells c = let a = c .args in cellsIn (File (a .d)) (a .piece .now) (a .starts .n
 abbrev text : tie.Start → Bytes
 text c = recordText (into (c .args .t)) false (cells c) ++ ending (c .args .t)
 
+check-target-requires : tie.Need-check-target-requires
+check-target-requires c κs =
+    let c4 = c .before .before .before .before in
+    let u = c4 .before .before .before .before in
+    (u .pre .0, (λ e. clean-data (u .pre .1 .0 e), u .pre .1 .1 .0))
+
 -- there is room for it
-fits : (c : tie.After-write-data-arg) →
+fits : (c : tie.After-write-line-arg) →
     let c4 = c .before .before .before .before in
     let c8 = c4 .before .before .before .before in
     let c12 = c8 .before .before .before .before in
@@ -36,18 +43,18 @@ fits c =
     let c8 = c4 .before .before .before .before in
     let c12 = c8 .before .before .before .before in
     let u = c12 .before .before in
-    let l = c4 .before .check-data .ensures .1 (c .before .before .before .enum-told4 .given .1) in
+    let l = c4 .before .check-target .ensures .1 (c .before .before .before .enum-told4 .given .1) in
     let m = c .before .if1 .left in
     let o : u .args .o ≤ length (u .args .out .now) = u .pre .1 .1 .1 in
     omega (arith, l)
 
-write-data-requires : tie.Need-write-data-requires
-write-data-requires c κs =
+write-line-requires : tie.Need-write-line-requires
+write-line-requires c κs =
     let c4 = c .before .before .before .before in
     let c8 = c4 .before .before .before .before in
     let c12 = c8 .before .before .before .before in
     let u = c12 .before .before in
-    (u .pre .0, (u .pre .1 .0, record { measured = λ z. impossible (sym z); inside = λ z. fits c }))
+    (u .pre .0, (λ e. clean-data (u .pre .1 .0 e), record { measured = λ z. impossible (sym z); inside = λ z. fits c }))
 
 place-of : {old : Bytes} {o : ℕ} {w new : Bytes} {r : ℕ} → WrittenAt true old o w new r → (new ≡ written old o w) × (r ≡ o + length w)
 unfolding if_then_else_
@@ -61,12 +68,12 @@ returns-4 c =
     let c16 = c12 .before .before .before .before in
     let u = c16 .before in
     let a = u .args in
-    let y = place-of (c .before .before .write-data .ensures) in
+    let y = place-of (c .before .before .write-line .ensures) in
     up-to
     (sym (c8 .before .before .before .«data» .ensures (cells u)
     (cells-length (File (a .d)) (a .piece .now) (a .starts .now) (a .stops .now) (a .kinds .now) (u .pre .0 .with-ends) (u .pre .0 .with-kinds)))
     ∙ c8 .before .enum-told2 .given .1)
-    (sym (c8 .check-data .ensures .0) ∙ c4 .before .before .enum-told4 .given .1)
+    (sym (c8 .check-target .ensures .0) ∙ c4 .before .before .enum-told4 .given .1)
     (fits (c .before .before .before))
     (y .0)
     (y .1)
@@ -79,12 +86,12 @@ write-record-spec =
     (λ c. search needs)
     (λ c. no-text refl)
     (λ c. search needs)
-    (λ c κs. search needs)
+    check-target-requires
     (λ c. search needs)
     (λ c. no-text refl)
     (λ c. search needs)
     (λ c. search needs)
     (λ c. no-text refl)
-    write-data-requires
+    write-line-requires
     (λ c. search needs)
     returns-4)
