@@ -16,7 +16,7 @@ use Rattle.model.specs.declared.Fault.the-variants.{NoRecord, TooManyColumns}
 use Rattle.model.specs.declared.Report.{Report}
 use Rattle.model.specs.declared.CheckResult.{CheckResult}
 use Rattle.model.specs.declared.CheckResult.the-variants.{Sound, Faulty}
-use Rattle.model.specs.rules.Base.{Bytes, isEmpty}
+use Rattle.model.specs.rules.Base.{Bytes, isEmpty, if_then_else_}
 use Rattle.model.specs.rules.Dialect.{into}
 use Rattle.model.specs.rules.Text.{Value, recordText, tableText, ending}
 use Rattle.model.specs.rules.Report.{report, numberOf, columnOf, MAXFILE, MAXCOLUMNS}
@@ -25,6 +25,7 @@ use Rattle.model.proofs.file_laws.CheckResults.{fault-sound, else-sound, when-s
 use Rattle.model.proofs.round_trip.TableText.{rows-empty, table-snoc}
 use Rattle.model.proofs.TargetLaws.{record-target}
 use Rattle.file_cursor.proofs.Complete.{header-fault, data-fault}
+use Rattle.record_check.specs.SourceFault.{sourceFault}
 use Rattle.record_target.specs.declared.TargetCheck.{TargetCheck}
 use Rattle.file_cursor.specs.declared.Aim.{Aim}
 use Rattle.file_cursor.specs.declared.Cursor.{Cursor}
@@ -35,9 +36,10 @@ use Rattle.record_fast.specs.CellLists.{Shows}
 
 -- ---- the source's checks
 
-pub header-checked : (d : Dialect) (vs : List Value) (v : CheckResult) (done columns : ℕ) → done ≡ 0 → v ≡ headerFault d vs → (rs : List Rec) → length rs ≡ done → Columns rs columns → v ≡ recordFault d none rs vs
-header-checked d vs v done columns z e [] l c = e ∙ sym (header-fault d vs)
-header-checked d vs v done columns z e (h ∷ rs) l c = absurd (omega arith)
+pub source-checked : (d : Dialect) (vs : List Value) (done columns : ℕ) (rs : List Rec) → length rs ≡ done → Columns rs columns → sourceFault d (eqb done 0) columns vs ≡ recordFault d none rs vs
+unfolding if_then_else_
+source-checked d vs done columns [] l c = rw (sym l) (sym (header-fault d vs))
+source-checked d vs done columns (h ∷ rs) l c = rw (ne-eqb done 0 (λ z. omega arith)) (ap (λ (m : ℕ). dataFault m vs) (sym c) ∙ sym (data-fault d h rs vs))
 
 pub data-checked : (d : Dialect) (vs : List Value) (v : CheckResult) (done columns : ℕ) → (done ≡ 0 → ⊥) → v ≡ dataFault columns vs → (rs : List Rec) → length rs ≡ done → Columns rs columns → v ≡ recordFault d none rs vs
 data-checked d vs v done columns n e [] l c = absurd (n (sym l))
@@ -51,10 +53,14 @@ unfolding _orElse_
 source-first d Reading rs vs e h = h
 source-first d (Into t) rs vs e h = record-target d (into t) rs vs ∙ rw h
 
-target-next : (d : Dialect) (t : Dialect) (rs : List Rec) (vs : List Value) → recordFault d none rs vs ≡ Sound → recordFault d (some (into t)) rs vs ≡ targetFault (into t) (isEmpty rs) (length (tableText (into t) (rows rs))) vs
+target-next : (d : Dialect) (t : Dialect) (rs : List Rec) (vs : List Value) → recordFault d (some (into t)) rs vs ≡ (recordFault d none rs vs orElse targetFault (into t) (isEmpty rs) (length (tableText (into t) (rows rs))) vs)
+target-next d t rs vs =
+    record-target d (into t) rs vs
+    ∙ ap (λ (b : Bool). recordFault d none rs vs orElse targetFault (into t) b (length (tableText (into t) (rows rs))) vs) (rows-empty rs)
+
+or-next : (v w : CheckResult) → v ≡ Sound → w ≡ (v orElse w)
 unfolding _orElse_
-target-next d t rs vs h =
-    record-target d (into t) rs vs ∙ rw h (ap (λ (b : Bool). targetFault (into t) b (length (tableText (into t) (rows rs))) vs) (rows-empty rs))
+or-next v w h = rw h
 
 pub empty-none : (rs : List Rec) (done : ℕ) → length rs ≡ done → eqb done 0 ≡ isEmpty rs
 empty-none [] done l = rw (sym l) refl
@@ -69,30 +75,40 @@ module _ (d : Dialect) (at : Cursor) (vs : List Value) (u : CheckResult) (by-sou
         fits = λ s. fault-sound s;
       }
 
-  pub asked-reading : (aim : Aim) → aim ≡ Reading → u ≡ Sound → at .written ≤ MAXFILE → CheckSound d aim at vs (record { verdict = Sound; length = 0 })
-  asked-reading aim q h w =
+  pub asked-reading : (aim : Aim) (v : CheckResult) → aim ≡ Reading → v ≡ u → at .written ≤ MAXFILE → CheckSound d aim at vs (record { verdict = v; length = 0 })
+  asked-reading aim v q h w =
       rw q
       (record {
-        verdict = λ rs a. sym h ∙ by-source rs (a .count) (a .headed);
+        verdict = λ rs a. h ∙ by-source rs (a .count) (a .headed);
         text = λ rs l s. refl;
         fits = λ s. omega arith;
       })
 
-  pub asked-into : (aim : Aim) (t : Dialect) (r : TargetCheck) → aim ≡ Into t → u ≡ Sound → r .verdict ≡ targetFault (into t) (eqb (at .done) 0) (at .written) vs → (r .verdict ≡ Sound → r .length ≡ length (recordText (into t) (eqb (at .done) 0) vs ++ ending t)) → CheckSound d aim at vs r
-  asked-into aim t r q h v l = rw q (record { verdict = verdict; text = text; fits = fits })
+  -- the fault that the target finds if the source finds none
+  abbrev Target-fault : Dialect → CheckResult
+  Target-fault t = targetFault (into t) (eqb (at .done) 0) (at .written) vs
+
+  pub asked-both : (aim : Aim) (t : Dialect) (r : TargetCheck) → aim ≡ Into t → r .verdict ≡ (u orElse Target-fault t) → (r .verdict ≡ Sound → r .length ≡ length (recordText (into t) (eqb (at .done) 0) vs ++ ending t)) → CheckSound d aim at vs r
+  asked-both aim t r q v l = rw q (record { verdict = verdict; text = text; fits = fits })
     where
       verdict : (rs : List Rec) → After (Into t) at rs → r .verdict ≡ recordFault d (some (into t)) rs vs
       verdict rs a =
-          let e : recordFault d (some (into t)) rs vs ≡ targetFault (into t) (isEmpty rs) (length (tableText (into t) (rows rs))) vs = target-next d t rs vs (sym (by-source rs (a .count) (a .headed)) ∙ h) in
-          v ∙ ap (λ (b : Bool). targetFault (into t) b (at .written) vs) (empty-none rs (at .done) (a .count)) ∙ ap (λ (n : ℕ). targetFault (into t) (isEmpty rs) n vs) (sym (a .text)) ∙ sym e
+          v ∙ ap (λ (x : CheckResult). x orElse Target-fault t) (by-source rs (a .count) (a .headed))
+          ∙ ap (λ (b : Bool). recordFault d none rs vs orElse targetFault (into t) b (at .written) vs) (empty-none rs (at .done) (a .count))
+          ∙ ap (λ (n : ℕ). recordFault d none rs vs orElse targetFault (into t) (isEmpty rs) n vs) (sym (a .text))
+          ∙ sym (target-next d t rs vs)
 
       text : (rs : List Rec) → length rs ≡ at .done → r .verdict ≡ Sound → r .length ≡ length (textNext (Into t) (isEmpty rs) vs)
       text rs c s = l s ∙ ap (λ (b : Bool). length (recordText (into t) b vs ++ ending t)) (empty-none rs (at .done) c)
 
       fits : r .verdict ≡ Sound → at .written + r .length ≤ MAXFILE
       fits s =
-          let f = target-sound (into t) (eqb (at .done) 0) (at .written) vs (sym v ∙ s) in
+          let x = else-sound u (Target-fault t) (sym v ∙ s) in
+          let f = target-sound (into t) (eqb (at .done) 0) (at .written) vs (x .1) in
           rw (l s) (f .fits)
+
+  pub asked-into : (aim : Aim) (t : Dialect) (r : TargetCheck) → aim ≡ Into t → u ≡ Sound → r .verdict ≡ Target-fault t → (r .verdict ≡ Sound → r .length ≡ length (recordText (into t) (eqb (at .done) 0) vs ++ ending t)) → CheckSound d aim at vs r
+  asked-into aim t r q h v l = asked-both aim t r q (v ∙ or-next u (Target-fault t) h) l
 
 -- ---- the result
 

@@ -18,6 +18,7 @@ ghost use Rattle.record_fast.specs.CellLists.{Long, SameLengths, Shows};
 ghost use Rattle.file_cursor.specs.FastNext.{FastCheckSound, FastNextSound};
 use crate::Aim;
 use crate::Cursor;
+use cell_decoder::source::Source;
 use codes::MAX_COLUMNS;
 use codes::MAX_FILE;
 use model::CheckResult;
@@ -59,9 +60,17 @@ fn check_record(
             verdict: CheckResult::Sound,
             length: 0,
         },
-        Aim::Into(t) => {
-            record_target::check_data(d, t, file, starts, ends, kinds, clean, cursor.written)
-        }
+        Aim::Into(t) => record_target::check_target(
+            Source::File(d),
+            t,
+            file,
+            starts,
+            ends,
+            kinds,
+            false,
+            clean,
+            cursor.written,
+        ),
     }
 }
 

@@ -6,16 +6,15 @@
 ghost use mathlib.Core.Path.{_≡_};
 ghost use mathlib.Core.Bool.{true};
 ghost use mathlib.Core.List.{List};
-ghost use mathlib.Core.Option.{none};
 ghost use Prim.Native.Nat.{_+_, _≤_};
 ghost use lib.ListN.{length, take};
 ghost use Rattle.model.specs.rules.Text.{Value};
 ghost use Rattle.model.specs.rules.Report.{MAXFILE, MAXCOLUMNS};
-ghost use Rattle.model.specs.rules.Records.{Rec, recordFault};
+ghost use Rattle.model.specs.rules.Records.{Rec};
 ghost use Rattle.cell_decoder.specs.declared.source.Source.the-variants.{File};
 ghost use Rattle.cell_decoder.specs.Sources.{cellsIn, Cells};
 ghost use Rattle.record_scanner.specs.Tokens.{outer};
-ghost use Rattle.file_cursor.specs.NextRecord.{Columns, atStart, After, CheckSound, RecordChecked, FileEnded, NextRecordSound};
+ghost use Rattle.file_cursor.specs.NextRecord.{atStart, After, CheckSound, RecordChecked, FileEnded, NextRecordSound};
 ghost use Rattle.record_fast.specs.CellLists.{Long, SameLengths, Shows};
 use crate::scan::FileScan;
 use cell_decoder::source::Source;
@@ -71,24 +70,6 @@ pub fn at_start() -> Cursor
 
 // ---- a complete record
 
-// The source's checks of the record after the cursor.
-fn check_source(
-    d: Dialect,
-    file: &[u8],
-    starts: &[usize],
-    ends: &[usize],
-    kinds: &[u8],
-    cursor: Cursor,
-) -> CheckResult
-    requires { ⌜ Cells (File d) (now file) (now starts) (now ends) (now kinds) ⌝ }
-    ensures { λ r. ⌜ ((rs : List Rec) → length rs ≡ cursor .done → Columns rs (cursor .columns) → r ≡ recordFault d none rs (cellsIn (File d) (now (file .entry)) (now (starts .entry)) (now (ends .entry)) (now (kinds .entry)))) ⌝ }
-{
-    if cursor.done == 0 {
-        return record_check::header(Source::File(d), d, file, starts, ends, kinds);
-    }
-    record_check::data(cursor.columns, starts.len())
-}
-
 // The source's checks of the record after the cursor, and then the target's.
 fn check_record(
     d: Dialect,
@@ -103,25 +84,31 @@ fn check_record(
     requires { ⌜ cursor .written ≤ MAXFILE ⌝ }
     ensures { λ r. ⌜ CheckSound d aim cursor (cellsIn (File d) (now (file .entry)) (now (starts .entry)) (now (ends .entry)) (now (kinds .entry))) r ⌝ }
 {
-    if let CheckResult::Faulty(e) = check_source(d, file, starts, ends, kinds, cursor) {
-        return TargetCheck {
-            verdict: CheckResult::Faulty(e),
-            length: 0,
-        };
-    }
+    let header = cursor.done == 0;
     match aim {
         Aim::Reading => TargetCheck {
-            verdict: CheckResult::Sound,
+            verdict: record_check::check(
+                Source::File(d),
+                d,
+                file,
+                starts,
+                ends,
+                kinds,
+                header,
+                cursor.columns,
+            ),
             length: 0,
         },
-        Aim::Into(t) => record_target::check(
-            Source::File(d),
+        Aim::Into(t) => record_target::check_record(
+            d,
             t,
             file,
             starts,
             ends,
             kinds,
-            cursor.done == 0,
+            header,
+            false,
+            cursor.columns,
             cursor.written,
         ),
     }

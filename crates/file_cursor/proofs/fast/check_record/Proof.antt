@@ -14,6 +14,7 @@ use Rattle.model.specs.rules.Records.{Rec, recordFault, targetFault}
 use Rattle.cell_decoder.specs.declared.source.Source.the-variants.{File}
 use Rattle.cell_decoder.specs.Sources.{cellsIn}
 use Rattle.cell_decoder.proofs.CellsIn.{cells-length}
+use Rattle.record_writer.specs.CleanRecord.{clean-data}
 use Rattle.file_cursor.specs.NextRecord.{Columns}
 use Rattle.file_cursor.proofs.RecordChecks.{data-checked, asked-faulty, asked-reading, asked-into}
 use Rattle.file_cursor.proofs.FastNext.{no-header}
@@ -41,8 +42,14 @@ returns-2 : tie.Need-returns-2
 returns-2 c =
     let u = c .before .before .before .before in
     let start = u .before .before .before .before .before in
-    asked-reading (start .args .d) (start .args .cursor) (cells start) _ (source u) (start .args .aim) (c .enum-told2 .given .1)
-    (c .before .before .enum-told .given .1) (start .pre .1 .1 .1)
+    asked-reading (start .args .d) (start .args .cursor) (cells start) _ (source u) (start .args .aim) _ (c .enum-told2 .given .1)
+    (sym (c .before .before .enum-told .given .1)) (start .pre .1 .1 .1)
+
+check-target-requires : tie.Need-check-target-requires
+check-target-requires c κs =
+    let u = c .before .before .before .before .before in
+    let start = u .before .before .before .before .before in
+    (start .pre .0, (λ e. clean-data (start .pre .1 .0 e), start .pre .1 .1 .1))
 
 returns-3 : tie.Need-returns-3
 returns-3 c =
@@ -53,8 +60,8 @@ returns-3 c =
     let t = c .before .before .aim .given .0 .0 in
     let later : false ≡ eqb (a .cursor .done) 0 = no-header (a .cursor .done) (start .pre .1 .1 .0) in
     asked-into (a .d) (a .cursor) (cells start) _ (source u) (a .aim) _ _ (c .before .before .aim .given .1) (told .enum-told .given .1)
-    (c .check-data .ensures .0 ∙ ap (λ (h : Bool). targetFault (into t) h (a .cursor .written) (cells start)) later)
-    λ s. c .check-data .ensures .1 s ∙ ap (λ (h : Bool). length (recordText (into t) h (cells start) ++ ending t)) later
+    (c .check-target .ensures .0 ∙ ap (λ (h : Bool). targetFault (into t) h (a .cursor .written) (cells start)) later)
+    λ s. c .check-target .ensures .1 s ∙ ap (λ (h : Bool). length (recordText (into t) h (cells start) ++ ending t)) later
 
 pub check-record-spec : {M : Type 1} → statement M
 check-record-spec =
@@ -66,6 +73,6 @@ check-record-spec =
     (λ c. search needs)
     (λ c. search needs)
     (λ c. search needs)
-    (λ c κs. search needs)
+    check-target-requires
     returns-2
     returns-3)
