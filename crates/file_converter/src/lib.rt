@@ -143,7 +143,7 @@ fn write_records(d: Dialect, t: Dialect, file: &[u8], room: &mut [u8])
         ) {
             FastNext::Record(v, clean) => {
                 let cells = v.columns;
-                at = record_target::write_data(
+                at = record_writer::line::write_data(
                     d,
                     t,
                     file,

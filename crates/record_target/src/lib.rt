@@ -16,8 +16,7 @@ ghost use Rattle.model.specs.rules.Text.{Value, recordText, ending};
 ghost use Rattle.model.specs.rules.Records.{_orElse_, uncarriedFrom, clashFault, targetFault};
 ghost use Rattle.model.specs.rules.Report.{MAXFILE, MAXRECORD};
 ghost use mathlib.Core.Bool.{true, false};
-ghost use Rattle.buffer.specs.Writes.{measure, Room, WrittenAt};
-ghost use Rattle.cell_fast.specs.Ends.{CleanIn};
+ghost use Rattle.buffer.specs.Writes.{measure};
 ghost use Rattle.cell_decoder.specs.declared.source.Source.the-variants.{File};
 ghost use Rattle.cell_decoder.specs.Sources.{cellsIn, Cells};
 ghost use Rattle.record_check.specs.Keys.{NamesIn};
@@ -237,86 +236,4 @@ pub fn check_record(
         return refused(e);
     }
     check_target(src, t, s, starts, ends, kinds, header, clean, written)
-}
-
-// The target's checks of a record that is not known to be clean.
-pub fn check(
-    src: Source,
-    t: Dialect,
-    s: &[u8],
-    starts: &[usize],
-    ends: &[usize],
-    kinds: &[u8],
-    header: bool,
-    written: usize,
-) -> TargetCheck
-    requires { ⌜ Cells src (now s) (now starts) (now ends) (now kinds) ⌝ }
-    requires { ⌜ written ≤ MAXFILE ⌝ }
-    ensures { λ r. ⌜ r .verdict ≡ targetFault (into t) header written (cellsIn src (now (s .entry)) (now (starts .entry)) (now (ends .entry)) (now (kinds .entry))) ⌝ }
-    ensures { λ r. ⌜ (r .verdict ≡ Sound
-        → r .length ≡ length (recordText (into t) header (cellsIn src (now (s .entry)) (now (starts .entry)) (now (ends .entry)) (now (kinds .entry))) ++ ending t)) ⌝ }
-{
-    check_target(src, t, s, starts, ends, kinds, header, false, written)
-}
-
-// The target's checks of a data record of a file.
-pub fn check_data(
-    d: Dialect,
-    t: Dialect,
-    s: &[u8],
-    starts: &[usize],
-    ends: &[usize],
-    kinds: &[u8],
-    clean: bool,
-    written: usize,
-) -> TargetCheck
-    requires { ⌜ Cells (File d) (now s) (now starts) (now ends) (now kinds) ⌝ }
-    requires { ⌜ (clean ≡ true → CleanIn d (now s) (now starts) (now ends)) ⌝ }
-    requires { ⌜ written ≤ MAXFILE ⌝ }
-    ensures { λ r. ⌜ r .verdict ≡ targetFault (into t) false written (cellsIn (File d) (now (s .entry)) (now (starts .entry)) (now (ends .entry)) (now (kinds .entry))) ⌝ }
-    ensures { λ r. ⌜ (r .verdict ≡ Sound
-        → r .length ≡ length (recordText (into t) false (cellsIn (File d) (now (s .entry)) (now (starts .entry)) (now (ends .entry)) (now (kinds .entry))) ++ ending t)) ⌝ }
-{
-    check_target(
-        Source::File(d),
-        t,
-        s,
-        starts,
-        ends,
-        kinds,
-        false,
-        clean,
-        written,
-    )
-}
-
-// The text of a data record with its ending, at a place of the buffer.
-pub fn write_data(
-    d: Dialect,
-    t: Dialect,
-    s: &[u8],
-    starts: &[usize],
-    ends: &[usize],
-    kinds: &[u8],
-    clean: bool,
-    out: &mut [u8],
-    at: usize,
-) -> usize
-    requires { ⌜ Cells (File d) (now s) (now starts) (now ends) (now kinds) ⌝ }
-    requires { ⌜ (clean ≡ true → CleanIn d (now s) (now starts) (now ends)) ⌝ }
-    requires { ⌜ Room true at (recordText (into t) false (cellsIn (File d) (now s) (now starts) (now ends) (now kinds)) ++ ending t) (now out) ⌝ }
-    ensures { λ r. ⌜ WrittenAt true (now (out .entry)) at (recordText (into t) false (cellsIn (File d) (now (s .entry)) (now (starts .entry)) (now (ends .entry)) (now (kinds .entry))) ++ ending t) (now (out .exit)) r ⌝ }
-{
-    line::write_line(
-        Source::File(d),
-        t,
-        s,
-        starts,
-        ends,
-        kinds,
-        false,
-        clean,
-        out,
-        at,
-    )
 }

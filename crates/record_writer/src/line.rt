@@ -3,13 +3,15 @@
 // text in the buffer, or only its length. The definition is `recordText` of model's specs/rules/Text.antt; specs/CleanRecord.antt says
 // what `clean` means.
 ghost use mathlib.Core.Path.{_≡_};
-ghost use mathlib.Core.Bool.{true};
+ghost use mathlib.Core.Bool.{true, false};
 ghost use mathlib.Core.List.{_++_};
 ghost use Rattle.model.specs.rules.Dialect.{into};
 ghost use Rattle.model.specs.rules.Text.{recordText, ending};
 ghost use Rattle.model.specs.rules.Records.{uncarriedFrom};
 ghost use Rattle.buffer.specs.Writes.{Room, WrittenAt};
+ghost use Rattle.cell_decoder.specs.declared.source.Source.the-variants.{File};
 ghost use Rattle.cell_decoder.specs.Sources.{cellsIn, Cells};
+ghost use Rattle.cell_fast.specs.Ends.{CleanIn};
 ghost use Rattle.record_writer.specs.Verbatim.{quotesAll};
 ghost use Rattle.record_writer.specs.CleanRecord.{CleanRecord};
 use crate::clean::plus;
@@ -95,4 +97,35 @@ pub fn write_line(
 {
     let text = write_text(src, t, s, starts, ends, kinds, header, clean, out, at, true);
     record::write_ending(t, out, text.end, true)
+}
+
+// The text of a data record of a file with its ending, at a place of the buffer.
+pub fn write_data(
+    d: Dialect,
+    t: Dialect,
+    s: &[u8],
+    starts: &[usize],
+    ends: &[usize],
+    kinds: &[u8],
+    clean: bool,
+    out: &mut [u8],
+    at: usize,
+) -> usize
+    requires { ⌜ Cells (File d) (now s) (now starts) (now ends) (now kinds) ⌝ }
+    requires { ⌜ (clean ≡ true → CleanIn d (now s) (now starts) (now ends)) ⌝ }
+    requires { ⌜ Room true at (recordText (into t) false (cellsIn (File d) (now s) (now starts) (now ends) (now kinds)) ++ ending t) (now out) ⌝ }
+    ensures { λ r. ⌜ WrittenAt true (now (out .entry)) at (recordText (into t) false (cellsIn (File d) (now (s .entry)) (now (starts .entry)) (now (ends .entry)) (now (kinds .entry))) ++ ending t) (now (out .exit)) r ⌝ }
+{
+    write_line(
+        Source::File(d),
+        t,
+        s,
+        starts,
+        ends,
+        kinds,
+        false,
+        clean,
+        out,
+        at,
+    )
 }

@@ -1,5 +1,5 @@
 -- `write_record` meets its contract: the record's text, and its ending after it.
-use Rattle.record_target.proofs.TextWithEnding.{room-first, room-second, put-both, long-both}
+use Rattle.record_writer.proofs.TextWithEnding.{room-first, room-second, put-both, long-both}
 use Rattle.file_converter.proofs.write_record.Statement.{statement}
 use Rattle.file_converter.proofs.write_record.Tie as tie
 

@@ -1,8 +1,8 @@
 -- A data record of a file.
 use borrow.Author.Needs.{needs}
 use Rattle.record_writer.specs.CleanRecord.{clean-data}
-use Rattle.record_target.proofs.write_data.Statement.{statement}
-use Rattle.record_target.proofs.write_data.Tie as tie
+use Rattle.record_writer.proofs.line.write_data.Statement.{statement}
+use Rattle.record_writer.proofs.line.write_data.Tie as tie
 
 write-line-requires : tie.Need-write-line-requires
 write-line-requires c κs =
