@@ -1,2 +1,3 @@
+pub mod NextData
 pub mod PassInvariant
 pub mod ReaderAnswers

@@ -1,11 +1,13 @@
 -- The contract of a pass over the data records, in terms of reading.
 use Prim.Native.Nat.{ℕ, _+_, _≤_}
 use mathlib.Core.Path.{_≡_}
+use mathlib.Core.Bool.{true, false}
 use mathlib.Core.Option.{none}
 use mathlib.Core.List.{List, [], _∷_}
 use lib.ListN.{length}
 use Rattle.model.specs.declared.Dialect.{Dialect}
 use Rattle.model.specs.declared.FileState.{FileState}
+use Rattle.model.specs.declared.FileState.the-variants.{Begin}
 use Rattle.model.specs.declared.Fault.{Fault}
 use Rattle.model.specs.rules.Base.{Bytes, concat}
 use Rattle.model.specs.rules.Text.{Value}
@@ -14,8 +16,19 @@ use Rattle.model.specs.rules.Records.{Rec, rows, Read, Progress, going, stopped
 use Rattle.model.specs.rules.Api.{startsOf, endsOf, kindsOf}
 use Rattle.record_scanner.specs.Stored.{storedFrom}
 use Rattle.file_cursor.specs.FileOutcome.{restOf}
+use Rattle.file_cursor.specs.declared.scan.FileScan.{FileScan}
+use Rattle.file_cursor.specs.declared.scan.FileScan.the-variants.{Completed, LastRecord, Failed, End}
+use Rattle.file_reader.specs.declared.pass.DataScan.{DataScan}
+use Rattle.file_reader.specs.declared.pass.DataScan.the-variants as next
 use Rattle.file_reader.specs.declared.pass.PassResult.{PassResult}
 use Rattle.file_reader.specs.declared.pass.PassResult.the-variants.{Accepted, Refused}
+
+-- the next event of reading, with a last record as a record that ends where the file does
+abbrev pub dataScan : (file-length : ℕ) → FileScan → DataScan
+dataScan n (Completed start cells f o) = next.Record start cells f o false
+dataScan n (LastRecord start cells) = next.Record start cells Begin n true
+dataScan n (Failed e o) = next.Failed e o
+dataScan n (End o) = next.End
 
 -- lists that hold these cells, as far as there is room
 pub record Holds (room : ℕ) (vs : List Value) (starts₀ ends₀ kinds₀ starts ends kinds : List ℕ) : Type 0 where
