@@ -43,7 +43,9 @@ module _ (d t : Dialect) (file old : Bytes) {m : Measurement} (y : MeasureSound 
       let a : answerIn d t file (length old) ≡ unwritten x = refused-by x q in
       record { answer = e ∙ ap textAnswer (sym a); left = rw a refl }
 
-  pub conversion-crowded : (n : ℕ) → m ≡ Accepted n → length old < n → (x : Report) → x ≡ refusal 10 → (r : TextAnswer) → r ≡ textAnswer (unwritten x) → Leaves d t file old r old
+  pub conversion-crowded :
+      (n : ℕ) → m ≡ Accepted n → length old < n → (x : Report) → x ≡ refusal 10 → (r : TextAnswer) → r ≡ textAnswer (unwritten x) →
+      Leaves d t file old r old
   unfolding if_then_else_
   conversion-crowded n q h x ex r e =
       let a : answerIn d t file (length old) ≡ unwritten (refusal 10) = go m y q in
@@ -62,7 +64,9 @@ module _ (d t : Dialect) (file old : Bytes) {m : Measurement} (y : MeasureSound 
       go (Accepted k) (converts.accepted r p l) q = let w : k ≡ n = cc in record { r = r; reads = p; fits = omega (arith, l) }
       go (Refused z) (converts.refused e r p) q = other cc
 
-  pub conversion-roomy : (n : ℕ) → m ≡ Accepted n → n ≤ length old → (x : Report) → x ≡ refusal 0 → record { report = x; length = n } ≡ textAnswer (answerIn d t file (length old))
+  pub conversion-roomy :
+      (n : ℕ) → m ≡ Accepted n → n ≤ length old → (x : Report) → x ≡ refusal 0 →
+      record { report = x; length = n } ≡ textAnswer (answerIn d t file (length old))
   unfolding if_then_else_
   conversion-roomy n q h x e = go m y q
     where
@@ -73,7 +77,9 @@ module _ (d t : Dialect) (file old : Bytes) {m : Measurement} (y : MeasureSound 
       go (Refused z) (converts.refused e r p) q = other cc
 
 -- the room stays as long as it was
-pub long-filled : (d t : Dialect) (file old : Bytes) → Accepts d t file (length old) → (out : Bytes) → out ≡ over (answerIn d t file (length old) .text) old → length out ≡ length old
+pub long-filled :
+    (d t : Dialect) (file old : Bytes) → Accepts d t file (length old) → (out : Bytes) →
+    out ≡ over (answerIn d t file (length old) .text) old → length out ≡ length old
 long-filled d t file old a out e =
     let w : answerIn d t file (length old) .text ≡ textIn t (a .r) = answer-text a in
     let x : out ≡ over (textIn t (a .r)) old = e ∙ ap (λ (w : Bytes). over w old) w in
@@ -81,7 +87,9 @@ long-filled d t file old a out e =
 
 -- ---- by number
 
-converter-known : (m n : ℕ) (d t : Dialect) (file : Bytes) (room : ℕ) → dialectOf m ≡ some d → dialectOf n ≡ some t → converter m n file room ≡ answerIn d t file room
+converter-known :
+    (m n : ℕ) (d t : Dialect) (file : Bytes) (room : ℕ) → dialectOf m ≡ some d → dialectOf n ≡ some t →
+    converter m n file room ≡ answerIn d t file room
 unfolding converter
 converter-known m n d t file room e k = rw (e, converter, k)
 
@@ -89,23 +97,36 @@ converter-source : (m n : ℕ) (file : Bytes) (room : ℕ) → dialectOf m ≡ n
 unfolding converter
 converter-source m n file room e = rw (e, converter)
 
-converter-target : (m n : ℕ) (d : Dialect) (file : Bytes) (room : ℕ) → dialectOf m ≡ some d → dialectOf n ≡ none → converter m n file room ≡ unwritten (refusal 11)
+converter-target :
+    (m n : ℕ) (d : Dialect) (file : Bytes) (room : ℕ) → dialectOf m ≡ some d → dialectOf n ≡ none →
+    converter m n file room ≡ unwritten (refusal 11)
 unfolding converter
 converter-target m n d file room e k = rw (e, converter, k)
 
 -- the call, by what the converter says
-by-converter : (m n : ℕ) (file old : Bytes) (w : Written) (r : TextAnswer) (out : Bytes) → converter m n file (length old) ≡ w → r ≡ textAnswer w → out ≡ over (w .text) old → (r ≡ textAnswer (converter m n file (length old))) × (out ≡ converterLeaves m n file old)
+by-converter :
+    (m n : ℕ) (file old : Bytes) (w : Written) (r : TextAnswer) (out : Bytes) → converter m n file (length old) ≡ w → r ≡ textAnswer w →
+    out ≡ over (w .text) old → (r ≡ textAnswer (converter m n file (length old))) × (out ≡ converterLeaves m n file old)
 unfolding converterLeaves
 by-converter m n file old w r out e a l = (a ∙ ap textAnswer (sym e), l ∙ ap (λ (w : Written). over (w .text) old) (sym e))
 
-pub both-known : (m n : ℕ) (d t : Dialect) (file old : Bytes) (r : TextAnswer) (out : Bytes) → dialectOf m ≡ some d → dialectOf n ≡ some t → r ≡ textAnswer (answerIn d t file (length old)) → out ≡ over (answerIn d t file (length old) .text) old → (r ≡ textAnswer (converter m n file (length old))) × (out ≡ converterLeaves m n file old)
+pub both-known :
+    (m n : ℕ) (d t : Dialect) (file old : Bytes) (r : TextAnswer) (out : Bytes) → dialectOf m ≡ some d → dialectOf n ≡ some t →
+    r ≡ textAnswer (answerIn d t file (length old)) → out ≡ over (answerIn d t file (length old) .text) old →
+    (r ≡ textAnswer (converter m n file (length old))) × (out ≡ converterLeaves m n file old)
 both-known m n d t file old r out e k a l = by-converter m n file old (answerIn d t file (length old)) r out (converter-known m n d t file (length old) e k) a l
 
-unknown : (m n : ℕ) (file old : Bytes) (x : Report) (r : TextAnswer) → converter m n file (length old) ≡ unwritten (refusal 11) → x ≡ refusal 11 → r ≡ textAnswer (unwritten x) → (r ≡ textAnswer (converter m n file (length old))) × (old ≡ converterLeaves m n file old)
+unknown :
+    (m n : ℕ) (file old : Bytes) (x : Report) (r : TextAnswer) → converter m n file (length old) ≡ unwritten (refusal 11) → x ≡ refusal 11 →
+    r ≡ textAnswer (unwritten x) → (r ≡ textAnswer (converter m n file (length old))) × (old ≡ converterLeaves m n file old)
 unknown m n file old x r e ex h = by-converter m n file old (unwritten (refusal 11)) r old e (h ∙ ap (λ (x : Report). textAnswer (unwritten x)) ex) refl
 
-pub source-unknown : (m n : ℕ) (file old : Bytes) (x : Report) (r : TextAnswer) → dialectOf m ≡ none → x ≡ refusal 11 → r ≡ textAnswer (unwritten x) → (r ≡ textAnswer (converter m n file (length old))) × (old ≡ converterLeaves m n file old)
+pub source-unknown :
+    (m n : ℕ) (file old : Bytes) (x : Report) (r : TextAnswer) → dialectOf m ≡ none → x ≡ refusal 11 → r ≡ textAnswer (unwritten x) →
+    (r ≡ textAnswer (converter m n file (length old))) × (old ≡ converterLeaves m n file old)
 source-unknown m n file old x r e = unknown m n file old x r (converter-source m n file (length old) e)
 
-pub target-unknown : (m n : ℕ) (d : Dialect) (file old : Bytes) (x : Report) (r : TextAnswer) → dialectOf m ≡ some d → dialectOf n ≡ none → x ≡ refusal 11 → r ≡ textAnswer (unwritten x) → (r ≡ textAnswer (converter m n file (length old))) × (old ≡ converterLeaves m n file old)
+pub target-unknown :
+    (m n : ℕ) (d : Dialect) (file old : Bytes) (x : Report) (r : TextAnswer) → dialectOf m ≡ some d → dialectOf n ≡ none → x ≡ refusal 11 →
+    r ≡ textAnswer (unwritten x) → (r ≡ textAnswer (converter m n file (length old))) × (old ≡ converterLeaves m n file old)
 target-unknown m n d file old x r e k = unknown m n file old x r (converter-target m n d file (length old) e k)

@@ -40,7 +40,8 @@ lie-in {n} h e = subst (λ (x : ℕ). n ≤ x) e h
 
 -- ---- the first pass
 
-module _ {d t : Dialect} {file : Bytes} {c : Cursor} (y : Walking d (Into t) file c) {s e k : List ℕ} {o : NextRecord} (v : NextRecordSound d (Into t) file (y .rs) (c .state) (c .offset) s e k o) where
+module _ {d t : Dialect} {file : Bytes} {c : Cursor} (y : Walking d (Into t) file c) {s e k : List ℕ} {o : NextRecord}
+    (v : NextRecordSound d (Into t) file (y .rs) (c .state) (c .offset) s e k o) where
   pub measured-all : o ≡ outcomes.End → MeasureSound d t file (Accepted (c .written))
   measured-all q =
       let a = at-end v q in
@@ -90,15 +91,20 @@ module _ {d t : Dialect} {file old out : Bytes} {c : Cursor} {at : ℕ} (y : Fil
     snoc : tableText (into t) (rows (y .walk .rs ++ (n .rec ∷ []))) ≡ tableText (into t) (rows (y .walk .rs)) ++ Text-of
     snoc =
         table-snoc (into t) (y .walk .rs) (n .rec)
-        ∙ ap (λ (b : Bool). tableText (into t) (rows (y .walk .rs)) ++ (recordText (into t) b (n .rec .cells) ++ ending t)) (sym (empty-none (y .walk .rs) (c .done) (y .walk .after .count)))
+        ∙ ap (λ (b : Bool). tableText (into t) (rows (y .walk .rs)) ++ (recordText (into t) b (n .rec .cells) ++ ending t))
+        (sym (empty-none (y .walk .rs) (c .done) (y .walk .after .count)))
         ∙ ap (λ (vs : List Value). tableText (into t) (rows (y .walk .rs)) ++ (recordText (into t) (eqb (c .done) 0) vs ++ ending t)) (sym (n .values))
 
     -- it is no longer than the text of all
     within : length (tableText (into t) (rows (y .walk .rs ++ (n .rec ∷ [])))) ≤ length old
     within =
-        let g : Grows (y .walk .rs ++ (n .rec ∷ [])) (a .r .done) = subst (λ (p : Progress). Grows (y .walk .rs ++ (n .rec ∷ [])) (recordsOf p)) alone (subst (λ (l : List Rec). Grows l (recordsOf (readFile d none file))) (walks-rs (y .walk) n) (grows (walks-on (y .walk) n))) in
+        let g : Grows (y .walk .rs ++ (n .rec ∷ [])) (a .r .done)
+        = subst (λ (p : Progress). Grows (y .walk .rs ++ (n .rec ∷ [])) (recordsOf p)) alone
+        (subst (λ (l : List Rec). Grows l (recordsOf (readFile d none file))) (walks-rs (y .walk) n)
+        (grows (walks-on (y .walk) n))) in
         let h = table-grows (into t) g in
-        let l : length (textIn t (a .r)) ≡ length (tableText (into t) (rows (y .walk .rs ++ (n .rec ∷ [])))) + length (h .added) = ap length (h .sum) ∙ length-append (tableText (into t) (rows (y .walk .rs ++ (n .rec ∷ [])))) (h .added) in
+        let l : length (textIn t (a .r)) ≡ length (tableText (into t) (rows (y .walk .rs ++ (n .rec ∷ [])))) + length (h .added)
+        = ap length (h .sum) ∙ length-append (tableText (into t) (rows (y .walk .rs ++ (n .rec ∷ [])))) (h .added) in
         omega (arith, a .fits)
 
     both : Emitting true old 0 (tableText (into t) (rows (y .walk .rs)) ++ Text-of) out at Text-of
@@ -107,7 +113,16 @@ module _ {d t : Dialect} {file old out : Bytes} {c : Cursor} {at : ℕ} (y : Fil
           w = tableText (into t) (rows (y .walk .rs));
           so-far = y .puts;
           left = refl;
-          room = record { measured = λ z. omega arith; inside = λ z. let l : length (tableText (into t) (rows (y .walk .rs ++ (n .rec ∷ [])))) ≡ length (tableText (into t) (rows (y .walk .rs)) ++ Text-of) = ap length snoc in let m : length (tableText (into t) (rows (y .walk .rs ++ (n .rec ∷ [])))) ≤ length old = within in omega arith };
+          room =
+              record {
+                measured = λ z. omega arith;
+                inside =
+                    λ z.
+                    let l : length (tableText (into t) (rows (y .walk .rs ++ (n .rec ∷ []))))
+                    ≡ length (tableText (into t) (rows (y .walk .rs)) ++ Text-of)
+                    = ap length snoc in
+                    let m : length (tableText (into t) (rows (y .walk .rs ++ (n .rec ∷ [])))) ≤ length old = within in omega arith;
+              };
         }
 
     pub room-there : Room true at Text-of out
@@ -115,7 +130,9 @@ module _ {d t : Dialect} {file old out : Bytes} {c : Cursor} {at : ℕ} (y : Fil
 
     pub fills-on : {new : Bytes} {o : ℕ} → WrittenAt true out at Text-of new o → Filling d t file old new v o
     fills-on {new} {o} p =
-        let q : Emitting true old 0 (tableText (into t) (rows (y .walk .rs)) ++ Text-of) new o [] = put-next Text-of (subst (Emitting true old 0 (tableText (into t) (rows (y .walk .rs)) ++ Text-of) out at) (sym (append-nil Text-of)) both) p in
+        let q : Emitting true old 0 (tableText (into t) (rows (y .walk .rs)) ++ Text-of) new o []
+        = put-next Text-of
+        (subst (Emitting true old 0 (tableText (into t) (rows (y .walk .rs)) ++ Text-of) out at) (sym (append-nil Text-of)) both) p in
         record {
           walk = walks-on (y .walk) n;
           puts = rw (walks-rs (y .walk) n, snoc) (put-whole q);

@@ -19,12 +19,16 @@ use Rattle.model.proofs.file_laws.RecordFaults.{fault-record, fault-start}
 
 -- ---- the report of a fault
 
-pub report-byte : (e : Fault) (r : Read) (n : ℕ) → isAtByte e ≡ true → length (r .done) ≡ n → report (numberOf e) (suc n) (columnOf e) (r .offset) ≡ faultReport e r
+pub report-byte :
+    (e : Fault) (r : Read) (n : ℕ) → isAtByte e ≡ true → length (r .done) ≡ n →
+    report (numberOf e) (suc n) (columnOf e) (r .offset) ≡ faultReport e r
 unfolding if_then_else_
 report-byte e r n q l = rw (q, l)
 
 -- the place of a record's fault is its start
-pub report-start : (d : Dialect) (target : Option Target) (r : Read) (vs : List Value) (e : Fault) (n : ℕ) → recordFault d target (r .done) vs ≡ Faulty e → length (r .done) ≡ n → report (numberOf e) (suc n) (columnOf e) (r .start) ≡ faultReport e r
+pub report-start :
+    (d : Dialect) (target : Option Target) (r : Read) (vs : List Value) (e : Fault) (n : ℕ) → recordFault d target (r .done) vs ≡ Faulty e →
+    length (r .done) ≡ n → report (numberOf e) (suc n) (columnOf e) (r .start) ≡ faultReport e r
 unfolding if_then_else_
 report-start d target r vs e n q l =
     let s : isAtByte e ≡ false = fault-start (recordFault d target (r .done) vs) q (fault-record d target (r .done) vs) in
@@ -48,10 +52,14 @@ data-fault d h rs vs = or-nothing (dataFault (length (h .cells)) vs)
 abbrev pub recOf : Read → List Value → Rec
 recOf r vs = record { start = r .start; size = r .size; cells = vs }
 
-pub complete-sound : (d : Dialect) (target : Option Target) (r : Read) (vs : List Value) (f : FileState) (o : ℕ) → recordFault d target (r .done) vs ≡ Sound → complete d target r vs f o ≡ going (between-records (r .done ++ (recOf r vs ∷ [])) f o)
+pub complete-sound :
+    (d : Dialect) (target : Option Target) (r : Read) (vs : List Value) (f : FileState) (o : ℕ) →
+    recordFault d target (r .done) vs ≡ Sound → complete d target r vs f o ≡ going (between-records (r .done ++ (recOf r vs ∷ [])) f o)
 unfolding complete
 complete-sound d target r vs f o q = rw q
 
-pub complete-faulty : (d : Dialect) (target : Option Target) (r : Read) (vs : List Value) (f : FileState) (o : ℕ) (e : Fault) → recordFault d target (r .done) vs ≡ Faulty e → complete d target r vs f o ≡ stopped e r
+pub complete-faulty :
+    (d : Dialect) (target : Option Target) (r : Read) (vs : List Value) (f : FileState) (o : ℕ) (e : Fault) →
+    recordFault d target (r .done) vs ≡ Faulty e → complete d target r vs f o ≡ stopped e r
 unfolding complete
 complete-faulty d target r vs f o e q = rw q

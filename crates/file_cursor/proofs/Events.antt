@@ -50,7 +50,9 @@ module _ (d : Dialect) (target : Option Target) (file : Bytes) (rs : List Rec) (
     pub none-left : n .cells ≡ []
     pub rest : p ≡ endBetween r rs
 
-pub on-record : (d : Dialect) (target : Option Target) (file : Bytes) (rs : List Rec) (n : Next) (p : Progress) → ReadsAs d target file rs n p → (s k : ℕ) (f : FileState) (o : ℕ) → n .event ≡ Completed s k f o → AtRecord d target file rs n p s k f o
+pub on-record :
+    (d : Dialect) (target : Option Target) (file : Bytes) (rs : List Rec) (n : Next) (p : Progress) → ReadsAs d target file rs n p →
+    (s k : ℕ) (f : FileState) (o : ℕ) → n .event ≡ Completed s k f o → AtRecord d target file rs n p s k f o
 on-record d target file rs n p (after-record r vs g i q) s k f o e =
     let a : r .start ≡ s = cc in
     let b : length vs ≡ k = cc in
@@ -61,7 +63,9 @@ on-record d target file rs n p (after-last r vs q l) s k f o e = other cc
 on-record d target file rs n p (after-fault x r vs q t) s k f o e = other cc
 on-record d target file rs n p (after-all r q) s k f o e = other cc
 
-pub on-last : (d : Dialect) (target : Option Target) (file : Bytes) (rs : List Rec) (n : Next) (p : Progress) → ReadsAs d target file rs n p → (s k : ℕ) → n .event ≡ LastRecord s k → AtLast d target file rs n p s k
+pub on-last :
+    (d : Dialect) (target : Option Target) (file : Bytes) (rs : List Rec) (n : Next) (p : Progress) → ReadsAs d target file rs n p →
+    (s k : ℕ) → n .event ≡ LastRecord s k → AtLast d target file rs n p s k
 on-last d target file rs n p (after-record r vs g i q) s k e = other cc
 on-last d target file rs n p (after-last r vs q l) s k e =
     let a : r .start ≡ s = cc in
@@ -70,7 +74,9 @@ on-last d target file rs n p (after-last r vs q l) s k e =
 on-last d target file rs n p (after-fault x r vs q t) s k e = other cc
 on-last d target file rs n p (after-all r q) s k e = other cc
 
-pub on-fault : (d : Dialect) (target : Option Target) (file : Bytes) (rs : List Rec) (n : Next) (p : Progress) → ReadsAs d target file rs n p → (x : Fault) (o : ℕ) → n .event ≡ Failed x o → AtFault d target file rs n p x o
+pub on-fault :
+    (d : Dialect) (target : Option Target) (file : Bytes) (rs : List Rec) (n : Next) (p : Progress) → ReadsAs d target file rs n p →
+    (x : Fault) (o : ℕ) → n .event ≡ Failed x o → AtFault d target file rs n p x o
 on-fault d target file rs n p (after-record r vs g i q) x o e = other cc
 on-fault d target file rs n p (after-last r vs q l) x o e = other cc
 on-fault d target file rs n p (after-fault y r vs q t) x o e =
@@ -79,7 +85,9 @@ on-fault d target file rs n p (after-fault y r vs q t) x o e =
     record { r = r; done = q; place = b; byte = rw (sym a) t; rest = rw a refl }
 on-fault d target file rs n p (after-all r q) x o e = other cc
 
-pub on-finish : (d : Dialect) (target : Option Target) (file : Bytes) (rs : List Rec) (n : Next) (p : Progress) → ReadsAs d target file rs n p → (o : ℕ) → n .event ≡ End o → AtFinish d target file rs n p o
+pub on-finish :
+    (d : Dialect) (target : Option Target) (file : Bytes) (rs : List Rec) (n : Next) (p : Progress) → ReadsAs d target file rs n p →
+    (o : ℕ) → n .event ≡ End o → AtFinish d target file rs n p o
 on-finish d target file rs n p (after-record r vs g i q) o e = other cc
 on-finish d target file rs n p (after-last r vs q l) o e = other cc
 on-finish d target file rs n p (after-fault y r vs q t) o e = other cc

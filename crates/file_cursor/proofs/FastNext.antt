@@ -39,19 +39,38 @@ pub some-read : (rs : List Rec) (done : ℕ) → length rs ≡ done → (done �
 some-read [] done l n = absurd (n (sym l))
 some-read (r ∷ rs) done l n = refl
 
-module _ {d : Dialect} {file : Bytes} {f : FileState} {i : ℕ} {s₀ e₀ k₀ s e k : List ℕ} {q : FastScan} (t : FastScanSound d MAXFILE file i f MAXCOLUMNS 0 s₀ e₀ k₀ s e k q) (between : outer f ≡ true) (inside : i ≤ length file) (long : Long s₀ e₀ k₀) where
-  pub met : {start cells next : ℕ} {g : FileState} {clean : Bool} → q ≡ quick.Record start cells g next clean → Met d file f i s₀ e₀ k₀ s e k (Completed start cells g next)
+module _ {d : Dialect} {file : Bytes} {f : FileState} {i : ℕ} {s₀ e₀ k₀ s e k : List ℕ} {q : FastScan}
+    (t : FastScanSound d MAXFILE file i f MAXCOLUMNS 0 s₀ e₀ k₀ s e k q) (between : outer f ≡ true) (inside : i ≤ length file)
+    (long : Long s₀ e₀ k₀) where
+  pub met :
+      {start cells next : ℕ} {g : FileState} {clean : Bool} → q ≡ quick.Record start cells g next clean →
+      Met d file f i s₀ e₀ k₀ s e k (Completed start cells g next)
   met z =
       let o = told-record d file f i MAXCOLUMNS 0 t z inside in
-      record { between = between; inside = inside; long = long; event = o .event; at-starts = o .at-starts; at-ends = o .at-ends; at-kinds = o .at-kinds; bounds = o .bounds }
+      record {
+        between = between;
+        inside = inside;
+        long = long;
+        event = o .event;
+        at-starts = o .at-starts;
+        at-ends = o .at-ends;
+        at-kinds = o .at-kinds;
+        bounds = o .bounds;
+      }
 
   pub kept : SameLengths s₀ e₀ k₀ s e k
   kept = let l = told-long d file f i MAXCOLUMNS 0 t in record { at-starts = l .0; at-ends = l .1; at-kinds = l .2 }
 
-  pub clean-cells : {start cells next : ℕ} {g : FileState} {clean : Bool} → q ≡ quick.Record start cells g next clean → cells ≤ MAXCOLUMNS → clean ≡ true → CleanIn d file (take cells s) (take cells e)
+  pub clean-cells :
+      {start cells next : ℕ} {g : FileState} {clean : Bool} → q ≡ quick.Record start cells g next clean → cells ≤ MAXCOLUMNS →
+      clean ≡ true → CleanIn d file (take cells s) (take cells e)
   clean-cells z few c = clean-in few (told-clean d file f i MAXCOLUMNS 0 t z c)
 
-  pub tells : (aim : Aim) (rs : List Rec) (done : ℕ) → length rs ≡ done → (done ≡ 0 → ⊥) → {start cells next : ℕ} {g : FileState} {clean : Bool} → q ≡ quick.Record start cells g next clean → {r : FastNext} → FastCheckSound d aim rs (nextRecord d (between-records [] f i) (drop i file) .cells) start g next clean r → FastNextSound d aim file rs f i s e k r
+  pub tells :
+      (aim : Aim) (rs : List Rec) (done : ℕ) → length rs ≡ done → (done ≡ 0 → ⊥) → {start cells next : ℕ} {g : FileState} {clean : Bool} →
+      q ≡ quick.Record start cells g next clean → {r : FastNext} →
+      FastCheckSound d aim rs (nextRecord d (between-records [] f i) (drop i file) .cells) start g next clean r →
+      FastNextSound d aim file rs f i s e k r
   tells aim rs done l n z unsure = nothing
   tells aim rs done c₀ n₀ {start} {cells} {next} {g} {clean} z (sound (visits.sound {m = counted} {n = n} {w = w} fault c l few text short)) =
       let m = met z in
@@ -65,14 +84,18 @@ other : {A : Type 0} → _≡_ {A = ℕ} 0 1 → A
 other z = absurd (omega arith)
 
 -- a data record that the cursor returns, with its cells as verbatim texts where `clean` says so
-pub record DataRecord (d : Dialect) (aim : Aim) (file : Bytes) (rs : List Rec) (f : FileState) (i : ℕ) (s e k : List ℕ) (v : Cursor) (clean : Bool) : Type 0 where
+pub record DataRecord (d : Dialect) (aim : Aim) (file : Bytes) (rs : List Rec) (f : FileState) (i : ℕ) (s e k : List ℕ) (v : Cursor)
+    (clean : Bool) : Type 0 where
   pub later : isEmpty rs ≡ false
   pub next : visits.Next d aim file rs f i s e k v
   pub cleans : clean ≡ true → CleanIn d file (take (v .columns) s) (take (v .columns) e)
 
-pub data-came : {d : Dialect} {aim : Aim} {file : Bytes} {rs : List Rec} {f : FileState} {i : ℕ} {s e k : List ℕ} {r : FastNext} {v : Cursor} {clean : Bool} → FastNextSound d aim file rs f i s e k r → r ≡ told.Record v clean → DataRecord d aim file rs f i s e k v clean
+pub data-came :
+    {d : Dialect} {aim : Aim} {file : Bytes} {rs : List Rec} {f : FileState} {i : ℕ} {s e k : List ℕ} {r : FastNext} {v : Cursor}
+    {clean : Bool} → FastNextSound d aim file rs f i s e k r → r ≡ told.Record v clean → DataRecord d aim file rs f i s e k v clean
 data-came {d} {aim} {file} {rs} {f} {i} {s} {e} {k} {v = v} {clean = clean} (a-record {v = w} {clean = b} l n c) q =
     let y : w ≡ v = cc in
     let z : b ≡ clean = cc in
-    subst (λ (x : Cursor). DataRecord d aim file rs f i s e k x clean) y (subst (λ (x : Bool). DataRecord d aim file rs f i s e k w x) z (record { later = l; next = n; cleans = c }))
+    subst (λ (x : Cursor). DataRecord d aim file rs f i s e k x clean) y
+    (subst (λ (x : Bool). DataRecord d aim file rs f i s e k w x) z (record { later = l; next = n; cleans = c }))
 data-came nothing q = other cc

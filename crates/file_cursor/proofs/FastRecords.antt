@@ -63,7 +63,10 @@ stored-apart : (room j k x y : ℕ) (old : List ℕ) → j < k → storeAt room 
 unfolding storeAt if_then_else_
 stored-apart room j k x y old l = go (ltb j room) (ltb k room)
   where
-    go : (s t : Bool) → (if s then set (if t then set old k y else old) j x else (if t then set old k y else old)) ≡ (if t then set (if s then set old j x else old) k y else (if s then set old j x else old))
+    go :
+        (s t : Bool) →
+        (if s then set (if t then set old k y else old) j x else (if t then set old k y else old))
+        ≡ (if t then set (if s then set old j x else old) k y else (if s then set old j x else old))
     go true true = set-apart old j k x y l
     go true false = refl
     go false true = refl
@@ -73,7 +76,8 @@ stored-first : (room j k x : ℕ) (ys old : List ℕ) → j < k → storeAt room
 unfolding storedFrom
 stored-first room j k x [] old l = refl
 stored-first room j k x (y ∷ ys) old l =
-    stored-first room j (suc k) x ys (storeAt room k y old) (omega arith) ∙ ap (λ (zs : List ℕ). storedFrom room (suc k) ys zs) (stored-apart room j k x y old l)
+    stored-first room j (suc k) x ys (storeAt room k y old) (omega arith)
+    ∙ ap (λ (zs : List ℕ). storedFrom room (suc k) ys zs) (stored-apart room j k x y old l)
 
 pub stored-again : (room k : ℕ) (xs ys old : List ℕ) → length ys ≤ length xs → storedFrom room k xs (storedFrom room k ys old) ≡ storedFrom room k xs old
 unfolding storedFrom
@@ -98,7 +102,9 @@ module _ (d : Dialect) (limit : ℕ) where
   abbrev Without : Bytes → Type 0
   Without bs = (s : Scan) → NoneBetween s → PendsWithout (scan d limit s bs)
 
-  step-without : (s : Scan) (b : ℕ) (bs : Bytes) → NoneBetween s → Without bs → (t : Step) → Calm (s .state) b t → PendsWithout (scanStep s b bs (λ s′. scan d limit s′ bs) t)
+  step-without :
+      (s : Scan) (b : ℕ) (bs : Bytes) → NoneBetween s → Without bs → (t : Step) → Calm (s .state) b t →
+      PendsWithout (scanStep s b bs (λ s′. scan d limit s′ bs) t)
   unfolding scanStep
   step-without s b bs n ih t refuses = tt
   step-without s b bs n ih t (leaves {g = g} o) = ih _ (λ _. refl)
@@ -150,7 +156,10 @@ module _ (d : Dialect) (file : Bytes) (first : FileState) (from room base : ℕ)
       (all-long Scanned (scan-without d MAXFILE (drop from file) (fresh first 0 from) λ _. refl))
 
   -- the first cells are stored again with the others
-  again : (φ : Value → ℕ) (ψ : RawCell → ℕ) (cs more : List RawCell) → foundOf Scanned .cells ≡ cs ++ more → (old : List ℕ) {new out : List ℕ} → new ≡ storedFrom room base (map ψ cs) old → out ≡ storedFrom room base (map φ (Whole .cells)) new → out ≡ storedFrom room base (map φ (Whole .cells)) old
+  again :
+      (φ : Value → ℕ) (ψ : RawCell → ℕ) (cs more : List RawCell) → foundOf Scanned .cells ≡ cs ++ more → (old : List ℕ) {new out : List ℕ} →
+      new ≡ storedFrom room base (map ψ cs) old → out ≡ storedFrom room base (map φ (Whole .cells)) new →
+      out ≡ storedFrom room base (map φ (Whole .cells)) old
   again φ ψ cs more q old y z =
       let a : length (map ψ cs) ≡ length cs = length-map cs ψ in
       let b : length (map φ (Whole .cells)) ≡ length (Whole .cells) = length-map (Whole .cells) φ in
@@ -160,29 +169,47 @@ module _ (d : Dialect) (file : Bytes) (first : FileState) (from room base : ℕ)
 
   module _ {s₀ e₀ k₀ s e k : List ℕ} {q : FastScan} (told : FastScanSound d MAXFILE file from first room base s₀ e₀ k₀ s e k q) where
     -- a record that was found is the next one
-    pub told-record : {start cells next : ℕ} {g : FileState} {clean : Bool} → q ≡ Record start cells g next clean → from ≤ length file → Out d file first from room base s₀ e₀ k₀ (Completed start cells g next) s e k
-    told-record {start} {cells} {next} {g} {clean} z l = go (subst (λ (x : FastScan). FastScanSound d MAXFILE file from first room base s₀ e₀ k₀ s e k x) z told)
+    pub told-record :
+        {start cells next : ℕ} {g : FileState} {clean : Bool} → q ≡ Record start cells g next clean → from ≤ length file →
+        Out d file first from room base s₀ e₀ k₀ (Completed start cells g next) s e k
+    told-record {start} {cells} {next} {g} {clean} z l =
+        go (subst (λ (x : FastScan). FastScanSound d MAXFILE file from first room base s₀ e₀ k₀ s e k x) z told)
       where
-        go : FastScanSound d MAXFILE file from first room base s₀ e₀ k₀ s e k (Record start cells g next clean) → Out d file first from room base s₀ e₀ k₀ (Completed start cells g next) s e k
+        go :
+            FastScanSound d MAXFILE file from first room base s₀ e₀ k₀ s e k (Record start cells g next clean) →
+            Out d file first from room base s₀ e₀ k₀ (Completed start cells g next) s e k
         go (is-found cs f b y c) =
             at-record d file first from room base s₀ e₀ k₀ l (reached.Completed start cells g next) s e k (
               ap (λ (x : Found). x .answer) (sym f),
               (
                 y .at-starts ∙ ap (λ (x : Found). storedFrom room base (rawStarts (x .cells)) s₀) (sym f),
-                (y .at-ends ∙ ap (λ (x : Found). storedFrom room base (rawEnds (x .cells)) e₀) (sym f), (y .at-kinds ∙ ap (λ (x : Found). storedFrom room base (rawKinds d (x .cells)) k₀) (sym f), b)),
+                (
+                  y .at-ends ∙ ap (λ (x : Found). storedFrom room base (rawEnds (x .cells)) e₀) (sym f),
+                  (y .at-kinds ∙ ap (λ (x : Found). storedFrom room base (rawKinds d (x .cells)) k₀) (sym f), b),
+                ),
               ),
             )
             start cells g next refl
 
     -- its cells are verbatim texts where `clean` says so
-    pub told-clean : {start cells next : ℕ} {g : FileState} {clean : Bool} → q ≡ Record start cells g next clean → clean ≡ true → CleanCells d file room base cells s e
+    pub told-clean :
+        {start cells next : ℕ} {g : FileState} {clean : Bool} → q ≡ Record start cells g next clean → clean ≡ true →
+        CleanCells d file room base cells s e
     told-clean {start} {cells} {next} {g} {clean} z = go (subst (λ (x : FastScan). FastScanSound d MAXFILE file from first room base s₀ e₀ k₀ s e k x) z told)
       where
-        go : FastScanSound d MAXFILE file from first room base s₀ e₀ k₀ s e k (Record start cells g next clean) → clean ≡ true → CleanCells d file room base cells s e
+        go :
+            FastScanSound d MAXFILE file from first room base s₀ e₀ k₀ s e k (Record start cells g next clean) → clean ≡ true →
+            CleanCells d file room base cells s e
         go (is-found cs f b y c) = c
 
     -- after a fallback the scanner finds the next record, and the lists are as if it alone had run
-    pub told-nothing : q ≡ Fallback → {v : FileScan} {s′ e′ k′ : List ℕ} → (v ≡ Whole .event) × ((s′ ≡ storedFrom room base (startsOf (Whole .cells)) s) × ((e′ ≡ storedFrom room base (endsOf (Whole .cells)) e) × ((k′ ≡ storedFrom room base (kindsOf (Whole .cells)) k) × EventInBounds (length file) from base v))) → Out d file first from room base s₀ e₀ k₀ v s′ e′ k′
+    pub told-nothing :
+        q ≡ Fallback → {v : FileScan} {s′ e′ k′ : List ℕ} →
+        (v ≡ Whole .event)
+        × ((s′ ≡ storedFrom room base (startsOf (Whole .cells)) s)
+        × ((e′ ≡ storedFrom room base (endsOf (Whole .cells)) e)
+        × ((k′ ≡ storedFrom room base (kindsOf (Whole .cells)) k) × EventInBounds (length file) from base v))) →
+        Out d file first from room base s₀ e₀ k₀ v s′ e′ k′
     told-nothing z {v} {s′} {e′} {k′} o = go (subst (λ (x : FastScan). FastScanSound d MAXFILE file from first room base s₀ e₀ k₀ s e k x) z told)
       where
         go : FastScanSound d MAXFILE file from first room base s₀ e₀ k₀ s e k Fallback → Out d file first from room base s₀ e₀ k₀ v s′ e′ k′
@@ -206,6 +233,8 @@ module _ (d : Dialect) (file : Bytes) (first : FileState) (from room base : ℕ)
     pub told-long : (length s ≡ length s₀) × (length e ≡ length e₀) × (length k ≡ length k₀)
     told-long = go told
       where
-        go : {x : FastScan} → FastScanSound d MAXFILE file from first room base s₀ e₀ k₀ s e k x → (length s ≡ length s₀) × (length e ≡ length e₀) × (length k ≡ length k₀)
+        go :
+            {x : FastScan} → FastScanSound d MAXFILE file from first room base s₀ e₀ k₀ s e k x →
+            (length s ≡ length s₀) × (length e ≡ length e₀) × (length k ≡ length k₀)
         go (is-found cs f b y c) = stored-long y
         go (is-fallback cs more f y) = stored-long y

@@ -39,7 +39,8 @@ use Rattle.file_cursor.proofs.Spans.{cells-lie, EndsOuter, record-outer
 use Rattle.file_cursor.specs.declared.Aim.{Aim}
 use Rattle.file_cursor.specs.declared.NextRecord.{NextRecord}
 use Rattle.file_cursor.specs.declared.NextRecord.the-variants.{Record, Refused}
-use Rattle.file_cursor.specs.NextRecord.{targetOf, textOf, textNext, cursorOf, RecordChecked, sound, faulty, FileEnded, no-record, at-end, NextRecordSound, read, finished, refused}
+use Rattle.file_cursor.specs.NextRecord.{targetOf, textOf, textNext, cursorOf, RecordChecked, sound, faulty, FileEnded, no-record, at-end}
+use Rattle.file_cursor.specs.NextRecord.{NextRecordSound, read, finished, refused}
 use Rattle.record_fast.specs.CellLists.{Long, SameLengths, Shows}
 use Rattle.record_fast.proofs.CellLists.{still-kept, still-long, stand-there, shows}
 use Rattle.file_cursor.proofs.RecordChecks.{text-snoc, columns-snoc}
@@ -47,11 +48,16 @@ use Rattle.file_cursor.proofs.RecordChecks.{text-snoc, columns-snoc}
 -- ---- the end of the file
 
 -- after a record, the end of the file ends reading
-end-after : (d : Dialect) (target : Option Target) (file : Bytes) (rs : List Rec) (x : Rec) → restOf d target file (rs ++ (x ∷ [])) Begin (length file) ≡ going (between-records (rs ++ (x ∷ [])) Begin (length file))
+end-after :
+    (d : Dialect) (target : Option Target) (file : Bytes) (rs : List Rec) (x : Rec) →
+    restOf d target file (rs ++ (x ∷ [])) Begin (length file) ≡ going (between-records (rs ++ (x ∷ [])) Begin (length file))
 unfolding readFrom readEnd fileEnd
 end-after d target file rs x = let l : length file ≤ length file = omega arith in rw (drop-of-length-le file l) (go rs)
   where
-    go : (rs : List Rec) → endBetween (between-records (rs ++ (x ∷ [])) Begin (length file)) (rs ++ (x ∷ [])) ≡ going (between-records (rs ++ (x ∷ [])) Begin (length file))
+    go :
+        (rs : List Rec) →
+        endBetween (between-records (rs ++ (x ∷ [])) Begin (length file)) (rs ++ (x ∷ []))
+        ≡ going (between-records (rs ++ (x ∷ [])) Begin (length file))
     go [] = refl
     go (y ∷ rs) = refl
 
@@ -72,7 +78,9 @@ none-at-end d (Inside c) i s n o e = impossible o
 none-at-end d After i s n o e = impossible o
 none-at-end d Cr i s n o e = impossible o
 
-last-inside : (d : Dialect) (file : Bytes) (f : FileState) (i s n : ℕ) → outer f ≡ true → nextRecord d (between-records [] f i) (drop i file) .event ≡ LastRecord s n → i < length file
+last-inside :
+    (d : Dialect) (file : Bytes) (f : FileState) (i s n : ℕ) → outer f ≡ true →
+    nextRecord d (between-records [] f i) (drop i file) .event ≡ LastRecord s n → i < length file
 unfolding nextRecord
 last-inside d file f i s n o e =
     split-on (ltb i (length file)) (λ t. ltb-true i (length file) t) λ t.
@@ -127,7 +135,12 @@ module _ {d : Dialect} {file : Bytes} {f : FileState} {i : ℕ} {s₀ e₀ k₀ 
     Rest = restOf d (targetOf aim) file rs f i
 
     -- a record that is sound
-    next-record : (r : Read) (g : FileState) (o m n w : ℕ) → r .done ≡ rs → Rest ≡ restOf d (targetOf aim) file (rs ++ (recOf r (Here .cells) ∷ [])) g o → recordFault d (targetOf aim) rs (Here .cells) ≡ Sound → length rs + 1 ≡ m → length (Here .cells) ≡ n → n ≤ MAXCOLUMNS → length (textOf aim rs) + length (textNext aim (isEmpty rs) (Here .cells)) ≡ w → w ≤ MAXFILE → i < o → o ≤ length file → o ≤ MAXFILE → outer g ≡ true → NextRecordSound d aim file rs f i s e k (Record (cursorOf m n w o g))
+    next-record :
+        (r : Read) (g : FileState) (o m n w : ℕ) → r .done ≡ rs →
+        Rest ≡ restOf d (targetOf aim) file (rs ++ (recOf r (Here .cells) ∷ [])) g o →
+        recordFault d (targetOf aim) rs (Here .cells) ≡ Sound → length rs + 1 ≡ m → length (Here .cells) ≡ n → n ≤ MAXCOLUMNS →
+        length (textOf aim rs) + length (textNext aim (isEmpty rs) (Here .cells)) ≡ w → w ≤ MAXFILE → i < o → o ≤ length file →
+        o ≤ MAXFILE → outer g ≡ true → NextRecordSound d aim file rs f i s e k (Record (cursorOf m n w o g))
     next-record r g o m n w done rest fault counted c few text short onward inside under between =
         let x : Rec = recOf r (Here .cells) in
         read
@@ -135,7 +148,12 @@ module _ {d : Dialect} {file : Bytes} {f : FileState} {i : ℕ} {s₀ e₀ k₀ 
           rec = x;
           found = refl;
           rest = rest;
-          after = record { count = length-append rs (x ∷ []) ∙ counted; headed = columns-snoc d (targetOf aim) rs x n fault c; text = text-snoc aim rs x ∙ text };
+          after =
+              record {
+                count = length-append rs (x ∷ []) ∙ counted;
+                headed = columns-snoc d (targetOf aim) rs x n fault c;
+                text = text-snoc aim rs x ∙ text;
+              };
           few = few;
           stand = now-stand n c few;
           values = now-shown n c .values few;
@@ -147,23 +165,36 @@ module _ {d : Dialect} {file : Bytes} {f : FileState} {i : ℕ} {s₀ e₀ k₀ 
         })
 
     -- the same place of reading, by the records that were read
-    sound-rest : (r : Read) (g : FileState) (o : ℕ) → r .done ≡ rs → recordFault d (targetOf aim) rs (Here .cells) ≡ Sound → complete d (targetOf aim) r (Here .cells) g o ≡ going (between-records (rs ++ (recOf r (Here .cells) ∷ [])) g o)
+    sound-rest :
+        (r : Read) (g : FileState) (o : ℕ) → r .done ≡ rs → recordFault d (targetOf aim) rs (Here .cells) ≡ Sound →
+        complete d (targetOf aim) r (Here .cells) g o ≡ going (between-records (rs ++ (recOf r (Here .cells) ∷ [])) g o)
     sound-rest r g o done fault =
         complete-sound d (targetOf aim) r (Here .cells) g o (ap (λ (l : List Rec). recordFault d (targetOf aim) l (Here .cells)) done ∙ fault)
         ∙ ap (λ (l : List Rec). going (between-records (l ++ (recOf r (Here .cells) ∷ [])) g o)) done
 
-    refused-record : (r : Read) (start : ℕ) (x : Fault) → r .done ≡ rs → r .start ≡ start → recordFault d (targetOf aim) rs (Here .cells) ≡ Faulty x → Rest ≡ stopped x r → NextRecordSound d aim file rs f i s e k (Refused (report (numberOf x) (suc (length rs)) (columnOf x) start))
+    refused-record :
+        (r : Read) (start : ℕ) (x : Fault) → r .done ≡ rs → r .start ≡ start → recordFault d (targetOf aim) rs (Here .cells) ≡ Faulty x →
+        Rest ≡ stopped x r → NextRecordSound d aim file rs f i s e k (Refused (report (numberOf x) (suc (length rs)) (columnOf x) start))
     refused-record r start x done starts fault rest =
-        let q : report (numberOf x) (suc (length rs)) (columnOf x) (r .start) ≡ faultReport x r = report-start d (targetOf aim) r (Here .cells) x (length rs) (ap (λ (l : List Rec). recordFault d (targetOf aim) l (Here .cells)) done ∙ fault) (ap length done) in
-        let p : report (numberOf x) (suc (length rs)) (columnOf x) start ≡ faultReport x r = ap (λ (n : ℕ). report (numberOf x) (suc (length rs)) (columnOf x) n) (sym starts) ∙ q in
+        let q : report (numberOf x) (suc (length rs)) (columnOf x) (r .start) ≡ faultReport x r
+        = report-start d (targetOf aim) r (Here .cells) x (length rs)
+        (ap (λ (l : List Rec). recordFault d (targetOf aim) l (Here .cells)) done ∙ fault) (ap length done) in
+        let p : report (numberOf x) (suc (length rs)) (columnOf x) start ≡ faultReport x r
+        = ap (λ (n : ℕ). report (numberOf x) (suc (length rs)) (columnOf x) n) (sym starts) ∙ q in
         subst (λ (t : Report). NextRecordSound d aim file rs f i s e k (Refused t)) (sym p) (refused x r rest)
 
-    faulty-rest : (r : Read) (g : FileState) (o : ℕ) (x : Fault) → r .done ≡ rs → recordFault d (targetOf aim) rs (Here .cells) ≡ Faulty x → complete d (targetOf aim) r (Here .cells) g o ≡ stopped x r
-    faulty-rest r g o x done fault = complete-faulty d (targetOf aim) r (Here .cells) g o x (ap (λ (l : List Rec). recordFault d (targetOf aim) l (Here .cells)) done ∙ fault)
+    faulty-rest :
+        (r : Read) (g : FileState) (o : ℕ) (x : Fault) → r .done ≡ rs → recordFault d (targetOf aim) rs (Here .cells) ≡ Faulty x →
+        complete d (targetOf aim) r (Here .cells) g o ≡ stopped x r
+    faulty-rest r g o x done fault =
+        complete-faulty d (targetOf aim) r (Here .cells) g o x
+        (ap (λ (l : List Rec). recordFault d (targetOf aim) l (Here .cells)) done ∙ fault)
 
     -- ---- each event
 
-    pub record-visited : {start n : ℕ} {g : FileState} {o : ℕ} {r : NextRecord} → v ≡ Completed start n g o → RecordChecked d aim rs (Here .cells) start g o r → NextRecordSound d aim file rs f i s e k r
+    pub record-visited :
+        {start n : ℕ} {g : FileState} {o : ℕ} {r : NextRecord} → v ≡ Completed start n g o →
+        RecordChecked d aim rs (Here .cells) start g o r → NextRecordSound d aim file rs f i s e k r
     record-visited {start} {n} {g} {o} w (sound {m = m′} {n = c} {w = t} fault counted l few text short) =
         let at = on-record d (targetOf aim) file rs Here _ (follows (targetOf aim) rs) start n g o (sym (m .event) ∙ w) in
         let b : (i < o) × (o ≤ length file) × (o ≤ MAXFILE) × (0 + n ≤ o) = subst (EventInBounds (length file) i 0) w (m .bounds) in
@@ -174,9 +205,13 @@ module _ {d : Dialect} {file : Bytes} {f : FileState} {i : ℕ} {s₀ e₀ k₀ 
     record-visited {start} {n} {g} {o} w (faulty x fault) =
         let at = on-record d (targetOf aim) file rs Here _ (follows (targetOf aim) rs) start n g o (sym (m .event) ∙ w) in
         refused-record (at .r) start x (at .done) (at .starts) fault
-        (at .rest ∙ ap (λ (p : Progress). readEnd d (targetOf aim) (readFrom d (targetOf aim) p (drop o file))) (faulty-rest (at .r) g o x (at .done) fault) ∙ sym (stays d (targetOf aim) x (at .r) (drop o file)))
+        (at .rest
+        ∙ ap (λ (p : Progress). readEnd d (targetOf aim) (readFrom d (targetOf aim) p (drop o file)))
+        (faulty-rest (at .r) g o x (at .done) fault) ∙ sym (stays d (targetOf aim) x (at .r) (drop o file)))
 
-    pub last-visited : {start n : ℕ} {r : NextRecord} → v ≡ LastRecord start n → RecordChecked d aim rs (Here .cells) start Begin (length file) r → NextRecordSound d aim file rs f i s e k r
+    pub last-visited :
+        {start n : ℕ} {r : NextRecord} → v ≡ LastRecord start n → RecordChecked d aim rs (Here .cells) start Begin (length file) r →
+        NextRecordSound d aim file rs f i s e k r
     last-visited {start} {n} w (sound {m = m′} {n = c} {w = t} fault counted l few text short) =
         let at = on-last d (targetOf aim) file rs Here _ (follows (targetOf aim) rs) start n (sym (m .event) ∙ w) in
         let b : (length file ≤ MAXFILE) × (0 + n ≤ length file + 1) = subst (EventInBounds (length file) i 0) w (m .bounds) in
@@ -187,18 +222,24 @@ module _ {d : Dialect} {file : Bytes} {f : FileState} {i : ℕ} {s₀ e₀ k₀ 
         let at = on-last d (targetOf aim) file rs Here _ (follows (targetOf aim) rs) start n (sym (m .event) ∙ w) in
         refused-record (at .r) start x (at .done) (at .starts) fault (at .rest ∙ faulty-rest (at .r) Begin (length file) x (at .done) fault)
 
-    pub fault-visited : {x : Fault} {o : ℕ} (done : ℕ) → v ≡ Failed x o → length rs ≡ done → (t : Report) → t ≡ report (numberOf x) (done + 1) (columnOf x) o → NextRecordSound d aim file rs f i s e k (Refused t)
+    pub fault-visited :
+        {x : Fault} {o : ℕ} (done : ℕ) → v ≡ Failed x o → length rs ≡ done → (t : Report) →
+        t ≡ report (numberOf x) (done + 1) (columnOf x) o → NextRecordSound d aim file rs f i s e k (Refused t)
     fault-visited {x} {o} done w l t te =
         let at = on-fault d (targetOf aim) file rs Here _ (follows (targetOf aim) rs) x o (sym (m .event) ∙ w) in
         let n : done + 1 ≡ suc (length rs) = omega arith in
         let q : t ≡ faultReport x (at .r) =
-        te ∙ ap (λ (n : ℕ). report (numberOf x) n (columnOf x) o) n ∙ ap (λ (n : ℕ). report (numberOf x) (suc (length rs)) (columnOf x) n) (sym (at .place)) ∙ report-byte x (at .r) (length rs) (at .byte) (ap length (at .done)) in
+        te ∙ ap (λ (n : ℕ). report (numberOf x) n (columnOf x) o) n
+        ∙ ap (λ (n : ℕ). report (numberOf x) (suc (length rs)) (columnOf x) n) (sym (at .place))
+        ∙ report-byte x (at .r) (length rs) (at .byte) (ap length (at .done)) in
         subst (λ (t : Report). NextRecordSound d aim file rs f i s e k (Refused t)) (sym q) (refused x (at .r) (at .rest))
 
   pub end-visited : (aim : Aim) (rs : List Rec) {o : ℕ} {r : NextRecord} → v ≡ End o → FileEnded rs o r → NextRecordSound d aim file rs f i s e k r
   end-visited aim [] {o} w no-record =
       let at = on-finish d (targetOf aim) file [] Here _ (follows (targetOf aim) []) o (sym (m .event) ∙ w) in
-      let q : report (numberOf NoRecord) 1 (columnOf NoRecord) o ≡ faultReport NoRecord (at .r) = ap (λ (n : ℕ). report (numberOf NoRecord) 1 (columnOf NoRecord) n) (sym (at .place)) ∙ report-byte NoRecord (at .r) 0 refl (ap length (at .done)) in
+      let q : report (numberOf NoRecord) 1 (columnOf NoRecord) o ≡ faultReport NoRecord (at .r)
+      = ap (λ (n : ℕ). report (numberOf NoRecord) 1 (columnOf NoRecord) n) (sym (at .place))
+      ∙ report-byte NoRecord (at .r) 0 refl (ap length (at .done)) in
       subst (λ (t : Report). NextRecordSound d aim file [] f i s e k (Refused t)) (sym q) (refused NoRecord (at .r) (at .rest))
   end-visited aim (h ∷ rs) {o} w at-end =
       let at = on-finish d (targetOf aim) file (h ∷ rs) Here _ (follows (targetOf aim) (h ∷ rs)) o (sym (m .event) ∙ w) in

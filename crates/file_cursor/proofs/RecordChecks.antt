@@ -31,29 +31,39 @@ use Rattle.file_cursor.specs.declared.Aim.{Aim}
 use Rattle.file_cursor.specs.declared.Cursor.{Cursor}
 use Rattle.file_cursor.specs.declared.Aim.the-variants.{Reading, Into}
 use Rattle.file_cursor.specs.declared.NextRecord.the-variants.{Record, End, Refused}
-use Rattle.file_cursor.specs.NextRecord.{targetOf, textOf, textNext, cursorOf, Columns, After, CheckSound, RecordChecked, sound, faulty, FileEnded, no-record, at-end}
+use Rattle.file_cursor.specs.NextRecord.{targetOf, textOf, textNext, cursorOf, Columns, After, CheckSound, RecordChecked, sound, faulty}
+use Rattle.file_cursor.specs.NextRecord.{FileEnded, no-record, at-end}
 use Rattle.record_fast.specs.CellLists.{Shows}
 
 -- ---- the source's checks
 
-pub source-checked : (d : Dialect) (vs : List Value) (done columns : ℕ) (rs : List Rec) → length rs ≡ done → Columns rs columns → sourceFault d (eqb done 0) columns vs ≡ recordFault d none rs vs
+pub source-checked :
+    (d : Dialect) (vs : List Value) (done columns : ℕ) (rs : List Rec) → length rs ≡ done → Columns rs columns →
+    sourceFault d (eqb done 0) columns vs ≡ recordFault d none rs vs
 unfolding if_then_else_
 source-checked d vs done columns [] l c = rw (sym l) (sym (header-fault d vs))
 source-checked d vs done columns (h ∷ rs) l c = rw (ne-eqb done 0 (λ z. omega arith)) (ap (λ (m : ℕ). dataFault m vs) (sym c) ∙ sym (data-fault d h rs vs))
 
-pub data-checked : (d : Dialect) (vs : List Value) (v : CheckResult) (done columns : ℕ) → (done ≡ 0 → ⊥) → v ≡ dataFault columns vs → (rs : List Rec) → length rs ≡ done → Columns rs columns → v ≡ recordFault d none rs vs
+pub data-checked :
+    (d : Dialect) (vs : List Value) (v : CheckResult) (done columns : ℕ) → (done ≡ 0 → ⊥) → v ≡ dataFault columns vs → (rs : List Rec) →
+    length rs ≡ done → Columns rs columns → v ≡ recordFault d none rs vs
 data-checked d vs v done columns n e [] l c = absurd (n (sym l))
 data-checked d vs v done columns n e (h ∷ rs) l c = e ∙ ap (λ (m : ℕ). dataFault m vs) (sym c) ∙ sym (data-fault d h rs vs)
 
 -- ---- the target's checks
 
 -- a fault in its source stays, whatever the target says
-source-first : (d : Dialect) (aim : Aim) (rs : List Rec) (vs : List Value) (e : Fault) → recordFault d none rs vs ≡ Faulty e → recordFault d (targetOf aim) rs vs ≡ Faulty e
+source-first :
+    (d : Dialect) (aim : Aim) (rs : List Rec) (vs : List Value) (e : Fault) → recordFault d none rs vs ≡ Faulty e →
+    recordFault d (targetOf aim) rs vs ≡ Faulty e
 unfolding _orElse_
 source-first d Reading rs vs e h = h
 source-first d (Into t) rs vs e h = record-target d (into t) rs vs ∙ rw h
 
-target-next : (d : Dialect) (t : Dialect) (rs : List Rec) (vs : List Value) → recordFault d (some (into t)) rs vs ≡ (recordFault d none rs vs orElse targetFault (into t) (isEmpty rs) (length (tableText (into t) (rows rs))) vs)
+target-next :
+    (d : Dialect) (t : Dialect) (rs : List Rec) (vs : List Value) →
+    recordFault d (some (into t)) rs vs
+    ≡ (recordFault d none rs vs orElse targetFault (into t) (isEmpty rs) (length (tableText (into t) (rows rs))) vs)
 target-next d t rs vs =
     record-target d (into t) rs vs
     ∙ ap (λ (b : Bool). recordFault d none rs vs orElse targetFault (into t) b (length (tableText (into t) (rows rs))) vs) (rows-empty rs)
@@ -66,7 +76,8 @@ pub empty-none : (rs : List Rec) (done : ℕ) → length rs ≡ done → eqb don
 empty-none [] done l = rw (sym l) refl
 empty-none (h ∷ rs) done l = ne-eqb done 0 (λ z. omega arith)
 
-module _ (d : Dialect) (at : Cursor) (vs : List Value) (u : CheckResult) (by-source : (rs : List Rec) → length rs ≡ at .done → Columns rs (at .columns) → u ≡ recordFault d none rs vs) where
+module _ (d : Dialect) (at : Cursor) (vs : List Value) (u : CheckResult)
+    (by-source : (rs : List Rec) → length rs ≡ at .done → Columns rs (at .columns) → u ≡ recordFault d none rs vs) where
   pub asked-faulty : (aim : Aim) (e : Fault) → u ≡ Faulty e → CheckSound d aim at vs (record { verdict = Faulty e; length = 0 })
   asked-faulty aim e h =
       record {
@@ -75,7 +86,9 @@ module _ (d : Dialect) (at : Cursor) (vs : List Value) (u : CheckResult) (by-sou
         fits = λ s. fault-sound s;
       }
 
-  pub asked-reading : (aim : Aim) (v : CheckResult) → aim ≡ Reading → v ≡ u → at .written ≤ MAXFILE → CheckSound d aim at vs (record { verdict = v; length = 0 })
+  pub asked-reading :
+      (aim : Aim) (v : CheckResult) → aim ≡ Reading → v ≡ u → at .written ≤ MAXFILE →
+      CheckSound d aim at vs (record { verdict = v; length = 0 })
   asked-reading aim v q h w =
       rw q
       (record {
@@ -88,7 +101,9 @@ module _ (d : Dialect) (at : Cursor) (vs : List Value) (u : CheckResult) (by-sou
   abbrev Target-fault : Dialect → CheckResult
   Target-fault t = targetFault (into t) (eqb (at .done) 0) (at .written) vs
 
-  pub asked-both : (aim : Aim) (t : Dialect) (r : TargetCheck) → aim ≡ Into t → r .verdict ≡ (u orElse Target-fault t) → (r .verdict ≡ Sound → r .length ≡ length (recordText (into t) (eqb (at .done) 0) vs ++ ending t)) → CheckSound d aim at vs r
+  pub asked-both :
+      (aim : Aim) (t : Dialect) (r : TargetCheck) → aim ≡ Into t → r .verdict ≡ (u orElse Target-fault t) →
+      (r .verdict ≡ Sound → r .length ≡ length (recordText (into t) (eqb (at .done) 0) vs ++ ending t)) → CheckSound d aim at vs r
   asked-both aim t r q v l = rw q (record { verdict = verdict; text = text; fits = fits })
     where
       verdict : (rs : List Rec) → After (Into t) at rs → r .verdict ≡ recordFault d (some (into t)) rs vs
@@ -107,45 +122,63 @@ module _ (d : Dialect) (at : Cursor) (vs : List Value) (u : CheckResult) (by-sou
           let f = target-sound (into t) (eqb (at .done) 0) (at .written) vs (x .1) in
           rw (l s) (f .fits)
 
-  pub asked-into : (aim : Aim) (t : Dialect) (r : TargetCheck) → aim ≡ Into t → u ≡ Sound → r .verdict ≡ Target-fault t → (r .verdict ≡ Sound → r .length ≡ length (recordText (into t) (eqb (at .done) 0) vs ++ ending t)) → CheckSound d aim at vs r
+  pub asked-into :
+      (aim : Aim) (t : Dialect) (r : TargetCheck) → aim ≡ Into t → u ≡ Sound → r .verdict ≡ Target-fault t →
+      (r .verdict ≡ Sound → r .length ≡ length (recordText (into t) (eqb (at .done) 0) vs ++ ending t)) → CheckSound d aim at vs r
   asked-into aim t r q h v l = asked-both aim t r q (v ∙ or-next u (Target-fault t) h) l
 
 -- ---- the result
 
 -- more cells than a record may have
-pub columns-fault : (d : Dialect) (target : Option Target) (rs : List Rec) (vs : List Value) → MAXCOLUMNS < length vs → recordFault d target rs vs ≡ Faulty TooManyColumns
+pub columns-fault :
+    (d : Dialect) (target : Option Target) (rs : List Rec) (vs : List Value) → MAXCOLUMNS < length vs →
+    recordFault d target rs vs ≡ Faulty TooManyColumns
 unfolding recordFault headerFault dataFault when _orElse_
 columns-fault d target [] vs h = rw (lt-ltb MAXCOLUMNS (length vs) h)
 columns-fault d target (x ∷ rs) vs h = rw (lt-ltb MAXCOLUMNS (length vs) h)
 
 -- the report of a record's fault
-numbered : (rs : List Rec) (done : ℕ) (e : Fault) (start : ℕ) (t : Report) → length rs ≡ done → t ≡ report (numberOf e) (done + 1) (columnOf e) start → report (numberOf e) (suc (length rs)) (columnOf e) start ≡ t
+numbered :
+    (rs : List Rec) (done : ℕ) (e : Fault) (start : ℕ) (t : Report) → length rs ≡ done →
+    t ≡ report (numberOf e) (done + 1) (columnOf e) start → report (numberOf e) (suc (length rs)) (columnOf e) start ≡ t
 numbered rs done e start t l h =
     let n : suc (length rs) ≡ done + 1 = omega arith in
     ap (λ (m : ℕ). report (numberOf e) m (columnOf e) start) n ∙ sym h
 
-module _ (d : Dialect) (aim : Aim) (file : Bytes) (starts ends kinds : List ℕ) (at : Cursor) (start cells : ℕ) (f : FileState) (o : ℕ) (rs : List Rec) (vs : List Value) (a : After aim at rs) (y : Shows d file vs cells starts ends kinds) where
-  completes-faulty : (e : Fault) (t : Report) → recordFault d (targetOf aim) rs vs ≡ Faulty e → t ≡ report (numberOf e) (at .done + 1) (columnOf e) start → RecordChecked d aim rs vs start f o (Refused t)
-  completes-faulty e t h q = subst (λ (x : Report). RecordChecked d aim rs vs start f o (Refused x)) (numbered rs (at .done) e start t (a .count) q) (faulty e h)
+module _ (d : Dialect) (aim : Aim) (file : Bytes) (starts ends kinds : List ℕ) (at : Cursor) (start cells : ℕ) (f : FileState) (o : ℕ)
+    (rs : List Rec) (vs : List Value) (a : After aim at rs) (y : Shows d file vs cells starts ends kinds) where
+  completes-faulty :
+      (e : Fault) (t : Report) → recordFault d (targetOf aim) rs vs ≡ Faulty e → t ≡ report (numberOf e) (at .done + 1) (columnOf e) start →
+      RecordChecked d aim rs vs start f o (Refused t)
+  completes-faulty e t h q =
+      subst (λ (x : Report). RecordChecked d aim rs vs start f o (Refused x)) (numbered rs (at .done) e start t (a .count) q) (faulty e h)
 
-  pub too-many : (t : Report) → MAXCOLUMNS < cells → t ≡ report (numberOf TooManyColumns) (at .done + 1) (columnOf TooManyColumns) start → RecordChecked d aim rs vs start f o (Refused t)
+  pub too-many :
+      (t : Report) → MAXCOLUMNS < cells → t ≡ report (numberOf TooManyColumns) (at .done + 1) (columnOf TooManyColumns) start →
+      RecordChecked d aim rs vs start f o (Refused t)
   too-many t h q = completes-faulty TooManyColumns t (columns-fault d (targetOf aim) rs vs (omega (arith, y .count))) q
 
   -- the check was of the cells that the lists show
   module _ (ws : List Value) (same : cells ≤ MAXCOLUMNS → ws ≡ vs) (few : cells ≤ MAXCOLUMNS) (r : TargetCheck) (z : CheckSound d aim at ws r) where
-    pub ruled-faulty : (e : Fault) (t : Report) → r .verdict ≡ Faulty e → t ≡ report (numberOf e) (at .done + 1) (columnOf e) start → RecordChecked d aim rs vs start f o (Refused t)
+    pub ruled-faulty :
+        (e : Fault) (t : Report) → r .verdict ≡ Faulty e → t ≡ report (numberOf e) (at .done + 1) (columnOf e) start →
+        RecordChecked d aim rs vs start f o (Refused t)
     ruled-faulty e t h q =
         completes-faulty e t (ap (recordFault d (targetOf aim) rs) (sym (same few)) ∙ sym (z .verdict rs a) ∙ h) q
 
     pub ruled-sound : r .verdict ≡ Sound → RecordChecked d aim rs vs start f o (Record (cursorOf (at .done + 1) cells (at .written + r .length) o f))
     ruled-sound h =
-        let l : r .length ≡ length (textNext aim (isEmpty rs) vs) = z .text rs (a .count) h ∙ ap (λ (l : List Value). length (textNext aim (isEmpty rs) l)) (same few) in
+        let l : r .length ≡ length (textNext aim (isEmpty rs) vs)
+        = z .text rs (a .count) h ∙ ap (λ (l : List Value). length (textNext aim (isEmpty rs) l)) (same few) in
         let t : length (textOf aim rs) ≡ at .written = a .text in
-        sound {w = at .written + r .length} (ap (recordFault d (targetOf aim) rs) (sym (same few)) ∙ sym (z .verdict rs a) ∙ h) (ap (λ (n : ℕ). n + 1) (a .count)) (y .count) few (omega arith) (z .fits h)
+        sound {w = at .written + r .length} (ap (recordFault d (targetOf aim) rs) (sym (same few)) ∙ sym (z .verdict rs a) ∙ h)
+        (ap (λ (n : ℕ). n + 1) (a .count)) (y .count) few (omega arith) (z .fits h)
 
 -- ---- the end of the file
 
-pub ends-first : (done o : ℕ) (t : Report) → done ≡ 0 → t ≡ report (numberOf NoRecord) 1 (columnOf NoRecord) o → (rs : List Rec) → length rs ≡ done → FileEnded rs o (Refused t)
+pub ends-first :
+    (done o : ℕ) (t : Report) → done ≡ 0 → t ≡ report (numberOf NoRecord) 1 (columnOf NoRecord) o → (rs : List Rec) → length rs ≡ done →
+    FileEnded rs o (Refused t)
 ends-first done o t z e [] l = subst (λ (x : Report). FileEnded [] o (Refused x)) (sym e) no-record
 ends-first done o t z e (h ∷ rs) l = absurd (omega arith)
 
@@ -155,15 +188,23 @@ ends-later done o n (h ∷ rs) l = at-end
 
 -- ---- one record more
 
-pub text-snoc : (aim : Aim) (rs : List Rec) (x : Rec) → length (textOf aim (rs ++ (x ∷ []))) ≡ length (textOf aim rs) + length (textNext aim (isEmpty rs) (x .cells))
+pub text-snoc :
+    (aim : Aim) (rs : List Rec) (x : Rec) →
+    length (textOf aim (rs ++ (x ∷ []))) ≡ length (textOf aim rs) + length (textNext aim (isEmpty rs) (x .cells))
 text-snoc Reading rs x = refl
-text-snoc (Into t) rs x = ap length (table-snoc (into t) rs x) ∙ length-append (tableText (into t) (rows rs)) (recordText (into t) (isEmpty rs) (x .cells) ++ ending t)
+text-snoc (Into t) rs x =
+    ap length (table-snoc (into t) rs x)
+    ∙ length-append (tableText (into t) (rows rs)) (recordText (into t) (isEmpty rs) (x .cells) ++ ending t)
 
-pub columns-snoc : (d : Dialect) (target : Option Target) (rs : List Rec) (x : Rec) (n : ℕ) → recordFault d target rs (x .cells) ≡ Sound → length (x .cells) ≡ n → Columns (rs ++ (x ∷ [])) n
+pub columns-snoc :
+    (d : Dialect) (target : Option Target) (rs : List Rec) (x : Rec) (n : ℕ) → recordFault d target rs (x .cells) ≡ Sound →
+    length (x .cells) ≡ n → Columns (rs ++ (x ∷ [])) n
 unfolding recordFault dataFault
 columns-snoc d target [] x n h l = l
 columns-snoc d target (y ∷ rs) x n h l =
     let a = else-sound (dataFault (length (y .cells)) (x .cells)) _ h in
     let b = else-sound (when (ltb MAXCOLUMNS (length (x .cells))) TooManyColumns) _ (a .0) in
-    let c : length (x .cells) ≡ length (y .cells) = eqb-true (length (x .cells)) (length (y .cells)) (not-false (eqb (length (x .cells)) (length (y .cells))) (when-sound _ _ (b .1))) in
+    let c : length (x .cells) ≡ length (y .cells)
+    = eqb-true (length (x .cells)) (length (y .cells))
+    (not-false (eqb (length (x .cells)) (length (y .cells))) (when-sound _ _ (b .1))) in
     sym c ∙ l

@@ -76,9 +76,19 @@ module _ (d : Dialect) (file : Bytes) where
   closed r false w s = s .cells
 
   -- there is no current cell
-  opens : (r : Read) → r .raw ≡ [] → r .opened ≡ r .offset → r .offset ≤ length file → r .size ≤ MAXRECORD → cellAt (r .state) ≡ Fresh → All (LiesIn d file) (r .cells) → Standing r
+  opens :
+      (r : Read) → r .raw ≡ [] → r .opened ≡ r .offset → r .offset ≤ length file → r .size ≤ MAXRECORD → cellAt (r .state) ≡ Fresh →
+      All (LiesIn d file) (r .cells) → Standing r
   opens r e o l m c vs =
-      record { stands = e ∙ sym (part-end file (r .offset)) ∙ ap (λ (i : ℕ). slice file i (r .offset)) (sym o); forward = omega arith; within = l; short = omega arith; sized = m; runs = rw (e, c) here; cells = vs }
+      record {
+        stands = e ∙ sym (part-end file (r .offset)) ∙ ap (λ (i : ℕ). slice file i (r .offset)) (sym o);
+        forward = omega arith;
+        within = l;
+        short = omega arith;
+        sized = m;
+        runs = rw (e, c) here;
+        cells = vs;
+      }
 
   abbrev Ih : Bytes → Type 0
   Ih bs = (r : Read) → bs ≡ drop (r .offset) file → Standing r → All (LiesIn d file) (nextRecord d r bs .cells)
@@ -97,7 +107,9 @@ module _ (d : Dialect) (file : Bytes) where
       and-first false y e q = refl
 
   -- a byte that is not one too many
-  on-byte : (r : Read) (b : ℕ) (bs : Bytes) → b ∷ bs ≡ drop (r .offset) file → Ih bs → Standing r → recordFull r b ≡ false → (t : Step) → Calm (r .state) b t → Fits d (cellAt (r .state)) b t → All (LiesIn d file) (stepped d r b (λ r′. nextRecord d r′ bs) t .cells)
+  on-byte :
+      (r : Read) (b : ℕ) (bs : Bytes) → b ∷ bs ≡ drop (r .offset) file → Ih bs → Standing r → recordFull r b ≡ false → (t : Step) →
+      Calm (r .state) b t → Fits d (cellAt (r .state)) b t → All (LiesIn d file) (stepped d r b (λ r′. nextRecord d r′ bs) t .cells)
   unfolding stepped if_then_else_ recordFull
   on-byte r b bs e ih s full t refuses y = s .cells
   on-byte r b bs e ih s full t (leaves {g = g} o) (cell.leaves y) =
@@ -109,19 +121,33 @@ module _ (d : Dialect) (file : Bytes) where
   on-byte r b bs e ih s full t (grows {g = g} c o) (cell.adds y) =
       let l : r .offset < length file = next-inside file (r .offset) b bs e in
       let m : r .size < MAXRECORD = room (r .size) (counts (r .state) b) c full in
-      let raw : r .raw ++ (b ∷ []) ≡ slice file (r .opened) (r .offset + 1) = ap (λ (x : Bytes). x ++ (b ∷ [])) (s .stands) ∙ ap (λ (x : ℕ). slice file (r .opened) (r .offset) ++ (x ∷ [])) (next-byte file (r .offset) b bs e) ∙ sym (part-one file (r .opened) (r .offset) (s .forward) l) in
-      ih (readAfter d r b g OfCell) (next-drop file (r .offset) b bs e) (record { stands = raw; forward = omega arith; within = omega arith; short = omega arith; sized = omega arith; runs = snoc b (s .runs) y; cells = s .cells })
+      let raw : r .raw ++ (b ∷ []) ≡ slice file (r .opened) (r .offset + 1)
+      = ap (λ (x : Bytes). x ++ (b ∷ [])) (s .stands)
+      ∙ ap (λ (x : ℕ). slice file (r .opened) (r .offset) ++ (x ∷ [])) (next-byte file (r .offset) b bs e)
+      ∙ sym (part-one file (r .opened) (r .offset) (s .forward) l) in
+      ih (readAfter d r b g OfCell) (next-drop file (r .offset) b bs e) (record {
+        stands = raw;
+        forward = omega arith;
+        within = omega arith;
+        short = omega arith;
+        sized = omega arith;
+        runs = snoc b (s .runs) y;
+        cells = s .cells;
+      })
   on-byte r b bs e ih s full t (blanks {g = g} c o) (cell.parts y w) =
       let l : r .offset < length file = next-inside file (r .offset) b bs e in
       let m : r .size < MAXRECORD = room (r .size) (counts (r .state) b) c full in
-      ih (readAfter d r b g (Between false)) (next-drop file (r .offset) b bs e) (opens (readAfter d r b g (Between false)) refl refl (omega arith) (omega arith) y (closed r false w s))
+      ih (readAfter d r b g (Between false)) (next-drop file (r .offset) b bs e)
+      (opens (readAfter d r b g (Between false)) refl refl (omega arith) (omega arith) y (closed r false w s))
   on-byte r b bs e ih s full t (parts {g = g} {k = k} c o) (cell.parts y w) =
       let l : r .offset < length file = next-inside file (r .offset) b bs e in
       let m : r .size < MAXRECORD = room (r .size) (counts (r .state) b) c full in
-      ih (readAfter d r b g (Between k)) (next-drop file (r .offset) b bs e) (opens (readAfter d r b g (Between k)) refl refl (omega arith) (omega arith) y (closed r k w s))
+      ih (readAfter d r b g (Between k)) (next-drop file (r .offset) b bs e)
+      (opens (readAfter d r b g (Between k)) refl refl (omega arith) (omega arith) y (closed r k w s))
   on-byte r b bs e ih s full t (tails {g = g} {k = k} o) (cell.turns y w) =
       let l : r .offset < length file = next-inside file (r .offset) b bs e in
-      ih (readAfter d r b g (Tail k)) (next-drop file (r .offset) b bs e) (opens (readAfter d r b g (Tail k)) refl refl (omega arith) (s .sized) y (closed r k w s))
+      ih (readAfter d r b g (Tail k)) (next-drop file (r .offset) b bs e)
+      (opens (readAfter d r b g (Tail k)) refl refl (omega arith) (s .sized) y (closed r k w s))
   on-byte r b bs e ih s full t (finishes {k = k} o) (cell.completes y w) = closed r k w s
 
   all-stand : (bs : Bytes) → Ih bs
@@ -153,7 +179,9 @@ outer-fresh After o = refl
 outer-fresh Cr o = refl
 
 -- every cell of the next record lies in the file, from wherever there is no current cell
-pub cells-lie : (d : Dialect) (file : Bytes) (f : FileState) (o : ℕ) → outer f ≡ true → o ≤ length file → All (LiesIn d file) (nextRecord d (between-records [] f o) (drop o file) .cells)
+pub cells-lie :
+    (d : Dialect) (file : Bytes) (f : FileState) (o : ℕ) → outer f ≡ true → o ≤ length file →
+    All (LiesIn d file) (nextRecord d (between-records [] f o) (drop o file) .cells)
 cells-lie d file f o u l =
     all-stand d file (drop o file) (between-records [] f o) refl (opens d file (between-records [] f o) refl refl l (omega arith) (outer-fresh f u) all-none)
 
@@ -169,7 +197,9 @@ module _ (d : Dialect) where
   abbrev Outside-after : Bytes → Type 0
   Outside-after bs = (r : Read) → EndsOuter (nextRecord d r bs .event)
 
-  step-outer : (r : Read) (b : ℕ) (bs : Bytes) → Outside-after bs → (t : Step) → Calm (r .state) b t → EndsOuter (stepped d r b (λ r′. nextRecord d r′ bs) t .event)
+  step-outer :
+      (r : Read) (b : ℕ) (bs : Bytes) → Outside-after bs → (t : Step) → Calm (r .state) b t →
+      EndsOuter (stepped d r b (λ r′. nextRecord d r′ bs) t .event)
   unfolding stepped if_then_else_
   step-outer r b bs ih t refuses = tt
   step-outer r b bs ih t (leaves {g = g} o) = ih (readAfter d r b g Outside)

@@ -14,7 +14,8 @@ use Rattle.model.specs.rules.Base.{Bytes}
 use Rattle.model.specs.laws.Laws.{Grows}
 use Rattle.model.specs.rules.Text.{tableText}
 use Rattle.model.specs.rules.Report.{MAXFILE, MAXCOLUMNS}
-use Rattle.model.specs.rules.Records.{Rec, rows, Read, between-records, nothingRead, Progress, going, stopped, faultReport, readFrom, readBytes, readFile, recordsOf}
+use Rattle.model.specs.rules.Records.{Rec, rows, Read, between-records, nothingRead, Progress, going, stopped, faultReport, readFrom, readBytes}
+use Rattle.model.specs.rules.Records.{readFile, recordsOf}
 use Rattle.model.proofs.file_laws.ReadAppend.{read-grows, end-grows, grows-trans}
 use Rattle.record_scanner.specs.Tokens.{outer}
 use Rattle.file_cursor.specs.declared.Aim.{Aim}
@@ -104,7 +105,9 @@ module _ {d : Dialect} {aim : Aim} {file : Bytes} {c : Cursor} (y : Walking d ai
   walk-bounds = ((y .inside, y .under, y .between), (y .many, y .short))
 
   -- less is left after one record more
-  pub walk-less : {starts ends kinds : List ℕ} {v : Cursor} → visits.Next d aim file (y .rs) (c .state) (c .offset) starts ends kinds v → length file - v .offset < length file - c .offset
+  pub walk-less :
+      {starts ends kinds : List ℕ} {v : Cursor} → visits.Next d aim file (y .rs) (c .state) (c .offset) starts ends kinds v →
+      length file - v .offset < length file - c .offset
   walk-less n = omega (arith, n .onward, n .inside)
 
 -- ---- the cursor by its result
@@ -126,7 +129,9 @@ pub record AtFault (p : Progress) (t : Report) : Type 0 where
   pub report : t ≡ faultReport fault r
 
 module _ {d : Dialect} {aim : Aim} {file : Bytes} {rs : List Rec} {f : FileState} {i : ℕ} {starts ends kinds : List ℕ} where
-  pub came : {o : NextRecord} {v : Cursor} → NextRecordSound d aim file rs f i starts ends kinds o → o ≡ Record v → visits.Next d aim file rs f i starts ends kinds v
+  pub came :
+      {o : NextRecord} {v : Cursor} → NextRecordSound d aim file rs f i starts ends kinds o → o ≡ Record v →
+      visits.Next d aim file rs f i starts ends kinds v
   came {v = v} (visits.read {v = w} n) q = let z : w ≡ v = cc in subst (visits.Next d aim file rs f i starts ends kinds) z n
   came (visits.finished r p h) q = other cc
   came (visits.refused x r p) q = other cc
@@ -136,7 +141,9 @@ module _ {d : Dialect} {aim : Aim} {file : Bytes} {rs : List Rec} {f : FileState
   at-end (visits.finished r p h) q = record { r = r; rest = p; done = h }
   at-end (visits.refused x r p) q = other cc
 
-  pub at-fault : {o : NextRecord} {t : Report} → NextRecordSound d aim file rs f i starts ends kinds o → o ≡ Refused t → AtFault (restOf d (targetOf aim) file rs f i) t
+  pub at-fault :
+      {o : NextRecord} {t : Report} → NextRecordSound d aim file rs f i starts ends kinds o → o ≡ Refused t →
+      AtFault (restOf d (targetOf aim) file rs f i) t
   at-fault (visits.read n) q = other cc
   at-fault (visits.finished r p h) q = other cc
   at-fault {t = t} (visits.refused x r p) q = let z : faultReport x r ≡ t = cc in record { fault = x; r = r; rest = p; report = sym z }

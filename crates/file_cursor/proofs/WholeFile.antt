@@ -56,7 +56,9 @@ module _ (d : Dialect) where
   abbrev Comes : Bytes → Type 0
   Comes bs = (s : Scan) → nextRecord d (readOf d [] s) bs ≡ nextOf (scan d MAXFILE s bs)
 
-  step-comes : (s : Scan) (b : ℕ) (bs : Bytes) → Comes bs → (x : Step) → stepped d (readOf d [] s) b (λ r. nextRecord d r bs) x ≡ nextOf (scanStep s b bs (λ s′. scan d MAXFILE s′ bs) x)
+  step-comes :
+      (s : Scan) (b : ℕ) (bs : Bytes) → Comes bs → (x : Step) →
+      stepped d (readOf d [] s) b (λ r. nextRecord d r bs) x ≡ nextOf (scanStep s b bs (λ s′. scan d MAXFILE s′ bs) x)
   unfolding stepped scanStep if_then_else_
   step-comes s b bs ih (Reject e) = refl
   step-comes s b bs ih (To f Outside) = rw (add-one (s .offset)) (ih _)
@@ -66,7 +68,11 @@ module _ (d : Dialect) where
   step-comes s b bs ih (To f (Tail k)) = rw (add-one (s .offset), values-closing d none [] k s) (ih _)
   step-comes s b bs ih (To f (Ends k)) = rw (add-one (s .offset), values-closing d none [] k s)
 
-  choose-comes : (s : Scan) (b : ℕ) (bs : Bytes) → Comes bs → (u v : Bool) (x : Step) → (if u then failed FileTooLong (readOf d [] s) else if v then failed RecordTooLong (readOf d [] s) else stepped d (readOf d [] s) b (λ r. nextRecord d r bs) x) ≡ nextOf (if u then fails FileTooLong s else if v then fails RecordTooLong s else scanStep s b bs (λ s′. scan d MAXFILE s′ bs) x)
+  choose-comes :
+      (s : Scan) (b : ℕ) (bs : Bytes) → Comes bs → (u v : Bool) (x : Step) →
+      (if u then failed FileTooLong (readOf d [] s)
+      else if v then failed RecordTooLong (readOf d [] s) else stepped d (readOf d [] s) b (λ r. nextRecord d r bs) x)
+      ≡ nextOf (if u then fails FileTooLong s else if v then fails RecordTooLong s else scanStep s b bs (λ s′. scan d MAXFILE s′ bs) x)
   unfolding if_then_else_
   choose-comes s b bs ih true v x = refl
   choose-comes s b bs ih false true x = refl
@@ -76,7 +82,9 @@ module _ (d : Dialect) where
   pub next-scans : (bs : Bytes) → Comes bs
   unfolding nextRecord fileFull recordFull scan
   next-scans [] s = refl
-  next-scans (b ∷ bs) s = choose-comes s b bs (next-scans bs) (leb MAXFILE (s .offset)) (leb MAXRECORD (s .size) && counts (s .state) b) (fileStep d (s .state) b)
+  next-scans (b ∷ bs) s =
+      choose-comes s b bs (next-scans bs) (leb MAXFILE (s .offset)) (leb MAXRECORD (s .size) && counts (s .state) b)
+      (fileStep d (s .state) b)
 
 -- ---- a file ends between records where there is no current record
 
@@ -156,7 +164,10 @@ module _ (d : Dialect) where
         go [] q = refl
         go (c ∷ cs) q = absurd (omega arith)
 
-    end-stored : (s : Scan) (x : Ending) → (x ≡ Clean → length (s .cells) ≡ 0) → storedFrom room base (map φ (ended d (readOf d [] s) x .cells)) old ≡ storeIf (isFinal x) room (base + length (s .cells)) (φ (valueOf d (cellHere s))) (At (s .cells))
+    end-stored :
+        (s : Scan) (x : Ending) → (x ≡ Clean → length (s .cells) ≡ 0) →
+        storedFrom room base (map φ (ended d (readOf d [] s) x .cells)) old
+        ≡ storeIf (isFinal x) room (base + length (s .cells)) (φ (valueOf d (cellHere s))) (At (s .cells))
     unfolding storeIf if_then_else_
     end-stored s Clean e = ap At (sym (none-left s (e refl)))
     end-stored s Final e =
@@ -165,7 +176,11 @@ module _ (d : Dialect) where
         ∙ sym (closing-written (λ c. φ (valueOf d c)) room base (length (s .cells)) old true s refl)
     end-stored s Cut e = ap (λ xs. storedFrom room base xs old) (of-values φ (s .cells))
 
-    same-stored : (from limit : ℕ) {bytes : Bytes} {w : ScanResult} (number : RecordState → ℕ) → ((s : Scan) → ScanIn bytes s → s .offset ≡ length bytes → number (currentOf s) ≡ φ (valueOf d (cellHere s))) → ScanResultIn bytes w → ScanInBounds (length bytes) from limit base (foundOf w .answer) → storedFrom room base (map φ (nextOf d w .cells)) old ≡ lastPut room base number (foundOf w .answer) (At (foundOf w .cells))
+    same-stored :
+        (from limit : ℕ) {bytes : Bytes} {w : ScanResult} (number : RecordState → ℕ) →
+        ((s : Scan) → ScanIn bytes s → s .offset ≡ length bytes → number (currentOf s) ≡ φ (valueOf d (cellHere s))) →
+        ScanResultIn bytes w → ScanInBounds (length bytes) from limit base (foundOf w .answer) →
+        storedFrom room base (map φ (nextOf d w .cells)) old ≡ lastPut room base number (foundOf w .answer) (At (foundOf w .cells))
     same-stored from limit number same (pends-in {s = s} i e) b =
         end-stored s (fileEnd d (s .state)) (λ q. b .between (clean-between d (s .state) q))
         ∙ ap (λ x. storeIf (isFinal (fileEnd d (s .state))) room (base + length (s .cells)) x (At (s .cells))) (sym (same s i e))
@@ -218,13 +233,20 @@ module _ (d : Dialect) (file : Bytes) (first : FileState) (from room base : ℕ)
   within : from ≤ length file → ScanResultIn file Scanned
   within l = stretches d MAXFILE file (fresh first 0 from) (record { raw = sym (part-end file from); forward = omega arith; within = l; cells = all-none })
 
-  list-put : (φ : Value → ℕ) (number : RecordState → ℕ) → ((s : Scan) → ScanIn file s → s .offset ≡ length file → number (currentOf s) ≡ φ (valueOf d (cellHere s))) → from ≤ length file → ScanInBounds (length file) from MAXFILE base (foundOf Scanned .answer) → (old xs : List ℕ) → xs ≡ storedFrom room base (map (λ c. φ (valueOf d c)) (foundOf Scanned .cells)) old → lastPut d room base number (foundOf Scanned .answer) xs ≡ storedFrom room base (map φ (Whole .cells)) old
+  list-put :
+      (φ : Value → ℕ) (number : RecordState → ℕ) →
+      ((s : Scan) → ScanIn file s → s .offset ≡ length file → number (currentOf s) ≡ φ (valueOf d (cellHere s))) → from ≤ length file →
+      ScanInBounds (length file) from MAXFILE base (foundOf Scanned .answer) → (old xs : List ℕ) →
+      xs ≡ storedFrom room base (map (λ c. φ (valueOf d c)) (foundOf Scanned .cells)) old →
+      lastPut d room base number (foundOf Scanned .answer) xs ≡ storedFrom room base (map φ (Whole .cells)) old
   list-put φ number same l b old xs e =
       ap (λ ys. lastPut d room base number (foundOf Scanned .answer) ys) e
       ∙ sym (same-stored d φ room base old from MAXFILE number same (within l) b)
       ∙ ap (λ (x : Next). storedFrom room base (map φ (x .cells)) old) (sym whole)
 
-  kind-same : (s : Scan) → ScanIn file s → s .offset ≡ length file → kindNumber (kindOf d (slice file (s .opened) (length file))) ≡ kindNumber (kindOf d (s .raw))
+  kind-same :
+      (s : Scan) → ScanIn file s → s .offset ≡ length file →
+      kindNumber (kindOf d (slice file (s .opened) (length file))) ≡ kindNumber (kindOf d (s .raw))
   kind-same s i e = ap (λ x. kindNumber (kindOf d x)) (ap (λ n. slice file (s .opened) n) (sym e) ∙ sym (i .raw))
 
   -- what going over the file says
@@ -241,17 +263,22 @@ module _ (d : Dialect) (file : Bytes) (first : FileState) (from room base : ℕ)
 
     found : Comes-to r
     found =
-        let b : ScanInBounds (length file) from MAXFILE base (foundOf Scanned .answer) = subst (λ x. ScanInBounds (length file) from MAXFILE base x) (q .0) (q .1 .1 .1 .1) in
+        let b : ScanInBounds (length file) from MAXFILE base (foundOf Scanned .answer)
+        = subst (λ x. ScanInBounds (length file) from MAXFILE base x) (q .0) (q .1 .1 .1 .1) in
         subst Comes-to (sym (q .0))
         (record {
           event = sym (ap (λ (x : Next). x .event) whole ∙ same-event d (within l));
           at-starts = list-put (λ v. v .from) (λ h. h .opened) (λ s i e. refl) l b starts₀ starts (q .1 .0);
           at-ends = list-put (λ v. v .upto) (λ h. length file) (λ s i e. sym e) l b ends₀ ends (q .1 .1 .0);
-          at-kinds = list-put (λ v. kindNumber (v .kind)) (λ h. kindNumber (kindOf d (slice file (h .opened) (length file)))) kind-same l b kinds₀ kinds (q .1 .1 .1 .0);
+          at-kinds =
+              list-put (λ v. kindNumber (v .kind)) (λ h. kindNumber (kindOf d (slice file (h .opened) (length file)))) kind-same l b kinds₀
+              kinds (q .1 .1 .1 .0);
           bounds = event-bounds d (length file) from base (foundOf Scanned .answer) b;
         })
 
-    pub at-record : (start cells : ℕ) (f : FileState) (next : ℕ) → r ≡ reached.Completed start cells f next → Out (Completed start cells f next) starts ends kinds
+    pub at-record :
+        (start cells : ℕ) (f : FileState) (next : ℕ) → r ≡ reached.Completed start cells f next →
+        Out (Completed start cells f next) starts ends kinds
     at-record start cells f next m = subst Comes-to m found
 
     pub at-fault : (e : Fault) (offset : ℕ) → r ≡ reached.Failed e offset → Out (Failed e offset) starts ends kinds
@@ -261,9 +288,16 @@ module _ (d : Dialect) (file : Bytes) (first : FileState) (from room base : ℕ)
       pub in-hand : CurrentInBounds (length file) MAXFILE base f h
       in-hand = subst (λ x. ScanInBounds (length file) from MAXFILE base x) m (q .1 .1 .1 .1)
 
-      pub at-end : (e : FileScan) (starts′ ends′ kinds′ : List ℕ) → (e ≡ endEvent (fileEnd d f) h (length file)) × ((starts′ ≡ starts-put (reached.NeedInput f h) starts) × ((ends′ ≡ ends-put (reached.NeedInput f h) ends) × (kinds′ ≡ kinds-put (reached.NeedInput f h) kinds))) → Out e starts′ ends′ kinds′
+      pub at-end :
+          (e : FileScan) (starts′ ends′ kinds′ : List ℕ) →
+          (e ≡ endEvent (fileEnd d f) h (length file))
+          × ((starts′ ≡ starts-put (reached.NeedInput f h) starts)
+          × ((ends′ ≡ ends-put (reached.NeedInput f h) ends) × (kinds′ ≡ kinds-put (reached.NeedInput f h) kinds))) →
+          Out e starts′ ends′ kinds′
       at-end e starts′ ends′ kinds′ p =
-          let o : Out (endEvent (fileEnd d f) h (length file)) (starts-put (reached.NeedInput f h) starts) (ends-put (reached.NeedInput f h) ends) (kinds-put (reached.NeedInput f h) kinds) = subst Comes-to m found in
+          let o : Out (endEvent (fileEnd d f) h (length file)) (starts-put (reached.NeedInput f h) starts)
+          (ends-put (reached.NeedInput f h) ends) (kinds-put (reached.NeedInput f h) kinds)
+          = subst Comes-to m found in
           record {
             event = p .0 ∙ o .event;
             at-starts = p .1 .0 ∙ o .at-starts;

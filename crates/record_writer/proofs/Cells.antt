@@ -32,7 +32,8 @@ text-way (CsvPlus s) e = refl
 
 -- the text of such a cell is its content, in quotes or not
 clean-parts : (t : Dialect) (only first : Bool) (d : Dialect) {k : Kind} {raw : Bytes} → quoteOf t ≡ QUOTE → k ≡ Text → (c : Known d raw)
-    → cellText t only first (valueOf (File d) k raw) ≡ quoteBy t (isQuoted t only first (c .inside)) ++ (c .inside ++ quoteBy t (isQuoted t only first (c .inside)))
+    → cellText t only first (valueOf (File d) k raw)
+    ≡ quoteBy t (isQuoted t only first (c .inside)) ++ (c .inside ++ quoteBy t (isQuoted t only first (c .inside)))
 clean-parts t only first d {k} {raw} h e c =
     let q : Bytes = quoteBy t (isQuoted t only first (c .inside)) in
     cell-as-text only first t (valueOf (File d) k raw) (text-way t e)

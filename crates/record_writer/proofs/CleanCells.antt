@@ -23,15 +23,21 @@ use Rattle.cell_fast.specs.Ends.{CleanCell, bare, quoted, CleanIn}
 use Rattle.record_writer.specs.Verbatim.{Quotes, no-quotes, a-quote}
 use Rattle.record_writer.specs.Joined.{Parts}
 
-between-quotes : (raw : Bytes) → 2 ≤ length raw → getD raw 0 0 ≡ QUOTE → getD raw (length raw - 1) 0 ≡ QUOTE → raw ≡ QUOTE ∷ (slice raw 1 (length raw - 1) ++ QUOTE ∷ [])
+between-quotes :
+    (raw : Bytes) → 2 ≤ length raw → getD raw 0 0 ≡ QUOTE → getD raw (length raw - 1) 0 ≡ QUOTE →
+    raw ≡ QUOTE ∷ (slice raw 1 (length raw - 1) ++ QUOTE ∷ [])
 between-quotes raw h o k =
     let n : 1 + (length raw - 1 - 1) ≡ length raw - 1 = omega arith in
     let first : raw ≡ QUOTE ∷ drop 1 raw = drop-next raw 0 1 (omega arith) refl ∙ rw o in
-    let last : drop (length raw - 1) raw ≡ QUOTE ∷ [] = drop-next raw (length raw - 1) (length raw) (omega arith) (omega arith) ∙ rw (k, drop-of-length-le raw (le-refl (length raw))) in
-    let rest : drop 1 raw ≡ slice raw 1 (length raw - 1) ++ drop (length raw - 1) raw = sym (take-append-drop (length raw - 1 - 1) (drop 1 raw)) ∙ rw (drop-drop, n) in
+    let last : drop (length raw - 1) raw ≡ QUOTE ∷ []
+    = drop-next raw (length raw - 1) (length raw) (omega arith) (omega arith) ∙ rw (k, drop-of-length-le raw (le-refl (length raw))) in
+    let rest : drop 1 raw ≡ slice raw 1 (length raw - 1) ++ drop (length raw - 1) raw
+    = sym (take-append-drop (length raw - 1 - 1) (drop 1 raw)) ∙ rw (drop-drop, n) in
     first ∙ ap (λ (l : Bytes). QUOTE ∷ l) (rest ∙ rw last)
 
-pub quotes-clean : (d : Dialect) {raw : Bytes} {n : ℕ} → quoteOf d ≡ QUOTE → Quotes raw n → (n ≡ 0 → mayBeEmpty d ≡ true) → AllIn (isClean QUOTE) raw n (length raw - n) → CleanCell d raw
+pub quotes-clean :
+    (d : Dialect) {raw : Bytes} {n : ℕ} → quoteOf d ≡ QUOTE → Quotes raw n → (n ≡ 0 → mayBeEmpty d ≡ true) →
+    AllIn (isClean QUOTE) raw n (length raw - n) → CleanCell d raw
 quotes-clean d {raw} q no-quotes m x =
     let n : length raw - 0 ≡ length raw = omega arith in
     let all : allPass (isClean QUOTE) raw ≡ true = in-whole (isClean QUOTE) (rw n at x) in
@@ -51,13 +57,16 @@ pub clean-none : {bare : Bool} {s : Bytes} {starts ends : List ℕ} → CleanBef
 clean-none = record { each = λ d q b k h. absurd (omega arith) }
 
 pub clean-next : {bare : Bool} {s : Bytes} {starts ends : List ℕ} {n : ℕ} → CleanBefore bare s starts ends n
-    → ((d : Dialect) → quoteOf d ≡ QUOTE → bare ≡ mayBeEmpty d → CleanCell d (slice s (getD starts n 0) (getD ends n 0))) → CleanBefore bare s starts ends (n + 1)
+    → ((d : Dialect) → quoteOf d ≡ QUOTE → bare ≡ mayBeEmpty d → CleanCell d (slice s (getD starts n 0) (getD ends n 0))) →
+    CleanBefore bare s starts ends (n + 1)
 clean-next {bare} {s} {starts} {ends} {n} x cell =
     record {
       each = λ d q b k h. split-on (k is n) (λ t. rw (eqb-true k n t) (cell d q b)) λ t. let l = eqb-false k n t in x .each d q b k (omega arith);
     }
 
-pub clean-all : {d : Dialect} {bare : Bool} {s : Bytes} {starts ends : List ℕ} {n : ℕ} → quoteOf d ≡ QUOTE → bare ≡ mayBeEmpty d → length starts ≤ n → CleanBefore bare s starts ends n → CleanIn d s starts ends
+pub clean-all :
+    {d : Dialect} {bare : Bool} {s : Bytes} {starts ends : List ℕ} {n : ℕ} → quoteOf d ≡ QUOTE → bare ≡ mayBeEmpty d → length starts ≤ n →
+    CleanBefore bare s starts ends n → CleanIn d s starts ends
 clean-all {d} q b h x = record { quotes = q; each = λ k l. x .each d q b k (omega arith) }
 
 -- they are parts of its bytes

@@ -40,7 +40,9 @@ later-first zero header h = absurd (h refl)
 later-first (suc n) header h = refl
 
 -- nothing is before the first
-pub first-written : (write : Bool) (t : Dialect) (n : ℕ) {o : ℕ} {out : Bytes} → n ≡ 0 → Room write o (beforeCell t n) out → WrittenAt write out o (beforeCell t n) out o
+pub first-written :
+    (write : Bool) (t : Dialect) (n : ℕ) {o : ℕ} {out : Bytes} → n ≡ 0 → Room write o (beforeCell t n) out →
+    WrittenAt write out o (beforeCell t n) out o
 first-written write t n e p = rw e (put-whole (emitting write (rw e at p)))
 
 -- a cell's text does not depend on its place
@@ -175,37 +177,52 @@ module _ (src : Source) (t : Dialect) (s : Bytes) (starts ends kinds : List ℕ)
 
       pub text-at : (only : Bool) (w : Value) → only ≡ eqb (length starts) 1 → cellAt src s starts ends kinds n .kind ≡ w .kind
           → cellAt src s starts ends kinds n .content ≡ w .content → textAt n ≡ columnText t n only header w ++ textAt (n + 1)
-      text-at only w o a b = rw (cells-next src s starts ends kinds e k n h) (text-next t header n only _ w _ (alone n (length starts) only _ h rest-length o) a b)
+      text-at only w o a b =
+          rw (cells-next src s starts ends kinds e k n h)
+          (text-next t header n only _ w _ (alone n (length starts) only _ h rest-length o) a b)
 
-      pub uncarried-next : uncarriedAt n ≡ uncarriedCell t (n + 1) (cellAt src s starts ends kinds n .kind) (cellAt src s starts ends kinds n .content) orElse uncarriedAt (n + 1)
+      pub uncarried-next :
+          uncarriedAt n
+          ≡ uncarriedCell t (n + 1) (cellAt src s starts ends kinds n .kind) (cellAt src s starts ends kinds n .content) orElse uncarriedAt
+          (n + 1)
       unfolding uncarriedFrom
       uncarried-next =
           let v : Value = cellAt src s starts ends kinds n in
           rw (cells-next src s starts ends kinds e k n h)
           (sym (else-assoc _ _ _)
-          ∙ ap (λ (m : ℕ). uncarriedCell t (n + 1) (v .kind) (v .content) orElse uncarriedFrom t m (cellsFrom src s starts ends kinds (n + 1))) (sym (add-one (n + 1))))
+          ∙ ap
+          (λ (m : ℕ).
+          uncarriedCell t (n + 1) (v .kind) (v .content) orElse uncarriedFrom t m (cellsFrom src s starts ends kinds (n + 1)))
+          (sym (add-one (n + 1))))
 
       -- the check result so far, or else that of the cell at n
-      pub says-next : (all carries v r : CheckResult) (kind : Kind) → kind ≡ cellAt src s starts ends kinds n .kind → v ≡ uncarriedCell t (n + 1) kind (cellAt src s starts ends kinds n .content)
+      pub says-next :
+          (all carries v r : CheckResult) (kind : Kind) → kind ≡ cellAt src s starts ends kinds n .kind →
+          v ≡ uncarriedCell t (n + 1) kind (cellAt src s starts ends kinds n .content)
           → r ≡ carries orElse v → all ≡ carries orElse uncarriedAt n → all ≡ r orElse uncarriedAt (n + 1)
       says-next all carries v r kind same here joined before =
           let content : Bytes = cellAt src s starts ends kinds n .content in
-          let told : v ≡ uncarriedCell t (n + 1) (cellAt src s starts ends kinds n .kind) content = here ∙ ap (λ (k : Kind). uncarriedCell t (n + 1) k content) same in
+          let told : v ≡ uncarriedCell t (n + 1) (cellAt src s starts ends kinds n .kind) content
+          = here ∙ ap (λ (k : Kind). uncarriedCell t (n + 1) k content) same in
           before ∙ ap (λ (x : CheckResult). carries orElse x) uncarried-next ∙ sym (else-assoc carries _ (uncarriedAt (n + 1)))
-          ∙ ap (λ (x : CheckResult). (carries orElse x) orElse uncarriedAt (n + 1)) (sym told) ∙ ap (λ (x : CheckResult). x orElse uncarriedAt (n + 1)) (sym joined)
+          ∙ ap (λ (x : CheckResult). (carries orElse x) orElse uncarriedAt (n + 1)) (sym told)
+          ∙ ap (λ (x : CheckResult). x orElse uncarriedAt (n + 1)) (sym joined)
 
 -- the last part is written
 pub written-last : {write : Bool} {old : Bytes} {at : ℕ} {whole out : Bytes} {o : ℕ} {v new : Bytes} {r : ℕ}
     → Emitting write old at whole out o v → WrittenAt write out o v new r → WrittenAt write old at whole new r
-written-last {write} {old} {at} {whole} {out} {o} {v} p q = let all : Emitting write old at whole out o (v ++ []) = rw append-nil p in put-whole (put-next v all q)
+written-last {write} {old} {at} {whole} {out} {o} {v} p q =
+    let all : Emitting write old at whole out o (v ++ []) = rw append-nil p in put-whole (put-next v all q)
 
 -- the first n cells are written, and the check result for all is that for these or else for the rest
-pub record WrittenUpTo (src : Source) (t : Dialect) (s : Bytes) (starts ends kinds : List ℕ) (header : Bool) (old : Bytes) (at : ℕ) (write : Bool) (out : Bytes) (n o : ℕ) (carries : CheckResult) : Type 0 where
+pub record WrittenUpTo (src : Source) (t : Dialect) (s : Bytes) (starts ends kinds : List ℕ) (header : Bool) (old : Bytes) (at : ℕ)
+    (write : Bool) (out : Bytes) (n o : ℕ) (carries : CheckResult) : Type 0 where
   pub going : Emitting write old at (recordText (into t) header (cellsIn src s starts ends kinds)) out o (textAt src t s starts ends kinds header n)
   pub says : uncarriedFrom t 1 (cellsIn src s starts ends kinds) ≡ carries orElse uncarriedAt src t s starts ends kinds header n
   pub within : n ≤ length starts
 
 pub written-none : (src : Source) (t : Dialect) (s : Bytes) (starts ends kinds : List ℕ) (header : Bool) (old : Bytes) (at : ℕ) (write : Bool)
-    → Room write at (recordText (into t) header (cellsIn src s starts ends kinds)) old → WrittenUpTo src t s starts ends kinds header old at write old 0 at Sound
+    → Room write at (recordText (into t) header (cellsIn src s starts ends kinds)) old →
+    WrittenUpTo src t s starts ends kinds header old at write old 0 at Sound
 unfolding recordText _orElse_
 written-none src t s starts ends kinds header old at write h = record { going = emitting write h; says = refl; within = omega arith }

@@ -43,7 +43,8 @@ module _ (p : ℕ) (text : Bytes → Bytes) (s : Bytes) (starts ends : List ℕ)
 -- ---- cells written in order
 
 -- the first n cells are written
-pub record WrittenUpTo (p : ℕ) (text : Bytes → Bytes) (s : Bytes) (starts ends : List ℕ) (write : Bool) (old : Bytes) (at : ℕ) (out : Bytes) (n o : ℕ) : Type 0 where
+pub record WrittenUpTo (p : ℕ) (text : Bytes → Bytes) (s : Bytes) (starts ends : List ℕ) (write : Bool) (old : Bytes) (at : ℕ)
+    (out : Bytes) (n o : ℕ) : Type 0 where
   pub going : Emitting write old at (joinedFrom p text s 0 starts ends) out o (joinedAt p text s starts ends n)
   pub within : n ≤ length starts
 
@@ -53,14 +54,19 @@ written-none write h = record { going = emitting write h; within = omega arith }
 
 module _ {p : ℕ} {text : Bytes → Bytes} {s : Bytes} {starts ends : List ℕ} {write : Bool} {old : Bytes} {at : ℕ} {out : Bytes} {n o : ℕ}
     (e : length starts ≡ length ends) (u : WrittenUpTo p text s starts ends write old at out n o) where
-  cell-next : n < length starts → Emitting write old at (joinedFrom p text s 0 starts ends) out o (columnAt p text s starts ends n ++ joinedAt p text s starts ends (n + 1))
+  cell-next :
+      n < length starts →
+      Emitting write old at (joinedFrom p text s 0 starts ends) out o
+      (columnAt p text s starts ends n ++ joinedAt p text s starts ends (n + 1))
   cell-next h = rw (joined-next p text s starts ends e n h) at (u .going)
 
   -- there is room for the cell at n, and it is written
   pub room-cell : n < length starts → Room write o (columnAt p text s starts ends n) out
   room-cell h = room-next (columnAt p text s starts ends n) (joinedAt p text s starts ends (n + 1)) (cell-next h)
 
-  pub put-cell : n < length starts → {new : Bytes} {r : ℕ} → WrittenAt write out o (columnAt p text s starts ends n) new r → WrittenUpTo p text s starts ends write old at new (n + 1) r
+  pub put-cell :
+      n < length starts → {new : Bytes} {r : ℕ} → WrittenAt write out o (columnAt p text s starts ends n) new r →
+      WrittenUpTo p text s starts ends write old at new (n + 1) r
   put-cell h q = record { going = put-next (columnAt p text s starts ends n) (cell-next h) q; within = omega arith }
 
   -- all are written

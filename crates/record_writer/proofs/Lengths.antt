@@ -58,4 +58,6 @@ module _ (raw : Bytes) (m : ℕ) (e : m ≡ quotesBy (begins QUOTE raw)) where
   inside-by = rw e
 
   pub marks-inside : (begins QUOTE raw ≡ true → 2 ≤ length raw) → (m ≤ length raw) × (m ≤ length raw - m)
-  marks-inside h = split-on (begins QUOTE raw) (λ f. let k : m ≡ 1 = rw f at e in let l : 2 ≤ length raw = h f in (omega arith, omega arith)) λ f. let k : m ≡ 0 = rw f at e in (omega arith, omega arith)
+  marks-inside h =
+      split-on (begins QUOTE raw) (λ f. let k : m ≡ 1 = rw f at e in let l : 2 ≤ length raw = h f in (omega arith, omega arith)) λ f. let
+      k : m ≡ 0 = rw f at e in (omega arith, omega arith)

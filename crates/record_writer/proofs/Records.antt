@@ -75,7 +75,10 @@ module _ (d t : Dialect) (s : Bytes) (starts ends kinds : List ℕ) (cells : Cel
 
   -- from place n on, where each cell has this text
   joined : (text : Bytes → Bytes)
-      → ((n : ℕ) → n < length starts → cellText t (eqb (length starts) 1) false (valueOf (File d) (kindFrom (getD kinds n 0)) (slice s (getD starts n 0) (getD ends n 0))) ≡ text (slice s (getD starts n 0) (getD ends n 0)))
+      → ((n : ℕ) → n < length starts →
+      cellText t (eqb (length starts) 1) false
+      (valueOf (File d) (kindFrom (getD kinds n 0)) (slice s (getD starts n 0) (getD ends n 0)))
+      ≡ text (slice s (getD starts n 0) (getD ends n 0)))
       → (k n : ℕ) → n + k ≡ length starts → textAt (File d) t s starts ends kinds false n ≡ joinedAt (delimiterOf t) text s starts ends n
   joined text each zero n e =
       text-end (File d) t s starts ends kinds false (cells .with-ends) (cells .with-kinds) n (omega arith)
@@ -107,8 +110,11 @@ module _ (d t : Dialect) (s : Bytes) (starts ends kinds : List ℕ) (cells : Cel
   pub record-carried : Sound ≡ uncarriedFrom t 1 (cellsIn (File d) s starts ends kinds)
   record-carried = sym (all-carried (length starts) 0 (omega arith))
 
-pub record-plus : (d t : Dialect) (s : Bytes) (starts ends kinds : List ℕ) → Cells (File d) s starts ends kinds → CleanIn d s starts ends → quotesAll t ≡ false → quoteOf t ≡ QUOTE
-    → recordText (into t) false (cellsIn (File d) s starts ends kinds) ≡ joinedFrom (delimiterOf t) (plusCell (delimiterOf t) (eqb (length starts) 1)) s 0 starts ends
+pub record-plus :
+    (d t : Dialect) (s : Bytes) (starts ends kinds : List ℕ) → Cells (File d) s starts ends kinds → CleanIn d s starts ends →
+    quotesAll t ≡ false → quoteOf t ≡ QUOTE
+    → recordText (into t) false (cellsIn (File d) s starts ends kinds)
+    ≡ joinedFrom (delimiterOf t) (plusCell (delimiterOf t) (eqb (length starts) 1)) s 0 starts ends
 unfolding recordText
 record-plus d Csvj s starts ends kinds cells clean q h = impossible (sym q)
 record-plus d Tdif s starts ends kinds cells clean q h = impossible (sym q)

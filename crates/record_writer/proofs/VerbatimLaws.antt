@@ -105,7 +105,9 @@ no-quoted : {A : Type 0} (raw : Bytes) → begins QUOTE raw ≡ false → isText
 unfolding kindOf if_then_else_
 no-quoted raw f e = impossible (rw f at e)
 
-bare-content : (d : Dialect) (raw : Bytes) → quoteOf d ≡ QUOTE → isText (kindOf d raw) ≡ true → plainRun QUOTE QUOTE QUOTE raw ≡ length raw → contentOf d raw ≡ raw
+bare-content :
+    (d : Dialect) (raw : Bytes) → quoteOf d ≡ QUOTE → isText (kindOf d raw) ≡ true → plainRun QUOTE QUOTE QUOTE raw ≡ length raw →
+    contentOf d raw ≡ raw
 unfolding contentOf if_then_else_
 bare-content Csvj raw h x e = no-string raw (run-begins raw e) x
 bare-content Tdif raw h x e = no-quoted raw (run-begins raw e) x
@@ -122,7 +124,8 @@ record Run (d : Dialect) (raw : Bytes) (i j : ℕ) : Type 0 where
   pub content : contentBy (File d) raw ≡ contentFrom c raw i
   pub ends : contentFrom c raw j ≡ []
 
-module _ {raw : Bytes} {j : ℕ} (o : getD raw 0 0 ≡ QUOTE) (r : j ≡ 1 + plainRun QUOTE QUOTE QUOTE (drop 1 raw)) (k : getD raw j 0 ≡ QUOTE) (l : j + 1 ≡ length raw) where
+module _ {raw : Bytes} {j : ℕ} (o : getD raw 0 0 ≡ QUOTE) (r : j ≡ 1 + plainRun QUOTE QUOTE QUOTE (drop 1 raw))
+    (k : getD raw j 0 ≡ QUOTE) (l : j + 1 ≡ length raw) where
   doubled-run : (d : Dialect) → spellingBy d (getD raw 0 0) ≡ Doubled QUOTE → Run d raw 1 j
   doubled-run d e =
       record {
@@ -149,7 +152,13 @@ module _ {raw : Bytes} {j : ℕ} (o : getD raw 0 0 ≡ QUOTE) (r : j ≡ 1 + pla
 
 inner-run : (d : Dialect) {raw : Bytes} {i j : ℕ} → quoteOf d ≡ QUOTE → isText (kindOf d raw) ≡ true → Inner raw i j → Run d raw i j
 inner-run d {raw} h w (unquoted e) =
-    record { c = AsItStands; quote = refl; reach = omega (arith, e); content = bare-content d raw h w e; ends = content-end AsItStands raw (length raw) (omega arith) }
+    record {
+      c = AsItStands;
+      quote = refl;
+      reach = omega (arith, e);
+      content = bare-content d raw h w e;
+      ends = content-end AsItStands raw (length raw) (omega arith);
+    }
 inner-run d h w (quoted o r k l) = quoted-run o r k l d h
 
 -- the text of the cell is that run between quotes, and no lone surrogate is in it
@@ -164,10 +173,14 @@ run-passed {t} {d} {kind} {raw} {i} {j} q x p =
       lone = sym (run-lone raw i j (p .c) (p .quote) (p .reach) (p .ends) (File d) (p .content));
     }
 
-inner-passed : {src : Source} {t : Dialect} {kind : Kind} {raw : Bytes} {i j : ℕ} → Encoded src kind raw → Direct src t → isText kind ≡ true → Inner raw i j → Passed src t kind raw i j
+inner-passed :
+    {src : Source} {t : Dialect} {kind : Kind} {raw : Bytes} {i j : ℕ} → Encoded src kind raw → Direct src t → isText kind ≡ true →
+    Inner raw i j → Passed src t kind raw i j
 inner-passed (in-file {d} _ _ k) (is-direct h q) x p = run-passed q x (inner-run d h (ap isText (sym k) ∙ x) p)
 
-pub passed : {src : Source} {t : Dialect} {direct : Bool} {kind : Kind} {raw : Bytes} {i j : ℕ} → Encoded src kind raw → (direct ≡ true → Direct src t) → Looks direct kind raw (Span i j)
+pub passed :
+    {src : Source} {t : Dialect} {direct : Bool} {kind : Kind} {raw : Bytes} {i j : ℕ} → Encoded src kind raw →
+    (direct ≡ true → Direct src t) → Looks direct kind raw (Span i j)
     → Passed src t kind raw i j
 passed s f (looks-plain b x p) = inner-passed s (f b) x p
 
@@ -206,12 +219,14 @@ unfolding plainRun
 quotes-inner {raw} no-quotes x =
     let n : length raw - 0 ≡ length raw = omega arith in
     let all : AllIn (isPlain QUOTE QUOTE QUOTE) raw 0 (length raw) = in-weaker plainText (isPlain QUOTE QUOTE QUOTE) plain-text (rw n at x) in
-    let none : passing (isPlain QUOTE QUOTE QUOTE) (drop (length raw) raw) ≡ 0 = (let past : drop (length raw) raw ≡ [] = drop-of-length-le raw (le-refl (length raw)) in rw past run-none) in
+    let none : passing (isPlain QUOTE QUOTE QUOTE) (drop (length raw) raw) ≡ 0
+    = (let past : drop (length raw) raw ≡ [] = drop-of-length-le raw (le-refl (length raw)) in rw past run-none) in
     let run = in-ends (isPlain QUOTE QUOTE QUOTE) all (omega arith) (omega arith) none in
     rw n (unquoted (run ∙ n))
 quotes-inner {raw} (a-quote h o k) x =
     let all = in-weaker plainText (isPlain QUOTE QUOTE QUOTE) plain-text x in
-    let next : drop (length raw - 1) raw ≡ QUOTE ∷ [] = drop-next raw (length raw - 1) (length raw) (omega arith) (omega arith) ∙ rw (k, drop-of-length-le raw (le-refl (length raw))) in
+    let next : drop (length raw - 1) raw ≡ QUOTE ∷ []
+    = drop-next raw (length raw - 1) (length raw) (omega arith) (omega arith) ∙ rw (k, drop-of-length-le raw (le-refl (length raw))) in
     let none : passing (isPlain QUOTE QUOTE QUOTE) (drop (length raw - 1) raw) ≡ 0 = rw next (quote-ends []) in
     let run = in-ends (isPlain QUOTE QUOTE QUOTE) all (omega arith) (omega arith) none in
     quoted {j = length raw - 1} o (omega arith) k (omega arith)

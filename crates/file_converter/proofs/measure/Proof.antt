@@ -41,46 +41,55 @@ next-data-record-requires c κs =
 
 loop-less : tie.Need-loop-less Inv-loop μ-loop
 loop-less c =
-    let u = c .before .before .before .before .before .before in
+    let c4 = c .before .before .before .before in
+    let u = c4 .before .before in
     let inv = u .before .before .before .before .loop .inv in
     let r = data-came (u .next-data-record .ensures .0 _ (by-fields (inv .0 .after))) (c .before .v .given .1) in
     walk-less (inv .0) (r .next)
 
 loop-again : tie.Need-loop-again Inv-loop μ-loop
 loop-again c =
-    let u = c .before .before .before .before .before .before in
+    let c4 = c .before .before .before .before in
+    let u = c4 .before .before in
     let inv = u .before .before .before .before .loop .inv in
     let r = data-came (u .next-data-record .ensures .0 _ (by-fields (inv .0 .after))) (c .before .v .given .1) in
     (walks-on (inv .0) (r .next), full-kept (inv .1) (u .next-data-record .ensures .1))
 
 slice-aggregate-next-record : tie.Need-slice-aggregate-next-record Inv-loop μ-loop
 slice-aggregate-next-record c =
-    let u = c .before .before .before .before .before .before in
+    let c4 = c .before .before .before .before in
+    let u = c4 .before .before in
     let inv = u .before .before .before .before .loop .inv in
     full-kept (inv .1) (u .next-data-record .ensures .1) .at-starts
 
 slice-aggregate-next-record-2 : tie.Need-slice-aggregate-next-record-2 Inv-loop μ-loop
 slice-aggregate-next-record-2 c =
-    let u = c .before .before .before .before .before .before .before in
+    let c4 = c .before .before .before .before in
+    let u = c4 .before .before .before in
     let inv = u .before .before .before .before .loop .inv in
     full-kept (inv .1) (u .next-data-record .ensures .1) .at-ends
 
 slice-aggregate-next-record-3 : tie.Need-slice-aggregate-next-record-3 Inv-loop μ-loop
 slice-aggregate-next-record-3 c =
-    let u = c .before .before .before .before .before .before .before .before in
+    let c4 = c .before .before .before .before in
+    let c8 = c4 .before .before .before .before in
+    let u = c8 in
     let inv = u .before .before .before .before .loop .inv in
     full-kept (inv .1) (u .next-data-record .ensures .1) .at-kinds
 
 next-record-requires : tie.Need-next-record-requires Inv-loop μ-loop
 next-record-requires c κs =
-    let u = c .before .before .before .before .before .before .before .before in
+    let c4 = c .before .before .before .before in
+    let c8 = c4 .before .before .before .before in
+    let u = c8 in
     let inv = u .before .before .before .before .loop .inv in
     let b = walk-bounds (inv .0) in
     (b .0, (b .1, full-long (full-kept (inv .1) (u .next-data-record .ensures .1))))
 
 loop-less-2 : tie.Need-loop-less-2 Inv-loop μ-loop
 loop-less-2 c =
-    let u = c .before .before .before .before .before .before in
+    let c4 = c .before .before .before .before in
+    let u = c4 .before .before in
     let w = u .before .before .before .before .before .before .before .before .before in
     let inv = w .before .before .before .before .loop .inv in
     let n = came (u .next-record .ensures .0 _ (inv .0 .after)) (c .before .v2 .given .1) in
@@ -88,7 +97,8 @@ loop-less-2 c =
 
 loop-again-2 : tie.Need-loop-again-2 Inv-loop μ-loop
 loop-again-2 c =
-    let u = c .before .before .before .before .before .before in
+    let c4 = c .before .before .before .before in
+    let u = c4 .before .before in
     let w = u .before .before .before .before .before .before .before .before .before in
     let inv = w .before .before .before .before .loop .inv in
     let n = came (u .next-record .ensures .0 _ (inv .0 .after)) (c .before .v2 .given .1) in
@@ -96,14 +106,16 @@ loop-again-2 c =
 
 returns : tie.Need-returns Inv-loop μ-loop
 returns c =
-    let u = c .before .before .before .before .before in
+    let c4 = c .before .before .before .before in
+    let u = c4 .before in
     let w = u .before .before .before .before .before .before .before .before .before in
     let inv = w .before .before .before .before .loop .inv in
     measured-all (inv .0) (u .next-record .ensures .0 _ (inv .0 .after)) (c .enum-told2 .given .1)
 
 returns-2 : tie.Need-returns-2 Inv-loop μ-loop
 returns-2 c =
-    let u = c .before .before .before .before .before .before in
+    let c4 = c .before .before .before .before in
+    let u = c4 .before .before in
     let w = u .before .before .before .before .before .before .before .before .before in
     let inv = w .before .before .before .before .loop .inv in
     measured-refused (inv .0) (u .next-record .ensures .0 _ (inv .0 .after)) (c .before .e .given .1)

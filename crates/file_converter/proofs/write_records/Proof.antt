@@ -42,7 +42,8 @@ next-data-record-requires c κs =
 
 array-share-prefix-starts : tie.Need-array-share-prefix-starts Inv-loop μ-loop
 array-share-prefix-starts c =
-    let u = c .before .before .before .before .before .before in
+    let c4 = c .before .before .before .before in
+    let u = c4 .before .before in
     let inv = u .before .before .before .before .loop .inv in
     let r = data-came (u .next-data-record .ensures .0 _ (by-fields (inv .0 .walk .after))) (c .before .v .given .1) in
     let l = full-kept (inv .1) (u .next-data-record .ensures .1) in
@@ -50,7 +51,8 @@ array-share-prefix-starts c =
 
 slice-aggregate-write-data : tie.Need-slice-aggregate-write-data Inv-loop μ-loop
 slice-aggregate-write-data c =
-    let u = c .before .before .before .before .before .before .before in
+    let c4 = c .before .before .before .before in
+    let u = c4 .before .before .before in
     let inv = u .before .before .before .before .loop .inv in
     let r = data-came (u .next-data-record .ensures .0 _ (by-fields (inv .0 .walk .after))) (c .before .before .v .given .1) in
     let l = full-kept (inv .1) (u .next-data-record .ensures .1) in
@@ -58,7 +60,8 @@ slice-aggregate-write-data c =
 
 array-share-prefix-ends : tie.Need-array-share-prefix-ends Inv-loop μ-loop
 array-share-prefix-ends c =
-    let u = c .before .before .before .before .before .before .before in
+    let c4 = c .before .before .before .before in
+    let u = c4 .before .before .before in
     let inv = u .before .before .before .before .loop .inv in
     let r = data-came (u .next-data-record .ensures .0 _ (by-fields (inv .0 .walk .after))) (c .before .before .v .given .1) in
     let l = full-kept (inv .1) (u .next-data-record .ensures .1) in
@@ -66,7 +69,9 @@ array-share-prefix-ends c =
 
 slice-aggregate-write-data-2 : tie.Need-slice-aggregate-write-data-2 Inv-loop μ-loop
 slice-aggregate-write-data-2 c =
-    let u = c .before .before .before .before .before .before .before .before in
+    let c4 = c .before .before .before .before in
+    let c8 = c4 .before .before .before .before in
+    let u = c8 in
     let inv = u .before .before .before .before .loop .inv in
     let r = data-came (u .next-data-record .ensures .0 _ (by-fields (inv .0 .walk .after))) (c .before .before .before .v .given .1) in
     let l = full-kept (inv .1) (u .next-data-record .ensures .1) in
@@ -74,7 +79,9 @@ slice-aggregate-write-data-2 c =
 
 array-share-prefix-kinds : tie.Need-array-share-prefix-kinds Inv-loop μ-loop
 array-share-prefix-kinds c =
-    let u = c .before .before .before .before .before .before .before .before in
+    let c4 = c .before .before .before .before in
+    let c8 = c4 .before .before .before .before in
+    let u = c8 in
     let inv = u .before .before .before .before .loop .inv in
     let r = data-came (u .next-data-record .ensures .0 _ (by-fields (inv .0 .walk .after))) (c .before .before .before .v .given .1) in
     let l = full-kept (inv .1) (u .next-data-record .ensures .1) in
@@ -82,7 +89,9 @@ array-share-prefix-kinds c =
 
 slice-aggregate-write-data-3 : tie.Need-slice-aggregate-write-data-3 Inv-loop μ-loop
 slice-aggregate-write-data-3 c =
-    let u = c .before .before .before .before .before .before .before .before .before in
+    let c4 = c .before .before .before .before in
+    let c8 = c4 .before .before .before .before in
+    let u = c8 .before in
     let inv = u .before .before .before .before .loop .inv in
     let r = data-came (u .next-data-record .ensures .0 _ (by-fields (inv .0 .walk .after))) (c .before .before .before .before .v .given .1) in
     let l = full-kept (inv .1) (u .next-data-record .ensures .1) in
@@ -90,53 +99,72 @@ slice-aggregate-write-data-3 c =
 
 write-data-requires : tie.Need-write-data-requires Inv-loop μ-loop
 write-data-requires c κs =
-    let u = c .before .before .before .before .before .before .before .before .before .before in
+    let c4 = c .before .before .before .before in
+    let c8 = c4 .before .before .before .before in
+    let c12 = c8 .before .before .before .before in
+    let c16 = c12 .before .before .before .before in
+    let u = c8 .before .before in
     let inv = u .before .before .before .before .loop .inv in
-    let r = data-came (u .next-data-record .ensures .0 _ (by-fields (inv .0 .walk .after))) (c .before .before .before .before .before .v .given .1) in
-    (r .next .stand, (r .cleans, room-data (inv .0) (c .before .before .before .before .before .before .before .before .before .before .before .before .before .before .before .before .before .before .pre) (r .next) (r .later)))
+    let r = data-came (u .next-data-record .ensures .0 _ (by-fields (inv .0 .walk .after))) (c4 .before .v .given .1) in
+    (r .next .stand, (r .cleans, room-data (inv .0) (c16 .before .before .pre) (r .next) (r .later)))
 
 loop-less : tie.Need-loop-less Inv-loop μ-loop
 loop-less c =
-    let u = c .before .before .before .before .before .before .before .before .before .before .before .before .before in
+    let c4 = c .before .before .before .before in
+    let c8 = c4 .before .before .before .before in
+    let c12 = c8 .before .before .before .before in
+    let u = c12 .before in
     let inv = u .before .before .before .before .loop .inv in
-    let r = data-came (u .next-data-record .ensures .0 _ (by-fields (inv .0 .walk .after))) (c .before .before .before .before .before .before .before .before .v .given .1) in
+    let r = data-came (u .next-data-record .ensures .0 _ (by-fields (inv .0 .walk .after))) (c8 .v .given .1) in
     walk-less (inv .0 .walk) (r .next)
 
 loop-again : tie.Need-loop-again Inv-loop μ-loop
 loop-again c =
-    let u = c .before .before .before .before .before .before .before .before .before .before .before .before .before in
+    let c4 = c .before .before .before .before in
+    let c8 = c4 .before .before .before .before in
+    let c12 = c8 .before .before .before .before in
+    let c16 = c12 .before .before .before .before in
+    let c20 = c16 .before .before .before .before in
+    let u = c12 .before in
     let inv = u .before .before .before .before .loop .inv in
-    let r = data-came (u .next-data-record .ensures .0 _ (by-fields (inv .0 .walk .after))) (c .before .before .before .before .before .before .before .before .v .given .1) in
-    (fills-data (inv .0) (c .before .before .before .before .before .before .before .before .before .before .before .before .before .before .before .before .before .before .before .before .before .pre) (r .next) (r .later) (c .before .before .write-data .ensures), full-kept (inv .1) (u .next-data-record .ensures .1))
+    let r = data-came (u .next-data-record .ensures .0 _ (by-fields (inv .0 .walk .after))) (c8 .v .given .1) in
+    (fills-data (inv .0) (c20 .before .pre) (r .next) (r .later) (c .before .before .write-data .ensures), full-kept (inv .1) (u .next-data-record .ensures .1))
 
 slice-aggregate-next-record : tie.Need-slice-aggregate-next-record Inv-loop μ-loop
 slice-aggregate-next-record c =
-    let u = c .before .before .before .before .before .before in
+    let c4 = c .before .before .before .before in
+    let u = c4 .before .before in
     let inv = u .before .before .before .before .loop .inv in
     full-kept (inv .1) (u .next-data-record .ensures .1) .at-starts
 
 slice-aggregate-next-record-2 : tie.Need-slice-aggregate-next-record-2 Inv-loop μ-loop
 slice-aggregate-next-record-2 c =
-    let u = c .before .before .before .before .before .before .before in
+    let c4 = c .before .before .before .before in
+    let u = c4 .before .before .before in
     let inv = u .before .before .before .before .loop .inv in
     full-kept (inv .1) (u .next-data-record .ensures .1) .at-ends
 
 slice-aggregate-next-record-3 : tie.Need-slice-aggregate-next-record-3 Inv-loop μ-loop
 slice-aggregate-next-record-3 c =
-    let u = c .before .before .before .before .before .before .before .before in
+    let c4 = c .before .before .before .before in
+    let c8 = c4 .before .before .before .before in
+    let u = c8 in
     let inv = u .before .before .before .before .loop .inv in
     full-kept (inv .1) (u .next-data-record .ensures .1) .at-kinds
 
 next-record-requires : tie.Need-next-record-requires Inv-loop μ-loop
 next-record-requires c κs =
-    let u = c .before .before .before .before .before .before .before .before in
+    let c4 = c .before .before .before .before in
+    let c8 = c4 .before .before .before .before in
+    let u = c8 in
     let inv = u .before .before .before .before .loop .inv in
     let b = walk-bounds (inv .0 .walk) in
     (b .0, (b .1, full-long (full-kept (inv .1) (u .next-data-record .ensures .1))))
 
 array-share-prefix-starts-2 : tie.Need-array-share-prefix-starts-2 Inv-loop μ-loop
 array-share-prefix-starts-2 c =
-    let u = c .before .before .before .before .before .before in
+    let c4 = c .before .before .before .before in
+    let u = c4 .before .before in
     let w = u .before .before .before .before .before .before .before .before .before in
     let inv = w .before .before .before .before .loop .inv in
     let n = came (u .next-record .ensures .0 _ (inv .0 .walk .after)) (c .before .v2 .given .1) in
@@ -145,7 +173,8 @@ array-share-prefix-starts-2 c =
 
 slice-aggregate-write-record : tie.Need-slice-aggregate-write-record Inv-loop μ-loop
 slice-aggregate-write-record c =
-    let u = c .before .before .before .before .before .before .before in
+    let c4 = c .before .before .before .before in
+    let u = c4 .before .before .before in
     let w = u .before .before .before .before .before .before .before .before .before in
     let inv = w .before .before .before .before .loop .inv in
     let n = came (u .next-record .ensures .0 _ (inv .0 .walk .after)) (c .before .before .v2 .given .1) in
@@ -154,7 +183,8 @@ slice-aggregate-write-record c =
 
 array-share-prefix-ends-2 : tie.Need-array-share-prefix-ends-2 Inv-loop μ-loop
 array-share-prefix-ends-2 c =
-    let u = c .before .before .before .before .before .before .before in
+    let c4 = c .before .before .before .before in
+    let u = c4 .before .before .before in
     let w = u .before .before .before .before .before .before .before .before .before in
     let inv = w .before .before .before .before .loop .inv in
     let n = came (u .next-record .ensures .0 _ (inv .0 .walk .after)) (c .before .before .v2 .given .1) in
@@ -163,7 +193,9 @@ array-share-prefix-ends-2 c =
 
 slice-aggregate-write-record-2 : tie.Need-slice-aggregate-write-record-2 Inv-loop μ-loop
 slice-aggregate-write-record-2 c =
-    let u = c .before .before .before .before .before .before .before .before in
+    let c4 = c .before .before .before .before in
+    let c8 = c4 .before .before .before .before in
+    let u = c8 in
     let w = u .before .before .before .before .before .before .before .before .before in
     let inv = w .before .before .before .before .loop .inv in
     let n = came (u .next-record .ensures .0 _ (inv .0 .walk .after)) (c .before .before .before .v2 .given .1) in
@@ -172,7 +204,9 @@ slice-aggregate-write-record-2 c =
 
 array-share-prefix-kinds-2 : tie.Need-array-share-prefix-kinds-2 Inv-loop μ-loop
 array-share-prefix-kinds-2 c =
-    let u = c .before .before .before .before .before .before .before .before in
+    let c4 = c .before .before .before .before in
+    let c8 = c4 .before .before .before .before in
+    let u = c8 in
     let w = u .before .before .before .before .before .before .before .before .before in
     let inv = w .before .before .before .before .loop .inv in
     let n = came (u .next-record .ensures .0 _ (inv .0 .walk .after)) (c .before .before .before .v2 .given .1) in
@@ -181,7 +215,9 @@ array-share-prefix-kinds-2 c =
 
 slice-aggregate-write-record-3 : tie.Need-slice-aggregate-write-record-3 Inv-loop μ-loop
 slice-aggregate-write-record-3 c =
-    let u = c .before .before .before .before .before .before .before .before .before in
+    let c4 = c .before .before .before .before in
+    let c8 = c4 .before .before .before .before in
+    let u = c8 .before in
     let w = u .before .before .before .before .before .before .before .before .before in
     let inv = w .before .before .before .before .loop .inv in
     let n = came (u .next-record .ensures .0 _ (inv .0 .walk .after)) (c .before .before .before .before .v2 .given .1) in
@@ -190,50 +226,85 @@ slice-aggregate-write-record-3 c =
 
 write-record-requires : tie.Need-write-record-requires Inv-loop μ-loop
 write-record-requires c κs =
-    let u = c .before .before .before .before .before .before .before .before .before .before .before in
+    let c4 = c .before .before .before .before in
+    let c8 = c4 .before .before .before .before in
+    let c12 = c8 .before .before .before .before in
+    let c16 = c12 .before .before .before .before in
+    let c20 = c16 .before .before .before .before in
+    let c24 = c20 .before .before .before .before in
+    let c28 = c24 .before .before .before .before in
+    let u = c8 .before .before .before in
     let w = u .before .before .before .before .before .before .before .before .before in
     let inv = w .before .before .before .before .loop .inv in
-    let n = came (u .next-record .ensures .0 _ (inv .0 .walk .after)) (c .before .before .before .before .before .before .v2 .given .1) in
-    (n .stand, room-there (inv .0) (c .before .before .before .before .before .before .before .before .before .before .before .before .before .before .before .before .before .before .before .before .before .before .before .before .before .before .before .before .pre) n)
+    let n = came (u .next-record .ensures .0 _ (inv .0 .walk .after)) (c4 .before .before .v2 .given .1) in
+    (n .stand, room-there (inv .0) (c28 .pre) n)
 
 loop-less-2 : tie.Need-loop-less-2 Inv-loop μ-loop
 loop-less-2 c =
-    let u = c .before .before .before .before .before .before .before .before .before .before .before .before .before .before in
+    let c4 = c .before .before .before .before in
+    let c8 = c4 .before .before .before .before in
+    let c12 = c8 .before .before .before .before in
+    let u = c12 .before .before in
     let w = u .before .before .before .before .before .before .before .before .before in
     let inv = w .before .before .before .before .loop .inv in
-    let n = came (u .next-record .ensures .0 _ (inv .0 .walk .after)) (c .before .before .before .before .before .before .before .before .before .v2 .given .1) in
+    let n = came (u .next-record .ensures .0 _ (inv .0 .walk .after)) (c8 .before .v2 .given .1) in
     walk-less (inv .0 .walk) n
 
 loop-again-2 : tie.Need-loop-again-2 Inv-loop μ-loop
 loop-again-2 c =
-    let u = c .before .before .before .before .before .before .before .before .before .before .before .before .before .before in
+    let c4 = c .before .before .before .before in
+    let c8 = c4 .before .before .before .before in
+    let c12 = c8 .before .before .before .before in
+    let c16 = c12 .before .before .before .before in
+    let c20 = c16 .before .before .before .before in
+    let c24 = c20 .before .before .before .before in
+    let c28 = c24 .before .before .before .before in
+    let u = c12 .before .before in
     let w = u .before .before .before .before .before .before .before .before .before in
     let inv = w .before .before .before .before .loop .inv in
-    let n = came (u .next-record .ensures .0 _ (inv .0 .walk .after)) (c .before .before .before .before .before .before .before .before .before .v2 .given .1) in
+    let n = came (u .next-record .ensures .0 _ (inv .0 .walk .after)) (c8 .before .v2 .given .1) in
     let l = full-kept (full-kept (inv .1) (w .next-data-record .ensures .1)) (u .next-record .ensures .1) in
-    (fills-on (inv .0) (c .before .before .before .before .before .before .before .before .before .before .before .before .before .before .before .before .before .before .before .before .before .before .before .before .before .before .before .before .before .before .before .pre) n (c .before .before .write-record .ensures), l)
+    (fills-on (inv .0) (c28 .before .before .before .pre) n (c .before .before .write-record .ensures), l)
 
 same-length : tie.Need-same-length Inv-loop μ-loop
 same-length c =
-    c .before .before .before .before .before .before .before .before .before .before .before .before .before .before .before .before .before .before .loop .inv .0 .long
+    let c4 = c .before .before .before .before in
+    let c8 = c4 .before .before .before .before in
+    let c12 = c8 .before .before .before .before in
+    let c16 = c12 .before .before .before .before in
+    c16 .before .before .loop .inv .0 .long
 
 returns : tie.Need-returns Inv-loop μ-loop
 returns c =
-    let u = c .before .before .before .before .before in
+    let c4 = c .before .before .before .before in
+    let c8 = c4 .before .before .before .before in
+    let c12 = c8 .before .before .before .before in
+    let c16 = c12 .before .before .before .before in
+    let c20 = c16 .before .before .before .before in
+    let u = c4 .before in
     let w = u .before .before .before .before .before .before .before .before .before in
     let inv = w .before .before .before .before .loop .inv in
-    filled-all (inv .0) (c .before .before .before .before .before .before .before .before .before .before .before .before .before .before .before .before .before .before .before .before .before .before .pre) (u .next-record .ensures .0 _ (inv .0 .walk .after)) (c .enum-told2 .given .1)
+    filled-all (inv .0) (c20 .before .before .pre) (u .next-record .ensures .0 _ (inv .0 .walk .after)) (c .enum-told2 .given .1)
 
 same-length-2 : tie.Need-same-length-2 Inv-loop μ-loop
 same-length-2 c =
-    c .before .before .before .before .before .before .before .before .before .before .before .before .before .before .before .before .before .before .loop .inv .0 .long
+    let c4 = c .before .before .before .before in
+    let c8 = c4 .before .before .before .before in
+    let c12 = c8 .before .before .before .before in
+    let c16 = c12 .before .before .before .before in
+    c16 .before .before .loop .inv .0 .long
 
 returns-2 : tie.Need-returns-2 Inv-loop μ-loop
 returns-2 c =
-    let u = c .before .before .before .before .before in
+    let c4 = c .before .before .before .before in
+    let c8 = c4 .before .before .before .before in
+    let c12 = c8 .before .before .before .before in
+    let c16 = c12 .before .before .before .before in
+    let c20 = c16 .before .before .before .before in
+    let u = c4 .before in
     let w = u .before .before .before .before .before .before .before .before .before in
     let inv = w .before .before .before .before .loop .inv in
-    never-refused (inv .0) (c .before .before .before .before .before .before .before .before .before .before .before .before .before .before .before .before .before .before .before .before .before .before .pre) (u .next-record .ensures .0 _ (inv .0 .walk .after)) (c .enum-told3 .given .1)
+    never-refused (inv .0) (c20 .before .before .pre) (u .next-record .ensures .0 _ (inv .0 .walk .after)) (c .enum-told3 .given .1)
 
 pub write-records-spec : {M : Type 1} → statement M
 write-records-spec =

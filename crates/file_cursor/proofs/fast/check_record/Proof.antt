@@ -25,9 +25,12 @@ abbrev cells : tie.Start → List Value
 cells c = let a = c .args in cellsIn (File (a .d)) (a .file .now) (a .starts .now) (a .ends .now) (a .kinds .now)
 
 -- what its source says
-source : (c : tie.After-data) → let u = c .before .before .before .before .before in (rs : List Rec) → length rs ≡ u .args .cursor .done → Columns rs (u .args .cursor .columns) → c .«data» .result ≡ recordFault (u .args .d) none rs (cells u)
+source :
+    (c : tie.After-data) → let u = c .before .before .before .before .before in (rs : List Rec) → length rs ≡ u .args .cursor .done →
+    Columns rs (u .args .cursor .columns) → c .«data» .result ≡ recordFault (u .args .d) none rs (cells u)
 source c =
-    let u = c .before .before .before .before .before in
+    let c4 = c .before .before .before .before in
+    let u = c4 .before in
     let a = u .args in
     let long = cells-length (File (a .d)) (a .file .now) (a .starts .now) (a .ends .now) (a .kinds .now) (u .pre .0 .with-ends) (u .pre .0 .with-kinds) in
     data-checked (a .d) (cells u) _ (a .cursor .done) (a .cursor .columns) (u .pre .1 .1 .0) (c .«data» .ensures (cells u) long)
@@ -47,7 +50,8 @@ returns-2 c =
 
 check-target-requires : tie.Need-check-target-requires
 check-target-requires c κs =
-    let u = c .before .before .before .before .before in
+    let c4 = c .before .before .before .before in
+    let u = c4 .before in
     let start = u .before .before .before .before .before in
     (start .pre .0, (λ e. clean-data (start .pre .1 .0 e), start .pre .1 .1 .1))
 

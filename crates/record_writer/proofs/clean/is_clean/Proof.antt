@@ -28,7 +28,8 @@ at-n c =
 loop-again : tie.Need-loop-again Inv-loop μ-loop
 loop-again c =
     let asked = c .before in
-    clean-next (asked .before .before .before .before .before .loop .inv) λ d q b. asked .is-clean .ensures d q b (not-false (asked .is-clean .result) (c .if2 .left))
+    clean-next (asked .before .before .before .before .before .loop .inv) λ d q b. asked .is-clean .ensures d q b
+    (not-false (asked .is-clean .result) (c .if2 .left))
 
 returns-3 : tie.Need-returns-3 Inv-loop μ-loop
 returns-3 c e =
@@ -49,7 +50,10 @@ is-clean-spec =
     (λ c. omega arith)
     (λ c. omega arith)
     (λ c. omega arith)
-    (λ c. omega (arith, c .before .before .before .before .before .before .before .before .before .before .pre .with-ends))
+    (λ c.
+    let c4 = c .before .before .before .before in
+    let c8 = c4 .before .before .before .before in
+    omega (arith, c8 .before .before .pre .with-ends))
     (λ c. at-n c .0)
     (λ c. at-n c .0)
     (λ c. at-n c .1)

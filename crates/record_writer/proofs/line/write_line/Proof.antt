@@ -11,11 +11,14 @@ abbrev text : tie.Start → Bytes
 text u = let a = u .args in recordText (into (a .t)) (a .header) (cellsIn (a .src) (a .s .now) (a .starts .now) (a .ends .now) (a .kinds .now))
 
 abbrev start : tie.After-write-text → tie.Start
-start c = c .before .before .before .before .before .before .before
+start c =
+    let c4 = c .before .before .before .before in
+    c4 .before .before .before
 
 write-text-requires : tie.Need-write-text-requires
 write-text-requires c κs =
-    let u = c .before .before .before .before .before .before in
+    let c4 = c .before .before .before .before in
+    let u = c4 .before .before in
     (u .pre .0, (u .pre .1 .0, room-first (text u) (ending (u .args .t)) (u .pre .1 .1)))
 
 write-ending-requires : tie.Need-write-ending-requires
@@ -26,13 +29,15 @@ write-ending-requires c κs =
 
 same-length : tie.Need-same-length
 same-length c =
-    let first = c .before .before .before .before .before .before in
+    let c4 = c .before .before .before .before in
+    let first = c4 .before .before in
     let u = start first in
     long-both (text u) (ending (u .args .t)) (u .pre .1 .1) (first .write-text .ensures .0) (c .before .before .write-ending .ensures)
 
 returns : tie.Need-returns
 returns c =
-    let first = c .before .before .before .before .before .before in
+    let c4 = c .before .before .before .before in
+    let first = c4 .before .before in
     let u = start first in
     put-both (text u) (ending (u .args .t)) (u .pre .1 .1) (first .write-text .ensures .0) (c .before .before .write-ending .ensures)
 

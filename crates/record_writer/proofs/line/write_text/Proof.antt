@@ -21,7 +21,10 @@ text u = let a = u .args in recordText (into (a .t)) (a .header) (cellsIn (a .sr
 
 -- the start of the call, from a place at which the record is known to be clean
 abbrev start : tie.Then2 → tie.Start
-start c = c .before .before .before .before .before .before .before .before
+start c =
+    let c4 = c .before .before .before .before in
+    let c8 = c4 .before .before .before .before in
+    c8
 
 -- ---- every text is quoted
 

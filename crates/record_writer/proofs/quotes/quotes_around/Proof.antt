@@ -5,4 +5,7 @@ use Rattle.record_writer.proofs.quotes.quotes_around.Statement.{stateme
 use Rattle.record_writer.proofs.quotes.quotes_around.Tie as tie
 
 pub quotes-around-spec : {M : Type 1} → statement M
-quotes-around-spec = tie.close (tie.spec (λ c. no-quotes) (λ c. omega arith) (λ c. no-quotes) (λ c. omega arith) (λ c. omega arith) (λ c. no-quotes) λ c. a-quote (omega arith) (c .before .before .if2 .left) (c .if3 .left))
+quotes-around-spec =
+    tie.close
+    (tie.spec (λ c. no-quotes) (λ c. omega arith) (λ c. no-quotes) (λ c. omega arith) (λ c. omega arith) (λ c. no-quotes) λ c. a-quote
+    (omega arith) (c .before .before .if2 .left) (c .if3 .left))

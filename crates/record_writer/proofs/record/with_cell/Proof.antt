@@ -11,7 +11,8 @@ use Rattle.model.specs.rules.Records.{_orElse_, hasKind}
 use Rattle.model.specs.rules.Text.{isText}
 use Rattle.cell_decoder.specs.Sources.{kindFrom}
 use Rattle.record_writer.specs.Columns.{uncarriedCell, checkOf}
-use Rattle.record_writer.proofs.Columns.{cell-lacks, cell-no-text, cell-lone, cell-sound, csvj-carries, orElse-sound, said-nothing, said-then, said-before, says-lone, says-lacks}
+use Rattle.record_writer.proofs.Columns.{cell-lacks, cell-no-text, cell-lone, cell-sound, csvj-carries, orElse-sound, said-nothing, said-then}
+use Rattle.record_writer.proofs.Columns.{said-before, says-lone, says-lacks}
 use Rattle.record_writer.proofs.record.with_cell.Statement.{statement}
 use Rattle.record_writer.proofs.record.with_cell.Tie as tie
 
@@ -23,7 +24,10 @@ returns : tie.Need-returns
 returns c content known =
     let a = c .before .before .args in
     let before : CheckResult = checkOf (a .said .column) (a .said .lone) in
-    sym (ap (λ (v : CheckResult). before orElse v) (csvj-carries (a .t) (a .column) (kindFrom (a .number)) content (sym (c .before .is-csvj .ensures) ∙ c .if1 .taken)) ∙ orElse-sound before)
+    sym
+    (ap (λ (v : CheckResult). before orElse v)
+    (csvj-carries (a .t) (a .column) (kindFrom (a .number)) content (sym (c .before .is-csvj .ensures) ∙ c .if1 .taken))
+    ∙ orElse-sound before)
 
 returns-2 : tie.Need-returns-2
 returns-2 c content known =
@@ -32,19 +36,25 @@ returns-2 c content known =
 
 returns-3 : tie.Need-returns-3
 returns-3 c content known =
-    let u = c .before .before .before .before .before .before .before in
+    let c4 = c .before .before .before .before in
+    let u = c4 .before .before .before in
     let a = u .args in
     let lacks : hasKind (a .t) (kindFrom (a .number)) ≡ false =
-    ap (hasKind (a .t)) (sym (c .before .before .kind-of-number .ensures)) ∙ sym (c .before .has-kind .ensures) ∙ not-true (c .before .has-kind .result) (c .if3 .taken)
+    ap (hasKind (a .t)) (sym (c .before .before .kind-of-number .ensures)) ∙ sym (c .before .has-kind .ensures)
+    ∙ not-true (c .before .has-kind .result) (c .if3 .taken)
     in
     says-lacks (a .column) (λ e. omega (arith, u .pre, e))
-    ∙ sym (said-then (a .said .column) (a .said .lone) (here u content) (c .before .before .before .if2 .left) ∙ cell-lacks (a .t) (a .column) (kindFrom (a .number)) content lacks)
+    ∙ sym
+    (said-then (a .said .column) (a .said .lone) (here u content) (c .before .before .before .if2 .left)
+    ∙ cell-lacks (a .t) (a .column) (kindFrom (a .number)) content lacks)
 
 -- the target has cells of this kind
 has : (c : tie.Else3) → let a = c .before .before .before .before .before .before .before .args in hasKind (a .t) (kindFrom (a .number)) ≡ true
 has c =
-    let a = c .before .before .before .before .before .before .before .args in
-    ap (hasKind (a .t)) (sym (c .before .before .kind-of-number .ensures)) ∙ sym (c .before .has-kind .ensures) ∙ not-false (c .before .has-kind .result) (c .if3 .left)
+    let c4 = c .before .before .before .before in
+    let a = c4 .before .before .before .args in
+    ap (hasKind (a .t)) (sym (c .before .before .kind-of-number .ensures)) ∙ sym (c .before .has-kind .ensures)
+    ∙ not-false (c .before .has-kind .result) (c .if3 .left)
 
 -- the target is not CSVJ
 other : (c : tie.Else1) → isCsvj (c .before .before .args .t) ≡ false
@@ -60,11 +70,16 @@ returns-4 c content known =
     ap isText (sym (k .before .before .kind-of-number .ensures)) ∙ sym (c .before .is-text .ensures) ∙ not-true (c .before .is-text .result) (c .if4 .taken)
     in
     said-nothing (a .said .column) (a .said .lone) none
-    ∙ sym (said-then (a .said .column) (a .said .lone) (here u content) none ∙ cell-no-text (a .t) (a .column) (kindFrom (a .number)) content (has k) (other (k .before .before .before .before .before)) no-text)
+    ∙ sym
+    (said-then (a .said .column) (a .said .lone) (here u content) none
+    ∙ cell-no-text (a .t) (a .column) (kindFrom (a .number)) content (has k) (other (k .before .before .before .before .before))
+    no-text)
 
 -- the cell is text
 text : (c : tie.Else4) → isText (kindFrom (c .before .before .before .before .before .before .before .before .before .args .number)) ≡ true
-text c = ap isText (sym (c .before .before .before .before .kind-of-number .ensures)) ∙ sym (c .before .is-text .ensures) ∙ not-false (c .before .is-text .result) (c .if4 .left)
+text c =
+    ap isText (sym (c .before .before .before .before .kind-of-number .ensures)) ∙ sym (c .before .is-text .ensures)
+    ∙ not-false (c .before .is-text .result) (c .if4 .left)
 
 returns-5 : tie.Need-returns-5
 returns-5 c content known =

@@ -26,7 +26,9 @@ write-delimiter-requires c κs =
 cell-next : (c : tie.After-write-delimiter)
     → let u = c .before .before .before .before in
     let a = u .args in
-    Emitting (a .write) (a .out .now) (a .at) (columnText (a .t) (a .n) (a .only) (a .header) (valueOf (a .src) (kindFrom (a .number)) (a .raw .now))) (c .write-delimiter .last .1 .1 .0) (c .write-delimiter .result) (cell u)
+    Emitting (a .write) (a .out .now) (a .at)
+    (columnText (a .t) (a .n) (a .only) (a .header) (valueOf (a .src) (kindFrom (a .number)) (a .raw .now)))
+    (c .write-delimiter .last .1 .1 .0) (c .write-delimiter .result) (cell u)
 cell-next c =
     let u = c .before .before .before .before in
     put-next (beforeCell (u .args .t) (u .args .n)) (emitting (u .args .write) (u .pre .1 .1)) (c .write-delimiter .ensures)
@@ -37,12 +39,15 @@ first : (c : tie.After-is-first)
     let v = valueOf (a .src) (kindFrom (a .number)) (a .raw .now) in
     cellText (a .t) (a .only) (c .is-first .result) v ≡ cellText (a .t) (a .only) (isFirst (a .n) (a .header)) v
 first c =
-    let a = c .before .before .before .before .before .before .before .args in
+    let c4 = c .before .before .before .before in
+    let a = c4 .before .before .before .args in
     ap (λ (b : Bool). cellText (a .t) (a .only) b (valueOf (a .src) (kindFrom (a .number)) (a .raw .now))) (c .is-first .ensures)
 
 write-verbatim-requires : tie.Need-write-verbatim-requires
 write-verbatim-requires c κs =
-    let u = c .before .before .before .before .before .before .before .before in
+    let c4 = c .before .before .before .before in
+    let c8 = c4 .before .before .before .before in
+    let u = c8 in
     (u .pre .0, (u .pre .1 .0, room-as (first (c .before)) (room-rest (cell-next (c .before .before .before .before)))))
 
 returns : tie.Need-returns
@@ -58,5 +63,8 @@ write-column-spec =
     write-delimiter-requires
     (λ c κs. search needs)
     write-verbatim-requires
-    (λ c. let u = c .before .before .before .before .before .before .before .before .before .before .before in written-long (u .args .write) (u .pre .1 .1) (returns c .0))
+    (λ c.
+    let c4 = c .before .before .before .before in
+    let c8 = c4 .before .before .before .before in
+    let u = c8 .before .before .before in written-long (u .args .write) (u .pre .1 .1) (returns c .0))
     returns)

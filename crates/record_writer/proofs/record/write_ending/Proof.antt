@@ -13,7 +13,9 @@ emit-byte-requires-2 : tie.Need-emit-byte-requires-2
 emit-byte-requires-2 c κs = room-as (sym (ap ending (c .before .enum-told2 .given .1))) (c .before .before .before .before .pre)
 
 emit-requires : tie.Need-emit-requires
-emit-requires c κs = room-as (sym (ap ending (c .before .before .enum-told3 .given .1))) (c .before .before .before .before .before .pre)
+emit-requires c κs =
+    let c4 = c .before .before .before .before in
+    room-as (sym (ap ending (c .before .before .enum-told3 .given .1))) (c4 .before .pre)
 
 returns : tie.Need-returns
 returns c = emitted-as (ap ending (c .before .before .before .before .enum-told .given .1)) (c .before .before .emit-byte .ensures)
@@ -22,7 +24,9 @@ returns-2 : tie.Need-returns-2
 returns-2 c = emitted-as (ap ending (c .before .before .before .before .enum-told2 .given .1)) (c .before .before .emit-byte2 .ensures)
 
 returns-3 : tie.Need-returns-3
-returns-3 c = emitted-as (ap ending (c .before .before .before .before .before .enum-told3 .given .1)) (c .before .before .emit .ensures)
+returns-3 c =
+    let c4 = c .before .before .before .before in
+    emitted-as (ap ending (c4 .before .enum-told3 .given .1)) (c .before .before .emit .ensures)
 
 pub write-ending-spec : {M : Type 1} → statement M
 write-ending-spec =

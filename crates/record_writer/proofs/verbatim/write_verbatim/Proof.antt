@@ -20,23 +20,30 @@ plain : (c : tie.After-known-told)
     → let a = c .before .before .before .before .before .before .args in
     let at = c .before .from .given .0 in
     Passed (a .src) (a .t) (kindFrom (a .number)) (a .raw .now) (at .0) (at .1 .0)
-plain c = let u = c .before .before .before .before .before .before in passed (u .pre .0) (u .pre .1 .0) (seen c)
+plain c =
+    let c4 = c .before .before .before .before in
+    let u = c4 .before .before in passed (u .pre .0) (u .pre .1 .0) (seen c)
 
 write-between-quotes-requires : tie.Need-write-between-quotes-requires
 write-between-quotes-requires c κs =
-    let u = c .before .before .before .before .before .before .before .before in
+    let c4 = c .before .before .before .before in
+    let c8 = c4 .before .before .before .before in
+    let u = c8 in
     room-as (plain (c .before .before) .cell (u .args .only) (u .args .first)) (u .pre .1 .1)
 
 returns : tie.Need-returns
 returns c =
-    let p = plain (c .before .before .before .before .before) in
-    let a = c .before .before .before .before .before .before .before .before .before .before .before .args in
+    let c4 = c .before .before .before .before in
+    let c8 = c4 .before .before .before .before in
+    let p = plain (c4 .before) in
+    let a = c8 .before .before .before .args in
     (emitted-as (sym (p .cell (a .only) (a .first))) (c .before .before .write-between-quotes .ensures), λ e f. p .lone)
 
 -- the cell is decoded
 write-cell-requires : tie.Need-write-cell-requires
 write-cell-requires c κs =
-    let u = c .before .before .before .before .before .before .before in
+    let c4 = c .before .before .before .before in
+    let u = c4 .before .before .before in
     rw (c .before .kind-of-number .ensures) (u .pre .0, u .pre .1 .1)
 
 returns-2 : tie.Need-returns-2

@@ -13,7 +13,9 @@ returns-2 : tie.Need-returns-2
 returns-2 c d q b e =
     let asked = c .before .before in
     let seen = asked .before .quotes-around .ensures in
-    quotes-clean d q seen (λ none. sym b ∙ asked .may-be-text .ensures (not-false (asked .may-be-text .result) (c .before .if1 .left)) none) (c .all-clean .ensures e)
+    quotes-clean d q seen
+    (λ none. sym b ∙ asked .may-be-text .ensures (not-false (asked .may-be-text .result) (c .before .if1 .left)) none)
+    (c .all-clean .ensures e)
 
 pub is-clean-spec : {M : Type 1} → statement M
 is-clean-spec =

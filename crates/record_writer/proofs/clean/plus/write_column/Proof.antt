@@ -35,7 +35,8 @@ fits : (c : tie.After-quotes-before)
     → let raw = c .before .before .before .before .before .before .before .args .raw .now in
     (c .quotes-before .result ≤ length raw) × (c .quotes-before .result ≤ length raw - c .quotes-before .result)
 fits c =
-    let u = c .before .before .before .before .before .before .before in
+    let c4 = c .before .before .before .before in
+    let u = c4 .before .before .before in
     marks-inside (u .args .raw .now) (c .quotes-before .result) (c .quotes-before .ensures) (u .pre .0)
 
 -- the text that the code writes
@@ -46,7 +47,8 @@ inside : (c : tie.After-quotes-before)
     marked (needsQuotes (a .p) (a .only) w) w ≡ cell u
 unfolding plusCell
 inside c =
-    let a = c .before .before .before .before .before .before .before .args in
+    let c4 = c .before .before .before .before in
+    let a = c4 .before .before .before .args in
     ap (λ (w : Bytes). marked (needsQuotes (a .p) (a .only) w) w) (inside-by (a .raw .now) (c .quotes-before .result) (c .quotes-before .ensures))
 
 write-text-requires : tie.Need-write-text-requires
@@ -56,7 +58,8 @@ write-text-requires c κs =
 
 returns : tie.Need-returns
 returns c =
-    let m = c .before .before .before .before .before in
+    let c4 = c .before .before .before .before in
+    let m = c4 .before in
     written-last (cell-next (m .before .before .before)) (emitted-as (sym (inside m)) (c .before .before .write-text .ensures))
 
 pub write-column-spec : {M : Type 1} → statement M

@@ -27,17 +27,24 @@ at-n c =
 
 write-column-requires : tie.Need-write-column-requires Inv-loop μ-loop
 write-column-requires c κs =
-    let l = c .before .before .before .before .before in
-    (at-n (c .before .before) .closed, room-cell (l .before .before .before .before .before .pre .0 .with-ends) (l .loop .inv) (c .before .before .before .before .loop-test .taken))
+    let c4 = c .before .before .before .before in
+    let l = c4 .before in (
+      at-n (c .before .before) .closed,
+      room-cell (l .before .before .before .before .before .pre .0 .with-ends) (l .loop .inv)
+          (c .before .before .before .before .loop-test .taken),
+    )
 
 loop-again : tie.Need-loop-again Inv-loop μ-loop
 loop-again c =
-    let t = c .before .before .before .before .before .before .before in
+    let c4 = c .before .before .before .before in
+    let t = c4 .before .before .before in
     let l = t .before in
     put-cell (l .before .before .before .before .before .pre .0 .with-ends) (l .loop .inv) (t .loop-test .taken) (c .before .before .write-column .ensures)
 
 returns : tie.Need-returns Inv-loop μ-loop
-returns c = put-all (c .before .before .before .before .before .before .pre .0 .with-ends) (c .before .loop .inv) (c .loop-test .left)
+returns c =
+    let c4 = c .before .before .before .before in
+    put-all (c4 .before .before .pre .0 .with-ends) (c .before .loop .inv) (c .loop-test .left)
 
 pub write-csv-plus-spec : {M : Type 1} → statement M
 write-csv-plus-spec =
@@ -49,7 +56,10 @@ write-csv-plus-spec =
     (λ c. omega arith)
     (λ c. omega arith)
     (λ c. omega arith)
-    (λ c. omega (arith, c .before .before .before .before .before .before .before .before .pre .0 .with-ends))
+    (λ c.
+    let c4 = c .before .before .before .before in
+    let c8 = c4 .before .before .before .before in
+    omega (arith, c8 .pre .0 .with-ends))
     (λ c. at-n c .forward)
     (λ c. at-n c .forward)
     (λ c. at-n c .inside)

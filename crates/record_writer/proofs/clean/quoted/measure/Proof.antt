@@ -33,19 +33,23 @@ at-n c =
 
 measured-requires : tie.Need-measured-requires Inv-loop μ-loop
 measured-requires c κs =
-    let l = c .before .before .before .before .before in
+    let c4 = c .before .before .before .before in
+    let l = c4 .before in
     room-cell (l .before .before .before .before .pre .0 .with-ends) (l .loop .inv) (c .before .before .before .before .loop-test .taken) .measured refl
 
 loop-again : tie.Need-loop-again Inv-loop μ-loop
 loop-again c =
-    let t = c .before .before .before .before .before in
+    let c4 = c .before .before .before .before in
+    let t = c4 .before in
     let l = t .before in
     put-cell (l .before .before .before .before .pre .0 .with-ends) (l .loop .inv) (t .loop-test .taken)
     (put-measured refl (c .measured .ensures ∙ ap (λ (k : ℕ). measure (l .loop .o + k)) (c .before .column-length .ensures)) refl)
 
 returns : tie.Need-returns Inv-loop μ-loop
 unfolding if_then_else_
-returns c = put-all (c .before .before .before .before .before .pre .0 .with-ends) (c .before .loop .inv) (c .loop-test .left) .place
+returns c =
+    let c4 = c .before .before .before .before in
+    put-all (c4 .before .pre .0 .with-ends) (c .before .loop .inv) (c .loop-test .left) .place
 
 pub measure-spec : {M : Type 1} → statement M
 measure-spec =
@@ -57,7 +61,9 @@ measure-spec =
     (λ c. omega arith)
     (λ c. omega arith)
     (λ c. omega arith)
-    (λ c. omega (arith, c .before .before .before .before .before .before .before .pre .0 .with-ends))
+    (λ c.
+    let c4 = c .before .before .before .before in
+    omega (arith, c4 .before .before .before .pre .0 .with-ends))
     (λ c. at-n c .forward)
     (λ c. at-n c .forward)
     (λ c. at-n c .inside)

@@ -62,7 +62,8 @@ write-quote-requires-2 c κs =
 
 returns : tie.Need-returns
 returns c =
-    let k = c .before .before .before .before .before .before in
+    let c4 = c .before .before .before .before in
+    let k = c4 .before .before in
     written-last (third k) (emitted-as (sym (same (k .before .before .before .before .before .before))) (c .before .before .write-quote2 .ensures))
 
 pub write-cell-spec : {M : Type 1} → statement M

@@ -18,7 +18,8 @@ write-delimiter-requires c κs =
 -- the cell is next
 cell-next : (c : tie.After-write-delimiter)
     → let a = c .before .before .before .before .args in
-    Emitting true (a .out .now) (a .o) (before COMMA (a .n) ++ quotedCell (a .raw .now)) (c .write-delimiter .last .1 .1 .0) (c .write-delimiter .result) (quotedCell (a .raw .now))
+    Emitting true (a .out .now) (a .o) (before COMMA (a .n) ++ quotedCell (a .raw .now)) (c .write-delimiter .last .1 .1 .0)
+    (c .write-delimiter .result) (quotedCell (a .raw .now))
 cell-next c =
     let u = c .before .before .before .before in
     put-next (before COMMA (u .args .n)) (emitting true (u .pre)) (c .write-delimiter .ensures)

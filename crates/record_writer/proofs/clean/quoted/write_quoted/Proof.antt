@@ -7,7 +7,8 @@ use Rattle.record_writer.proofs.clean.quoted.write_quoted.Tie as tie
 
 write-requires : tie.Need-write-requires
 write-requires c κs =
-    let u = c .before .before .before .before .before .before in
+    let c4 = c .before .before .before .before in
+    let u = c4 .before .before in
     (u .pre .0, rw (c .before .if1 .taken) at (u .pre .1))
 
 returns : tie.Need-returns
@@ -15,8 +16,12 @@ returns c = rw (c .before .before .before .before .if1 .taken) (c .before .befor
 
 measure-requires : tie.Need-measure-requires
 measure-requires c κs =
-    let u = c .before .before .before .before .before in
+    let c4 = c .before .before .before .before in
+    let u = c4 .before in
     (u .pre .0, u .pre .1 .measured (c .if1 .left))
 
 pub write-quoted-spec : {M : Type 1} → statement M
-write-quoted-spec = tie.close (tie.spec write-requires (λ c. search needs) returns measure-requires λ c. put-measured (c .before .if1 .left) (c .measure .ensures) refl)
+write-quoted-spec =
+    tie.close
+    (tie.spec write-requires (λ c. search needs) returns measure-requires λ c. put-measured (c .before .if1 .left) (c .measure .ensures)
+    refl)

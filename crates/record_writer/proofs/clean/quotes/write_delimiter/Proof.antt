@@ -20,7 +20,8 @@ emit-byte-requires c κs = let u = c .before .before .before in room-as (sym (be
 
 returns-2 : tie.Need-returns-2
 returns-2 c =
-    let u = c .before .before .before .before .before .before in
+    let c4 = c .before .before .before .before in
+    let u = c4 .before .before in
     emitted-as (before-later (u .args .p) (u .args .n) (c .before .before .before .before .if1 .left)) (c .before .before .emit-byte .ensures)
 
 pub write-delimiter-spec : {M : Type 1} → statement M
