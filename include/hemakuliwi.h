@@ -96,7 +96,7 @@ struct hk_read_answer {
    in column i % columns of record i / columns, both counted from 0. Elements past the cells are
    left as they were. A file is refused with its first fault, and with HK_ROOM only if it has none
    and more cells than the shortest list has elements.
-   Stack of hk_read: 10,400 bytes. */
+   Stack of hk_read: 10,800 bytes. */
 struct hk_read_answer hk_read(uint32_t dialect, const uint8_t *file, size_t file_length,
                               size_t *starts, size_t starts_length, size_t *ends,
                               size_t ends_length, uint8_t *kinds, size_t kinds_length);
@@ -138,7 +138,7 @@ struct hk_text_answer {
    report has the record and the column, and offset 0. HK_ROOM only if nothing else is wrong and the
    text is longer than the room: 6 bytes for each byte of each cell's content, 6 for each cell and 1
    for each record are enough, and so are HK_FILE_BYTES.
-   Stack of hk_write: 5,100 bytes. */
+   Stack of hk_write: 5,200 bytes. */
 struct hk_text_answer hk_write(uint32_t dialect, const uint8_t *content, size_t content_length,
                                const size_t *starts, size_t starts_length, const size_t *ends,
                                size_t ends_length, const uint8_t *kinds, size_t kinds_length,
