@@ -11,22 +11,22 @@ use Rattle.model.specs.rules.Base.{Bytes, over}
 use Rattle.buffer.specs.Written.{written}
 
 -- a list from an index on, by its next element
-pub drop-next : (xs : List ℕ) (i j : ℕ) → i < length xs → i + 1 ≡ j → drop i xs ≡ get_or xs i 0 ∷ drop j xs
-drop-next xs i j h n = rw (← n, add-one, drop-cons xs i 0)
+pub drop_next : (xs : List ℕ) (i j : ℕ) → i < length xs → i + 1 ≡ j → drop i xs ≡ get_or xs i 0 ∷ drop j xs
+drop_next xs i j h n = rw (← n, add-one, drop-cons xs i 0)
 
 -- a list from which n elements can be taken has them
-pub taken-whole : (n : ℕ) (l : Bytes) → length (take n l) ≡ n → n ≤ length l
-taken-whole n l e = omega (arith, length-take n l, e)
+pub taken_whole : (n : ℕ) (l : Bytes) → length (take n l) ≡ n → n ≤ length l
+taken_whole n l e = omega (arith, length-take n l, e)
 
-pub length-written : (d : Bytes) (at : ℕ) (w : Bytes) → at + length w ≤ length d → length (written d at w) ≡ length d
-length-written d at w h = simp (length-append, length-take, length-drop) (omega arith)
+pub length_written : (d : Bytes) (at : ℕ) (w : Bytes) → at + length w ≤ length d → length (written d at w) ≡ length d
+length_written d at w h = simp (length-append, length-take, length-drop) (omega arith)
 
-pub written-nil : (d : Bytes) (at : ℕ) → written d at [] ≡ d
-written-nil d at = ap (λ (k : ℕ). take at d ++ drop k d) (add-zero at) ∙ take-append-drop at d
+pub written_nil : (d : Bytes) (at : ℕ) → written d at [] ≡ d
+written_nil d at = ap (λ (k : ℕ). take at d ++ drop k d) (add-zero at) ∙ take-append-drop at d
 
 -- w written, then v: together w ++ v
-pub written-more : (d : Bytes) (at : ℕ) (w v : Bytes) → at + length w ≤ length d → written (written d at w) (at + length w) v ≡ written d at (w ++ v)
-written-more d at w v h =
+pub written_more : (d : Bytes) (at : ℕ) (w v : Bytes) → at + length w ≤ length d → written (written d at w) (at + length w) v ≡ written d at (w ++ v)
+written_more d at w v h =
     let n : ℕ = at + length w in
     let p : Bytes = take at d ++ w in
     let q : Bytes = drop n d in
@@ -38,8 +38,8 @@ written-more d at w v h =
     ∙ simp (append_assoc, length-append, add_assoc)
 
 -- a store writes a text of one byte
-pub set-written : (l : Bytes) (o x : ℕ) → o < length l → set l o x ≡ written l o (x ∷ [])
-set-written l o x h = set_split l o x h ∙ ap (λ (k : ℕ). take o l ++ (x ∷ drop k l)) (sym (add-one o))
+pub set_written : (l : Bytes) (o x : ℕ) → o < length l → set l o x ≡ written l o (x ∷ [])
+set_written l o x h = set_split l o x h ∙ ap (λ (k : ℕ). take o l ++ (x ∷ drop k l)) (sym (add-one o))
 
 -- old is being overwritten from at with the text whole: out is the buffer now, o the next offset, rest what remains
 pub record Writing (old : Bytes) (at : ℕ) (whole out : Bytes) (o : ℕ) (rest : Bytes) : Type 0 where
@@ -51,21 +51,21 @@ pub record Writing (old : Bytes) (at : ℕ) (whole out : Bytes) (o : ℕ) (rest 
   pub long : length out ≡ length old
 
 pub start : (old : Bytes) (at : ℕ) (whole : Bytes) → at + length whole ≤ length old → Writing old at whole old at whole
-start old at whole h = record { w = []; place = omega arith; text = sym (written-nil old at); left = refl; room = omega arith; long = refl }
+start old at whole h = record { w = []; place = omega arith; text = sym (written_nil old at); left = refl; room = omega arith; long = refl }
 
 module _ {old : Bytes} {at : ℕ} {whole out : Bytes} {o : ℕ} where
   -- the first part of the rest is written
   pub put : (v : Bytes) {rest : Bytes} → Writing old at whole out o (v ++ rest) → Writing old at whole (written out o v) (o + length v) rest
   put v {rest} p =
       let fits : at + length p.w + (length v + length rest) ≤ length old = rw length-append at p.room in
-      let e : written out o v ≡ written old at (p.w ++ v) = rw (p.text, p.place) (written-more old at p.w v (omega arith)) in
+      let e : written out o v ≡ written old at (p.w ++ v) = rw (p.text, p.place) (written_more old at p.w v (omega arith)) in
       record {
         w = p.w ++ v;
         place = simp length-append (omega (arith, p.place));
         text = e;
         left = append_assoc p.w v rest ∙ p.left;
         room = simp length-append (omega arith);
-        long = length-written out o v (omega (arith, p.place, p.long)) ∙ p.long;
+        long = length_written out o v (omega (arith, p.place, p.long)) ∙ p.long;
       }
 
   -- there is room for the next byte, and it is written
@@ -73,11 +73,11 @@ module _ {old : Bytes} {at : ℕ} {whole out : Bytes} {o : ℕ} where
   here p = omega (arith, p.place, p.long, p.room)
 
   pub store : {x : ℕ} {rest : Bytes} → Writing old at whole out o (x ∷ rest) → Writing old at whole (set out o x) (o + 1) rest
-  store {x} p = rw (set-written out o x (here p)) (put (x ∷ []) p)
+  store {x} p = rw (set_written out o x (here p)) (put (x ∷ []) p)
 
   -- room for the rest
-  pub room-left : {rest : Bytes} → Writing old at whole out o rest → o + length rest ≤ length out
-  room-left p = omega (arith, p.place, p.long, p.room)
+  pub room_left : {rest : Bytes} → Writing old at whole out o rest → o + length rest ≤ length out
+  room_left p = omega (arith, p.place, p.long, p.room)
 
   -- nothing remains
   pub done : Writing old at whole out o [] → (o ≡ at + length whole) × (out ≡ written old at whole)
@@ -86,8 +86,8 @@ module _ {old : Bytes} {at : ℕ} {whole out : Bytes} {o : ℕ} where
       rw e (p.place, p.text)
 
 -- from offset 0
-pub written-first : (old w : Bytes) → written old 0 w ≡ over w old
-written-first old w = let from_zero : 0 + length w ≡ length w = omega arith in ap (λ (n : ℕ). w ++ drop n old) from_zero
+pub written_first : (old w : Bytes) → written old 0 w ≡ over w old
+written_first old w = let from_zero : 0 + length w ≡ length w = omega arith in ap (λ (n : ℕ). w ++ drop n old) from_zero
 
 pub filled : {old whole out : Bytes} {o : ℕ} → Writing old 0 whole out o [] → out ≡ over whole old
-filled {old} {whole} p = (done p).1 ∙ written-first old whole
+filled {old} {whole} p = (done p).1 ∙ written_first old whole

@@ -8,13 +8,13 @@ use lib.Seq.{take_all, take-append-le, take-append-add, drop-append-add, drop-dr
 use Rattle.model.specs.rules.Base.{Bytes}
 use Rattle.model.specs.rules.Api.{slice}
 use Rattle.buffer.specs.Written.{written}
-use Rattle.buffer.proofs.BlockProgress.{drop-next, written-nil, set-written, Writing, start, put}
+use Rattle.buffer.proofs.BlockProgress.{drop_next, written_nil, set_written, Writing, start, put}
 
 -- ---- stores
 
 -- a store directly before a written text
-before-written : (l : Bytes) (o j x : ℕ) (w : Bytes) → o + 1 ≡ j → j + length w ≤ length l → set (written l j w) o x ≡ written l o (x ∷ w)
-before-written l o j x w e h =
+before_written : (l : Bytes) (o j x : ℕ) (w : Bytes) → o + 1 ≡ j → j + length w ≤ length l → set (written l j w) o x ≡ written l o (x ∷ w)
+before_written l o j x w e h =
     let n : j ≡ suc o = omega arith in
     let rest : Bytes = w ++ drop (j + length w) l in
     let front : set (take j l) o x ≡ take o l ++ (x ∷ []) = rw n (sym (take-set-lt (suc o) l o x (omega arith)) ∙ take-suc-set l o x (omega arith)) in
@@ -24,28 +24,28 @@ before-written l o j x w e h =
     ∙ append_assoc (take o l) (x ∷ []) rest
     ∙ ap (λ (k : ℕ). take o l ++ (x ∷ (w ++ drop k l))) end
 
-slice-four : (s : Bytes) (i : ℕ) → i + 4 ≤ length s → slice s i (i + 4) ≡ get_or s i 0 ∷ get_or s (i + 1) 0 ∷ get_or s (i + 2) 0 ∷ get_or s (i + 3) 0 ∷ []
-slice-four s i h =
+slice_four : (s : Bytes) (i : ℕ) → i + 4 ≤ length s → slice s i (i + 4) ≡ get_or s i 0 ∷ get_or s (i + 1) 0 ∷ get_or s (i + 2) 0 ∷ get_or s (i + 3) 0 ∷ []
+slice_four s i h =
     let n : i + 4 - i ≡ 4 = omega arith in
-    let e0 = drop-next s i (i + 1) (omega arith) (omega arith) in
-    let e1 = drop-next s (i + 1) (i + 2) (omega arith) (omega arith) in
-    let e2 = drop-next s (i + 2) (i + 3) (omega arith) (omega arith) in
-    let e3 = drop-next s (i + 3) (i + 4) (omega arith) (omega arith) in
+    let e0 = drop_next s i (i + 1) (omega arith) (omega arith) in
+    let e1 = drop_next s (i + 1) (i + 2) (omega arith) (omega arith) in
+    let e2 = drop_next s (i + 2) (i + 3) (omega arith) (omega arith) in
+    let e3 = drop_next s (i + 3) (i + 4) (omega arith) (omega arith) in
     rw (n, e0, e1, e2, e3)
 
-slice-eight : (s : Bytes) (i : ℕ) → i + 8 ≤ length s
+slice_eight : (s : Bytes) (i : ℕ) → i + 8 ≤ length s
     → slice s i (i + 8) ≡ get_or s i 0 ∷ get_or s (i + 1) 0 ∷ get_or s (i + 2) 0 ∷ get_or s (i + 3) 0 ∷ get_or s (i + 4) 0 ∷ get_or s (i + 5) 0 ∷ get_or s
     (i + 6) 0 ∷ get_or s (i + 7) 0 ∷ []
-slice-eight s i h =
+slice_eight s i h =
     let n : i + 8 - i ≡ 8 = omega arith in
-    let e0 = drop-next s i (i + 1) (omega arith) (omega arith) in
-    let e1 = drop-next s (i + 1) (i + 2) (omega arith) (omega arith) in
-    let e2 = drop-next s (i + 2) (i + 3) (omega arith) (omega arith) in
-    let e3 = drop-next s (i + 3) (i + 4) (omega arith) (omega arith) in
-    let e4 = drop-next s (i + 4) (i + 5) (omega arith) (omega arith) in
-    let e5 = drop-next s (i + 5) (i + 6) (omega arith) (omega arith) in
-    let e6 = drop-next s (i + 6) (i + 7) (omega arith) (omega arith) in
-    let e7 = drop-next s (i + 7) (i + 8) (omega arith) (omega arith) in
+    let e0 = drop_next s i (i + 1) (omega arith) (omega arith) in
+    let e1 = drop_next s (i + 1) (i + 2) (omega arith) (omega arith) in
+    let e2 = drop_next s (i + 2) (i + 3) (omega arith) (omega arith) in
+    let e3 = drop_next s (i + 3) (i + 4) (omega arith) (omega arith) in
+    let e4 = drop_next s (i + 4) (i + 5) (omega arith) (omega arith) in
+    let e5 = drop_next s (i + 5) (i + 6) (omega arith) (omega arith) in
+    let e6 = drop_next s (i + 6) (i + 7) (omega arith) (omega arith) in
+    let e7 = drop_next s (i + 7) (i + 8) (omega arith) (omega arith) in
     rw (n, e0, e1, e2, e3, e4, e5, e6, e7)
 
 -- the bytes of s from i on, stored from o on
@@ -53,59 +53,59 @@ module _ (l : Bytes) (o : ℕ) (s : Bytes) (i : ℕ) where
   abbrev at : ℕ → ℕ
   at k = get_or s (i + k) 0
 
-  pub four-stored : o + 4 ≤ length l → i + 4 ≤ length s
+  pub four_stored : o + 4 ≤ length l → i + 4 ≤ length s
       → set (set (set (set l (o + 3) (at 3)) (o + 2) (at 2)) (o + 1) (at 1)) o (get_or s i 0) ≡ written l o (slice s i (i + 4))
-  four-stored h k =
-      let e3 = set-written l (o + 3) (at 3) (omega arith) in
-      let e2 = before-written l (o + 2) (o + 3) (at 2) (at 3 ∷ []) (omega arith) (omega arith) in
-      let e1 = before-written l (o + 1) (o + 2) (at 1) (at 2 ∷ at 3 ∷ []) (omega arith) (omega arith) in
-      let e0 = before-written l o (o + 1) (get_or s i 0) (at 1 ∷ at 2 ∷ at 3 ∷ []) (omega arith) (omega arith) in
-      rw (slice-four s i k, e3, e2, e1, e0)
+  four_stored h k =
+      let e3 = set_written l (o + 3) (at 3) (omega arith) in
+      let e2 = before_written l (o + 2) (o + 3) (at 2) (at 3 ∷ []) (omega arith) (omega arith) in
+      let e1 = before_written l (o + 1) (o + 2) (at 1) (at 2 ∷ at 3 ∷ []) (omega arith) (omega arith) in
+      let e0 = before_written l o (o + 1) (get_or s i 0) (at 1 ∷ at 2 ∷ at 3 ∷ []) (omega arith) (omega arith) in
+      rw (slice_four s i k, e3, e2, e1, e0)
 
-  pub eight-stored : o + 8 ≤ length l → i + 8 ≤ length s
+  pub eight_stored : o + 8 ≤ length l → i + 8 ≤ length s
       → set (set (set (set (set (set (set (set l (o + 7) (at 7)) (o + 6) (at 6)) (o + 5) (at 5)) (o + 4) (at 4)) (o + 3) (at 3)) (o + 2)
       (at 2)) (o + 1) (at 1)) o (get_or s i 0) ≡ written l o (slice s i (i + 8))
-  eight-stored h k =
-      let e7 = set-written l (o + 7) (at 7) (omega arith) in
-      let e6 = before-written l (o + 6) (o + 7) (at 6) (at 7 ∷ []) (omega arith) (omega arith) in
-      let e5 = before-written l (o + 5) (o + 6) (at 5) (at 6 ∷ at 7 ∷ []) (omega arith) (omega arith) in
-      let e4 = before-written l (o + 4) (o + 5) (at 4) (at 5 ∷ at 6 ∷ at 7 ∷ []) (omega arith) (omega arith) in
-      let e3 = before-written l (o + 3) (o + 4) (at 3) (at 4 ∷ at 5 ∷ at 6 ∷ at 7 ∷ []) (omega arith) (omega arith) in
-      let e2 = before-written l (o + 2) (o + 3) (at 2) (at 3 ∷ at 4 ∷ at 5 ∷ at 6 ∷ at 7 ∷ []) (omega arith) (omega arith) in
-      let e1 = before-written l (o + 1) (o + 2) (at 1) (at 2 ∷ at 3 ∷ at 4 ∷ at 5 ∷ at 6 ∷ at 7 ∷ []) (omega arith) (omega arith) in
-      let e0 = before-written l o (o + 1) (get_or s i 0) (at 1 ∷ at 2 ∷ at 3 ∷ at 4 ∷ at 5 ∷ at 6 ∷ at 7 ∷ []) (omega arith) (omega arith) in
-      rw (slice-eight s i k, e7, e6, e5, e4, e3, e2, e1, e0)
+  eight_stored h k =
+      let e7 = set_written l (o + 7) (at 7) (omega arith) in
+      let e6 = before_written l (o + 6) (o + 7) (at 6) (at 7 ∷ []) (omega arith) (omega arith) in
+      let e5 = before_written l (o + 5) (o + 6) (at 5) (at 6 ∷ at 7 ∷ []) (omega arith) (omega arith) in
+      let e4 = before_written l (o + 4) (o + 5) (at 4) (at 5 ∷ at 6 ∷ at 7 ∷ []) (omega arith) (omega arith) in
+      let e3 = before_written l (o + 3) (o + 4) (at 3) (at 4 ∷ at 5 ∷ at 6 ∷ at 7 ∷ []) (omega arith) (omega arith) in
+      let e2 = before_written l (o + 2) (o + 3) (at 2) (at 3 ∷ at 4 ∷ at 5 ∷ at 6 ∷ at 7 ∷ []) (omega arith) (omega arith) in
+      let e1 = before_written l (o + 1) (o + 2) (at 1) (at 2 ∷ at 3 ∷ at 4 ∷ at 5 ∷ at 6 ∷ at 7 ∷ []) (omega arith) (omega arith) in
+      let e0 = before_written l o (o + 1) (get_or s i 0) (at 1 ∷ at 2 ∷ at 3 ∷ at 4 ∷ at 5 ∷ at 6 ∷ at 7 ∷ []) (omega arith) (omega arith) in
+      rw (slice_eight s i k, e7, e6, e5, e4, e3, e2, e1, e0)
 
 -- the first, the middle and the last of one to three bytes
-pub few-stored : (l : Bytes) (o : ℕ) (s : Bytes) (m n : ℕ) → m ≡ length s / 2 → n ≡ length s - 1 → 0 < length s → length s ≤ 3 → o + length s ≤ length l
+pub few_stored : (l : Bytes) (o : ℕ) (s : Bytes) (m n : ℕ) → m ≡ length s / 2 → n ≡ length s - 1 → 0 < length s → length s ≤ 3 → o + length s ≤ length l
     → set (set (set l (o + n) (get_or s n 0)) (o + m) (get_or s m 0)) o (get_or s 0 0) ≡ written l o s
-few-stored l o [] m n e f g h k = absurd (omega arith)
-few-stored l o (a ∷ []) m n e f g h k =
+few_stored l o [] m n e f g h k = absurd (omega arith)
+few_stored l o (a ∷ []) m n e f g h k =
     let i : m ≡ 0 = omega arith in
     let j : n ≡ 0 = omega arith in
     let z : o + 0 ≡ o = omega arith in
-    rw (i, j, z) (simp set-set (set-written l o a (omega arith)))
-few-stored l o (a ∷ b ∷ []) m n e f g h k =
+    rw (i, j, z) (simp set-set (set_written l o a (omega arith)))
+few_stored l o (a ∷ b ∷ []) m n e f g h k =
     let i : m ≡ 1 = omega arith in
     let j : n ≡ 1 = omega arith in
-    let e1 = set-written l (o + 1) b (omega arith) in
-    let e0 = before-written l o (o + 1) a (b ∷ []) refl (omega arith) in
+    let e1 = set_written l (o + 1) b (omega arith) in
+    let e0 = before_written l o (o + 1) a (b ∷ []) refl (omega arith) in
     rw (i, j, set-set, e1, e0)
-few-stored l o (a ∷ b ∷ c ∷ []) m n e f g h k =
+few_stored l o (a ∷ b ∷ c ∷ []) m n e f g h k =
     let i : m ≡ 1 = omega arith in
     let j : n ≡ 2 = omega arith in
-    let e2 = set-written l (o + 2) c (omega arith) in
-    let e1 = before-written l (o + 1) (o + 2) b (c ∷ []) (omega arith) (omega arith) in
-    let e0 = before-written l o (o + 1) a (b ∷ c ∷ []) refl (omega arith) in
+    let e2 = set_written l (o + 2) c (omega arith) in
+    let e1 = before_written l (o + 1) (o + 2) b (c ∷ []) (omega arith) (omega arith) in
+    let e0 = before_written l o (o + 1) a (b ∷ c ∷ []) refl (omega arith) in
     rw (i, j, e2, e1, e0)
-few-stored l o (a ∷ b ∷ c ∷ d ∷ s) m n e f g h k = absurd (omega arith)
+few_stored l o (a ∷ b ∷ c ∷ d ∷ s) m n e f g h k = absurd (omega arith)
 
 -- ---- overlaps
 
 -- v over the end of w, from k on
-over-end : (d : Bytes) (at : ℕ) (w : Bytes) (k : ℕ) (v : Bytes) → k ≤ length w → length w ≤ k + length v → at + k + length v ≤ length d
+over_end : (d : Bytes) (at : ℕ) (w : Bytes) (k : ℕ) (v : Bytes) → k ≤ length w → length w ≤ k + length v → at + k + length v ≤ length d
     → written (written d at w) (at + k) v ≡ written d at (take k w ++ v)
-over-end d at w k v h j l =
+over_end d at w k v h j l =
     let n : ℕ = at + length w in
     let p : Bytes = take at d ++ w in
     let q : Bytes = drop n d in
@@ -124,7 +124,7 @@ over-end d at w k v h j l =
 -- ---- a text block by block
 
 pub no_block : (l : Bytes) (at : ℕ) (src : Bytes) → length src ≡ 0 → l ≡ written l at src
-no_block l at [] e = sym (written-nil l at)
+no_block l at [] e = sym (written_nil l at)
 no_block l at (b ∷ src) e = absurd (omega arith)
 
 pub first_block : {old : Bytes} {at : ℕ} {src : Bytes} → at + length src ≤ length old → Writing old at src old (at + 0) (drop 0 src)
@@ -133,9 +133,9 @@ first_block {old} {at} {src} h = let here : at + 0 ≡ at = omega arith in rw he
 -- the first i bytes of src are written
 module _ {old : Bytes} {at : ℕ} {src out : Bytes} {o : ℕ} (i : ℕ) (p : Writing old at src out o (drop i src)) (n : ℕ) where
   -- the next n follow
-  pub next-block : {new : Bytes} {r : ℕ} → i + n ≤ length src → o + n ≡ r → new ≡ written out o (slice src i (i + n))
+  pub next_block : {new : Bytes} {r : ℕ} → i + n ≤ length src → o + n ≡ r → new ≡ written out o (slice src i (i + n))
       → Writing old at src new r (drop (i + n) src)
-  next-block {r} h e f =
+  next_block {r} h e f =
       let size : i + n - i ≡ n = omega arith in
       let left : length (drop i src) ≡ length src - i = length-drop i src in
       let long : length (slice src i (i + n)) ≡ n = rw size (length-take-le n (drop i src) (omega arith)) in
@@ -157,5 +157,5 @@ module _ {old : Bytes} {at : ℕ} {src out : Bytes} {o : ℕ} (i : ℕ) (p : Wri
       let front : take k w ≡ take k src = sym (take-append-le k w (drop i src) (omega arith)) ∙ ap (take k) p.left in
       f
       ∙ ap₂ (λ (l x : Bytes). written l (at + k) x) p.text whole
-      ∙ over-end old at w k v (omega arith) (omega arith) (omega arith)
+      ∙ over_end old at w k v (omega arith) (omega arith) (omega arith)
       ∙ ap (written old at) (ap (λ (x : Bytes). x ++ v) front ∙ take-append-drop k src)

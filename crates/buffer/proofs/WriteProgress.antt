@@ -12,45 +12,45 @@ use borrow.Author.Tests.{le-leb, leb-true, leb-false}
 use Rattle.model.specs.rules.Base.{Bytes, if◌then◌else◌}
 use Rattle.model.specs.rules.Report.{MAXFILE}
 use Rattle.model.proofs.Tests.{split, impossible}
-use Rattle.buffer.proofs.BlockProgress.{written-more}
+use Rattle.buffer.proofs.BlockProgress.{written_more}
 use Rattle.buffer.specs.Writes.{written, measure, Room, WrittenAt}
 pub use Rattle.buffer.proofs.BlockProgress.{
-  drop-next,
-  taken-whole,
-  length-written,
-  written-nil,
-  set-written,
+  drop_next,
+  taken_whole,
+  length_written,
+  written_nil,
+  set_written,
   Writing,
   start,
   put,
   here,
   store,
-  room-left,
+  room_left,
   done,
-  written-first,
+  written_first,
   filled,
 }
 
 -- ---- measured offsets
 
-pub measure-within : (n : ℕ) → n ≤ MAXFILE → measure n ≡ n
+pub measure_within : (n : ℕ) → n ≤ MAXFILE → measure n ≡ n
 unfolding measure
-measure-within n h = split (λ (r : ℕ). r ≡ n) (leb MAXFILE n) (λ e. omega (arith, leb-true MAXFILE n e)) λ _. refl
+measure_within n h = split (λ (r : ℕ). r ≡ n) (leb MAXFILE n) (λ e. omega (arith, leb-true MAXFILE n e)) λ _. refl
 
-pub measure-beyond : (n : ℕ) → MAXFILE ≤ n → measure n ≡ MAXFILE
+pub measure_beyond : (n : ℕ) → MAXFILE ≤ n → measure n ≡ MAXFILE
 unfolding measure if◌then◌else◌
-measure-beyond n h = rw (le-leb MAXFILE n h) refl
+measure_beyond n h = rw (le-leb MAXFILE n h) refl
 
-pub measure-least : (n : ℕ) → measure n ≤ MAXFILE
+pub measure_least : (n : ℕ) → measure n ≤ MAXFILE
 unfolding measure
-measure-least n = split (λ (r : ℕ). r ≤ MAXFILE) (leb MAXFILE n) (λ _. omega arith) λ e. omega (arith, leb-false MAXFILE n e)
+measure_least n = split (λ (r : ℕ). r ≤ MAXFILE) (leb MAXFILE n) (λ _. omega arith) λ e. omega (arith, leb-false MAXFILE n e)
 
 -- measuring in two parts
-measure-more : (n k : ℕ) → measure (measure n + k) ≡ measure (n + k)
+measure_more : (n k : ℕ) → measure (measure n + k) ≡ measure (n + k)
 unfolding measure
-measure-more n k =
+measure_more n k =
     split (λ (r : ℕ). measure (r + k) ≡ measure (n + k)) (leb MAXFILE n)
-    (λ e. measure-beyond (MAXFILE + k) (omega arith) ∙ sym (measure-beyond (n + k) (omega (arith, leb-true MAXFILE n e)))) λ _. refl
+    (λ e. measure_beyond (MAXFILE + k) (omega arith) ∙ sym (measure_beyond (n + k) (omega (arith, leb-true MAXFILE n e)))) λ _. refl
 
 -- ---- written, or only measured
 
@@ -59,23 +59,23 @@ module _ {write : Bool} {old : Bytes} {o : ℕ} {w new : Bytes} {r : ℕ} where
   unfolding if◌then◌else◌
   put_written e p = record { place = rw e p.0; text = rw e p.1 }
 
-  pub put-measured : write ≡ false → r ≡ measure (o + length w) → new ≡ old → WrittenAt write old o w new r
+  pub put_measured : write ≡ false → r ≡ measure (o + length w) → new ≡ old → WrittenAt write old o w new r
   unfolding if◌then◌else◌
-  put-measured e p q = record { place = rw e p; text = rw e q }
+  put_measured e p q = record { place = rw e p; text = rw e q }
 
 -- the same text by an equation
 pub room_as : {write : Bool} {o : ℕ} {w v out : Bytes} → w ≡ v → Room write o v out → Room write o w out
 room_as e p = rw e p
 
-pub emitted-as : {write : Bool} {old : Bytes} {o : ℕ} {w v new : Bytes} {r : ℕ} → w ≡ v → WrittenAt write old o v new r → WrittenAt write old o w new r
-emitted-as e p = rw e p
+pub emitted_as : {write : Bool} {old : Bytes} {o : ℕ} {w v new : Bytes} {r : ℕ} → w ≡ v → WrittenAt write old o v new r → WrittenAt write old o w new r
+emitted_as e p = rw e p
 
 -- ---- a text in parts, written or only measured
 
-length-emitted : (write : Bool) {old : Bytes} {o : ℕ} {w new : Bytes} {r : ℕ} → Room write o w old → WrittenAt write old o w new r → length new ≡ length old
+length_emitted : (write : Bool) {old : Bytes} {o : ℕ} {w new : Bytes} {r : ℕ} → Room write o w old → WrittenAt write old o w new r → length new ≡ length old
 unfolding if◌then◌else◌
-length-emitted true {old} {o} {w} h p = ap length p.text ∙ length-written old o w (h.inside refl)
-length-emitted false h p = ap length p.text
+length_emitted true {old} {o} {w} h p = ap length p.text ∙ length_written old o w (h.inside refl)
+length_emitted false h p = ap length p.text
 
 -- w was written or measured, then v
 written_then : (write : Bool) {old : Bytes} {at : ℕ} {w mid : Bytes} {o : ℕ} {v new : Bytes} {r : ℕ}
@@ -85,12 +85,12 @@ written_then true {old} {at} {w} {mid} {o} {v} {new} {r} h p q =
     let fits : at + (length w + length v) ≤ length old = rw length-append at (h.inside refl) in
     record {
       place = simp length-append (omega (arith, p.place, q.place));
-      text = q.text ∙ rw (p.text, p.place) (written-more old at w v (omega arith));
+      text = q.text ∙ rw (p.text, p.place) (written_more old at w v (omega arith));
     }
 written_then false {old} {at} {w} {mid} {o} {v} {new} {r} h p q =
     record {
       place =
-          q.place ∙ ap (λ (n : ℕ). measure (n + length v)) p.place ∙ measure-more (at + length w) (length v)
+          q.place ∙ ap (λ (n : ℕ). measure (n + length v)) p.place ∙ measure_more (at + length w) (length v)
           ∙ ap measure (add_assoc at (length w) (length v) ∙ ap (λ (n : ℕ). at + n) (sym (length-append w v)));
       text = q.text ∙ p.text;
     }
@@ -104,53 +104,53 @@ pub record Emitting (write : Bool) (old : Bytes) (at : ℕ) (whole out : Bytes) 
 
 pub emitting : (write : Bool) {old : Bytes} {at : ℕ} {whole : Bytes} → Room write at whole old → Emitting write old at whole old at whole
 unfolding if◌then◌else◌
-emitting true {old} {at} h = record { w = []; so_far = record { place = omega arith; text = sym (written-nil old at) }; left = refl; room = h }
+emitting true {old} {at} h = record { w = []; so_far = record { place = omega arith; text = sym (written_nil old at) }; left = refl; room = h }
 emitting false {old} {at} h =
     let same : at + 0 ≡ at = omega arith in
-    record { w = []; so_far = record { place = sym (measure-within at (h.measured refl)) ∙ ap measure (sym same); text = refl }; left = refl; room = h }
+    record { w = []; so_far = record { place = sym (measure_within at (h.measured refl)) ∙ ap measure (sym same); text = refl }; left = refl; room = h }
 
 -- a measured offset is within the limit
-written-within : (write : Bool) {old : Bytes} {o : ℕ} {w new : Bytes} {r : ℕ} → WrittenAt write old o w new r → write ≡ false → r ≤ MAXFILE
+written_within : (write : Bool) {old : Bytes} {o : ℕ} {w new : Bytes} {r : ℕ} → WrittenAt write old o w new r → write ≡ false → r ≤ MAXFILE
 unfolding if◌then◌else◌
-written-within true p e = impossible (sym e)
-written-within false {old} {o} {w} p e = rw p.place (measure-least (o + length w))
+written_within true p e = impossible (sym e)
+written_within false {old} {o} {w} p e = rw p.place (measure_least (o + length w))
 
 -- the offset after a written text
-written-place : (write : Bool) {old : Bytes} {o : ℕ} {w new : Bytes} {r : ℕ} → WrittenAt write old o w new r → write ≡ true → r ≡ o + length w
+written_place : (write : Bool) {old : Bytes} {o : ℕ} {w new : Bytes} {r : ℕ} → WrittenAt write old o w new r → write ≡ true → r ≡ o + length w
 unfolding if◌then◌else◌
-written-place true p e = p.place
-written-place false p e = impossible e
+written_place true p e = p.place
+written_place false p e = impossible e
 
 module _ {write : Bool} {old : Bytes} {at : ℕ} {whole out : Bytes} {o : ℕ} where
-  so-long : {rest : Bytes} (p : Emitting write old at whole out o rest) → length whole ≡ length p.w + length rest
-  so-long {rest} p = sym (ap length p.left) ∙ length-append p.w rest
+  so_long : {rest : Bytes} (p : Emitting write old at whole out o rest) → length whole ≡ length p.w + length rest
+  so_long {rest} p = sym (ap length p.left) ∙ length-append p.w rest
 
-  room-before : {rest : Bytes} (p : Emitting write old at whole out o rest) → Room write at p.w old
-  room-before p = record { measured = p.room.measured; inside = λ e. omega (arith, so-long p, p.room.inside e) }
+  room_before : {rest : Bytes} (p : Emitting write old at whole out o rest) → Room write at p.w old
+  room_before p = record { measured = p.room.measured; inside = λ e. omega (arith, so_long p, p.room.inside e) }
 
-  pub same-long : {rest : Bytes} → Emitting write old at whole out o rest → length out ≡ length old
-  same-long p = length-emitted write (room-before p) p.so_far
+  pub same_long : {rest : Bytes} → Emitting write old at whole out o rest → length out ≡ length old
+  same_long p = length_emitted write (room_before p) p.so_far
 
   -- there is room for the next part, and it is written
   pub room_next : (v rest : Bytes) → Emitting write old at whole out o (v ++ rest) → Room write o v out
   room_next v rest p =
-      let all : length whole ≡ length p.w + (length v + length rest) = rw length-append at (so-long p) in
+      let all : length whole ≡ length p.w + (length v + length rest) = rw length-append at (so_long p) in
       record {
-        measured = λ e. written-within write p.so_far e;
-        inside = λ e. omega (arith, all, p.room.inside e, written-place write p.so_far e, same-long p);
+        measured = λ e. written_within write p.so_far e;
+        inside = λ e. omega (arith, all, p.room.inside e, written_place write p.so_far e, same_long p);
       }
 
-  pub room-rest : {rest : Bytes} → Emitting write old at whole out o rest → Room write o rest out
-  room-rest {rest} p = room_next rest [] (rw append-nil p)
+  pub room_rest : {rest : Bytes} → Emitting write old at whole out o rest → Room write o rest out
+  room_rest {rest} p = room_next rest [] (rw append-nil p)
 
   pub put_next : (v : Bytes) {rest new : Bytes} {r : ℕ} → Emitting write old at whole out o (v ++ rest) → WrittenAt write out o v new r
       → Emitting write old at whole new r rest
   put_next v {rest} p q =
-      let all : length whole ≡ length p.w + (length v + length rest) = rw length-append at (so-long p) in
+      let all : length whole ≡ length p.w + (length v + length rest) = rw length-append at (so_long p) in
       let both : Room write at (p.w ++ v) old =
       record { measured = p.room.measured; inside = λ e. simp length-append (omega (arith, all, p.room.inside e)) } in
       record { w = p.w ++ v; so_far = written_then write both p.so_far q; left = append_assoc p.w v rest ∙ p.left; room = p.room }
 
   -- nothing remains
   pub put_whole : Emitting write old at whole out o [] → WrittenAt write old at whole out o
-  put_whole p = emitted-as (sym p.left ∙ append-nil p.w) p.so_far
+  put_whole p = emitted_as (sym p.left ∙ append-nil p.w) p.so_far

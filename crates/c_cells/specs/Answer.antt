@@ -2,5 +2,5 @@
 use Rattle.cell_decoder.specs.Answer.{CellAnswer}
 use Rattle.c_cells.specs.declared.DecodeAnswer.{DecodeAnswer}
 
-abbrev pub structAnswer : DecodeAnswer → CellAnswer
-structAnswer r = record { report = r.report; kind = r.kind; size = r.length }
+abbrev pub struct_answer : DecodeAnswer → CellAnswer
+struct_answer r = record { report = r.report; kind = r.kind; size = r.length }

@@ -6,11 +6,11 @@
 // would not be inlined into the reader's loop, which would lose a third of its speed. The writer is here since it uses the lexer to see
 // whether a content is a number.
 ghost use Rattle.std.specs.Prelude.{◌≡◌, length};
-ghost use Rattle.model.specs.rules.Api.{decoder, decoderLeaves, writer, writerLeaves};
-ghost use Rattle.cell_decoder.specs.Answer.{decoderAnswer, givenAnswer};
-ghost use Rattle.codes.specs.Named.{textAnswer};
+ghost use Rattle.model.specs.rules.Api.{decoder, decoder_leaves, writer, writer_leaves};
+ghost use Rattle.cell_decoder.specs.Answer.{decoder_answer, given_answer};
+ghost use Rattle.codes.specs.Named.{text_answer};
 ghost use Rattle.table_writer.specs.TableParts.{given};
-ghost use Rattle.c_cells.specs.Answer.{structAnswer};
+ghost use Rattle.c_cells.specs.Answer.{struct_answer};
 
 use cell_decoder::Decoded;
 use codes::TextAnswer;
@@ -26,7 +26,7 @@ pub struct DecodeAnswer {
 }
 
 fn answer_of(d: Decoded) -> DecodeAnswer
-    ensures { structAnswer result ≡ givenAnswer d }
+    ensures { struct_answer result ≡ given_answer d }
 {
     let Decoded::Content { size, kind } = d else {
         // A result without content is a refusal: the inner `else` is proved never to run.
@@ -53,8 +53,8 @@ fn answer_of(d: Decoded) -> DecodeAnswer
 // Decodes the raw bytes of one cell to its content, in `room`.
 #[unsafe(no_mangle)]
 pub extern "C" fn hk_decode(dialect: u32, raw: &[u8], room: &mut [u8]) -> DecodeAnswer
-    ensures answer { structAnswer result ≡ decoderAnswer (decoder dialect raw.now (length room.old)) }
-    ensures leaves { room.new ≡ decoderLeaves dialect raw.now room.old }
+    ensures answer { struct_answer result ≡ decoder_answer (decoder dialect raw.now (length room.old)) }
+    ensures leaves { room.new ≡ decoder_leaves dialect raw.now room.old }
 {
     answer_of(cell_decoder::decode(dialect, raw, room))
 }
@@ -71,10 +71,10 @@ pub extern "C" fn hk_write(
     records: usize,
     room: &mut [u8],
 ) -> TextAnswer
-    ensures answer { result ≡ textAnswer (writer dialect
+    ensures answer { result ≡ text_answer (writer dialect
         (given content.now starts.now ends.now kinds.now columns records)
         (length room.old)) }
-    ensures leaves { room.new ≡ writerLeaves dialect
+    ensures leaves { room.new ≡ writer_leaves dialect
         (given content.now starts.now ends.now kinds.now columns records)
         room.old }
 {

@@ -2,7 +2,7 @@
 // logic. `include/hemakuliwi.h` declares them for C. c_pieces says why this is a crate of its own.
 ghost use Rattle.std.specs.Prelude.{length};
 ghost use Rattle.model.specs.rules.Ledger.{finish};
-ghost use Rattle.piece_converter.specs.Contract.{converterOf, CallContract};
+ghost use Rattle.piece_converter.specs.Contract.{converter_of, CallContract};
 
 use codes::TextAnswer;
 use piece_converter::{Converter, PieceAnswer};
@@ -27,7 +27,7 @@ pub extern "C" fn hk_end_lent(
     names: &mut [u8; 4096],
     out: &mut [u8],
 ) -> TextAnswer
-    ensures { CallContract (converterOf source target numbers.old ends.old name_ends.old bytes.old names.old) (finish (length out.old)) out.old result (converterOf source target numbers.new ends.new name_ends.new bytes.new names.new) out.new }
+    ensures { CallContract (converter_of source target numbers.old ends.old name_ends.old bytes.old names.old) (finish (length out.old)) out.old result (converter_of source target numbers.new ends.new name_ends.new bytes.new names.new) out.new }
 {
     piece_converter::lent::end(source, target, numbers, ends, name_ends, bytes, names, out)
 }

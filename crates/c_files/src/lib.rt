@@ -1,8 +1,8 @@
 // The C boundary for whole files: the reader's call under its C name, with no logic of its own. A slice is passed as a pointer and a
 // length; `include/hemakuliwi.h` declares the call for C. Its contract is the reader's.
 ghost use Rattle.std.specs.Prelude.{◌≡◌};
-ghost use Rattle.model.specs.rules.Api.{readCall};
-ghost use Rattle.file_reader.specs.Answers.{callAnswer};
+ghost use Rattle.model.specs.rules.Api.{read_call};
+ghost use Rattle.file_reader.specs.Answers.{call_answer};
 
 use file_reader::Answer;
 
@@ -15,10 +15,10 @@ pub extern "C" fn hk_read(
     ends: &mut [usize],
     kinds: &mut [u8],
 ) -> Answer
-    ensures answer { result ≡ callAnswer (readCall dialect file.now starts.old ends.old kinds.old) }
-    ensures leaves_starts { starts.new ≡ (readCall dialect file.now starts.old ends.old kinds.old).starts }
-    ensures leaves_ends { ends.new ≡ (readCall dialect file.now starts.old ends.old kinds.old).ends }
-    ensures leaves_kinds { kinds.new ≡ (readCall dialect file.now starts.old ends.old kinds.old).kinds }
+    ensures answer { result ≡ call_answer (read_call dialect file.now starts.old ends.old kinds.old) }
+    ensures leaves_starts { starts.new ≡ (read_call dialect file.now starts.old ends.old kinds.old).starts }
+    ensures leaves_ends { ends.new ≡ (read_call dialect file.now starts.old ends.old kinds.old).ends }
+    ensures leaves_kinds { kinds.new ≡ (read_call dialect file.now starts.old ends.old kinds.old).kinds }
 {
     file_reader::read(dialect, file, starts, ends, kinds)
 }

@@ -3,7 +3,7 @@
 // has one caller here and is inlined into the loop over the steps.
 ghost use Rattle.std.specs.Prelude.{◌≡◌, length};
 ghost use Rattle.model.specs.rules.Ledger.{piece};
-ghost use Rattle.piece_converter.specs.Contract.{converterOf, newConverter, CallContract};
+ghost use Rattle.piece_converter.specs.Contract.{converter_of, new_converter, CallContract};
 
 use codes::TextAnswer;
 use piece_converter::{Converter, PieceAnswer};
@@ -11,7 +11,7 @@ use piece_converter::{Converter, PieceAnswer};
 // A converter from one dialect to another.
 #[unsafe(no_mangle)]
 pub extern "C" fn hk_converter_new(from: u32, to: u32) -> Converter
-    ensures { result ≡ newConverter from to }
+    ensures { result ≡ new_converter from to }
 {
     Converter::new(from, to)
 }
@@ -37,7 +37,7 @@ pub extern "C" fn hk_piece_lent(
     input: &[u8],
     out: &mut [u8],
 ) -> TextAnswer
-    ensures { CallContract (converterOf source target numbers.old ends.old name_ends.old bytes.old names.old) (piece input.now (length out.old)) out.old result (converterOf source target numbers.new ends.new name_ends.new bytes.new names.new) out.new }
+    ensures { CallContract (converter_of source target numbers.old ends.old name_ends.old bytes.old names.old) (piece input.now (length out.old)) out.old result (converter_of source target numbers.new ends.new name_ends.new bytes.new names.new) out.new }
 {
     piece_converter::lent::piece(
         source, target, numbers, ends, name_ends, bytes, names, input, out,

@@ -5,40 +5,40 @@ use Prim.Native.Nat.{ℕ, ◌+◌, ◌<◌, ◌≤◌}
 use native.Mathlib.Omega.{arith}
 use lib.ListN.{length, get_or}
 use Rattle.model.specs.rules.Base.{Bytes, same}
-use Rattle.model.specs.rules.Names.{foldName}
-use Rattle.model.proofs.name_laws.Folding.{fold-length}
+use Rattle.model.specs.rules.Names.{fold_name}
+use Rattle.model.proofs.name_laws.Folding.{fold_length}
 use Rattle.model.proofs.name_laws.SameBytes as bytes
 use Rattle.case_fold.specs.declared.AsciiNames.{AsciiNames}
 use Rattle.case_fold.specs.declared.AsciiNames.TheVariants.{Same, Different, Fallback}
-use Rattle.case_fold.specs.AsciiNames.{ComparedAsAscii, same-in-ascii, different-in-ascii, falls-back}
+use Rattle.case_fold.specs.AsciiNames.{ComparedAsAscii, same_in_ascii, different_in_ascii, falls_back}
 
 module _ (a b : Bytes) where
   -- names of different lengths are different
-  pub different-lengths : (length a ≡ length b → ⊥) → same (foldName a) (foldName b) ≡ false
-  different-lengths h = bytes.same-lengths (foldName a) (foldName b) (λ e. h (sym (fold-length a) ∙ e ∙ fold-length b))
+  pub different_lengths : (length a ≡ length b → ⊥) → same (fold_name a) (fold_name b) ≡ false
+  different_lengths h = bytes.same_lengths (fold_name a) (fold_name b) (λ e. h (sym (fold_length a) ∙ e ∙ fold_length b))
 
   -- whether they are the same from offset i on
-  abbrev pub sameFrom : ℕ → Bool
-  sameFrom i = bytes.sameFrom (foldName a) (foldName b) i
+  abbrev pub same_from : ℕ → Bool
+  same_from i = bytes.same_from (fold_name a) (fold_name b) i
 
-  pub same_end : (i : ℕ) → length a ≤ i → length b ≤ i → sameFrom i ≡ true
-  same_end i h k = bytes.same_end (foldName a) (foldName b) i (rw (fold-length a) h) (rw (fold-length b) k)
+  pub same_end : (i : ℕ) → length a ≤ i → length b ≤ i → same_from i ≡ true
+  same_end i h k = bytes.same_end (fold_name a) (fold_name b) i (rw (fold_length a) h) (rw (fold_length b) k)
 
   module _ (i : ℕ) (h : i < length a) (k : i < length b) where
-    pub same_differs : (get_or (foldName a) i 0 ≡ get_or (foldName b) i 0 → ⊥) → sameFrom i ≡ false
-    same_differs e = bytes.same_differs (foldName a) (foldName b) i (rw (fold-length a) h) (rw (fold-length b) k) e
+    pub same_differs : (get_or (fold_name a) i 0 ≡ get_or (fold_name b) i 0 → ⊥) → same_from i ≡ false
+    same_differs e = bytes.same_differs (fold_name a) (fold_name b) i (rw (fold_length a) h) (rw (fold_length b) k) e
 
-    pub same_next : get_or (foldName a) i 0 ≡ get_or (foldName b) i 0 → sameFrom i ≡ sameFrom (i + 1)
-    same_next e = bytes.same_next (foldName a) (foldName b) i (rw (fold-length a) h) (rw (fold-length b) k) e
+    pub same_next : get_or (fold_name a) i 0 ≡ get_or (fold_name b) i 0 → same_from i ≡ same_from (i + 1)
+    same_next e = bytes.same_next (fold_name a) (fold_name b) i (rw (fold_length a) h) (rw (fold_length b) k) e
 
   -- ---- names compared as ASCII
 
-  pub found-same : (r : AsciiNames) → ComparedAsAscii a b r → r ≡ Same → same (foldName a) (foldName b) ≡ true
-  found-same r (same-in-ascii e) z = e
-  found-same r (different-in-ascii e) z = let z : ◌≡◌ {A = ℕ} 0 1 = cc in absurd (omega arith)
-  found-same r falls-back z = let z : ◌≡◌ {A = ℕ} 0 1 = cc in absurd (omega arith)
+  pub found_same : (r : AsciiNames) → ComparedAsAscii a b r → r ≡ Same → same (fold_name a) (fold_name b) ≡ true
+  found_same r (same_in_ascii e) z = e
+  found_same r (different_in_ascii e) z = let z : ◌≡◌ {A = ℕ} 0 1 = cc in absurd (omega arith)
+  found_same r falls_back z = let z : ◌≡◌ {A = ℕ} 0 1 = cc in absurd (omega arith)
 
-  pub found-different : (r : AsciiNames) → ComparedAsAscii a b r → r ≡ Different → same (foldName a) (foldName b) ≡ false
-  found-different r (same-in-ascii e) z = let z : ◌≡◌ {A = ℕ} 0 1 = cc in absurd (omega arith)
-  found-different r (different-in-ascii e) z = e
-  found-different r falls-back z = let z : ◌≡◌ {A = ℕ} 0 1 = cc in absurd (omega arith)
+  pub found_different : (r : AsciiNames) → ComparedAsAscii a b r → r ≡ Different → same (fold_name a) (fold_name b) ≡ false
+  found_different r (same_in_ascii e) z = let z : ◌≡◌ {A = ℕ} 0 1 = cc in absurd (omega arith)
+  found_different r (different_in_ascii e) z = e
+  found_different r falls_back z = let z : ◌≡◌ {A = ℕ} 0 1 = cc in absurd (omega arith)

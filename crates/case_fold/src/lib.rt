@@ -1,5 +1,5 @@
 // Whether two TDIF names are the same, with upper and lower case folded one code point at a time (§4.10). In: the contents of two names.
-// Out: whether their keys are equal. Definitions: `foldName` of model's specs/rules/Names.antt, and byte by byte `foldAt` of its
+// Out: whether their keys are equal. Definitions: `fold_name` of model's specs/rules/Names.antt, and byte by byte `fold_at` of its
 // specs/laws/Folding.antt: a folded name is as long as the name, and each of its bytes depends on three bytes of the name.
 //
 // Names in ASCII are compared without the table. For others it is copied once for each comparison, not at each look-up, which would build
@@ -8,8 +8,8 @@
 // One computed test holds the table against the rule (proofs/Table.antt): where both change, no proof does.
 ghost use Rattle.std.specs.Prelude.{◌≡◌, true, ◌<◌, ◌≤◌, ◌∷◌, length, get_or, eqb};
 ghost use Rattle.model.specs.rules.Base.{same};
-ghost use Rattle.model.specs.rules.Names.{foldPoint, isPair, pairPoint, foldByte, foldName};
-ghost use Rattle.model.specs.laws.Folding.{FoldTable, first_of, second_of, foldAt};
+ghost use Rattle.model.specs.rules.Names.{fold_point, is_pair, pair_point, fold_byte, fold_name};
+ghost use Rattle.model.specs.laws.Folding.{FoldTable, first_of, second_of, fold_at};
 ghost use Rattle.case_fold.specs.AsciiNames.{ComparedAsAscii};
 
 // ---- the table
@@ -120,7 +120,7 @@ const FOLDED: [u16; 1280] = [
 // A code point of one byte or two.
 fn fold_point(table: &[u16; 1280], u: u16) -> u16
     requires { FoldTable table.now }
-    ensures { result ≡ foldPoint u }
+    ensures { result ≡ fold_point u }
 {
     if u < 1280 {
         return table[u as usize];
@@ -132,7 +132,7 @@ fn fold_point(table: &[u16; 1280], u: u16) -> u16
 
 // Whether two bytes are a character.
 fn is_pair(a: u8, b: u8) -> bool
-    ensures { result ≡ isPair a b }
+    ensures { result ≡ is_pair a b }
 {
     if a < 0xC2 {
         return false;
@@ -152,8 +152,8 @@ fn is_pair(a: u8, b: u8) -> bool
 // The code point of two bytes, folded.
 fn folded_pair(table: &[u16; 1280], a: u8, b: u8) -> u16
     requires fold_table { FoldTable table.now }
-    requires b_value { isPair a b ≡ true }
-    ensures { (result ≡ foldPoint (pairPoint a b)) × (0x80 ≤ result) × (result ≤ 0x7FF) }
+    requires b_value { is_pair a b ≡ true }
+    ensures { (result ≡ fold_point (pair_point a b)) × (0x80 ≤ result) × (result ≤ 0x7FF) }
 {
     fold_point(table, (a as u16 - 0xC0) * 0x40 + (b as u16 - 0x80))
 }
@@ -174,7 +174,7 @@ fn first_of(u: u16) -> u8
 
 // A byte that is no part of a pair: A to Z as a to z, without the table.
 fn lower_case(b: u8) -> u8
-    ensures { result ≡ foldByte b }
+    ensures { result ≡ fold_byte b }
 {
     if b < 0x41 {
         return b;
@@ -188,7 +188,7 @@ fn lower_case(b: u8) -> u8
 // A byte of a folded name, by itself and its neighbours.
 fn byte_between(table: &[u16; 1280], a: u8, b: u8, c: u8) -> u8
     requires { FoldTable table.now }
-    ensures { result ≡ foldAt a b c }
+    ensures { result ≡ fold_at a b c }
 {
     if is_pair(a, b) {
         return second_of(folded_pair(table, a, b));
@@ -222,7 +222,7 @@ fn byte_before(s: &[u8], i: usize) -> u8
 fn byte_at(table: &[u16; 1280], s: &[u8], i: usize) -> u8
     requires fold_table { FoldTable table.now }
     requires i_in_bounds { i < length s.now }
-    ensures { result ≡ get_or (foldName s.now) i 0 }
+    ensures { result ≡ get_or (fold_name s.now) i 0 }
 {
     byte_between(table, byte_before(s, i), s[i], byte_or_none(s, i + 1))
 }
@@ -264,7 +264,7 @@ fn compare_ascii(a: &[u8], b: &[u8]) -> AsciiNames
 fn same_at(table: &[u16; 1280], a: &[u8], b: &[u8], i: usize) -> bool
     requires fold_table { FoldTable table.now }
     requires i_in_bounds { (i < length a.now) × (i < length b.now) }
-    ensures { result ≡ eqb (get_or (foldName a.now) i 0) (get_or (foldName b.now) i 0) }
+    ensures { result ≡ eqb (get_or (fold_name a.now) i 0) (get_or (fold_name b.now) i 0) }
 {
     let x = a[i];
     let y = b[i];
@@ -279,7 +279,7 @@ fn same_at(table: &[u16; 1280], a: &[u8], b: &[u8], i: usize) -> bool
 fn same_by_table(table: &[u16; 1280], a: &[u8], b: &[u8]) -> bool
     requires fold_table { FoldTable table.now }
     requires a_len { length a.now ≡ length b.now }
-    ensures { result ≡ same (foldName a.now) (foldName b.now) }
+    ensures { result ≡ same (fold_name a.now) (fold_name b.now) }
 {
     let mut i = 0;
     while i < a.len() {
@@ -293,7 +293,7 @@ fn same_by_table(table: &[u16; 1280], a: &[u8], b: &[u8]) -> bool
 
 // Whether two names are the same in TDIF.
 pub fn same_name(a: &[u8], b: &[u8]) -> bool
-    ensures { result ≡ same (foldName a.now) (foldName b.now) }
+    ensures { result ≡ same (fold_name a.now) (fold_name b.now) }
 {
     if a.len() != b.len() {
         return false;

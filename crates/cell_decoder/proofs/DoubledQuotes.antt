@@ -7,34 +7,34 @@ use lib.ListN.{length, drop, get_or, drop_of_length-le}
 use borrow.Author.Tests.{eq-eqb, ne_eqb}
 use Rattle.model.specs.rules.Base.{if◌then◌else◌, Bytes}
 use Rattle.model.specs.rules.Decode.{undouble}
-use Rattle.buffer.proofs.WriteProgress.{drop-next}
+use Rattle.buffer.proofs.WriteProgress.{drop_next}
 
-pub at-end : (q : ℕ) (seen : Bool) (raw : Bytes) (i : ℕ) → length raw ≤ i → undouble q seen (drop i raw) ≡ []
+pub at_end : (q : ℕ) (seen : Bool) (raw : Bytes) (i : ℕ) → length raw ≤ i → undouble q seen (drop i raw) ≡ []
 unfolding undouble
-at-end q seen raw i h = rw (drop_of_length-le raw h)
+at_end q seen raw i h = rw (drop_of_length-le raw h)
 
 module _ (q : ℕ) (raw : Bytes) (i : ℕ) (h : i < length raw) where
   pub at_other : (get_or raw i 0 ≡ q → ⊥) → undouble q false (drop i raw) ≡ get_or raw i 0 ∷ undouble q false (drop (i + 1) raw)
   unfolding undouble if◌then◌else◌
-  at_other e = rw (drop-next raw i (i + 1) h refl, ne_eqb (get_or raw i 0) q e)
+  at_other e = rw (drop_next raw i (i + 1) h refl, ne_eqb (get_or raw i 0) q e)
 
   at_first : get_or raw i 0 ≡ q → undouble q false (drop i raw) ≡ undouble q true (drop (i + 1) raw)
   unfolding undouble if◌then◌else◌
-  at_first e = rw (drop-next raw i (i + 1) h refl, eq-eqb (get_or raw i 0) q e)
+  at_first e = rw (drop_next raw i (i + 1) h refl, eq-eqb (get_or raw i 0) q e)
 
   -- a second quote follows
-  pub at-double : get_or raw i 0 ≡ q → i + 1 < length raw → get_or raw (i + 1) 0 ≡ q
+  pub at_double : get_or raw i 0 ≡ q → i + 1 < length raw → get_or raw (i + 1) 0 ≡ q
       → undouble q false (drop i raw) ≡ get_or raw i 0 ∷ undouble q false (drop (i + 1 + 1) raw)
   unfolding undouble if◌then◌else◌
-  at-double e k f =
+  at_double e k f =
       at_first e
-      ∙ rw (drop-next raw (i + 1) (i + 1 + 1) k refl, eq-eqb (get_or raw (i + 1) 0) q f)
+      ∙ rw (drop_next raw (i + 1) (i + 1 + 1) k refl, eq-eqb (get_or raw (i + 1) 0) q f)
       (ap (λ (b : ℕ). b ∷ undouble q false (drop (i + 1 + 1) raw)) (f ∙ sym e))
 
   -- no second quote follows
-  pub at-close : get_or raw i 0 ≡ q → i + 1 < length raw → (get_or raw (i + 1) 0 ≡ q → ⊥) → undouble q false (drop i raw) ≡ []
+  pub at_close : get_or raw i 0 ≡ q → i + 1 < length raw → (get_or raw (i + 1) 0 ≡ q → ⊥) → undouble q false (drop i raw) ≡ []
   unfolding undouble if◌then◌else◌
-  at-close e k f = at_first e ∙ rw (drop-next raw (i + 1) (i + 1 + 1) k refl, ne_eqb (get_or raw (i + 1) 0) q f)
+  at_close e k f = at_first e ∙ rw (drop_next raw (i + 1) (i + 1 + 1) k refl, ne_eqb (get_or raw (i + 1) 0) q f)
 
   pub at_last : get_or raw i 0 ≡ q → length raw ≤ i + 1 → undouble q false (drop i raw) ≡ []
-  at_last e k = at_first e ∙ at-end q true raw (i + 1) k
+  at_last e k = at_first e ∙ at_end q true raw (i + 1) k

@@ -8,41 +8,41 @@ use Rattle.model.specs.declared.Settings.{Settings}
 use Rattle.model.specs.declared.Dialect.{Dialect}
 use Rattle.model.specs.declared.Dialect.TheVariants.{Csvj, Tdif, CsvPlus}
 use Rattle.model.specs.rules.Base.{if◌then◌else◌, ◌is◌, Bytes, QUOTE}
-use Rattle.model.specs.rules.Dialect.{quoteOf}
-use Rattle.model.specs.rules.Decode.{contentOf, undouble, between, units, text_of}
-use Rattle.model.specs.rules.Cell.{isDigit}
+use Rattle.model.specs.rules.Dialect.{quote_of}
+use Rattle.model.specs.rules.Decode.{content_of, undouble, between, units, text_of}
+use Rattle.model.specs.rules.Cell.{is_digit}
 use Rattle.model.proofs.Tests.{split}
 use Rattle.cell_decoder.specs.declared.first_byte.Spelling.{Spelling}
 use Rattle.cell_decoder.specs.declared.first_byte.Spelling.TheVariants.{Nothing, AsItStands, Doubled, Escaped}
-use Rattle.cell_decoder.specs.FirstByte.{spellingBy, contentIn}
+use Rattle.cell_decoder.specs.FirstByte.{spelling_by, content_in}
 
-plus_none : (s : Settings) → contentIn (spellingBy (CsvPlus s) 0) [] ≡ []
-unfolding spellingBy undouble
-plus_none s = split (λ (k : Spelling). contentIn k [] ≡ []) (0 is quoteOf (CsvPlus s)) (λ _. refl) λ _. refl
+plus_none : (s : Settings) → content_in (spelling_by (CsvPlus s) 0) [] ≡ []
+unfolding spelling_by undouble
+plus_none s = split (λ (k : Spelling). content_in k [] ≡ []) (0 is quote_of (CsvPlus s)) (λ _. refl) λ _. refl
 
 -- a choice of encodings, by a test
-in-choice : (t : Bool) (x y : Spelling) (raw : Bytes) → contentIn (if t then x else y) raw ≡ (if t then contentIn x raw else contentIn y raw)
+in_choice : (t : Bool) (x y : Spelling) (raw : Bytes) → content_in (if t then x else y) raw ≡ (if t then content_in x raw else content_in y raw)
 unfolding if◌then◌else◌
-in-choice true x y raw = refl
-in-choice false x y raw = refl
+in_choice true x y raw = refl
+in_choice false x y raw = refl
 
-pub content-first : (d : Dialect) (raw : Bytes) → contentIn (spellingBy d (get_or raw 0 0)) raw ≡ contentOf d raw
-unfolding spellingBy contentOf if◌then◌else◌
-content-first Csvj [] = refl
-content-first Csvj (b ∷ bs) =
-    in-choice (b is QUOTE) Escaped (if b is 0x2D || isDigit b then AsItStands else Nothing) (b ∷ bs)
-    ∙ ap (λ (l : Bytes). if b is QUOTE then text_of (units between bs) else l) (in-choice (b is 0x2D || isDigit b) AsItStands Nothing (b ∷ bs))
-content-first Tdif [] = refl
-content-first Tdif (b ∷ bs) = in-choice (b is QUOTE) (Doubled QUOTE) Nothing (b ∷ bs)
-content-first (CsvPlus s) [] = plus_none s
-content-first (CsvPlus s) (b ∷ bs) = in-choice (b is quoteOf (CsvPlus s)) (Doubled (quoteOf (CsvPlus s))) AsItStands (b ∷ bs)
+pub content_first : (d : Dialect) (raw : Bytes) → content_in (spelling_by d (get_or raw 0 0)) raw ≡ content_of d raw
+unfolding spelling_by content_of if◌then◌else◌
+content_first Csvj [] = refl
+content_first Csvj (b ∷ bs) =
+    in_choice (b is QUOTE) Escaped (if b is 0x2D || is_digit b then AsItStands else Nothing) (b ∷ bs)
+    ∙ ap (λ (l : Bytes). if b is QUOTE then text_of (units between bs) else l) (in_choice (b is 0x2D || is_digit b) AsItStands Nothing (b ∷ bs))
+content_first Tdif [] = refl
+content_first Tdif (b ∷ bs) = in_choice (b is QUOTE) (Doubled QUOTE) Nothing (b ∷ bs)
+content_first (CsvPlus s) [] = plus_none s
+content_first (CsvPlus s) (b ∷ bs) = in_choice (b is quote_of (CsvPlus s)) (Doubled (quote_of (CsvPlus s))) AsItStands (b ∷ bs)
 
 -- the encoding after the dialect's own quote
-pub encoded-tdif : (d : Dialect) (q b : ℕ) (r : Spelling) → d ≡ Tdif → q ≡ quoteOf d → r ≡ (if b is q then Doubled q else Nothing) → r ≡ spellingBy d b
-unfolding spellingBy
-encoded-tdif d q b r e f h = rw e (rw (f, e) at h)
+pub encoded_tdif : (d : Dialect) (q b : ℕ) (r : Spelling) → d ≡ Tdif → q ≡ quote_of d → r ≡ (if b is q then Doubled q else Nothing) → r ≡ spelling_by d b
+unfolding spelling_by
+encoded_tdif d q b r e f h = rw e (rw (f, e) at h)
 
-pub encoded-plus : (d : Dialect) (s : Settings) (q b : ℕ) (r : Spelling) → d ≡ CsvPlus s → q ≡ quoteOf d
-    → r ≡ (if b is q then Doubled q else AsItStands) → r ≡ spellingBy d b
-unfolding spellingBy
-encoded-plus d s q b r e f h = rw e (rw (f, e) at h)
+pub encoded_plus : (d : Dialect) (s : Settings) (q b : ℕ) (r : Spelling) → d ≡ CsvPlus s → q ≡ quote_of d
+    → r ≡ (if b is q then Doubled q else AsItStands) → r ≡ spelling_by d b
+unfolding spelling_by
+encoded_plus d s q b r e f h = rw e (rw (f, e) at h)

@@ -5,7 +5,7 @@ use Rattle.model.specs.declared.Dialect.{Dialect}
 use Rattle.model.specs.declared.CellCheck.TheVariants.{WholeCell}
 use Rattle.model.specs.rules.Base.{Bytes}
 use Rattle.model.specs.rules.Report.{accepted}
-use Rattle.model.specs.rules.Decode.{kindNumber, validateCell}
+use Rattle.model.specs.rules.Decode.{kind_number, validate_cell}
 use Rattle.model.specs.rules.Api as api
 use Rattle.cell_decoder.specs.declared.Decoded.{Decoded}
 use Rattle.cell_decoder.specs.declared.Decoded.TheVariants.{Content, Refused}
@@ -16,17 +16,17 @@ pub record CellAnswer : Type 0 where
   pub size : ℕ
 
 -- what each case of the decoder's enum means: the content's length and kind, or a refusal, whose length and kind are 0 (§9.2 §11.1 §19.7)
-abbrev pub givenAnswer : Decoded → CellAnswer
-givenAnswer (Content n k) = record { report = accepted; kind = kindNumber k; size = n }
-givenAnswer (Refused e) = record { report = e; kind = 0; size = 0 }
+abbrev pub given_answer : Decoded → CellAnswer
+given_answer (Content n k) = record { report = accepted; kind = kind_number k; size = n }
+given_answer (Refused e) = record { report = e; kind = 0; size = 0 }
 
 -- the definition's answer with the length of its content; the content itself is in the room
-abbrev pub decoderAnswer : api.Decoded → CellAnswer
-decoderAnswer a = record { report = a.report; kind = a.kind; size = length a.content }
+abbrev pub decoder_answer : api.Decoded → CellAnswer
+decoder_answer a = record { report = a.report; kind = a.kind; size = length a.content }
 
 -- the definition of a call that knows its dialect, for a cell that is known to be sound and for any
-abbrev pub soundCell : Dialect → Bytes → (room : ℕ) → api.Decoded
-soundCell d raw room = api.decodedAs d raw room WholeCell
+abbrev pub sound_cell : Dialect → Bytes → (room : ℕ) → api.Decoded
+sound_cell d raw room = api.decoded_as d raw room WholeCell
 
-abbrev pub anyCell : Dialect → Bytes → (room : ℕ) → api.Decoded
-anyCell d raw room = api.decodedAs d raw room (validateCell d raw)
+abbrev pub any_cell : Dialect → Bytes → (room : ℕ) → api.Decoded
+any_cell d raw room = api.decoded_as d raw room (validate_cell d raw)

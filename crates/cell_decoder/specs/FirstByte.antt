@@ -3,24 +3,24 @@ use Rattle.std.specs.Prelude.{ℕ, false, ◌||◌, [], drop}
 use Rattle.model.specs.declared.Dialect.{Dialect}
 use Rattle.model.specs.declared.Dialect.TheVariants.{Csvj, Tdif, CsvPlus}
 use Rattle.model.specs.rules.Base.{if◌then◌else◌, ◌is◌, Bytes, QUOTE}
-use Rattle.model.specs.rules.Dialect.{quoteOf}
-use Rattle.model.specs.rules.Cell.{isDigit}
+use Rattle.model.specs.rules.Dialect.{quote_of}
+use Rattle.model.specs.rules.Cell.{is_digit}
 use Rattle.model.specs.rules.Decode.{undouble}
 use Rattle.cell_decoder.specs.declared.first_byte.Spelling.{Spelling}
 use Rattle.cell_decoder.specs.declared.first_byte.Spelling.TheVariants.{Nothing, AsItStands, Doubled, Escaped}
-use Rattle.cell_decoder.specs.Strings.{stringFrom}
+use Rattle.cell_decoder.specs.Strings.{string_from}
 
-unfoldable pub spellingBy : Dialect → ℕ → Spelling
-spellingBy Csvj b =
+unfoldable pub spelling_by : Dialect → ℕ → Spelling
+spelling_by Csvj b =
     if b is QUOTE then Escaped
-    else if b is 0x2D || isDigit b then AsItStands
+    else if b is 0x2D || is_digit b then AsItStands
     else Nothing
-spellingBy Tdif b = if b is QUOTE then Doubled QUOTE else Nothing
-spellingBy (CsvPlus s) b = if b is quoteOf (CsvPlus s) then Doubled (quoteOf (CsvPlus s)) else AsItStands
+spelling_by Tdif b = if b is QUOTE then Doubled QUOTE else Nothing
+spelling_by (CsvPlus s) b = if b is quote_of (CsvPlus s) then Doubled (quote_of (CsvPlus s)) else AsItStands
 
 -- the content of a cell in this encoding
-abbrev pub contentIn : Spelling → Bytes → Bytes
-contentIn Nothing raw = []
-contentIn AsItStands raw = raw
-contentIn (Doubled q) raw = undouble q false (drop 1 raw)
-contentIn Escaped raw = stringFrom raw 1
+abbrev pub content_in : Spelling → Bytes → Bytes
+content_in Nothing raw = []
+content_in AsItStands raw = raw
+content_in (Doubled q) raw = undouble q false (drop 1 raw)
+content_in Escaped raw = string_from raw 1

@@ -1,11 +1,11 @@
 // The content of a cell, measured or written into a lent room: the encoding and the raw bytes go in, the length or the content comes out.
-// The definition is `contentIn` of specs/FirstByte.antt (`contentOf` of model's specs/rules/Decode.antt). The loops are proved by
+// The definition is `content_in` of specs/FirstByte.antt (`content_of` of model's specs/rules/Decode.antt). The loops are proved by
 // `Writing` of buffer; a new encoding is a pair of functions and an arm in `length_in` and `write_in`.
 ghost use Rattle.std.specs.Prelude.{◌≡◌, ◌+◌, ◌<◌, ◌≤◌, false, length, drop, get_or};
 ghost use Rattle.model.specs.rules.Base.{BACKSLASH, over};
 ghost use Rattle.model.specs.rules.Decode.{undouble};
-ghost use Rattle.cell_decoder.specs.Strings.{stringFrom};
-ghost use Rattle.cell_decoder.specs.FirstByte.{contentIn};
+ghost use Rattle.cell_decoder.specs.Strings.{string_from};
+ghost use Rattle.cell_decoder.specs.FirstByte.{content_in};
 ghost use Rattle.cell_decoder.specs.WrittenContent.{Stepped};
 
 use crate::escape;
@@ -63,7 +63,7 @@ fn write_undoubled(q: u8, raw: &[u8], out: &mut [u8])
 
 // The length of the string after an opening quote.
 fn string_length(raw: &[u8]) -> usize
-    ensures { result ≡ length (stringFrom raw.now 1) }
+    ensures { result ≡ length (string_from raw.now 1) }
 {
     let mut i = 1;
     let mut n: usize = 0;
@@ -94,7 +94,7 @@ struct Cursor {
 // The escape whose backslash is at i, written at o.
 fn write_escape(raw: &[u8], i: usize, out: &mut [u8], o: usize) -> Cursor
     requires i_in_bounds { (i < length raw.now) × (get_or raw.now i 0 ≡ BACKSLASH) }
-    requires i_in_bounds_2 { o + length (stringFrom raw.now i) ≤ length out.old }
+    requires i_in_bounds_2 { o + length (string_from raw.now i) ≤ length out.old }
     ensures { Stepped raw.now i out.old o out.new result.read result.write }
 {
     let p = escape::unescape_at(raw, i);
@@ -109,8 +109,8 @@ fn write_escape(raw: &[u8], i: usize, out: &mut [u8], o: usize) -> Cursor
 
 // The string after an opening quote.
 fn write_string(raw: &[u8], out: &mut [u8])
-    requires { length (stringFrom raw.now 1) ≤ length out.old }
-    ensures { out.new ≡ over (stringFrom raw.now 1) out.old }
+    requires { length (string_from raw.now 1) ≤ length out.old }
+    ensures { out.new ≡ over (string_from raw.now 1) out.old }
 {
     let mut i = 1;
     let mut o = 0;
@@ -135,7 +135,7 @@ fn write_string(raw: &[u8], out: &mut [u8])
 
 // The length of content in this encoding.
 pub fn length_in(s: Spelling, raw: &[u8]) -> usize
-    ensures { result ≡ length (contentIn s raw.now) }
+    ensures { result ≡ length (content_in s raw.now) }
 {
     match s {
         Spelling::Nothing => 0,
@@ -147,8 +147,8 @@ pub fn length_in(s: Spelling, raw: &[u8]) -> usize
 
 // Content in this encoding, at the beginning of out.
 pub fn write_in(s: Spelling, raw: &[u8], out: &mut [u8])
-    requires { length (contentIn s raw.now) ≤ length out.old }
-    ensures { out.new ≡ over (contentIn s raw.now) out.old }
+    requires { length (content_in s raw.now) ≤ length out.old }
+    ensures { out.new ≡ over (content_in s raw.now) out.old }
 {
     match s {
         Spelling::Nothing => {}

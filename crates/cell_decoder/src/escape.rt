@@ -4,7 +4,7 @@
 // The escape of a high surrogate looks ahead for a low one (§2.8), so that no state is saved from one escape to the next.
 ghost use Rattle.std.specs.Prelude.{◌≡◌, ◌+◌, ◌-◌, ◌<◌, ◌≤◌, length, get_or};
 ghost use Rattle.model.specs.rules.Base.{BACKSLASH};
-ghost use Rattle.model.specs.rules.Decode.{hexOf, short_of};
+ghost use Rattle.model.specs.rules.Decode.{hex_of, short_of};
 ghost use Rattle.cell_decoder.specs.Strings.{unit_at, UnitThere, LowAt, Proceeds};
 ghost use Rattle.utf8.specs.Codes.{Packs};
 
@@ -28,7 +28,7 @@ fn saturating_sub(b: u8, by: u8) -> u32
 
 // The value of a hexadecimal digit.
 fn hex_of(b: u8) -> u32
-    ensures { (result ≡ hexOf b) × (result ≤ 168) }
+    ensures { (result ≡ hex_of b) × (result ≤ 168) }
 {
     if b <= 0x39 {
         return saturating_sub(b, 0x30);

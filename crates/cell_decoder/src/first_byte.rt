@@ -1,7 +1,7 @@
-// The encoding of a cell's content, from its first byte. The definition is `spellingBy` of specs/FirstByte.antt.
+// The encoding of a cell's content, from its first byte. The definition is `spelling_by` of specs/FirstByte.antt.
 ghost use Rattle.std.specs.Prelude.{◌≡◌};
 ghost use Rattle.model.specs.rules.Base.{if◌then◌else◌, ◌is◌};
-ghost use Rattle.cell_decoder.specs.FirstByte.{spellingBy};
+ghost use Rattle.cell_decoder.specs.FirstByte.{spelling_by};
 ghost use Rattle.model.specs.declared.Dialect.TheVariants.{Csvj};
 ghost use Rattle.cell_decoder.specs.declared.first_byte.Spelling.TheVariants.{Doubled};
 
@@ -21,7 +21,7 @@ pub enum Spelling {
 }
 
 fn csvj_spelling(b: u8) -> Spelling
-    ensures { result ≡ spellingBy Csvj b }
+    ensures { result ≡ spelling_by Csvj b }
 {
     if b == 0x22 {
         return Spelling::Escaped;
@@ -49,7 +49,7 @@ fn doubled_or(q: u8, b: u8, other: Spelling) -> Spelling
 }
 
 pub fn spelling_by(d: Dialect, b: u8) -> Spelling
-    ensures { result ≡ spellingBy d b }
+    ensures { result ≡ spelling_by d b }
 {
     let q = cell_lexer::quote_of(d);
     match d {

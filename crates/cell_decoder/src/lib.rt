@@ -2,16 +2,16 @@
 // length and kind as the answer, or a refusal that leaves the room unchanged.
 //
 // It validates and measures first and writes afterwards, so that nothing is written before all is known to fit. The definitions are
-// model's specs/rules/Decode.antt, and `decoder` and `decoderLeaves` of its specs/rules/Api.antt; specs/Answer.antt says what an answer
+// model's specs/rules/Decode.antt, and `decoder` and `decoder_leaves` of its specs/rules/Api.antt; specs/Answer.antt says what an answer
 // means in the rules' numbers.
 //
 // source.rt says what the bytes of a cell are, first_byte.rt how they are encoded, validate.rt checks them by the automaton, escape.rt
 // reads an escape of CSVJ, and content.rt measures and writes.
 ghost use Rattle.std.specs.Prelude.{◌≡◌, ◌≤◌, length};
 ghost use Rattle.model.specs.rules.Base.{over};
-ghost use Rattle.model.specs.rules.Decode.{contentOf};
-ghost use Rattle.model.specs.rules.Api.{decoder, decoderLeaves};
-ghost use Rattle.cell_decoder.specs.Answer.{givenAnswer, decoderAnswer, soundCell, anyCell};
+ghost use Rattle.model.specs.rules.Decode.{content_of};
+ghost use Rattle.model.specs.rules.Api.{decoder, decoder_leaves};
+ghost use Rattle.cell_decoder.specs.Answer.{given_answer, decoder_answer, sound_cell, any_cell};
 
 use codes::{NamedDialect, cell};
 use model::{CellCheck, Dialect, Kind, Report};
@@ -34,23 +34,23 @@ pub enum Decoded {
 
 // The length of the content of a cell.
 pub fn content_length(d: Dialect, raw: &[u8]) -> usize
-    ensures { result ≡ length (contentOf d raw.now) }
+    ensures { result ≡ length (content_of d raw.now) }
 {
     content::length_in(first_byte::spelling_by(d, cell::first_of(raw)), raw)
 }
 
 // The content of a cell, at the beginning of a room that has space for it.
 fn write_content(d: Dialect, raw: &[u8], room: &mut [u8])
-    requires { length (contentOf d raw.now) ≤ length room.old }
-    ensures { room.new ≡ over (contentOf d raw.now) room.old }
+    requires { length (content_of d raw.now) ≤ length room.old }
+    ensures { room.new ≡ over (content_of d raw.now) room.old }
 {
     content::write_in(first_byte::spelling_by(d, cell::first_of(raw)), raw, room)
 }
 
 // A cell that is not validated again: 10 if its content is longer than the room (§11.6).
 pub fn decode_sound(d: Dialect, raw: &[u8], room: &mut [u8]) -> Decoded
-    ensures result_value { givenAnswer result ≡ decoderAnswer (soundCell d raw.now (length room.old)) }
-    ensures room_after { room.new ≡ over (soundCell d raw.now (length room.old)).content room.old }
+    ensures result_value { given_answer result ≡ decoder_answer (sound_cell d raw.now (length room.old)) }
+    ensures room_after { room.new ≡ over (sound_cell d raw.now (length room.old)).content room.old }
 {
     let size = content_length(d, raw);
     if room.len() < size {
@@ -67,8 +67,8 @@ pub fn decode_sound(d: Dialect, raw: &[u8], room: &mut [u8]) -> Decoded
 
 // A cell of this dialect: 2, 3 or 4 if the bytes are no single cell (§11.2 §11.3 §11.4).
 pub fn decode_cell(d: Dialect, raw: &[u8], room: &mut [u8]) -> Decoded
-    ensures result_value { givenAnswer result ≡ decoderAnswer (anyCell d raw.now (length room.old)) }
-    ensures room_after { room.new ≡ over (anyCell d raw.now (length room.old)).content room.old }
+    ensures result_value { given_answer result ≡ decoder_answer (any_cell d raw.now (length room.old)) }
+    ensures room_after { room.new ≡ over (any_cell d raw.now (length room.old)).content room.old }
 {
     match validate::validate_cell(d, raw) {
         CellCheck::WholeCell => decode_sound(d, raw, room),
@@ -81,8 +81,8 @@ pub fn decode_cell(d: Dialect, raw: &[u8], room: &mut [u8]) -> Decoded
 // The decoder (§11.1): 11 for a number that is no dialect's. It ends on every input, and its answer and its room are determined for all
 // of them (§19.1 §19.5 §19.6).
 pub fn decode(dialect: u32, raw: &[u8], room: &mut [u8]) -> Decoded
-    ensures answer { givenAnswer result ≡ decoderAnswer (decoder dialect raw.now (length room.old)) }
-    ensures leaves { room.new ≡ decoderLeaves dialect raw.now room.old }
+    ensures answer { given_answer result ≡ decoder_answer (decoder dialect raw.now (length room.old)) }
+    ensures leaves { room.new ≡ decoder_leaves dialect raw.now room.old }
 {
     match codes::dialect_of(dialect) {
         NamedDialect::Known(d) => decode_cell(d, raw, room),

@@ -1,9 +1,9 @@
 // What the bytes of a cell are: its raw bytes in a file of some dialect, or the content itself, as the writer gets it. So the checks and
 // writers above have one proof for both. The definitions are those of specs/Sources.antt.
 ghost use Rattle.std.specs.Prelude.{◌≡◌};
-ghost use Rattle.model.specs.rules.Text.{isText};
-ghost use Rattle.cell_decoder.specs.FirstByte.{contentIn};
-ghost use Rattle.cell_decoder.specs.Sources.{kindFrom, contentBy, spellingIn};
+ghost use Rattle.model.specs.rules.Text.{is_text};
+ghost use Rattle.cell_decoder.specs.FirstByte.{content_in};
+ghost use Rattle.cell_decoder.specs.Sources.{kind_from, content_by, spelling_in};
 
 use crate::first_byte;
 use crate::first_byte::Spelling;
@@ -18,7 +18,7 @@ pub enum Source {
 
 // The kind that a number names, and null for a number that names none.
 pub fn kind_of_number(number: u8) -> Kind
-    ensures { result ≡ kindFrom number }
+    ensures { result ≡ kind_from number }
 {
     match codes::kind_named(number) {
         NamedKind::Known(k) => k,
@@ -27,7 +27,7 @@ pub fn kind_of_number(number: u8) -> Kind
 }
 
 pub fn is_text(k: Kind) -> bool
-    ensures { result ≡ isText k }
+    ensures { result ≡ is_text k }
 {
     match k {
         Kind::Text => true,
@@ -40,8 +40,8 @@ pub fn is_text(k: Kind) -> bool
 
 // The encoding of a cell's content.
 pub fn spelling_in(src: Source, raw: &[u8]) -> Spelling
-    ensures raw_value { contentIn result raw.now ≡ contentBy src raw.now }
-    ensures value { result ≡ spellingIn src raw.now }
+    ensures raw_value { content_in result raw.now ≡ content_by src raw.now }
+    ensures value { result ≡ spelling_in src raw.now }
 {
     match src {
         Source::File(d) => first_byte::spelling_by(d, cell::first_of(raw)),

@@ -1,7 +1,7 @@
 // Whether raw bytes are a single cell: the cell's automaton runs over all of them, and its end is the check result. The definition is
-// `validateCell` of model's specs/rules/Decode.antt.
+// `validate_cell` of model's specs/rules/Decode.antt.
 ghost use Rattle.std.specs.Prelude.{◌≡◌};
-ghost use Rattle.model.specs.rules.Decode.{validateCell};
+ghost use Rattle.model.specs.rules.Decode.{validate_cell};
 
 use cell_scanner::CellEnd;
 use codes::cell;
@@ -9,7 +9,7 @@ use model::{ByteFault, Cell, CellCheck, Dialect, Fault};
 
 // A single cell is all of raw, from its first byte on.
 pub fn validate_cell(d: Dialect, raw: &[u8]) -> CellCheck
-    ensures { result ≡ validateCell d raw.now }
+    ensures { result ≡ validate_cell d raw.now }
 {
     match cell_scanner::cell_end(d, Cell::Fresh, raw, 0, raw.len()) {
         CellEnd::Stopped(_, at) => CellCheck::Unsound {

@@ -18,45 +18,45 @@ use Rattle.model.specs.declared.Cell.TheVariants.{Fresh, Plain}
 use Rattle.model.specs.declared.CellStep.{CellStep}
 use Rattle.model.specs.declared.CellStep.TheVariants.{More, Stop, Refuse}
 use Rattle.model.specs.rules.Base.{Bytes, if◌then◌else◌, ◌is◌, CR, LF}
-use Rattle.model.specs.rules.Dialect.{quoteOf, delimiterOf, quoteByte, delimiterByte}
-use Rattle.model.specs.rules.Cell.{mayBeEmpty, firstByte, plain_byte, cellStep}
+use Rattle.model.specs.rules.Dialect.{quote_of, delimiter_of, quote_byte, delimiter_byte}
+use Rattle.model.specs.rules.Cell.{may_be_empty, first_byte, plain_byte, cell_step}
 use Rattle.model.proofs.Tests.{impossible}
 use Rattle.cell_scanner.specs.declared.CellEnd.TheVariants.{Stopped}
-use Rattle.cell_scanner.proofs.Runs.{rest_more, rest-stops, rest-refused}
+use Rattle.cell_scanner.proofs.Runs.{rest_more, rest_stops, rest_refused}
 use Rattle.cell_fast.specs.Ends.{bare, EndsFrom, CellEndSound}
-use Rattle.cell_fast.specs.TextRuns.{TextRun, isOpen}
-use Rattle.cell_fast.specs.CellOutcome.{isEnd}
-use Rattle.cell_fast.proofs.CellOutcomes.{ends-here}
-use Rattle.cell_fast.proofs.TextRuns.{text-clean, plain-results}
+use Rattle.cell_fast.specs.TextRuns.{TextRun, is_open}
+use Rattle.cell_fast.specs.CellOutcome.{is_end}
+use Rattle.cell_fast.proofs.CellOutcomes.{ends_here}
+use Rattle.cell_fast.proofs.TextRuns.{text_clean, plain_results}
 
 -- two states in which a byte has the same effect end at the same offset
 same_end : {d : Dialect} {s : Bytes} {stop at end : ℕ} (c t : Cell) → at < stop → stop ≤ length s
-    → cellStep d c (get_or s at 0) ≡ cellStep d t (get_or s at 0) → EndsFrom d s stop t at end → EndsFrom d s stop c at end
-same_end {d} {s} {stop} {at} {end} c t h k same x = go (cellStep d t (get_or s at 0)) refl
+    → cell_step d c (get_or s at 0) ≡ cell_step d t (get_or s at 0) → EndsFrom d s stop t at end → EndsFrom d s stop c at end
+same_end {d} {s} {stop} {at} {end} c t h k same x = go (cell_step d t (get_or s at 0)) refl
   where
-    go : (o : CellStep) → cellStep d t (get_or s at 0) ≡ o → EndsFrom d s stop c at end
+    go : (o : CellStep) → cell_step d t (get_or s at 0) ≡ o → EndsFrom d s stop c at end
     go (More u) e = record { cell = x.cell; ran = rest_more d c s at stop h k u (same ∙ e) ∙ sym (rest_more d t s at stop h k u e) ∙ x.ran }
     go Stop e =
-        let z : Stopped t at ≡ Stopped x.cell end = sym (rest-stops d t s at stop h k e) ∙ x.ran in
+        let z : Stopped t at ≡ Stopped x.cell end = sym (rest_stops d t s at stop h k e) ∙ x.ran in
         let n : at ≡ end = cc in
-        record { cell = c; ran = rest-stops d c s at stop h k (same ∙ e) ∙ ap (Stopped c) n }
+        record { cell = c; ran = rest_stops d c s at stop h k (same ∙ e) ∙ ap (Stopped c) n }
     go (Refuse f) e =
-        let z = sym (rest-refused d t s at stop h k f e) ∙ x.ran in
+        let z = sym (rest_refused d t s at stop h k f e) ∙ x.ran in
         let w : ◌≡◌ {A = ℕ} 0 1 = cc in
         absurd (omega arith)
 
-first-same : (d : Dialect) (b : ℕ) → mayBeEmpty d ≡ true → ¬ (b ≡ quoteOf d) → cellStep d Fresh b ≡ cellStep d (Plain Whole) b
-unfolding cellStep firstByte plain_byte if◌then◌else◌
-first-same Csvj b m n = impossible m
-first-same Tdif b m n = impossible m
-first-same (CsvPlus s) b m n = rw (ne_eqb b (quoteOf (CsvPlus s)) n)
+first_same : (d : Dialect) (b : ℕ) → may_be_empty d ≡ true → ¬ (b ≡ quote_of d) → cell_step d Fresh b ≡ cell_step d (Plain Whole) b
+unfolding cell_step first_byte plain_byte if◌then◌else◌
+first_same Csvj b m n = impossible m
+first_same Tdif b m n = impossible m
+first_same (CsvPlus s) b m n = rw (ne_eqb b (quote_of (CsvPlus s)) n)
 
-end-no-quote : (d : Dialect) (b : ℕ) → mayBeEmpty d ≡ true → isEnd (delimiterOf d) b ≡ true → (b is quoteOf d) ≡ false
-end-no-quote Csvj b m e = impossible m
-end-no-quote Tdif b m e = impossible m
-end-no-quote (CsvPlus s) b m e = ne_eqb b (quoteByte s.quote) (go s.delimiter s.quote e)
+end_no_quote : (d : Dialect) (b : ℕ) → may_be_empty d ≡ true → is_end (delimiter_of d) b ≡ true → (b is quote_of d) ≡ false
+end_no_quote Csvj b m e = impossible m
+end_no_quote Tdif b m e = impossible m
+end_no_quote (CsvPlus s) b m e = ne_eqb b (quote_byte s.quote) (go s.delimiter s.quote e)
   where
-    go : (p : Delimiter) (q : Quote) → isEnd (delimiterByte p) b ≡ true → ¬ (b ≡ quoteByte q)
+    go : (p : Delimiter) (q : Quote) → is_end (delimiter_byte p) b ≡ true → ¬ (b ≡ quote_byte q)
     go Comma Double f h = impossible (rw h at f)
     go Comma Single f h = impossible (rw h at f)
     go Semicolon Double f h = impossible (rw h at f)
@@ -66,9 +66,9 @@ end-no-quote (CsvPlus s) b m e = ne_eqb b (quoteByte s.quote) (go s.delimiter s.
     go Bar Double f h = impossible (rw h at f)
     go Bar Single f h = impossible (rw h at f)
 
-end-stops : (d : Dialect) (b : ℕ) → mayBeEmpty d ≡ true → isEnd (delimiterOf d) b ≡ true → cellStep d (Plain Whole) b ≡ Stop
-unfolding cellStep plain_byte if◌then◌else◌
-end-stops d b m e = rw (end-no-quote d b m e, go (b is delimiterOf d) (b is LF) (b is CR) e)
+end_stops : (d : Dialect) (b : ℕ) → may_be_empty d ≡ true → is_end (delimiter_of d) b ≡ true → cell_step d (Plain Whole) b ≡ Stop
+unfolding cell_step plain_byte if◌then◌else◌
+end_stops d b m e = rw (end_no_quote d b m e, go (b is delimiter_of d) (b is LF) (b is CR) e)
   where
     go : (x y z : Bool) → (x || y || z) ≡ true → (x || z || y) ≡ true
     go true y z f = refl
@@ -77,9 +77,9 @@ end-stops d b m e = rw (end-no-quote d b m e, go (b is delimiterOf d) (b is LF) 
     go false false true f = refl
     go false false false f = impossible f
 
-pub plain-found : (d : Dialect) {s : Bytes} {at stop i : ℕ} → mayBeEmpty d ≡ true → at < stop → stop ≤ length s → ¬ (get_or s at 0 ≡ quoteOf d)
-    → TextRun (isOpen (delimiterOf d) (quoteOf d)) s at stop i → i < stop → isEnd (delimiterOf d) (get_or s i 0) ≡ true → CellEndSound d s at stop i true
-plain-found d {s} {at} {stop} {i} m h k n x l e =
-    let plain = ends-here (plain-results d x k) l k (end-stops d (get_or s i 0) m e) in
-    let whole = same_end Fresh (Plain Whole) h k (first-same d (get_or s at 0) m n) plain in
-    record { ends = λ _. whole; content = λ _ _. bare m (text-clean (delimiterOf d) (quoteOf d) x).each }
+pub plain_found : (d : Dialect) {s : Bytes} {at stop i : ℕ} → may_be_empty d ≡ true → at < stop → stop ≤ length s → ¬ (get_or s at 0 ≡ quote_of d)
+    → TextRun (is_open (delimiter_of d) (quote_of d)) s at stop i → i < stop → is_end (delimiter_of d) (get_or s i 0) ≡ true → CellEndSound d s at stop i true
+plain_found d {s} {at} {stop} {i} m h k n x l e =
+    let plain = ends_here (plain_results d x k) l k (end_stops d (get_or s i 0) m e) in
+    let whole = same_end Fresh (Plain Whole) h k (first_same d (get_or s at 0) m n) plain in
+    record { ends = λ _. whole; content = λ _ _. bare m (text_clean (delimiter_of d) (quote_of d) x).each }

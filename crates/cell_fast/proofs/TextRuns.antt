@@ -16,80 +16,80 @@ use Rattle.model.specs.declared.Advance.TheVariants.{On}
 use Rattle.model.specs.declared.Cell.TheVariants.{Quoted, Plain}
 use Rattle.model.specs.declared.CellStep.TheVariants.{More}
 use Rattle.model.specs.rules.Base.{Bytes, if◌then◌else◌, ◌is◌, within, CR, LF, BACKSLASH}
-use Rattle.model.specs.rules.Dialect.{quoteOf, delimiterOf}
-use Rattle.model.specs.rules.Utf8.{charStep}
-use Rattle.model.specs.rules.Cell.{quotedByte, plain_byte, cellStep}
+use Rattle.model.specs.rules.Dialect.{quote_of, delimiter_of}
+use Rattle.model.specs.rules.Utf8.{char_step}
+use Rattle.model.specs.rules.Cell.{quoted_byte, plain_byte, cell_step}
 use Rattle.model.specs.rules.Api.{slice}
-use Rattle.model.proofs.Tests.{and-true, within-true, impossible}
-use Rattle.model.proofs.cell_laws.Utf8.{ascii-whole, quote-ascii}
-use Rattle.swar.specs.Words.{cleanAscii, isClean, allPass}
+use Rattle.model.proofs.Tests.{and_true, within_true, impossible}
+use Rattle.model.proofs.cell_laws.Utf8.{ascii_whole, quote_ascii}
+use Rattle.swar.specs.Words.{clean_ascii, is_clean, all_pass}
 use Rattle.swar.proofs.CleanBytes.{clean_is}
 use Rattle.swar.proofs.AllPass.{all_join, all_weaker}
-use Rattle.utf8.specs.Multibyte.{charsFrom, allHigh, WideRun}
-use Rattle.utf8.proofs.MultibyteRuns.{part_join, chars-on, chars-join}
+use Rattle.utf8.specs.Multibyte.{chars_from, all_high, WideRun}
+use Rattle.utf8.proofs.MultibyteRuns.{part_join, chars_on, chars_join}
 use Rattle.cell_scanner.proofs.Runs.{part_end}
-use Rattle.cell_fast.specs.TextRuns.{PassRun, TextRun, isOpen}
+use Rattle.cell_fast.specs.TextRuns.{PassRun, TextRun, is_open}
 use Rattle.cell_fast.specs.CellOutcome.{Results, InQuotes, Passed, QuotedText}
-use Rattle.cell_fast.proofs.CellOutcomes.{results-none, results_on, text-comes}
+use Rattle.cell_fast.proofs.CellOutcomes.{results_none, results_on, text_comes}
 
 -- ---- what the tests mean
 
-ascii-open : (p q b : ℕ) → cleanAscii p q b ≡ true → (isOpen p q b ≡ true) × (b ≤ 0x7F)
-unfolding cleanAscii isOpen isClean
-ascii-open p q b e =
-    let x = and-true (within 0x20 0x7F b && not (b is p) && not (b is q)) (not (b is BACKSLASH)) e in
-    let y = and-true (within 0x20 0x7F b && not (b is p)) (not (b is q)) x.0 in
-    let z = and-true (within 0x20 0x7F b) (not (b is p)) y.0 in
-    let w = within-true 0x20 0x7F b z.0 in
+ascii_open : (p q b : ℕ) → clean_ascii p q b ≡ true → (is_open p q b ≡ true) × (b ≤ 0x7F)
+unfolding clean_ascii is_open is_clean
+ascii_open p q b e =
+    let x = and_true (within 0x20 0x7F b && not (b is p) && not (b is q)) (not (b is BACKSLASH)) e in
+    let y = and_true (within 0x20 0x7F b && not (b is p)) (not (b is q)) x.0 in
+    let z = and_true (within 0x20 0x7F b) (not (b is p)) y.0 in
+    let w = within_true 0x20 0x7F b z.0 in
     (rw (le-leb 0x20 b w.0, not-true (b is q) y.1, not-true (b is BACKSLASH) x.1, not-true (b is p) z.1), w.1)
 
-pub open-clean : (p q b : ℕ) → isOpen p q b ≡ true → isClean q b ≡ true
-unfolding isOpen
-open-clean p q b e = (and-true (isClean q b) (not (b is p)) e).0
+pub open_clean : (p q b : ℕ) → is_open p q b ≡ true → is_clean q b ≡ true
+unfolding is_open
+open_clean p q b e = (and_true (is_clean q b) (not (b is p)) e).0
 
-high-open : (p q b : ℕ) → p < 0x80 → q < 0x80 → 0x80 ≤ b → isOpen p q b ≡ true
-unfolding isOpen isClean
-high-open p q b hp hq h = rw (le-leb 0x20 b (omega arith), ne_eqb b q (omega arith), ne_eqb b BACKSLASH (omega arith), ne_eqb b p (omega arith))
+high_open : (p q b : ℕ) → p < 0x80 → q < 0x80 → 0x80 ≤ b → is_open p q b ≡ true
+unfolding is_open is_clean
+high_open p q b hp hq h = rw (le-leb 0x20 b (omega arith), ne_eqb b q (omega arith), ne_eqb b BACKSLASH (omega arith), ne_eqb b p (omega arith))
 
 -- ---- runs
 
-ascii-chars : (passes : ℕ → Bool) → ((b : ℕ) → passes b ≡ true → b ≤ 0x7F) → (bs : Bytes) → allPass passes bs ≡ true → charsFrom Whole bs ≡ On Whole
-unfolding charsFrom allPass
-ascii-chars passes low [] e = refl
-ascii-chars passes low (b ∷ bs) e =
-    let x = and-true (passes b) (allPass passes bs) e in
-    chars-on Whole Whole b bs (ascii-whole b (low b x.0)) ∙ ascii-chars passes low bs x.1
+ascii_chars : (passes : ℕ → Bool) → ((b : ℕ) → passes b ≡ true → b ≤ 0x7F) → (bs : Bytes) → all_pass passes bs ≡ true → chars_from Whole bs ≡ On Whole
+unfolding chars_from all_pass
+ascii_chars passes low [] e = refl
+ascii_chars passes low (b ∷ bs) e =
+    let x = and_true (passes b) (all_pass passes bs) e in
+    chars_on Whole Whole b bs (ascii_whole b (low b x.0)) ∙ ascii_chars passes low bs x.1
 
 -- ASCII bytes
-pub low-text : {passes : ℕ → Bool} {s : Bytes} {at stop r : ℕ} → ((b : ℕ) → passes b ≡ true → b ≤ 0x7F) → PassRun passes s at stop r
+pub low_text : {passes : ℕ → Bool} {s : Bytes} {at stop r : ℕ} → ((b : ℕ) → passes b ≡ true → b ≤ 0x7F) → PassRun passes s at stop r
     → TextRun passes s at stop r
-low-text {passes} {s} {at} {stop} {r} low x = record { from = x.from; upto = x.upto; each = x.each; whole = ascii-chars passes low (slice s at r) x.each }
+low_text {passes} {s} {at} {stop} {r} low x = record { from = x.from; upto = x.upto; each = x.each; whole = ascii_chars passes low (slice s at r) x.each }
 
-pub text-weaker : {passes : ℕ → Bool} {s : Bytes} {at stop r : ℕ} (other : ℕ → Bool) → ((b : ℕ) → passes b ≡ true → other b ≡ true)
+pub text_weaker : {passes : ℕ → Bool} {s : Bytes} {at stop r : ℕ} (other : ℕ → Bool) → ((b : ℕ) → passes b ≡ true → other b ≡ true)
     → TextRun passes s at stop r → TextRun other s at stop r
-text-weaker {passes} {s} {at} {stop} {r} other f x =
+text_weaker {passes} {s} {at} {stop} {r} other f x =
     record { from = x.from; upto = x.upto; each = all_weaker passes other f (slice s at r) x.each; whole = x.whole }
 
-pub ascii-text : (p q : ℕ) {s : Bytes} {at stop r : ℕ} → PassRun (cleanAscii p q) s at stop r → TextRun (isOpen p q) s at stop r
-ascii-text p q x = text-weaker (isOpen p q) (λ b e. (ascii-open p q b e).0) (low-text (λ b e. (ascii-open p q b e).1) x)
+pub ascii_text : (p q : ℕ) {s : Bytes} {at stop r : ℕ} → PassRun (clean_ascii p q) s at stop r → TextRun (is_open p q) s at stop r
+ascii_text p q x = text_weaker (is_open p q) (λ b e. (ascii_open p q b e).0) (low_text (λ b e. (ascii_open p q b e).1) x)
 
-all-high : (p q : ℕ) (bs : Bytes) → p < 0x80 → q < 0x80 → allHigh bs ≡ true → allPass (isOpen p q) bs ≡ true
-unfolding allHigh allPass
-all-high p q [] hp hq e = refl
-all-high p q (b ∷ bs) hp hq e =
-    let x = and-true (leb 0x80 b) (allHigh bs) e in
-    rw (high-open p q b hp hq (leb-true 0x80 b x.0), all-high p q bs hp hq x.1)
+all_high_lem : (p q : ℕ) (bs : Bytes) → p < 0x80 → q < 0x80 → all_high bs ≡ true → all_pass (is_open p q) bs ≡ true
+unfolding all_high all_pass
+all_high_lem p q [] hp hq e = refl
+all_high_lem p q (b ∷ bs) hp hq e =
+    let x = and_true (leb 0x80 b) (all_high bs) e in
+    rw (high_open p q b hp hq (leb-true 0x80 b x.0), all_high_lem p q bs hp hq x.1)
 
-pub wide-text : {s : Bytes} {at stop r : ℕ} (p q : ℕ) → p < 0x80 → q < 0x80 → WideRun s at stop r → TextRun (isOpen p q) s at stop r
-wide-text {s} {at} {stop} {r} p q hp hq x =
-    record { from = x.from; upto = x.upto; each = all-high p q (slice s at r) hp hq x.characters.high; whole = x.characters.whole }
+pub wide_text : {s : Bytes} {at stop r : ℕ} (p q : ℕ) → p < 0x80 → q < 0x80 → WideRun s at stop r → TextRun (is_open p q) s at stop r
+wide_text {s} {at} {stop} {r} p q hp hq x =
+    record { from = x.from; upto = x.upto; each = all_high_lem p q (slice s at r) hp hq x.characters.high; whole = x.characters.whole }
 
-pub text-none : {passes : ℕ → Bool} (s : Bytes) (at stop : ℕ) → at ≤ stop → TextRun passes s at stop at
-unfolding allPass charsFrom
-text-none s at stop h = record { from = omega arith; upto = h; each = rw (part_end s at); whole = rw (part_end s at) }
+pub text_none : {passes : ℕ → Bool} (s : Bytes) (at stop : ℕ) → at ≤ stop → TextRun passes s at stop at
+unfolding all_pass chars_from
+text_none s at stop h = record { from = omega arith; upto = h; each = rw (part_end s at); whole = rw (part_end s at) }
 
-pub text-join : {passes : ℕ → Bool} {s : Bytes} {at i stop r : ℕ} → TextRun passes s at stop i → TextRun passes s i stop r → TextRun passes s at stop r
-text-join {passes} {s} {at} {i} {stop} {r} x y =
+pub text_join : {passes : ℕ → Bool} {s : Bytes} {at i stop r : ℕ} → TextRun passes s at stop i → TextRun passes s i stop r → TextRun passes s at stop r
+text_join {passes} {s} {at} {i} {stop} {r} x y =
     let h : at ≤ i = x.from in
     let k : i ≤ r = y.from in
     let l : slice s at r ≡ slice s at i ++ slice s i r = part_join s at i r h k in
@@ -97,94 +97,94 @@ text-join {passes} {s} {at} {i} {stop} {r} x y =
       from = omega arith;
       upto = y.upto;
       each = rw l (all_join passes (slice s at i) (slice s i r) x.each y.each);
-      whole = rw l (chars-join Whole Whole (slice s at i) (slice s i r) x.whole ∙ y.whole);
+      whole = rw l (chars_join Whole Whole (slice s at i) (slice s i r) x.whole ∙ y.whole);
     }
 
-pub text-clean : (p q : ℕ) {s : Bytes} {at stop r : ℕ} → TextRun (isOpen p q) s at stop r → TextRun (isClean q) s at stop r
-text-clean p q x = text-weaker (isClean q) (open-clean p q) x
+pub text_clean : (p q : ℕ) {s : Bytes} {at stop r : ℕ} → TextRun (is_open p q) s at stop r → TextRun (is_clean q) s at stop r
+text_clean p q x = text_weaker (is_clean q) (open_clean p q) x
 
 -- ---- they leave a cell's state unchanged
 
-quoted-step : (d : Dialect) (c c' : Char) (b : ℕ) → isClean (quoteOf d) b ≡ true → charStep c b ≡ On c' → cellStep d (Quoted c) b ≡ More (Quoted c')
-unfolding cellStep quotedByte if◌then◌else◌
-quoted-step Csvj Whole c' b e h =
-    let k = clean_is (quoteOf Csvj) b e in
-    rw (k.no-quote, k.no-backslash, le-ltb b 0x20 k.least, h)
-quoted-step Tdif Whole c' b e h = let k = clean_is (quoteOf Tdif) b e in rw (k.no-quote, h)
-quoted-step (CsvPlus s) Whole c' b e h = let k = clean_is (quoteOf (CsvPlus s)) b e in rw (k.no-quote, h)
-quoted-step d (Within i) c' b e h = rw h
+quoted_step : (d : Dialect) (c c' : Char) (b : ℕ) → is_clean (quote_of d) b ≡ true → char_step c b ≡ On c' → cell_step d (Quoted c) b ≡ More (Quoted c')
+unfolding cell_step quoted_byte if◌then◌else◌
+quoted_step Csvj Whole c' b e h =
+    let k = clean_is (quote_of Csvj) b e in
+    rw (k.no_quote, k.no_backslash, le-ltb b 0x20 k.least, h)
+quoted_step Tdif Whole c' b e h = let k = clean_is (quote_of Tdif) b e in rw (k.no_quote, h)
+quoted_step (CsvPlus s) Whole c' b e h = let k = clean_is (quote_of (CsvPlus s)) b e in rw (k.no_quote, h)
+quoted_step d (Within i) c' b e h = rw h
 
-plain_step : (d : Dialect) (c c' : Char) (b : ℕ) → isOpen (delimiterOf d) (quoteOf d) b ≡ true → charStep c b ≡ On c' → cellStep d (Plain c) b ≡ More (Plain c')
-unfolding cellStep plain_byte isOpen if◌then◌else◌
+plain_step : (d : Dialect) (c c' : Char) (b : ℕ) → is_open (delimiter_of d) (quote_of d) b ≡ true → char_step c b ≡ On c' → cell_step d (Plain c) b ≡ More (Plain c')
+unfolding cell_step plain_byte is_open if◌then◌else◌
 plain_step d Whole c' b e h =
-    let x = and-true (isClean (quoteOf d) b) (not (b is delimiterOf d)) e in
-    let k = clean_is (quoteOf d) b x.0 in
+    let x = and_true (is_clean (quote_of d) b) (not (b is delimiter_of d)) e in
+    let k = clean_is (quote_of d) b x.0 in
     let l : 0x20 ≤ b = k.least in
-    rw (k.no-quote, not-true (b is delimiterOf d) x.1, ne_eqb b CR (omega arith), ne_eqb b LF (omega arith), h)
+    rw (k.no_quote, not-true (b is delimiter_of d) x.1, ne_eqb b CR (omega arith), ne_eqb b LF (omega arith), h)
 plain_step d (Within i) c' b e h = rw h
 
-pub quoted-results : (d : Dialect) {s : Bytes} {at stop r : ℕ} → TextRun (isClean (quoteOf d)) s at stop r → stop ≤ length s → InQuotes d s stop at r
-quoted-results d x k = text-comes d Quoted (isClean (quoteOf d)) (quoted-step d) x k
+pub quoted_results : (d : Dialect) {s : Bytes} {at stop r : ℕ} → TextRun (is_clean (quote_of d)) s at stop r → stop ≤ length s → InQuotes d s stop at r
+quoted_results d x k = text_comes d Quoted (is_clean (quote_of d)) (quoted_step d) x k
 
-pub plain-results : (d : Dialect) {s : Bytes} {at stop r : ℕ} → TextRun (isOpen (delimiterOf d) (quoteOf d)) s at stop r → stop ≤ length s
+pub plain_results : (d : Dialect) {s : Bytes} {at stop r : ℕ} → TextRun (is_open (delimiter_of d) (quote_of d)) s at stop r → stop ≤ length s
     → Results d s stop (Plain Whole) at (Plain Whole) r
-plain-results d x k = text-comes d Plain (isOpen (delimiterOf d) (quoteOf d)) (plain_step d) x k
+plain_results d x k = text_comes d Plain (is_open (delimiter_of d) (quote_of d)) (plain_step d) x k
 
 -- ---- what stops a run inside quotes and is part of the text
 
-pub wide-passed : (d : Dialect) {s : Bytes} {at stop r : ℕ} → stop ≤ length s → WideRun s at stop r → Passed d s stop at r
-wide-passed d k x =
-    let q : quoteOf d ≤ 0x7F = quote-ascii d in
-    let clean = text-clean (quoteOf d) (quoteOf d) (wide-text (quoteOf d) (quoteOf d) (omega arith) (omega arith) x) in
-    record { comes = quoted-results d clean k; clean = λ _. clean.each }
+pub wide_passed : (d : Dialect) {s : Bytes} {at stop r : ℕ} → stop ≤ length s → WideRun s at stop r → Passed d s stop at r
+wide_passed d k x =
+    let q : quote_of d ≤ 0x7F = quote_ascii d in
+    let clean = text_clean (quote_of d) (quote_of d) (wide_text (quote_of d) (quote_of d) (omega arith) (omega arith) x) in
+    record { comes = quoted_results d clean k; clean = λ _. clean.each }
 
-pub ascii-passed : {d : Dialect} {s : Bytes} {at stop r : ℕ} → get_or s at 0 < 0x80 → InQuotes d s stop at r → Passed d s stop at r
-ascii-passed h x = record { comes = x; clean = λ l. absurd (omega arith) }
+pub ascii_passed : {d : Dialect} {s : Bytes} {at stop r : ℕ} → get_or s at 0 < 0x80 → InQuotes d s stop at r → Passed d s stop at r
+ascii_passed h x = record { comes = x; clean = λ l. absurd (omega arith) }
 
 -- ---- the text inside quotes
 
-clean-join : (quote : ℕ) (s : Bytes) (at i r : ℕ) → at ≤ i → i ≤ r → allPass (isClean quote) (slice s at i) ≡ true
-    → allPass (isClean quote) (slice s i r) ≡ true → allPass (isClean quote) (slice s at r) ≡ true
-clean-join quote s at i r h k x y = rw (part_join s at i r h k) (all_join (isClean quote) (slice s at i) (slice s i r) x y)
+clean_join : (quote : ℕ) (s : Bytes) (at i r : ℕ) → at ≤ i → i ≤ r → all_pass (is_clean quote) (slice s at i) ≡ true
+    → all_pass (is_clean quote) (slice s i r) ≡ true → all_pass (is_clean quote) (slice s at r) ≡ true
+clean_join quote s at i r h k x y = rw (part_join s at i r h k) (all_join (is_clean quote) (slice s at i) (slice s i r) x y)
 
-pub quoted-none : (d : Dialect) (s : Bytes) (stop at : ℕ) (clean : Bool) → at ≤ stop → QuotedText d s stop at at clean
-unfolding allPass
-quoted-none d s stop at clean h = record { comes = results-none d s stop (Quoted Whole) at h; content = λ _. rw (part_end s at) }
+pub quoted_none : (d : Dialect) (s : Bytes) (stop at : ℕ) (clean : Bool) → at ≤ stop → QuotedText d s stop at at clean
+unfolding all_pass
+quoted_none d s stop at clean h = record { comes = results_none d s stop (Quoted Whole) at h; content = λ _. rw (part_end s at) }
 
 module _ {d : Dialect} {s : Bytes} {stop at i r : ℕ} {clean : Bool} (x : QuotedText d s stop at i clean) where
   -- one run more
-  pub quoted-run-on : (q : ℕ) → q ≡ quoteOf d → stop ≤ length s → PassRun (cleanAscii q q) s i stop r → QuotedText d s stop at r clean
-  quoted-run-on q e k y =
-      let run : TextRun (isClean (quoteOf d)) s i stop r = rw e at (text-clean q q (ascii-text q q y)) in
+  pub quoted_run_on : (q : ℕ) → q ≡ quote_of d → stop ≤ length s → PassRun (clean_ascii q q) s i stop r → QuotedText d s stop at r clean
+  quoted_run_on q e k y =
+      let run : TextRun (is_clean (quote_of d)) s i stop r = rw e at (text_clean q q (ascii_text q q y)) in
       record {
-        comes = results_on x.comes (quoted-results d run k);
-        content = λ c. clean-join (quoteOf d) s at i r x.comes.from y.from (x.content c) run.each;
+        comes = results_on x.comes (quoted_results d run k);
+        content = λ c. clean_join (quote_of d) s at i r x.comes.from y.from (x.content c) run.each;
       }
 
   -- then what stopped it
-  pub quoted-clean-on : 0x80 ≤ get_or s i 0 → Passed d s stop i r → QuotedText d s stop at r clean
-  quoted-clean-on h y =
+  pub quoted_clean_on : 0x80 ≤ get_or s i 0 → Passed d s stop i r → QuotedText d s stop at r clean
+  quoted_clean_on h y =
       record {
         comes = results_on x.comes y.comes;
-        content = λ c. clean-join (quoteOf d) s at i r x.comes.from y.comes.from (x.content c) (y.clean h);
+        content = λ c. clean_join (quote_of d) s at i r x.comes.from y.comes.from (x.content c) (y.clean h);
       }
 
-  pub quoted-other-on : Passed d s stop i r → QuotedText d s stop at r false
-  quoted-other-on y = record { comes = results_on x.comes y.comes; content = λ e. impossible e }
+  pub quoted_other_on : Passed d s stop i r → QuotedText d s stop at r false
+  quoted_other_on y = record { comes = results_on x.comes y.comes; content = λ e. impossible e }
 
 -- a clean run alone
-pub quoted-run : (d : Dialect) (q : ℕ) {s : Bytes} {at stop r : ℕ} → q ≡ quoteOf d → stop ≤ length s → PassRun (cleanAscii q q) s at stop r
+pub quoted_run : (d : Dialect) (q : ℕ) {s : Bytes} {at stop r : ℕ} → q ≡ quote_of d → stop ≤ length s → PassRun (clean_ascii q q) s at stop r
     → QuotedText d s stop at r true
-quoted-run d q {s} {at} {stop} {r} e k x =
+quoted_run d q {s} {at} {stop} {r} e k x =
     let h : at ≤ r = x.from in
     let l : r ≤ stop = x.upto in
-    quoted-run-on (quoted-none d s stop at true (omega arith)) q e k x
+    quoted_run_on (quoted_none d s stop at true (omega arith)) q e k x
 
 -- then the text after it
-pub quoted-join : {d : Dialect} {s : Bytes} {stop at i r : ℕ} {clean : Bool} → QuotedText d s stop at i true → QuotedText d s stop i r clean
+pub quoted_join : {d : Dialect} {s : Bytes} {stop at i r : ℕ} {clean : Bool} → QuotedText d s stop at i true → QuotedText d s stop i r clean
     → QuotedText d s stop at r clean
-quoted-join {d} {s} {stop} {at} {i} {r} x y =
+quoted_join {d} {s} {stop} {at} {i} {r} x y =
     record {
       comes = results_on x.comes y.comes;
-      content = λ c. clean-join (quoteOf d) s at i r x.comes.from y.comes.from (x.content refl) (y.content c);
+      content = λ c. clean_join (quote_of d) s at i r x.comes.from y.comes.from (x.content refl) (y.content c);
     }

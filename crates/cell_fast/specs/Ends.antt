@@ -5,27 +5,27 @@ use Rattle.model.specs.declared.Dialect.{Dialect}
 use Rattle.model.specs.declared.Cell.{Cell}
 use Rattle.model.specs.declared.Cell.TheVariants.{Fresh}
 use Rattle.model.specs.rules.Base.{Bytes, QUOTE}
-use Rattle.model.specs.rules.Dialect.{quoteOf}
-use Rattle.model.specs.rules.Cell.{mayBeEmpty}
+use Rattle.model.specs.rules.Dialect.{quote_of}
+use Rattle.model.specs.rules.Cell.{may_be_empty}
 use Rattle.model.specs.rules.Api.{slice}
-use Rattle.swar.specs.Words.{isClean, allPass}
+use Rattle.swar.specs.Words.{is_clean, all_pass}
 use Rattle.cell_scanner.specs.declared.CellEnd.TheVariants.{Stopped}
-use Rattle.cell_scanner.specs.Run.{cellRun}
+use Rattle.cell_scanner.specs.Run.{cell_run}
 
 -- the raw bytes of a text whose content is its bytes: unquoted, which CSV+ alone has, or inside quotes
 pub data CleanCell (d : Dialect) : Bytes → Type 0 where
-  bare : {raw : Bytes} → mayBeEmpty d ≡ true → allPass (isClean (quoteOf d)) raw ≡ true → CleanCell d raw
-  quoted : (inside : Bytes) → allPass (isClean (quoteOf d)) inside ≡ true → CleanCell d (quoteOf d ∷ (inside ++ (quoteOf d ∷ [])))
+  bare : {raw : Bytes} → may_be_empty d ≡ true → all_pass (is_clean (quote_of d)) raw ≡ true → CleanCell d raw
+  quoted : (inside : Bytes) → all_pass (is_clean (quote_of d)) inside ≡ true → CleanCell d (quote_of d ∷ (inside ++ (quote_of d ∷ [])))
 
 -- the same of all cells in these spans of s, where the quote is the quotation mark
 pub record CleanIn (d : Dialect) (s : Bytes) (starts ends : List ℕ) : Type 0 where
-  pub quotes : quoteOf d ≡ QUOTE
+  pub quotes : quote_of d ≡ QUOTE
   pub each : (k : ℕ) → k < length starts → CleanCell d (slice s (get_or starts k 0) (get_or ends k 0))
 
 -- the cell c at `at` ends before the byte at `end`, which is before `stop`
 pub record EndsFrom (d : Dialect) (s : Bytes) (stop : ℕ) (c : Cell) (at end : ℕ) : Type 0 where
   pub cell : Cell
-  pub ran : cellRun d c at (slice s at stop) ≡ Stopped cell end
+  pub ran : cell_run d c at (slice s at stop) ≡ Stopped cell end
 
 -- soundness of the end found for the cell at `at`: it ends at `end`, unless that is `stop`, and it is verbatim if `clean`
 pub record CellEndSound (d : Dialect) (s : Bytes) (at stop end : ℕ) (clean : Bool) : Type 0 where

@@ -4,22 +4,22 @@ use Rattle.model.specs.declared.Char.TheVariants.{Whole}
 use Rattle.model.specs.declared.Advance.TheVariants.{On}
 use Rattle.model.specs.rules.Base.{Bytes, ◌is◌}
 use Rattle.model.specs.rules.Api.{slice}
-use Rattle.swar.specs.Words.{isClean, allPass}
-use Rattle.utf8.specs.Multibyte.{charsFrom}
+use Rattle.swar.specs.Words.{is_clean, all_pass}
+use Rattle.utf8.specs.Multibyte.{chars_from}
 
 -- bytes that pass this test lie from `at` to r, and r is at most `stop`
 pub record PassRun (passes : ℕ → Bool) (s : Bytes) (at stop r : ℕ) : Type 0 where
   pub from : at ≤ r
   pub upto : r ≤ stop
-  pub each : allPass passes (slice s at r) ≡ true
+  pub each : all_pass passes (slice s at r) ≡ true
 
 -- and they are whole characters
 pub record TextRun (passes : ℕ → Bool) (s : Bytes) (at stop r : ℕ) : Type 0 where
   pub from : at ≤ r
   pub upto : r ≤ stop
-  pub each : allPass passes (slice s at r) ≡ true
-  pub whole : charsFrom Whole (slice s at r) ≡ On Whole
+  pub each : all_pass passes (slice s at r) ≡ true
+  pub whole : chars_from Whole (slice s at r) ≡ On Whole
 
 -- a clean byte other than the delimiter: one of an unquoted cell
-unfoldable pub isOpen : (delimiter quote b : ℕ) → Bool
-isOpen delimiter quote b = isClean quote b && not (b is delimiter)
+unfoldable pub is_open : (delimiter quote b : ℕ) → Bool
+is_open delimiter quote b = is_clean quote b && not (b is delimiter)

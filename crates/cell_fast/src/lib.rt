@@ -8,12 +8,12 @@
 // runs.rt skips clean ASCII, text.rt text inside quotes and outside, value.rt the values of CSVJ and TDIF.
 ghost use Rattle.std.specs.Prelude.{◌≡◌, true, ℕ, ◌+◌, ◌≤◌, ◌<◌, length, get_or};
 ghost use Rattle.model.specs.declared.Dialect.{Dialect as TheDialect};
-ghost use Rattle.model.specs.rules.Dialect.{delimiterOf, quoteOf};
-ghost use Rattle.model.specs.rules.Cell.{mayBeEmpty};
-ghost use Rattle.swar.specs.Words.{cleanAscii};
+ghost use Rattle.model.specs.rules.Dialect.{delimiter_of, quote_of};
+ghost use Rattle.model.specs.rules.Cell.{may_be_empty};
+ghost use Rattle.swar.specs.Words.{clean_ascii};
 ghost use Rattle.cell_fast.specs.Ends.{CellEndSound};
 ghost use Rattle.cell_fast.specs.TextRuns.{PassRun};
-ghost use Rattle.cell_fast.specs.CellOutcome.{Closes, isEnd};
+ghost use Rattle.cell_fast.specs.CellOutcome.{Closes, is_end};
 
 use model::Dialect;
 
@@ -30,7 +30,7 @@ pub struct FoundEnd {
 
 // Whether the byte at i is the quote that closes the cell; false also where the automaton has to decide.
 fn closes(d: Dialect, q: u8, s: &[u8], i: usize, stop: usize) -> bool
-    requires { (i < stop) × (stop ≤ length s.now) × (q ≡ quoteOf d) }
+    requires { (i < stop) × (stop ≤ length s.now) × (q ≡ quote_of d) }
     ensures { result ≡ true → Closes d s.now stop i }
 {
     if s[i] != q {
@@ -48,8 +48,8 @@ fn closes(d: Dialect, q: u8, s: &[u8], i: usize, stop: usize) -> bool
 
 // The end of a quoted cell whose text continues at `from`.
 fn quoted_rest_end(d: Dialect, q: u8, s: &[u8], from: usize, stop: usize) -> FoundEnd
-    requires { (from ≤ stop) × (stop ≤ length s.now) × (q ≡ quoteOf d) }
-    ensures { (at : ℕ) → at < stop → get_or s.now at 0 ≡ q → PassRun (cleanAscii q q) s.now (at + 1) stop from → CellEndSound d s.now at stop result.at result.clean }
+    requires { (from ≤ stop) × (stop ≤ length s.now) × (q ≡ quote_of d) }
+    ensures { (at : ℕ) → at < stop → get_or s.now at 0 ≡ q → PassRun (clean_ascii q q) s.now (at + 1) stop from → CellEndSound d s.now at stop result.at result.clean }
 {
     let inside = text::quoted_text(d, s, from, stop, q);
     let i = inside.end;
@@ -69,7 +69,7 @@ fn quoted_rest_end(d: Dialect, q: u8, s: &[u8], from: usize, stop: usize) -> Fou
 
 // The end of the quoted cell at `at`; first by a guess, the next quote.
 fn quoted_end(d: Dialect, q: u8, s: &[u8], at: usize, stop: usize) -> FoundEnd
-    requires { (at < stop) × (stop ≤ length s.now) × (q ≡ quoteOf d) × (get_or s.now at 0 ≡ q) }
+    requires { (at < stop) × (stop ≤ length s.now) × (q ≡ quote_of d) × (get_or s.now at 0 ≡ q) }
     ensures { CellEndSound d s.now at stop result.at result.clean }
 {
     let from = runs::clean_words(s, at + 1, stop, q);
@@ -92,7 +92,7 @@ fn quoted_end(d: Dialect, q: u8, s: &[u8], at: usize, stop: usize) -> FoundEnd
 
 // Whether an unquoted cell of CSV+ ends before this byte.
 fn is_end(b: u8, p: u8) -> bool
-    ensures { result ≡ isEnd p b }
+    ensures { result ≡ is_end p b }
 {
     if b == p {
         return true;
@@ -106,7 +106,7 @@ fn is_end(b: u8, p: u8) -> bool
 // The end of the unquoted cell of CSV+ at `at`, by runs and characters.
 fn plain_rest_end(s: &[u8], at: usize, stop: usize, p: u8, q: u8) -> FoundEnd
     requires { (at < stop) × (stop ≤ length s.now) × (p < 0x80) × (q < 0x80) × (get_or s.now at 0 ≡ q → ⊥) }
-    ensures { (d : TheDialect) → mayBeEmpty d ≡ true → p ≡ delimiterOf d → q ≡ quoteOf d → CellEndSound d s.now at stop result.at result.clean }
+    ensures { (d : TheDialect) → may_be_empty d ≡ true → p ≡ delimiter_of d → q ≡ quote_of d → CellEndSound d s.now at stop result.at result.clean }
 {
     let i = text::plain_text(s, at, stop, p, q);
     if i < stop {
@@ -123,7 +123,7 @@ fn plain_rest_end(s: &[u8], at: usize, stop: usize, p: u8, q: u8) -> FoundEnd
 // The end of the unquoted cell of CSV+ at `at`; first by a guess, the next delimiter.
 fn plain_end(s: &[u8], at: usize, stop: usize, p: u8, q: u8) -> FoundEnd
     requires { (at < stop) × (stop ≤ length s.now) × (p < 0x80) × (q < 0x80) × (get_or s.now at 0 ≡ q → ⊥) }
-    ensures { (d : TheDialect) → mayBeEmpty d ≡ true → p ≡ delimiterOf d → q ≡ quoteOf d → CellEndSound d s.now at stop result.at result.clean }
+    ensures { (d : TheDialect) → may_be_empty d ≡ true → p ≡ delimiter_of d → q ≡ quote_of d → CellEndSound d s.now at stop result.at result.clean }
 {
     if 8 <= stop - at {
         let w = swar::word(s, at);
@@ -144,7 +144,7 @@ fn plain_end(s: &[u8], at: usize, stop: usize, p: u8, q: u8) -> FoundEnd
 
 // The end of the cell at `at`; `stop` means fallback. p is the dialect's delimiter, q its quote.
 pub fn cell_end(d: Dialect, p: u8, q: u8, s: &[u8], at: usize, stop: usize) -> FoundEnd
-    requires { (at < stop) × (stop ≤ length s.now) × (p ≡ delimiterOf d) × (q ≡ quoteOf d) }
+    requires { (at < stop) × (stop ≤ length s.now) × (p ≡ delimiter_of d) × (q ≡ quote_of d) }
     ensures { CellEndSound d s.now at stop result.at result.clean }
 {
     match d {

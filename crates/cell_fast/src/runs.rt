@@ -2,13 +2,13 @@
 // specs/TextRuns.antt). Inside quotes both stops are the quote, and outside they are the delimiter and the quote; the compiler inlines the
 // run at both call sites.
 ghost use Rattle.std.specs.Prelude.{◌≤◌, length};
-ghost use Rattle.swar.specs.Words.{cleanAscii};
+ghost use Rattle.swar.specs.Words.{clean_ascii};
 ghost use Rattle.cell_fast.specs.TextRuns.{PassRun};
 
 // The end of the clean ASCII from `at` other than p and q, a byte at a time.
 fn single_steps(s: &[u8], at: usize, stop: usize, p: u8, q: u8) -> usize
     requires { (at ≤ stop) × (stop ≤ length s.now) }
-    ensures { PassRun (cleanAscii p q) s.now at stop result }
+    ensures { PassRun (clean_ascii p q) s.now at stop result }
 {
     let mut i = at;
     while i < stop {
@@ -36,7 +36,7 @@ fn single_steps(s: &[u8], at: usize, stop: usize, p: u8, q: u8) -> usize
 // The end of the clean ASCII inside quotes, by whole words alone.
 pub fn clean_words(s: &[u8], at: usize, stop: usize, q: u8) -> usize
     requires { (at ≤ stop) × (stop ≤ length s.now) }
-    ensures { PassRun (cleanAscii q q) s.now at stop result }
+    ensures { PassRun (clean_ascii q q) s.now at stop result }
 {
     let mut i = at;
     while 8 <= stop - i {
@@ -51,7 +51,7 @@ pub fn clean_words(s: &[u8], at: usize, stop: usize, q: u8) -> usize
 // The end of the clean ASCII from `at` other than p and q.
 pub fn clean_run(s: &[u8], at: usize, stop: usize, p: u8, q: u8) -> usize
     requires { (at ≤ stop) × (stop ≤ length s.now) }
-    ensures { PassRun (cleanAscii p q) s.now at stop result }
+    ensures { PassRun (clean_ascii p q) s.now at stop result }
 {
     let mut i = at;
     while 8 <= stop - i {

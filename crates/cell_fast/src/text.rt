@@ -3,8 +3,8 @@
 ghost use Rattle.std.specs.Prelude.{◌≡◌, false, ◌≤◌, ◌<◌, length, get_or};
 ghost use Rattle.model.specs.declared.Dialect.{Dialect as TheDialect};
 ghost use Rattle.model.specs.declared.Dialect.TheVariants.{Csvj};
-ghost use Rattle.model.specs.rules.Dialect.{quoteOf, isCsvj};
-ghost use Rattle.cell_fast.specs.TextRuns.{TextRun, isOpen};
+ghost use Rattle.model.specs.rules.Dialect.{quote_of, is_csvj};
+ghost use Rattle.cell_fast.specs.TextRuns.{TextRun, is_open};
 ghost use Rattle.cell_fast.specs.CellOutcome.{InQuotes, Passed, QuotedText};
 
 use crate::runs;
@@ -54,7 +54,7 @@ fn escape_end(s: &[u8], i: usize, stop: usize) -> usize
 // Where quotes are doubled: the end of two quotes at i, or of any other ASCII byte; i if the quote is single.
 fn doubled_end(q: u8, s: &[u8], i: usize, stop: usize) -> usize
     requires { (i < stop) × (stop ≤ length s.now) × (get_or s.now i 0 < 0x80) }
-    ensures { (d : TheDialect) → isCsvj d ≡ false → q ≡ quoteOf d → InQuotes d s.now stop i result }
+    ensures { (d : TheDialect) → is_csvj d ≡ false → q ≡ quote_of d → InQuotes d s.now stop i result }
 {
     if s[i] != q {
         return i + 1;
@@ -70,7 +70,7 @@ fn doubled_end(q: u8, s: &[u8], i: usize, stop: usize) -> usize
 
 // The end of what stops a run at i and is part of the text inside quotes; i if nothing is, or to fall back.
 fn pass(d: Dialect, q: u8, s: &[u8], i: usize, stop: usize) -> usize
-    requires { (i < stop) × (stop ≤ length s.now) × (q ≡ quoteOf d) }
+    requires { (i < stop) × (stop ≤ length s.now) × (q ≡ quote_of d) }
     ensures { Passed d s.now stop i result }
 {
     if 0x80 <= s[i] {
@@ -97,7 +97,7 @@ pub struct TextEnd {
 
 // The end of the text inside quotes from `at`, at most `stop`. A text with an ASCII byte that stops a run is not verbatim.
 pub fn quoted_text(d: Dialect, s: &[u8], at: usize, stop: usize, q: u8) -> TextEnd
-    requires { (at ≤ stop) × (stop ≤ length s.now) × (q ≡ quoteOf d) }
+    requires { (at ≤ stop) × (stop ≤ length s.now) × (q ≡ quote_of d) }
     ensures { QuotedText d s.now stop at result.end result.clean }
 {
     let mut i = at;
@@ -121,7 +121,7 @@ pub fn quoted_text(d: Dialect, s: &[u8], at: usize, stop: usize, q: u8) -> TextE
 // The end of the text of an unquoted cell from `at`, at most `stop`.
 pub fn plain_text(s: &[u8], at: usize, stop: usize, p: u8, q: u8) -> usize
     requires { (at ≤ stop) × (stop ≤ length s.now) × (p < 0x80) × (q < 0x80) }
-    ensures { TextRun (isOpen p q) s.now at stop result }
+    ensures { TextRun (is_open p q) s.now at stop result }
 {
     let mut i = at;
     loop {

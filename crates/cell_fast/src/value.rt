@@ -4,10 +4,10 @@ ghost use Rattle.std.specs.Prelude.{◌≡◌, true, ◌≤◌, ◌<◌, length,
 ghost use Rattle.model.specs.declared.Dialect.TheVariants.{Csvj, Tdif};
 ghost use Rattle.model.specs.declared.Cell.{Cell};
 ghost use Rattle.model.specs.declared.Cell.TheVariants.{Fresh};
-ghost use Rattle.model.specs.rules.Cell.{isDigit};
+ghost use Rattle.model.specs.rules.Cell.{is_digit};
 ghost use Rattle.cell_fast.specs.TextRuns.{PassRun};
 ghost use Rattle.cell_fast.specs.Ends.{EndsFrom};
-ghost use Rattle.cell_fast.specs.BareValues.{Digits, isLetterE, BeginsNumber, IntegerEnd, FractionEnd, FourLetters};
+ghost use Rattle.cell_fast.specs.BareValues.{Digits, is_letter_e, BeginsNumber, IntegerEnd, FractionEnd, FourLetters};
 
 // The end of the digits from `at` on.
 fn digits(s: &[u8], at: usize, stop: usize) -> usize
@@ -48,7 +48,7 @@ fn fraction_end(s: &[u8], at: usize, stop: usize) -> usize
 }
 
 fn is_letter_e(b: u8) -> bool
-    ensures { result ≡ isLetterE b }
+    ensures { result ≡ is_letter_e b }
 {
     if b == 0x65 {
         return true;
@@ -149,7 +149,7 @@ fn stepwise_end(s: &[u8], at: usize, stop: usize) -> usize
 // The end of the digits from `at` on, as far as the next eight bytes show.
 fn word_digits(s: &[u8], at: usize, stop: usize) -> usize
     requires { (at ≤ stop) × (stop ≤ length s.now) }
-    ensures { PassRun isDigit s.now at stop result }
+    ensures { PassRun is_digit s.now at stop result }
 {
     if stop - at < 8 {
         return at;

@@ -6,9 +6,9 @@
 // them; `make benchmark` measures the effect.
 ghost use Rattle.std.specs.Prelude.{◌≡◌, ◌||◌};
 ghost use Rattle.model.specs.rules.Base.{◌is◌, CR, LF};
-ghost use Rattle.model.specs.rules.Dialect.{delimiterOf, quoteOf};
-ghost use Rattle.model.specs.rules.Cell.{firstByte, quotedByte, plain_byte, cellStep};
-ghost use Rattle.cell_lexer.specs.ByteClass.{cellStepOf};
+ghost use Rattle.model.specs.rules.Dialect.{delimiter_of, quote_of};
+ghost use Rattle.model.specs.rules.Cell.{first_byte, quoted_byte, plain_byte, cell_step};
+ghost use Rattle.cell_lexer.specs.ByteClass.{cell_step_of};
 
 use model::{
     Advance, ByteFault, Cell, CellStep, Char, Delimiter, Dialect, HexLeft, Quote, Settings, Word,
@@ -17,7 +17,7 @@ use model::{
 pub mod values;
 
 pub fn delimiter_of(d: Dialect) -> u8
-    ensures { result ≡ delimiterOf d }
+    ensures { result ≡ delimiter_of d }
 {
     match d {
         Dialect::Csvj => 0x2C,
@@ -35,7 +35,7 @@ pub fn delimiter_of(d: Dialect) -> u8
 }
 
 pub fn quote_of(d: Dialect) -> u8
-    ensures { result ≡ quoteOf d }
+    ensures { result ≡ quote_of d }
 {
     match d {
         Dialect::Csvj => 0x22,
@@ -51,7 +51,7 @@ pub fn quote_of(d: Dialect) -> u8
 }
 
 fn is_separator(d: Dialect, b: u8) -> bool
-    ensures { result ≡ (b is delimiterOf d || b is CR || b is LF) }
+    ensures { result ≡ (b is delimiter_of d || b is CR || b is LF) }
 {
     if b == delimiter_of(d) {
         return true;
@@ -71,7 +71,7 @@ enum ByteClass {
 }
 
 fn plus_first(s: Settings, b: u8) -> ByteClass
-    ensures { cellStepOf result b ≡ firstByte (Dialect.CsvPlus s) b }
+    ensures { cell_step_of result b ≡ first_byte (Dialect.CsvPlus s) b }
 {
     let d = Dialect::CsvPlus(s);
     if b == quote_of(d) {
@@ -87,7 +87,7 @@ fn plus_first(s: Settings, b: u8) -> ByteClass
 }
 
 fn classify_first(d: Dialect, b: u8) -> ByteClass
-    ensures { cellStepOf result b ≡ firstByte d b }
+    ensures { cell_step_of result b ≡ first_byte d b }
 {
     match d {
         Dialect::Csvj => ByteClass::Is(crate::values::csvj_first(b)),
@@ -97,7 +97,7 @@ fn classify_first(d: Dialect, b: u8) -> ByteClass
 }
 
 fn csvj_quoted(b: u8) -> ByteClass
-    ensures { cellStepOf result b ≡ quotedByte Dialect.Csvj b }
+    ensures { cell_step_of result b ≡ quoted_byte Dialect.Csvj b }
 {
     if b == 0x22 {
         return ByteClass::Is(CellStep::More(Cell::Complete));
@@ -112,7 +112,7 @@ fn csvj_quoted(b: u8) -> ByteClass
 }
 
 fn tdif_quoted(b: u8) -> ByteClass
-    ensures { cellStepOf result b ≡ quotedByte Dialect.Tdif b }
+    ensures { cell_step_of result b ≡ quoted_byte Dialect.Tdif b }
 {
     if b == 0x22 {
         return ByteClass::Is(CellStep::More(Cell::Closed));
@@ -121,7 +121,7 @@ fn tdif_quoted(b: u8) -> ByteClass
 }
 
 fn plus_quoted(s: Settings, b: u8) -> ByteClass
-    ensures { cellStepOf result b ≡ quotedByte (Dialect.CsvPlus s) b }
+    ensures { cell_step_of result b ≡ quoted_byte (Dialect.CsvPlus s) b }
 {
     if b == quote_of(Dialect::CsvPlus(s)) {
         return ByteClass::Is(CellStep::More(Cell::Closed));
@@ -130,7 +130,7 @@ fn plus_quoted(s: Settings, b: u8) -> ByteClass
 }
 
 fn classify_quoted(d: Dialect, b: u8) -> ByteClass
-    ensures { cellStepOf result b ≡ quotedByte d b }
+    ensures { cell_step_of result b ≡ quoted_byte d b }
 {
     match d {
         Dialect::Csvj => csvj_quoted(b),
@@ -140,7 +140,7 @@ fn classify_quoted(d: Dialect, b: u8) -> ByteClass
 }
 
 fn classify_plain(d: Dialect, b: u8) -> ByteClass
-    ensures { cellStepOf result b ≡ plain_byte d b }
+    ensures { cell_step_of result b ≡ plain_byte d b }
 {
     if b == quote_of(d) {
         return ByteClass::Is(CellStep::Refuse(ByteFault::Syntax));
@@ -155,7 +155,7 @@ fn classify_plain(d: Dialect, b: u8) -> ByteClass
 }
 
 fn classify_closed(d: Dialect, b: u8) -> ByteClass
-    ensures { cellStepOf result b ≡ cellStep d Cell.Closed b }
+    ensures { cell_step_of result b ≡ cell_step d Cell.Closed b }
 {
     if b == quote_of(d) {
         return ByteClass::Is(CellStep::More(Cell::Quoted(Char::Whole)));
@@ -164,7 +164,7 @@ fn classify_closed(d: Dialect, b: u8) -> ByteClass
 }
 
 fn classify_hex(n: HexLeft, b: u8) -> ByteClass
-    ensures { cellStepOf result b ≡ cellStep Dialect.Csvj (Cell.Hex n) b }
+    ensures { cell_step_of result b ≡ cell_step Dialect.Csvj (Cell.Hex n) b }
 {
     if crate::values::is_hex(b) {
         return ByteClass::Is(CellStep::More(crate::values::after_hex(n)));
@@ -173,7 +173,7 @@ fn classify_hex(n: HexLeft, b: u8) -> ByteClass
 }
 
 fn classify_word(w: Word, b: u8) -> ByteClass
-    ensures { cellStepOf result b ≡ cellStep Dialect.Csvj (Cell.InWord w) b }
+    ensures { cell_step_of result b ≡ cell_step Dialect.Csvj (Cell.InWord w) b }
 {
     if b == crate::values::letter_of(w) {
         return ByteClass::Is(CellStep::More(crate::values::after_letter(w)));
@@ -182,7 +182,7 @@ fn classify_word(w: Word, b: u8) -> ByteClass
 }
 
 fn classify_text(d: Dialect, t: Char, b: u8) -> ByteClass
-    ensures { cellStepOf result b ≡ cellStep d (Cell.Quoted t) b }
+    ensures { cell_step_of result b ≡ cell_step d (Cell.Quoted t) b }
 {
     match t {
         Char::Whole => classify_quoted(d, b),
@@ -191,7 +191,7 @@ fn classify_text(d: Dialect, t: Char, b: u8) -> ByteClass
 }
 
 fn classify_plain_text(d: Dialect, t: Char, b: u8) -> ByteClass
-    ensures { cellStepOf result b ≡ cellStep d (Cell.Plain t) b }
+    ensures { cell_step_of result b ≡ cell_step d (Cell.Plain t) b }
 {
     match t {
         Char::Whole => classify_plain(d, b),
@@ -200,7 +200,7 @@ fn classify_plain_text(d: Dialect, t: Char, b: u8) -> ByteClass
 }
 
 fn classify(d: Dialect, c: Cell, b: u8) -> ByteClass
-    ensures { cellStepOf result b ≡ cellStep d c b }
+    ensures { cell_step_of result b ≡ cell_step d c b }
 {
     match c {
         Cell::Fresh => classify_first(d, b),
@@ -217,7 +217,7 @@ fn classify(d: Dialect, c: Cell, b: u8) -> ByteClass
 
 // The next byte of a cell.
 pub fn cell_step(d: Dialect, c: Cell, b: u8) -> CellStep
-    ensures { result ≡ cellStep d c b }
+    ensures { result ≡ cell_step d c b }
 {
     match classify(d, c, b) {
         ByteClass::Is(a) => a,

@@ -4,12 +4,12 @@
 ghost use Rattle.std.specs.Prelude.{◌≡◌};
 ghost use Rattle.model.specs.declared.Dialect.TheVariants.{Csvj, Tdif};
 ghost use Rattle.model.specs.rules.Base.{within};
-ghost use Rattle.model.specs.rules.Cell.{isDigit, isHex, isShort, numeralStep, letterOf, afterLetter, afterHex, firstByte, cellStep};
+ghost use Rattle.model.specs.rules.Cell.{is_digit, is_hex, is_short, numeral_step, letter_of, after_letter, after_hex, first_byte, cell_step};
 
 use model::{ByteFault, Cell, CellStep, Char, HexLeft, Numeral, Word};
 
 pub fn is_digit(b: u8) -> bool
-    ensures { result ≡ isDigit b }
+    ensures { result ≡ is_digit b }
 {
     if b < 0x30 {
         return false;
@@ -36,7 +36,7 @@ fn is_lower_hex(b: u8) -> bool
 }
 
 pub fn is_hex(b: u8) -> bool
-    ensures { result ≡ isHex b }
+    ensures { result ≡ is_hex b }
 {
     if is_digit(b) {
         return true;
@@ -48,7 +48,7 @@ pub fn is_hex(b: u8) -> bool
 }
 
 pub fn is_short(b: u8) -> bool
-    ensures { result ≡ isShort b }
+    ensures { result ≡ is_short b }
 {
     if b == 0x22 {
         return true;
@@ -76,7 +76,7 @@ pub fn is_short(b: u8) -> bool
 
 // After the digits before a point or an exponent (§3.5).
 fn after_integer(b: u8) -> CellStep
-    ensures { result ≡ numeralStep Numeral.Zero b }
+    ensures { result ≡ numeral_step Numeral.Zero b }
 {
     if b == 0x2E {
         return CellStep::More(Cell::InNumber(Numeral::Point));
@@ -91,7 +91,7 @@ fn after_integer(b: u8) -> CellStep
 }
 
 fn after_fraction(b: u8) -> CellStep
-    ensures { result ≡ numeralStep Numeral.Fraction b }
+    ensures { result ≡ numeral_step Numeral.Fraction b }
 {
     if is_digit(b) {
         return CellStep::More(Cell::InNumber(Numeral::Fraction));
@@ -106,7 +106,7 @@ fn after_fraction(b: u8) -> CellStep
 }
 
 fn after_e(b: u8) -> CellStep
-    ensures { result ≡ numeralStep Numeral.E b }
+    ensures { result ≡ numeral_step Numeral.E b }
 {
     if is_digit(b) {
         return CellStep::More(Cell::InNumber(Numeral::Exponent));
@@ -121,7 +121,7 @@ fn after_e(b: u8) -> CellStep
 }
 
 pub fn numeral_step(n: Numeral, b: u8) -> CellStep
-    ensures { result ≡ numeralStep n b }
+    ensures { result ≡ numeral_step n b }
 {
     match n {
         Numeral::Minus => {
@@ -164,7 +164,7 @@ pub fn numeral_step(n: Numeral, b: u8) -> CellStep
 }
 
 pub fn letter_of(w: Word) -> u8
-    ensures { result ≡ letterOf w }
+    ensures { result ≡ letter_of w }
 {
     match w {
         Word::T => 0x72,
@@ -182,7 +182,7 @@ pub fn letter_of(w: Word) -> u8
 }
 
 pub fn after_letter(w: Word) -> Cell
-    ensures { result ≡ afterLetter w }
+    ensures { result ≡ after_letter w }
 {
     match w {
         Word::T => Cell::InWord(Word::Tr),
@@ -200,7 +200,7 @@ pub fn after_letter(w: Word) -> Cell
 }
 
 pub fn after_hex(n: HexLeft) -> Cell
-    ensures { result ≡ afterHex n }
+    ensures { result ≡ after_hex n }
 {
     match n {
         HexLeft::Four => Cell::Hex(HexLeft::Three),
@@ -211,7 +211,7 @@ pub fn after_hex(n: HexLeft) -> Cell
 }
 
 pub fn escape_step(b: u8) -> CellStep
-    ensures { result ≡ cellStep Csvj Cell.Escape b }
+    ensures { result ≡ cell_step Csvj Cell.Escape b }
 {
     if is_short(b) {
         return CellStep::More(Cell::Quoted(Char::Whole));
@@ -223,7 +223,7 @@ pub fn escape_step(b: u8) -> CellStep
 }
 
 pub fn csvj_first(b: u8) -> CellStep
-    ensures { result ≡ firstByte Csvj b }
+    ensures { result ≡ first_byte Csvj b }
 {
     if b == 0x22 {
         return CellStep::More(Cell::Quoted(Char::Whole));
@@ -250,7 +250,7 @@ pub fn csvj_first(b: u8) -> CellStep
 }
 
 pub fn tdif_first(b: u8) -> CellStep
-    ensures { result ≡ firstByte Tdif b }
+    ensures { result ≡ first_byte Tdif b }
 {
     if b == 0x22 {
         return CellStep::More(Cell::Quoted(Char::Whole));

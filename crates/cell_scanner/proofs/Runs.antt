@@ -20,20 +20,20 @@ use Rattle.model.specs.declared.FileState.TheVariants.{Comment}
 use Rattle.model.specs.declared.ByteRole.TheVariants.{Outside}
 use Rattle.model.specs.declared.Step.TheVariants.{To}
 use Rattle.model.specs.rules.Base.{Bytes, if◌then◌else◌, within, ◌is◌, QUOTE, CR, LF}
-use Rattle.model.specs.rules.Dialect.{quoteOf, delimiterOf}
-use Rattle.model.specs.rules.Cell.{quotedByte, plain_byte, cellStep}
-use Rattle.model.specs.rules.File.{fileStep}
-use Rattle.model.proofs.Tests.{impossible, within-true}
-use Rattle.model.proofs.cell_laws.Utf8.{ascii-whole}
+use Rattle.model.specs.rules.Dialect.{quote_of, delimiter_of}
+use Rattle.model.specs.rules.Cell.{quoted_byte, plain_byte, cell_step}
+use Rattle.model.specs.rules.File.{file_step}
+use Rattle.model.proofs.Tests.{impossible, within_true}
+use Rattle.model.proofs.cell_laws.Utf8.{ascii_whole}
 use Rattle.cell_scanner.specs.declared.RunStop.{RunStop}
 use Rattle.cell_scanner.specs.declared.RunStop.TheVariants.{At, Fallback}
 use Rattle.cell_scanner.specs.declared.CellEnd.TheVariants.{Stopped, Refused, Open}
 use Rattle.model.specs.rules.Api.{slice}
-use Rattle.swar.proofs.FlaggedPrefix.{passing-short}
-use Rattle.cell_scanner.specs.Run.{ordinary, leading, runStop, runLength, cellRun}
+use Rattle.swar.proofs.FlaggedPrefix.{passing_short}
+use Rattle.cell_scanner.specs.Run.{ordinary, leading, run_stop, run_length, cell_run}
 
-pub part-next : (s : Bytes) (i stop : ℕ) → i < stop → stop ≤ length s → slice s i stop ≡ get_or s i 0 ∷ slice s (i + 1) stop
-part-next s i stop h k =
+pub part_next : (s : Bytes) (i stop : ℕ) → i < stop → stop ≤ length s → slice s i stop ≡ get_or s i 0 ∷ slice s (i + 1) stop
+part_next s i stop h k =
     let n : stop - i ≡ suc (stop - (i + 1)) = omega arith in
     let l : i < length s = omega arith in
     let e : drop i s ≡ get_or s i 0 ∷ drop (i + 1) s = rw (add-one, drop-cons s i 0) in
@@ -45,17 +45,17 @@ part_end s i = let n : i - i ≡ 0 = omega arith in rw n
 -- ---- where a run ends
 
 module _ (s : Bytes) (i stop p q : ℕ) (h : i < stop) (k : stop ≤ length s) where
-  pub leading-on : ordinary p q (get_or s i 0) ≡ true → i + leading p q (slice s i stop) ≡ (i + 1) + leading p q (slice s (i + 1) stop)
+  pub leading_on : ordinary p q (get_or s i 0) ≡ true → i + leading p q (slice s i stop) ≡ (i + 1) + leading p q (slice s (i + 1) stop)
   unfolding leading if◌then◌else◌
-  leading-on e = rw (part-next s i stop h k, e) (omega arith)
+  leading_on e = rw (part_next s i stop h k, e) (omega arith)
 
-  pub leading-ends : ordinary p q (get_or s i 0) ≡ false → i + leading p q (slice s i stop) ≡ i
+  pub leading_ends : ordinary p q (get_or s i 0) ≡ false → i + leading p q (slice s i stop) ≡ i
   unfolding leading if◌then◌else◌
-  leading-ends e = rw (part-next s i stop h k, e) (omega arith)
+  leading_ends e = rw (part_next s i stop h k, e) (omega arith)
 
-pub leading-none : (s : Bytes) (i p q : ℕ) → i + leading p q (slice s i i) ≡ i
+pub leading_none : (s : Bytes) (i p q : ℕ) → i + leading p q (slice s i i) ≡ i
 unfolding leading
-leading-none s i p q = rw (part_end s i) (omega arith)
+leading_none s i p q = rw (part_end s i) (omega arith)
 
 -- ---- ordinary bytes leave a cell's state unchanged
 
@@ -75,128 +75,128 @@ record Plainly (p q b : ℕ) : Type 0 where
   low : 0x20 ≤ b
   high : b ≤ 0x7E
   not_first : (b is p) ≡ false
-  not-second : (b is q) ≡ false
+  not_second : (b is q) ≡ false
 
 plainly : (p q b : ℕ) → ordinary p q b ≡ true → Plainly p q b
 unfolding ordinary
 plainly p q b e =
     let x = and_parts (within 0x20 0x7E b) (b is p) (b is q) e in
-    let w = within-true 0x20 0x7E b x.0 in
-    record { low = w.0; high = w.1; not_first = x.1; not-second = x.2 }
+    let w = within_true 0x20 0x7E b x.0 in
+    record { low = w.0; high = w.1; not_first = x.1; not_second = x.2 }
 
-quoted-runs : (d : Dialect) (b : ℕ) → ordinary (quoteOf d) 0x5C b ≡ true → cellStep d (Quoted Whole) b ≡ More (Quoted Whole)
-unfolding cellStep quotedByte if◌then◌else◌
-quoted-runs Csvj b e =
+quoted_runs : (d : Dialect) (b : ℕ) → ordinary (quote_of d) 0x5C b ≡ true → cell_step d (Quoted Whole) b ≡ More (Quoted Whole)
+unfolding cell_step quoted_byte if◌then◌else◌
+quoted_runs Csvj b e =
     let k = plainly QUOTE 0x5C b e in
     let l : 0x20 ≤ b = k.low in
     let h : b ≤ 0x7E = k.high in
-    rw (k.not_first, k.not-second, le-ltb b 0x20 l, ascii-whole b (omega arith))
-quoted-runs Tdif b e =
+    rw (k.not_first, k.not_second, le-ltb b 0x20 l, ascii_whole b (omega arith))
+quoted_runs Tdif b e =
     let k = plainly QUOTE 0x5C b e in
     let h : b ≤ 0x7E = k.high in
-    rw (k.not_first, ascii-whole b (omega arith))
-quoted-runs (CsvPlus s) b e =
-    let k = plainly (quoteOf (CsvPlus s)) 0x5C b e in
+    rw (k.not_first, ascii_whole b (omega arith))
+quoted_runs (CsvPlus s) b e =
+    let k = plainly (quote_of (CsvPlus s)) 0x5C b e in
     let h : b ≤ 0x7E = k.high in
-    rw (k.not_first, ascii-whole b (omega arith))
+    rw (k.not_first, ascii_whole b (omega arith))
 
-plain_runs : (d : Dialect) (b : ℕ) → ordinary (quoteOf d) (delimiterOf d) b ≡ true → cellStep d (Plain Whole) b ≡ More (Plain Whole)
-unfolding cellStep plain_byte if◌then◌else◌
+plain_runs : (d : Dialect) (b : ℕ) → ordinary (quote_of d) (delimiter_of d) b ≡ true → cell_step d (Plain Whole) b ≡ More (Plain Whole)
+unfolding cell_step plain_byte if◌then◌else◌
 plain_runs d b e =
-    let k = plainly (quoteOf d) (delimiterOf d) b e in
+    let k = plainly (quote_of d) (delimiter_of d) b e in
     let l : 0x20 ≤ b = k.low in
     let h : b ≤ 0x7E = k.high in
-    rw (k.not_first, k.not-second, ne_eqb b CR (omega arith), ne_eqb b LF (omega arith), ascii-whole b (omega arith))
+    rw (k.not_first, k.not_second, ne_eqb b CR (omega arith), ne_eqb b LF (omega arith), ascii_whole b (omega arith))
 
 -- in a cell with a run stop every ordinary byte leaves the state unchanged
-pub run_step : (d : Dialect) (c : Cell) (q b : ℕ) → runStop d c ≡ At q → ordinary (quoteOf d) q b ≡ true → cellStep d c b ≡ More c
+pub run_step : (d : Dialect) (c : Cell) (q b : ℕ) → run_stop d c ≡ At q → ordinary (quote_of d) q b ≡ true → cell_step d c b ≡ More c
 run_step d Fresh q b e h = no_run e
-run_step d (Quoted Whole) q b e h = let k : 0x5C ≡ q = cc in quoted-runs d b (rw k h)
+run_step d (Quoted Whole) q b e h = let k : 0x5C ≡ q = cc in quoted_runs d b (rw k h)
 run_step d (Quoted (Within i)) q b e h = no_run e
 run_step d Closed q b e h = no_run e
 run_step d Escape q b e h = no_run e
 run_step d (Hex n) q b e h = no_run e
 run_step d (InNumber n) q b e h = no_run e
 run_step d (InWord w) q b e h = no_run e
-run_step d (Plain Whole) q b e h = let k : delimiterOf d ≡ q = cc in plain_runs d b (rw k h)
+run_step d (Plain Whole) q b e h = let k : delimiter_of d ≡ q = cc in plain_runs d b (rw k h)
 run_step d (Plain (Within i)) q b e h = no_run e
 run_step d Complete q b e h = no_run e
 
 -- in a comment every ordinary byte leaves the state unchanged
-pub comment-step : (d : Dialect) (b : ℕ) → ordinary 0 0 b ≡ true → fileStep d (Comment Whole) b ≡ To (Comment Whole) Outside
-unfolding fileStep if◌then◌else◌
-comment-step d b e =
+pub comment_step : (d : Dialect) (b : ℕ) → ordinary 0 0 b ≡ true → file_step d (Comment Whole) b ≡ To (Comment Whole) Outside
+unfolding file_step if◌then◌else◌
+comment_step d b e =
     let k = plainly 0 0 b e in
     let l : 0x20 ≤ b = k.low in
     let h : b ≤ 0x7E = k.high in
-    rw (ne_eqb b LF (omega arith), ne_eqb b CR (omega arith), ascii-whole b (omega arith))
+    rw (ne_eqb b LF (omega arith), ne_eqb b CR (omega arith), ascii_whole b (omega arith))
 
 -- ---- the rest of a cell
 
-run-list : (d : Dialect) (c : Cell) (q : ℕ) → runStop d c ≡ At q → (i : ℕ) (bs : Bytes)
-    → cellRun d c i bs ≡ cellRun d c (i + leading (quoteOf d) q bs) (drop (leading (quoteOf d) q bs) bs)
-unfolding leading cellRun if◌then◌else◌
-run-list d c q e i [] = refl
-run-list d c q e i (b ∷ bs) = go (ordinary (quoteOf d) q b) refl (run-list d c q e (suc i) bs)
+run_list : (d : Dialect) (c : Cell) (q : ℕ) → run_stop d c ≡ At q → (i : ℕ) (bs : Bytes)
+    → cell_run d c i bs ≡ cell_run d c (i + leading (quote_of d) q bs) (drop (leading (quote_of d) q bs) bs)
+unfolding leading cell_run if◌then◌else◌
+run_list d c q e i [] = refl
+run_list d c q e i (b ∷ bs) = go (ordinary (quote_of d) q b) refl (run_list d c q e (suc i) bs)
   where
-    go : (t : Bool) → ordinary (quoteOf d) q b ≡ t
-        → cellRun d c (suc i) bs ≡ cellRun d c (suc i + leading (quoteOf d) q bs) (drop (leading (quoteOf d) q bs) bs)
-        → cellRun d c i (b ∷ bs) ≡ cellRun d c (i + leading (quoteOf d) q (b ∷ bs)) (drop (leading (quoteOf d) q (b ∷ bs)) (b ∷ bs))
+    go : (t : Bool) → ordinary (quote_of d) q b ≡ t
+        → cell_run d c (suc i) bs ≡ cell_run d c (suc i + leading (quote_of d) q bs) (drop (leading (quote_of d) q bs) bs)
+        → cell_run d c i (b ∷ bs) ≡ cell_run d c (i + leading (quote_of d) q (b ∷ bs)) (drop (leading (quote_of d) q (b ∷ bs)) (b ∷ bs))
     go true h ih =
-        let n : suc i + leading (quoteOf d) q bs ≡ i + suc (leading (quoteOf d) q bs) = omega arith in
-        rw (h, run_step d c q b e h, cellRun) (ih ∙ ap (λ (k : ℕ). cellRun d c k (drop (leading (quoteOf d) q bs) bs)) n)
-    go false h ih = let n : i ≡ i + 0 = omega arith in rw h (ap (λ (k : ℕ). cellRun d c k (b ∷ bs)) n)
+        let n : suc i + leading (quote_of d) q bs ≡ i + suc (leading (quote_of d) q bs) = omega arith in
+        rw (h, run_step d c q b e h, cell_run) (ih ∙ ap (λ (k : ℕ). cell_run d c k (drop (leading (quote_of d) q bs) bs)) n)
+    go false h ih = let n : i ≡ i + 0 = omega arith in rw h (ap (λ (k : ℕ). cell_run d c k (b ∷ bs)) n)
 
-drop-take : (n m : ℕ) (xs : Bytes) → drop n (take m xs) ≡ take (m - n) (drop n xs)
-drop-take zero m xs = let e : m - 0 ≡ m = omega arith in rw e
-drop-take (suc n) zero xs = let e : 0 - suc n ≡ 0 = omega arith in rw e
-drop-take (suc n) (suc m) [] = sym (take-nil (suc m - suc n))
-drop-take (suc n) (suc m) (x ∷ xs) = let e : suc m - suc n ≡ m - n = omega arith in rw e (drop-take n m xs)
+drop_take : (n m : ℕ) (xs : Bytes) → drop n (take m xs) ≡ take (m - n) (drop n xs)
+drop_take zero m xs = let e : m - 0 ≡ m = omega arith in rw e
+drop_take (suc n) zero xs = let e : 0 - suc n ≡ 0 = omega arith in rw e
+drop_take (suc n) (suc m) [] = sym (take-nil (suc m - suc n))
+drop_take (suc n) (suc m) (x ∷ xs) = let e : suc m - suc n ≡ m - n = omega arith in rw e (drop_take n m xs)
 
-drop-part : (s : Bytes) (i n stop : ℕ) → drop n (slice s i stop) ≡ slice s (i + n) stop
-drop-part s i n stop =
+drop_part : (s : Bytes) (i n stop : ℕ) → drop n (slice s i stop) ≡ slice s (i + n) stop
+drop_part s i n stop =
     let e : stop - i - n ≡ stop - (i + n) = omega arith in
-    drop-take n (stop - i) (drop i s) ∙ rw (drop-drop, e)
+    drop_take n (stop - i) (drop i s) ∙ rw (drop-drop, e)
 
 module _ (d : Dialect) (c : Cell) (s : Bytes) (i stop : ℕ) where
   -- the rest of the cell is the same from the end of a run
-  pub run-rest : cellRun d c i (slice s i stop) ≡ cellRun d c (i + runLength d (runStop d c) (slice s i stop))
-      (slice s (i + runLength d (runStop d c) (slice s i stop)) stop)
-  run-rest = go (runStop d c) refl
+  pub run_rest : cell_run d c i (slice s i stop) ≡ cell_run d c (i + run_length d (run_stop d c) (slice s i stop))
+      (slice s (i + run_length d (run_stop d c) (slice s i stop)) stop)
+  run_rest = go (run_stop d c) refl
     where
-      go : (r : RunStop) → runStop d c ≡ r
-          → cellRun d c i (slice s i stop) ≡ cellRun d c (i + runLength d r (slice s i stop)) (slice s (i + runLength d r (slice s i stop)) stop)
+      go : (r : RunStop) → run_stop d c ≡ r
+          → cell_run d c i (slice s i stop) ≡ cell_run d c (i + run_length d r (slice s i stop)) (slice s (i + run_length d r (slice s i stop)) stop)
       go (At q) e =
-          run-list d c q e i (slice s i stop)
-          ∙ ap (λ (l : Bytes). cellRun d c (i + leading (quoteOf d) q (slice s i stop)) l) (drop-part s i (leading (quoteOf d) q (slice s i stop)) stop)
-      go Fallback e = let n : i ≡ i + 0 = omega arith in ap (λ (k : ℕ). cellRun d c k (slice s k stop)) n
+          run_list d c q e i (slice s i stop)
+          ∙ ap (λ (l : Bytes). cell_run d c (i + leading (quote_of d) q (slice s i stop)) l) (drop_part s i (leading (quote_of d) q (slice s i stop)) stop)
+      go Fallback e = let n : i ≡ i + 0 = omega arith in ap (λ (k : ℕ). cell_run d c k (slice s k stop)) n
 
   module _ (h : i < stop) (k : stop ≤ length s) where
-    pub rest_more : (t : Cell) → cellStep d c (get_or s i 0) ≡ More t → cellRun d c i (slice s i stop) ≡ cellRun d t (i + 1) (slice s (i + 1) stop)
-    unfolding cellRun
-    rest_more t e = rw (part-next s i stop h k, e, cellRun, add-one)
+    pub rest_more : (t : Cell) → cell_step d c (get_or s i 0) ≡ More t → cell_run d c i (slice s i stop) ≡ cell_run d t (i + 1) (slice s (i + 1) stop)
+    unfolding cell_run
+    rest_more t e = rw (part_next s i stop h k, e, cell_run, add-one)
 
-    pub rest-stops : cellStep d c (get_or s i 0) ≡ Stop → cellRun d c i (slice s i stop) ≡ Stopped c i
-    unfolding cellRun
-    rest-stops e = rw (part-next s i stop h k, e, cellRun)
+    pub rest_stops : cell_step d c (get_or s i 0) ≡ Stop → cell_run d c i (slice s i stop) ≡ Stopped c i
+    unfolding cell_run
+    rest_stops e = rw (part_next s i stop h k, e, cell_run)
 
-    pub rest-refused : (x : ByteFault) → cellStep d c (get_or s i 0) ≡ Refuse x → cellRun d c i (slice s i stop) ≡ Refused x i
-    unfolding cellRun
-    rest-refused x e = rw (part-next s i stop h k, e, cellRun)
+    pub rest_refused : (x : ByteFault) → cell_step d c (get_or s i 0) ≡ Refuse x → cell_run d c i (slice s i stop) ≡ Refused x i
+    unfolding cell_run
+    rest_refused x e = rw (part_next s i stop h k, e, cell_run)
 
-pub rest-open : (d : Dialect) (c : Cell) (s : Bytes) (i : ℕ) → cellRun d c i (slice s i i) ≡ Open c
-unfolding cellRun
-rest-open d c s i = rw (part_end s i)
+pub rest_open : (d : Dialect) (c : Cell) (s : Bytes) (i : ℕ) → cell_run d c i (slice s i i) ≡ Open c
+unfolding cell_run
+rest_open d c s i = rw (part_end s i)
 
 -- a run ends at `stop` or before it
-pub part-short : (p q : ℕ) (s : Bytes) (i stop : ℕ) → i ≤ stop → stop ≤ length s → i + leading p q (slice s i stop) ≤ stop
+pub part_short : (p q : ℕ) (s : Bytes) (i stop : ℕ) → i ≤ stop → stop ≤ length s → i + leading p q (slice s i stop) ≤ stop
 unfolding leading
-part-short p q s i stop h k =
-    let l : leading p q (slice s i stop) ≤ length (slice s i stop) = passing-short (ordinary p q) (slice s i stop) in
+part_short p q s i stop h k =
+    let l : leading p q (slice s i stop) ≤ length (slice s i stop) = passing_short (ordinary p q) (slice s i stop) in
     let g : length (drop i s) ≡ length s - i = length-drop i s in
     let m : length (slice s i stop) ≡ stop - i = length-take-le (stop - i) (drop i s) (omega arith) in
     omega arith
 
-pub run_short : (d : Dialect) (r : RunStop) (s : Bytes) (i stop : ℕ) → i ≤ stop → stop ≤ length s → i + runLength d r (slice s i stop) ≤ stop
-run_short d (At q) s i stop h k = part-short (quoteOf d) q s i stop h k
+pub run_short : (d : Dialect) (r : RunStop) (s : Bytes) (i stop : ℕ) → i ≤ stop → stop ≤ length s → i + run_length d r (slice s i stop) ≤ stop
+run_short d (At q) s i stop h k = part_short (quote_of d) q s i stop h k
 run_short d Fallback s i stop h k = omega arith

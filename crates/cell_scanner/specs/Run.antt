@@ -7,8 +7,8 @@ use Rattle.model.specs.declared.Cell.{Cell}
 use Rattle.model.specs.declared.Cell.TheVariants.{Fresh, Quoted, Closed, Escape, Hex, InNumber, InWord, Plain, Complete}
 use Rattle.model.specs.declared.CellStep.TheVariants.{More, Stop, Refuse}
 use Rattle.model.specs.rules.Base.{Bytes}
-use Rattle.model.specs.rules.Dialect.{delimiterOf, quoteOf}
-use Rattle.model.specs.rules.Cell.{cellStep}
+use Rattle.model.specs.rules.Dialect.{delimiter_of, quote_of}
+use Rattle.model.specs.rules.Cell.{cell_step}
 unfoldable pub use Rattle.swar.specs.Words.{ordinary}
 use Rattle.swar.specs.Words.{passing}
 use Rattle.cell_scanner.specs.declared.RunStop.{RunStop}
@@ -22,33 +22,33 @@ unfolding passing
 leading p q bs = passing (ordinary p q) bs
 
 -- the same in a comment, which has no stops of its own: 0 is not ordinary
-abbrev pub commentRun : Bytes → ℕ
-commentRun bs = leading 0 0 bs
+abbrev pub comment_run : Bytes → ℕ
+comment_run bs = leading 0 0 bs
 
 -- the rest of a cell: where it stops or is refused, or the state in which it is still open
-unfoldable pub cellRun : Dialect → Cell → (i : ℕ) → Bytes → CellEnd
-cellRun d c i [] = Open c
-cellRun d c i (b ∷ bs) =
-    elim (cellStep d c b) [ More c' ↦ cellRun d c' (suc i) bs | Stop ↦ Stopped c i | Refuse e ↦ Refused e i ]
+unfoldable pub cell_run : Dialect → Cell → (i : ℕ) → Bytes → CellEnd
+cell_run d c i [] = Open c
+cell_run d c i (b ∷ bs) =
+    elim (cell_step d c b) [ More c' ↦ cell_run d c' (suc i) bs | Stop ↦ Stopped c i | Refuse e ↦ Refused e i ]
 
 -- the byte beside the quote at which a run ends
-abbrev pub textStop : Char → ℕ → RunStop
-textStop Whole q = At q
-textStop (Within i) q = Fallback
+abbrev pub text_stop : Char → ℕ → RunStop
+text_stop Whole q = At q
+text_stop (Within i) q = Fallback
 
 -- in which cells ordinary bytes run: inside quotes, and in an unquoted cell, between characters
-abbrev pub runStop : Dialect → Cell → RunStop
-runStop d Fresh = Fallback
-runStop d (Quoted t) = textStop t 0x5C
-runStop d Closed = Fallback
-runStop d Escape = Fallback
-runStop d (Hex n) = Fallback
-runStop d (InNumber n) = Fallback
-runStop d (InWord w) = Fallback
-runStop d (Plain t) = textStop t (delimiterOf d)
-runStop d Complete = Fallback
+abbrev pub run_stop : Dialect → Cell → RunStop
+run_stop d Fresh = Fallback
+run_stop d (Quoted t) = text_stop t 0x5C
+run_stop d Closed = Fallback
+run_stop d Escape = Fallback
+run_stop d (Hex n) = Fallback
+run_stop d (InNumber n) = Fallback
+run_stop d (InWord w) = Fallback
+run_stop d (Plain t) = text_stop t (delimiter_of d)
+run_stop d Complete = Fallback
 
 -- the length of the run at the beginning
-abbrev pub runLength : Dialect → RunStop → Bytes → ℕ
-runLength d (At q) bs = leading (quoteOf d) q bs
-runLength d Fallback bs = 0
+abbrev pub run_length : Dialect → RunStop → Bytes → ℕ
+run_length d (At q) bs = leading (quote_of d) q bs
+run_length d Fallback bs = 0

@@ -1,9 +1,9 @@
 // The rest of a cell or of a comment, by the automaton and by runs of ordinary ASCII bytes, eight to a step. A state and a slice go in;
-// where the cell stops or is refused comes out, or the state in which it is still open. The definitions are `cellRun` and `leading` of
+// where the cell stops or is refused comes out, or the state in which it is still open. The definitions are `cell_run` and `leading` of
 // specs/Run.antt; specs/RunLaw.antt says why a reader may skip a run. A new stop of a run needs `run_step` of proofs/Runs.antt again.
 ghost use Rattle.std.specs.Prelude.{◌≡◌, ◌+◌, ◌/◌, ◌%◌, ◌≤◌, ◌<◌, length};
 ghost use Rattle.model.specs.rules.Api.{slice};
-ghost use Rattle.cell_scanner.specs.Run.{leading, commentRun, textStop, runStop, runLength, cellRun};
+ghost use Rattle.cell_scanner.specs.Run.{leading, comment_run, text_stop, run_stop, run_length, cell_run};
 
 use model::{ByteFault, Cell, CellStep, Char, Dialect};
 
@@ -79,7 +79,7 @@ const NO_STOP: u8 = 0;
 // The end of a comment's ordinary bytes from `at`, at most `stop`.
 pub fn comment_run(s: &[u8], at: usize, stop: usize) -> usize
     requires { (at ≤ stop) × (stop ≤ length s.now) }
-    ensures { result ≡ at + commentRun (slice s.now at stop) }
+    ensures { result ≡ at + comment_run (slice s.now at stop) }
 {
     run(s, at, stop, NO_STOP, NO_STOP)
 }
@@ -102,7 +102,7 @@ pub enum RunStop {
 }
 
 fn text_stop(t: Char, q: u8) -> RunStop
-    ensures { result ≡ textStop t q }
+    ensures { result ≡ text_stop t q }
 {
     match t {
         Char::Whole => RunStop::At(q),
@@ -111,7 +111,7 @@ fn text_stop(t: Char, q: u8) -> RunStop
 }
 
 pub fn run_stop(d: Dialect, c: Cell) -> RunStop
-    ensures { result ≡ runStop d c }
+    ensures { result ≡ run_stop d c }
 {
     match c {
         Cell::Quoted(t) => text_stop(t, 0x5C),
@@ -123,7 +123,7 @@ pub fn run_stop(d: Dialect, c: Cell) -> RunStop
 // The end of the cell's ordinary bytes from `at`, at most `stop`.
 fn cell_run(d: Dialect, c: Cell, s: &[u8], at: usize, stop: usize) -> usize
     requires { (at ≤ stop) × (stop ≤ length s.now) }
-    ensures { result ≡ at + runLength d (runStop d c) (slice s.now at stop) }
+    ensures { result ≡ at + run_length d (run_stop d c) (slice s.now at stop) }
 {
     match run_stop(d, c) {
         RunStop::At(q) => run(s, at, stop, cell_lexer::quote_of(d), q),
@@ -134,7 +134,7 @@ fn cell_run(d: Dialect, c: Cell, s: &[u8], at: usize, stop: usize) -> usize
 // The rest of a cell from `from`, at most up to `stop`.
 pub fn cell_end(d: Dialect, c0: Cell, s: &[u8], from: usize, stop: usize) -> CellEnd
     requires { (from ≤ stop) × (stop ≤ length s.now) }
-    ensures { result ≡ cellRun d c0 from (slice s.now from stop) }
+    ensures { result ≡ cell_run d c0 from (slice s.now from stop) }
 {
     let mut c = c0;
     let mut i = from;

@@ -10,210 +10,210 @@ use borrow.Author.Tests.{leb-true}
 use Rattle.model.specs.declared.Dialect.{Dialect}
 use Rattle.model.specs.declared.Dialect.TheVariants.{Csvj, Tdif, CsvPlus}
 use Rattle.model.specs.rules.Base.{Bytes, if◌then◌else◌, ◌is◌, QUOTE}
-use Rattle.model.specs.rules.Dialect.{quoteOf, isCsvj}
-use Rattle.model.specs.rules.Utf8.{isSurrogate, holdsLone}
-use Rattle.model.specs.rules.Text.{surrogate, jsonBody, doubled}
-use Rattle.model.proofs.Tests.{split-on, impossible, and-true}
-use Rattle.buffer.proofs.WriteProgress.{drop-next}
+use Rattle.model.specs.rules.Dialect.{quote_of, is_csvj}
+use Rattle.model.specs.rules.Utf8.{is_surrogate, holds_lone}
+use Rattle.model.specs.rules.Text.{surrogate, json_body, doubled}
+use Rattle.model.proofs.Tests.{split_on, impossible, and_true}
+use Rattle.buffer.proofs.WriteProgress.{drop_next}
 use Rattle.cell_decoder.specs.Units.{one}
 use Rattle.cell_decoder.specs.declared.first_byte.Spelling.{Spelling}
 use Rattle.cell_decoder.specs.declared.first_byte.Spelling.TheVariants.{Nothing, AsItStands}
-use Rattle.cell_writer.specs.Units.{Spells, bodyText, is_lone, beginsLone, paired}
-use Rattle.cell_writer.specs.Contents.{contentFrom, sourceQuote, Decoded, Part}
+use Rattle.cell_writer.specs.Units.{Spells, body_text, is_lone, begins_lone, paired}
+use Rattle.cell_writer.specs.Contents.{content_from, source_quote, Decoded, Part}
 use Rattle.cell_writer.specs.Bodies.{Stops}
-use Rattle.cell_writer.specs.PlainRuns.{plainRun}
-use Rattle.cell_writer.proofs.PlainRuns.{text-run, lone-run}
+use Rattle.cell_writer.specs.PlainRuns.{plain_run}
+use Rattle.cell_writer.proofs.PlainRuns.{text_run, lone_run}
 use Rattle.cell_writer.proofs.Units.{
-  body-append,
-  doubled-append,
-  text-append,
-  surrogate-append,
+  body_append,
+  doubled_append,
+  text_append,
+  surrogate_append,
   no_surrogate,
-  surrogate-by,
-  lone-append,
-  paired-begins,
-  begins-paired,
+  surrogate_by,
+  lone_append,
+  paired_begins,
+  begins_paired,
 }
-use Rattle.cell_writer.proofs.Contents.{content-part, part_apart}
+use Rattle.cell_writer.proofs.Contents.{content_part, part_apart}
 
-begins-short : (bs : Bytes) → length bs < 3 → beginsLone bs ≡ false
-begins-short [] h = refl
-begins-short (a ∷ []) h = refl
-begins-short (a ∷ b ∷ []) h = refl
-begins-short (a ∷ b ∷ c ∷ bs) h = absurd (omega arith)
+begins_short : (bs : Bytes) → length bs < 3 → begins_lone bs ≡ false
+begins_short [] h = refl
+begins_short (a ∷ []) h = refl
+begins_short (a ∷ b ∷ []) h = refl
+begins_short (a ∷ b ∷ c ∷ bs) h = absurd (omega arith)
 
-begins-by : (bs : Bytes) → 3 ≤ length bs → beginsLone bs ≡ paired bs
-begins-by [] h = absurd (omega arith)
-begins-by (a ∷ []) h = absurd (omega arith)
-begins-by (a ∷ b ∷ []) h = absurd (omega arith)
-begins-by (a ∷ b ∷ c ∷ bs) h = refl
+begins_by : (bs : Bytes) → 3 ≤ length bs → begins_lone bs ≡ paired bs
+begins_by [] h = absurd (omega arith)
+begins_by (a ∷ []) h = absurd (omega arith)
+begins_by (a ∷ b ∷ []) h = absurd (omega arith)
+begins_by (a ∷ b ∷ c ∷ bs) h = refl
 
-begins-long : (bs : Bytes) → beginsLone bs ≡ true → 3 ≤ length bs
-begins-long [] e = impossible e
-begins-long (a ∷ []) e = impossible e
-begins-long (a ∷ b ∷ []) e = impossible e
-begins-long (a ∷ b ∷ c ∷ bs) e = omega arith
+begins_long : (bs : Bytes) → begins_lone bs ≡ true → 3 ≤ length bs
+begins_long [] e = impossible e
+begins_long (a ∷ []) e = impossible e
+begins_long (a ∷ b ∷ []) e = impossible e
+begins_long (a ∷ b ∷ c ∷ bs) e = omega arith
 
-first-reports : (b : ℕ) (bs : Bytes) → holdsLone (b ∷ bs) ≡ (paired (b ∷ bs) || holdsLone bs)
-unfolding holdsLone if◌then◌else◌
-first-reports b [] = refl
-first-reports b (a ∷ bs) = split-on (isSurrogate b a) (λ e. rw e) (λ e. rw e)
+first_reports : (b : ℕ) (bs : Bytes) → holds_lone (b ∷ bs) ≡ (paired (b ∷ bs) || holds_lone bs)
+unfolding holds_lone if◌then◌else◌
+first_reports b [] = refl
+first_reports b (a ∷ bs) = split_on (is_surrogate b a) (λ e. rw e) (λ e. rw e)
 
-pair-short : (bs : Bytes) → length bs < 2 → paired bs ≡ false
-pair-short [] h = refl
-pair-short (a ∷ []) h = refl
-pair-short (a ∷ b ∷ bs) h = absurd (omega arith)
+pair_short : (bs : Bytes) → length bs < 2 → paired bs ≡ false
+pair_short [] h = refl
+pair_short (a ∷ []) h = refl
+pair_short (a ∷ b ∷ bs) h = absurd (omega arith)
 
 module _ (c : Bytes) (i : ℕ) (h : i < length c) where
   -- the first two bytes of a lone surrogate
-  pub pair-cut : length c - i < 2 → paired (drop i c) ≡ false
-  pair-cut e = pair-short (drop i c) (omega (arith, length-drop i c))
+  pub pair_cut : length c - i < 2 → paired (drop i c) ≡ false
+  pair_cut e = pair_short (drop i c) (omega (arith, length-drop i c))
 
   two_at : i + 2 ≤ length c → drop i c ≡ get_or c i 0 ∷ get_or c (i + 1) 0 ∷ drop (i + 2) c
   two_at k =
-      drop-next c i (i + 1) h refl
-      ∙ ap (λ (l : Bytes). get_or c i 0 ∷ l) (drop-next c (i + 1) (i + 2) (omega arith) (omega arith))
+      drop_next c i (i + 1) h refl
+      ∙ ap (λ (l : Bytes). get_or c i 0 ∷ l) (drop_next c (i + 1) (i + 2) (omega arith) (omega arith))
 
-  pub pair-other : 2 ≤ length c - i → (get_or c i 0 ≡ 0xED → ⊥) → paired (drop i c) ≡ false
-  pair-other k e = let m : i + 2 ≤ length c = omega arith in rw (two_at m) (no_surrogate (get_or c i 0) (get_or c (i + 1) 0) e)
+  pub pair_other : 2 ≤ length c - i → (get_or c i 0 ≡ 0xED → ⊥) → paired (drop i c) ≡ false
+  pair_other k e = let m : i + 2 ≤ length c = omega arith in rw (two_at m) (no_surrogate (get_or c i 0) (get_or c (i + 1) 0) e)
 
-  pub pair-at : 2 ≤ length c - i → get_or c i 0 ≡ 0xED → paired (drop i c) ≡ leb 0xA0 (get_or c (i + 1) 0)
-  pair-at k e = let m : i + 2 ≤ length c = omega arith in rw (two_at m) (surrogate-by (get_or c i 0) (get_or c (i + 1) 0) e)
+  pub pair_at : 2 ≤ length c - i → get_or c i 0 ≡ 0xED → paired (drop i c) ≡ leb 0xA0 (get_or c (i + 1) 0)
+  pair_at k e = let m : i + 2 ≤ length c = omega arith in rw (two_at m) (surrogate_by (get_or c i 0) (get_or c (i + 1) 0) e)
 
   -- all three
-  pub lone-cut : length c - i < 3 → beginsLone (drop i c) ≡ false
-  lone-cut e = begins-short (drop i c) (omega (arith, length-drop i c))
+  pub lone_cut : length c - i < 3 → begins_lone (drop i c) ≡ false
+  lone_cut e = begins_short (drop i c) (omega (arith, length-drop i c))
 
-  three-at : i + 3 ≤ length c → drop i c ≡ get_or c i 0 ∷ get_or c (i + 1) 0 ∷ get_or c (i + 2) 0 ∷ drop (i + 3) c
-  three-at k =
-      drop-next c i (i + 1) h refl
-      ∙ ap (λ (l : Bytes). get_or c i 0 ∷ l) (drop-next c (i + 1) (i + 2) (omega arith) (omega arith))
-      ∙ ap (λ (l : Bytes). get_or c i 0 ∷ get_or c (i + 1) 0 ∷ l) (drop-next c (i + 2) (i + 3) (omega arith) (omega arith))
+  three_at : i + 3 ≤ length c → drop i c ≡ get_or c i 0 ∷ get_or c (i + 1) 0 ∷ get_or c (i + 2) 0 ∷ drop (i + 3) c
+  three_at k =
+      drop_next c i (i + 1) h refl
+      ∙ ap (λ (l : Bytes). get_or c i 0 ∷ l) (drop_next c (i + 1) (i + 2) (omega arith) (omega arith))
+      ∙ ap (λ (l : Bytes). get_or c i 0 ∷ get_or c (i + 1) 0 ∷ l) (drop_next c (i + 2) (i + 3) (omega arith) (omega arith))
 
-  pub lone-by : 3 ≤ length c - i → beginsLone (drop i c) ≡ paired (drop i c)
-  lone-by k = begins-by (drop i c) (omega (arith, length-drop i c))
+  pub lone_by : 3 ≤ length c - i → begins_lone (drop i c) ≡ paired (drop i c)
+  lone_by k = begins_by (drop i c) (omega (arith, length-drop i c))
 
   -- a lone surrogate is there
-  module _ (e : beginsLone (drop i c) ≡ true) where
-    pub lone-inside : i + 3 ≤ length c
-    lone-inside = omega (arith, begins-long (drop i c) e, length-drop i c)
+  module _ (e : begins_lone (drop i c) ≡ true) where
+    pub lone_inside : i + 3 ≤ length c
+    lone_inside = omega (arith, begins_long (drop i c) e, length-drop i c)
 
-    is-there : isSurrogate (get_or c i 0) (get_or c (i + 1) 0) ≡ true
-    is-there = rw (three-at lone-inside) at e
+    is_there : is_surrogate (get_or c i 0) (get_or c (i + 1) 0) ≡ true
+    is_there = rw (three_at lone_inside) at e
 
-    pub lone-second : 0xA0 ≤ get_or c (i + 1) 0
-    lone-second = leb-true 0xA0 (get_or c (i + 1) 0) (and-true (get_or c i 0 is 0xED) (leb 0xA0 (get_or c (i + 1) 0)) is-there).1
+    pub lone_second : 0xA0 ≤ get_or c (i + 1) 0
+    lone_second = leb-true 0xA0 (get_or c (i + 1) 0) (and_true (get_or c i 0 is 0xED) (leb 0xA0 (get_or c (i + 1) 0)) is_there).1
 
-    pub stops-lone : (t : Dialect) {bytes : Bytes} {size : ℕ} → isCsvj t ≡ true
+    pub stops_lone : (t : Dialect) {bytes : Bytes} {size : ℕ} → is_csvj t ≡ true
         → Spells (surrogate (get_or c (i + 1) 0) (get_or c (i + 2) 0)) bytes size → Stops AsItStands t c i bytes size (i + 3) true
-    stops-lone Csvj j p =
+    stops_lone Csvj j p =
         record {
           stands =
-              ap jsonBody (three-at lone-inside)
-              ∙ surrogate-append (get_or c i 0) (get_or c (i + 1) 0) (get_or c (i + 2) 0) (drop (i + 3) c) is-there
-              ∙ ap (λ (l : Bytes). l ++ jsonBody (drop (i + 3) c)) (sym p.spells);
+              ap json_body (three_at lone_inside)
+              ∙ surrogate_append (get_or c i 0) (get_or c (i + 1) 0) (get_or c (i + 2) 0) (drop (i + 3) c) is_there
+              ∙ ap (λ (l : Bytes). l ++ json_body (drop (i + 3) c)) (sym p.spells);
           sized = ap length p.spells ∙ sym p.sized;
           on = omega arith;
-          inside = lone-inside;
-          tells = begins-paired (drop i c) e;
+          inside = lone_inside;
+          tells = begins_paired (drop i c) e;
         }
-    stops-lone Tdif j p = impossible j
-    stops-lone (CsvPlus s) j p = impossible j
+    stops_lone Tdif j p = impossible j
+    stops_lone (CsvPlus s) j p = impossible j
 
   -- a byte is there
-  first-text : (t : Dialect) → (isCsvj t ≡ true → beginsLone (drop i c) ≡ false)
-      → bodyText t (drop i c) ≡ bodyText t (get_or c i 0 ∷ []) ++ bodyText t (drop (i + 1) c)
-  first-text Csvj e =
-      let d = drop-next c i (i + 1) h refl in ap jsonBody d ∙ body-append (get_or c i 0 ∷ []) (drop (i + 1) c) (one (get_or c i 0)) (λ _. rw d at (e refl))
-  first-text Tdif e = ap (bodyText Tdif) (drop-next c i (i + 1) h refl) ∙ doubled-append QUOTE (get_or c i 0 ∷ []) (drop (i + 1) c)
-  first-text (CsvPlus s) e = ap (bodyText (CsvPlus s)) (drop-next c i (i + 1) h refl) ∙ doubled-append (quoteOf (CsvPlus s)) (get_or c i 0 ∷ []) (drop (i + 1) c)
+  first_text : (t : Dialect) → (is_csvj t ≡ true → begins_lone (drop i c) ≡ false)
+      → body_text t (drop i c) ≡ body_text t (get_or c i 0 ∷ []) ++ body_text t (drop (i + 1) c)
+  first_text Csvj e =
+      let d = drop_next c i (i + 1) h refl in ap json_body d ∙ body_append (get_or c i 0 ∷ []) (drop (i + 1) c) (one (get_or c i 0)) (λ _. rw d at (e refl))
+  first_text Tdif e = ap (body_text Tdif) (drop_next c i (i + 1) h refl) ∙ doubled_append QUOTE (get_or c i 0 ∷ []) (drop (i + 1) c)
+  first_text (CsvPlus s) e = ap (body_text (CsvPlus s)) (drop_next c i (i + 1) h refl) ∙ doubled_append (quote_of (CsvPlus s)) (get_or c i 0 ∷ []) (drop (i + 1) c)
 
-  byte-tells : holdsLone (drop i c) ≡ (paired (drop i c) || holdsLone (drop (i + 1) c))
-  byte-tells = rw (drop-next c i (i + 1) h refl) (first-reports (get_or c i 0) (drop (i + 1) c))
+  byte_tells : holds_lone (drop i c) ≡ (paired (drop i c) || holds_lone (drop (i + 1) c))
+  byte_tells = rw (drop_next c i (i + 1) h refl) (first_reports (get_or c i 0) (drop (i + 1) c))
 
-  pub stops-byte : (t : Dialect) {bytes : Bytes} {size : ℕ} {lone : Bool} → (isCsvj t ≡ true → beginsLone (drop i c) ≡ false)
-      → Spells (bodyText t (get_or c i 0 ∷ [])) bytes size → lone ≡ paired (drop i c)
+  pub stops_byte : (t : Dialect) {bytes : Bytes} {size : ℕ} {lone : Bool} → (is_csvj t ≡ true → begins_lone (drop i c) ≡ false)
+      → Spells (body_text t (get_or c i 0 ∷ [])) bytes size → lone ≡ paired (drop i c)
       → Stops AsItStands t c i bytes size (i + 1) lone
-  stops-byte t e p l =
+  stops_byte t e p l =
       record {
-        stands = first-text t e ∙ ap (λ (l : Bytes). l ++ bodyText t (drop (i + 1) c)) (sym p.spells);
+        stands = first_text t e ∙ ap (λ (l : Bytes). l ++ body_text t (drop (i + 1) c)) (sym p.spells);
         sized = ap length p.spells ∙ sym p.sized;
         on = omega arith;
         inside = omega arith;
-        tells = rw l byte-tells;
+        tells = rw l byte_tells;
       }
 
-pub stops-nothing : {t : Dialect} {c : Bytes} {i : ℕ} {bytes : Bytes} {size next : ℕ} {lone : Bool}
+pub stops_nothing : {t : Dialect} {c : Bytes} {i : ℕ} {bytes : Bytes} {size next : ℕ} {lone : Bool}
     → Stops AsItStands t c i bytes size next lone → Stops Nothing t c i bytes size next lone
-stops-nothing p = record { stands = p.stands; sized = p.sized; on = p.on; inside = p.inside; tells = p.tells }
+stops_nothing p = record { stands = p.stands; sized = p.sized; on = p.on; inside = p.inside; tells = p.tells }
 
 -- ---- in a cell that is decoded
 
 module _ {c : Spelling} {raw : Bytes} {i : ℕ} {unit : Bytes} {size next : ℕ} (p : Part c raw i unit size next) where
   pub stops_end : (t : Dialect) (bytes : Bytes) → size ≡ 0 → Stops c t raw i bytes 0 next false
   stops_end t bytes e =
-      let same : contentFrom c raw i ≡ contentFrom c raw next = p.stands ∙ ap (λ (n : ℕ). take n unit ++ contentFrom c raw next) e in
-      record { stands = ap (bodyText t) same; sized = refl; on = p.on; inside = p.inside; tells = ap holdsLone same }
+      let same : content_from c raw i ≡ content_from c raw next = p.stands ∙ ap (λ (n : ℕ). take n unit ++ content_from c raw next) e in
+      record { stands = ap (body_text t) same; sized = refl; on = p.on; inside = p.inside; tells = ap holds_lone same }
 
-  pub stops-unit : (t : Dialect) {bytes : Bytes} {n : ℕ} {lone : Bool} → Decoded c raw → (size ≡ 0 → ⊥)
-      → Spells (bodyText t (take size unit)) bytes n → lone ≡ is_lone (take size unit)
+  pub stops_unit : (t : Dialect) {bytes : Bytes} {n : ℕ} {lone : Bool} → Decoded c raw → (size ≡ 0 → ⊥)
+      → Spells (body_text t (take size unit)) bytes n → lone ≡ is_lone (take size unit)
       → Stops c t raw i bytes n next lone
-  stops-unit t d z s l =
+  stops_unit t d z s l =
       let u : Bytes = take size unit in
-      let rest : Bytes = contentFrom c raw next in
+      let rest : Bytes = content_from c raw next in
       let some = p.unit (omega arith) in
       let apart : length u ≡ 1 → paired (u ++ rest) ≡ false = λ e. ap paired (sym p.stands) ∙ part_apart d p (sym p.sized ∙ e) in
       record {
         stands =
-            ap (bodyText t) p.stands ∙ text-append t u rest some (λ e. paired-begins (u ++ rest) (apart e))
-            ∙ ap (λ (w : Bytes). w ++ bodyText t rest) (sym s.spells);
+            ap (body_text t) p.stands ∙ text_append t u rest some (λ e. paired_begins (u ++ rest) (apart e))
+            ∙ ap (λ (w : Bytes). w ++ body_text t rest) (sym s.spells);
         sized = ap length s.spells ∙ sym s.sized;
         on = p.on;
         inside = p.inside;
-        tells = ap holdsLone p.stands ∙ lone-append u rest some apart ∙ ap (λ (x : Bool). x || holdsLone rest) (sym l);
+        tells = ap holds_lone p.stands ∙ lone_append u rest some apart ∙ ap (λ (x : Bool). x || holds_lone rest) (sym l);
       }
 
 -- ---- a run, and the end
 
-module _ (raw : Bytes) (i j p q : ℕ) (c : Spelling) (s : q ≡ sourceQuote c) (k : j ≡ i + plainRun p q q (drop i raw)) where
-  pub text-part : (t : Dialect) → p ≡ quoteOf t → bodyText t (contentFrom c raw i) ≡ take (j - i) (drop i raw) ++ bodyText t (contentFrom c raw j)
-  text-part t e =
-      let n : ℕ = plainRun p q q (drop i raw) in
+module _ (raw : Bytes) (i j p q : ℕ) (c : Spelling) (s : q ≡ source_quote c) (k : j ≡ i + plain_run p q q (drop i raw)) where
+  pub text_part : (t : Dialect) → p ≡ quote_of t → body_text t (content_from c raw i) ≡ take (j - i) (drop i raw) ++ body_text t (content_from c raw j)
+  text_part t e =
+      let n : ℕ = plain_run p q q (drop i raw) in
       let size : j - i ≡ n = omega arith in
-      ap (bodyText t) (content-part raw i j p q q k c s)
-      ∙ text-run p q q t e (drop i raw) (contentFrom c raw j)
-      ∙ ap (λ (m : ℕ). take m (drop i raw) ++ bodyText t (contentFrom c raw j)) (sym size)
+      ap (body_text t) (content_part raw i j p q q k c s)
+      ∙ text_run p q q t e (drop i raw) (content_from c raw j)
+      ∙ ap (λ (m : ℕ). take m (drop i raw) ++ body_text t (content_from c raw j)) (sym size)
 
-  pub lone-part : holdsLone (contentFrom c raw i) ≡ holdsLone (contentFrom c raw j)
-  lone-part = ap holdsLone (content-part raw i j p q q k c s) ∙ lone-run p q q (drop i raw) (contentFrom c raw j)
+  pub lone_part : holds_lone (content_from c raw i) ≡ holds_lone (content_from c raw j)
+  lone_part = ap holds_lone (content_part raw i j p q q k c s) ∙ lone_run p q q (drop i raw) (content_from c raw j)
 
-pub text-empty : (t : Dialect) → bodyText t [] ≡ []
-unfolding jsonBody doubled
-text-empty Csvj = refl
-text-empty Tdif = refl
-text-empty (CsvPlus s) = refl
+pub text_empty : (t : Dialect) → body_text t [] ≡ []
+unfolding json_body doubled
+text_empty Csvj = refl
+text_empty Tdif = refl
+text_empty (CsvPlus s) = refl
 
-pub lone-empty : holdsLone [] ≡ false
-unfolding holdsLone
-lone-empty = refl
+pub lone_empty : holds_lone [] ≡ false
+unfolding holds_lone
+lone_empty = refl
 
-pub text-end : (t : Dialect) {bs : Bytes} → bs ≡ [] → bodyText t bs ≡ []
-text-end t e = ap (bodyText t) e ∙ text-empty t
+pub text_end : (t : Dialect) {bs : Bytes} → bs ≡ [] → body_text t bs ≡ []
+text_end t e = ap (body_text t) e ∙ text_empty t
 
-pub lone-end : {bs : Bytes} → bs ≡ [] → holdsLone bs ≡ false
-lone-end e = ap holdsLone e ∙ lone-empty
+pub lone_end : {bs : Bytes} → bs ≡ [] → holds_lone bs ≡ false
+lone_end e = ap holds_lone e ∙ lone_empty
 
 -- ---- what is known of lone surrogates
 
-pub lone-first : (bs : Bytes) → holdsLone bs ≡ (false || holdsLone bs)
-lone-first bs = refl
+pub lone_first : (bs : Bytes) → holds_lone bs ≡ (false || holds_lone bs)
+lone_first bs = refl
 
 -- nothing remains
-pub lone-done : (lone : Bool) {all rest : Bool} → all ≡ (lone || rest) → rest ≡ false → lone ≡ all
-lone-done true e f = sym e
-lone-done false e f = sym f ∙ sym e
+pub lone_done : (lone : Bool) {all rest : Bool} → all ≡ (lone || rest) → rest ≡ false → lone ≡ all
+lone_done true e f = sym e
+lone_done false e f = sym f ∙ sym e
 
 -- a part of the rest was read
-pub lone-step : (lone here next : Bool) {all rest found : Bool} → all ≡ (lone || rest) → rest ≡ (here || next) → found ≡ (lone || here) → all ≡ (found || next)
-lone-step true here next e f g = e ∙ ap (λ (x : Bool). x || next) (sym g)
-lone-step false here next e f g = e ∙ f ∙ ap (λ (x : Bool). x || next) (sym g)
+pub lone_step : (lone here next : Bool) {all rest found : Bool} → all ≡ (lone || rest) → rest ≡ (here || next) → found ≡ (lone || here) → all ≡ (found || next)
+lone_step true here next e f g = e ∙ ap (λ (x : Bool). x || next) (sym g)
+lone_step false here next e f g = e ∙ f ∙ ap (λ (x : Bool). x || next) (sym g)

@@ -5,35 +5,35 @@ use Rattle.model.specs.declared.Dialect.TheVariants.{Csvj, Tdif, CsvPlus}
 use Rattle.model.specs.declared.Kind.{Kind}
 use Rattle.model.specs.declared.Kind.TheVariants.{Text, Number, True, False, Null}
 use Rattle.model.specs.rules.Base.{Bytes, QUOTE, BACKSLASH}
-use Rattle.model.specs.rules.Dialect.{quoteOf}
-use Rattle.model.specs.rules.Text.{Value, jsonCell, quotedText, csvPlusCell, hasQuotes}
+use Rattle.model.specs.rules.Dialect.{quote_of}
+use Rattle.model.specs.rules.Text.{Value, json_cell, quoted_text, csv_plus_cell, has_quotes}
 use Rattle.cell_decoder.specs.declared.first_byte.Spelling.{Spelling}
 use Rattle.cell_decoder.specs.declared.first_byte.Spelling.TheVariants.{Nothing, AsItStands, Doubled, Escaped}
 use Rattle.cell_decoder.specs.declared.source.Source.{Source}
-use Rattle.cell_decoder.specs.Sources.{contentBy}
+use Rattle.cell_decoder.specs.Sources.{content_by}
 use Rattle.cell_writer.specs.declared.cell.WrittenForm.{WrittenForm}
 use Rattle.cell_writer.specs.declared.cell.WrittenForm.TheVariants.{AsText, AsNumber, AsWord}
 
 -- a cell of this kind
 abbrev pub value_of : Source → Kind → Bytes → Value
-value_of src kind raw = record { from = 0; upto = 0; kind = kind; content = contentBy src raw }
+value_of src kind raw = record { from = 0; upto = 0; kind = kind; content = content_by src raw }
 
 -- whether a text is in quotes (§14.3 §14.6 §14.7)
-abbrev pub isQuoted : Dialect → (only first : Bool) → Bytes → Bool
-isQuoted Csvj only first bs = true
-isQuoted Tdif only first bs = true
-isQuoted (CsvPlus s) only first bs = hasQuotes s only first bs
+abbrev pub is_quoted : Dialect → (only first : Bool) → Bytes → Bool
+is_quoted Csvj only first bs = true
+is_quoted Tdif only first bs = true
+is_quoted (CsvPlus s) only first bs = has_quotes s only first bs
 
 -- the quote before and after it, if it is
-abbrev pub quoteBy : Dialect → (quoted : Bool) → Bytes
-quoteBy t true = quoteOf t ∷ []
-quoteBy t false = []
+abbrev pub quote_by : Dialect → (quoted : Bool) → Bytes
+quote_by t true = quote_of t ∷ []
+quote_by t false = []
 
 -- a cell whose content is written as a text
-abbrev pub textCell : Dialect → (only first : Bool) → Bytes → Bytes
-textCell Csvj only first bs = jsonCell Text bs
-textCell Tdif only first bs = quotedText QUOTE bs
-textCell (CsvPlus s) only first bs = csvPlusCell s only first bs
+abbrev pub text_cell : Dialect → (only first : Bool) → Bytes → Bytes
+text_cell Csvj only first bs = json_cell Text bs
+text_cell Tdif only first bs = quoted_text QUOTE bs
+text_cell (CsvPlus s) only first bs = csv_plus_cell s only first bs
 
 -- the content of a number, by its encoding: verbatim, or nothing (§2.5)
 abbrev pub number_in : Spelling → Bytes → Bytes
@@ -42,19 +42,19 @@ number_in AsItStands raw = raw
 number_in (Doubled q) raw = raw
 number_in Escaped raw = raw
 
--- the written form in `cellText` (§14.5 §14.6 §14.7)
-abbrev pub writtenAs : Dialect → Kind → WrittenForm
-writtenAs Csvj Text = AsText
-writtenAs Csvj Number = AsNumber
-writtenAs Csvj True = AsWord
-writtenAs Csvj False = AsWord
-writtenAs Csvj Null = AsWord
-writtenAs Tdif Text = AsText
-writtenAs Tdif Number = AsWord
-writtenAs Tdif True = AsWord
-writtenAs Tdif False = AsWord
-writtenAs Tdif Null = AsWord
-writtenAs (CsvPlus s) k = AsText
+-- the written form in `cell_text` (§14.5 §14.6 §14.7)
+abbrev pub written_as : Dialect → Kind → WrittenForm
+written_as Csvj Text = AsText
+written_as Csvj Number = AsNumber
+written_as Csvj True = AsWord
+written_as Csvj False = AsWord
+written_as Csvj Null = AsWord
+written_as Tdif Text = AsText
+written_as Tdif Number = AsWord
+written_as Tdif True = AsWord
+written_as Tdif False = AsWord
+written_as Tdif Null = AsWord
+written_as (CsvPlus s) k = AsText
 
 -- the word of a kind that is written as one
 abbrev pub word_for : Dialect → Kind → Bytes

@@ -4,44 +4,44 @@ use Rattle.model.specs.rules.Base.{Bytes, QUOTE}
 use Rattle.model.specs.rules.Report.{MAXRECORD}
 use Rattle.model.specs.rules.Decode.{undouble, between, units, text_of}
 use Rattle.cell_decoder.specs.Units.{Unit}
-use Rattle.cell_decoder.specs.FirstByte.{contentIn}
+use Rattle.cell_decoder.specs.FirstByte.{content_in}
 use Rattle.cell_decoder.specs.Followed.{EdFollowed}
 use Rattle.cell_decoder.specs.declared.first_byte.Spelling.{Spelling}
 use Rattle.cell_decoder.specs.declared.first_byte.Spelling.TheVariants.{Nothing, AsItStands, Doubled, Escaped}
 
 -- the content of the rest of a cell; a cell without content is read verbatim, from its end on
-abbrev pub contentOn : Spelling → Bytes → Bytes
-contentOn Nothing bs = bs
-contentOn AsItStands bs = bs
-contentOn (Doubled q) bs = undouble q false bs
-contentOn Escaped bs = text_of (units between bs)
+abbrev pub content_on : Spelling → Bytes → Bytes
+content_on Nothing bs = bs
+content_on AsItStands bs = bs
+content_on (Doubled q) bs = undouble q false bs
+content_on Escaped bs = text_of (units between bs)
 
-abbrev pub contentFrom : Spelling → Bytes → ℕ → Bytes
-contentFrom c raw i = contentOn c (drop i raw)
+abbrev pub content_from : Spelling → Bytes → ℕ → Bytes
+content_from c raw i = content_on c (drop i raw)
 
 -- the byte that is not verbatim in a cell, beside the backslash
-abbrev pub sourceQuote : Spelling → ℕ
-sourceQuote Nothing = QUOTE
-sourceQuote AsItStands = QUOTE
-sourceQuote (Doubled q) = q
-sourceQuote Escaped = QUOTE
+abbrev pub source_quote : Spelling → ℕ
+source_quote Nothing = QUOTE
+source_quote AsItStands = QUOTE
+source_quote (Doubled q) = q
+source_quote Escaped = QUOTE
 
 -- a cell that has to be decoded, as it is in a sound file: its content is at most a record long, and has a lone surrogate by an escape
 -- only
 pub data Decoded : Spelling → Bytes → Type 0 where
-  by-doubled : {q : ℕ} {raw : Bytes} → q ≤ 0x7F → length (contentIn (Doubled q) raw) ≤ MAXRECORD → EdFollowed raw → Decoded (Doubled q) raw
-  by-string : {raw : Bytes} → length (contentIn Escaped raw) ≤ MAXRECORD → EdFollowed raw → Decoded Escaped raw
+  by_doubled : {q : ℕ} {raw : Bytes} → q ≤ 0x7F → length (content_in (Doubled q) raw) ≤ MAXRECORD → EdFollowed raw → Decoded (Doubled q) raw
+  by_string : {raw : Bytes} → length (content_in Escaped raw) ≤ MAXRECORD → EdFollowed raw → Decoded Escaped raw
 
 -- a cell whose content may be read: one like that, or any bytes where nothing is decoded
 pub data Legible : Spelling → Bytes → Type 0 where
-  has-none : {raw : Bytes} → Legible Nothing raw
-  as-it-lies : {raw : Bytes} → Legible AsItStands raw
+  has_none : {raw : Bytes} → Legible Nothing raw
+  as_it_lies : {raw : Bytes} → Legible AsItStands raw
   decoded : {c : Spelling} {raw : Bytes} → Decoded c raw → Legible c raw
 
 -- the first `size` of `bytes` are the content at i, one unit or nothing, and it continues at `next`; a single byte ED is in the cell
 -- itself, before `next`
 pub record Part (c : Spelling) (raw : Bytes) (i : ℕ) (bytes : Bytes) (size next : ℕ) : Type 0 where
-  pub stands : contentFrom c raw i ≡ take size bytes ++ contentFrom c raw next
+  pub stands : content_from c raw i ≡ take size bytes ++ content_from c raw next
   pub on : i < next
   pub inside : next ≤ length raw
   pub few : size ≤ 4

@@ -9,6 +9,6 @@ unfoldable pub is_plain : (p q r b : ℕ) → Bool
 is_plain p q r b = leb 0x20 b && not (b is BACKSLASH) && not (b is 0xED) && not (b is p) && not (b is q) && not (b is r)
 
 -- the length of the longest prefix of plain bytes
-unfoldable pub plainRun : (p q r : ℕ) → Bytes → ℕ
+unfoldable pub plain_run : (p q r : ℕ) → Bytes → ℕ
 unfolding passing
-plainRun p q r bs = passing (is_plain p q r) bs
+plain_run p q r bs = passing (is_plain p q r) bs

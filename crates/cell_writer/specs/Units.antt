@@ -3,9 +3,9 @@ use Rattle.std.specs.Prelude.{ℕ, ◌≡◌, Bool, false, [], ◌∷◌, length
 use Rattle.model.specs.declared.Dialect.{Dialect}
 use Rattle.model.specs.declared.Dialect.TheVariants.{Csvj, Tdif, CsvPlus}
 use Rattle.model.specs.rules.Base.{Bytes, QUOTE}
-use Rattle.model.specs.rules.Dialect.{quoteOf}
-use Rattle.model.specs.rules.Utf8.{isSurrogate}
-use Rattle.model.specs.rules.Text.{jsonBody, doubled}
+use Rattle.model.specs.rules.Dialect.{quote_of}
+use Rattle.model.specs.rules.Utf8.{is_surrogate}
+use Rattle.model.specs.rules.Text.{json_body, doubled}
 
 -- the first `size` of these bytes are exactly the text w
 pub record Spells (w bytes : Bytes) (size : ℕ) : Type 0 where
@@ -13,28 +13,28 @@ pub record Spells (w bytes : Bytes) (size : ℕ) : Type 0 where
   pub sized : size ≡ length w
 
 -- content between the quotes of a text (§14.3 §14.4 §14.6 §14.7)
-abbrev pub bodyText : Dialect → Bytes → Bytes
-bodyText Csvj bs = jsonBody bs
-bodyText Tdif bs = doubled QUOTE bs
-bodyText (CsvPlus s) bs = doubled (quoteOf (CsvPlus s)) bs
+abbrev pub body_text : Dialect → Bytes → Bytes
+body_text Csvj bs = json_body bs
+body_text Tdif bs = doubled QUOTE bs
+body_text (CsvPlus s) bs = doubled (quote_of (CsvPlus s)) bs
 
 -- a unit is a lone surrogate
 abbrev pub is_lone : Bytes → Bool
 is_lone [] = false
 is_lone (a ∷ []) = false
 is_lone (a ∷ b ∷ []) = false
-is_lone (a ∷ b ∷ c ∷ []) = isSurrogate a b
+is_lone (a ∷ b ∷ c ∷ []) = is_surrogate a b
 is_lone (a ∷ b ∷ c ∷ d ∷ bs) = false
 
 -- content begins with a lone surrogate
-abbrev pub beginsLone : Bytes → Bool
-beginsLone [] = false
-beginsLone (a ∷ []) = false
-beginsLone (a ∷ b ∷ []) = false
-beginsLone (a ∷ b ∷ c ∷ bs) = isSurrogate a b
+abbrev pub begins_lone : Bytes → Bool
+begins_lone [] = false
+begins_lone (a ∷ []) = false
+begins_lone (a ∷ b ∷ []) = false
+begins_lone (a ∷ b ∷ c ∷ bs) = is_surrogate a b
 
 -- the first two bytes of content are those of a lone surrogate
 abbrev pub paired : Bytes → Bool
 paired [] = false
 paired (a ∷ []) = false
-paired (a ∷ b ∷ bs) = isSurrogate a b
+paired (a ∷ b ∷ bs) = is_surrogate a b

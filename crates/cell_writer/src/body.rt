@@ -1,14 +1,14 @@
 // The content of a cell written between the quotes of a target, from any source: one loop for all pairs of dialects, over runs and what
 // stops them. The raw cell and its encoding go in; the end of the text comes out, and whether the content holds a lone surrogate. The
-// definition is `bodyText` of specs/Units.antt; what stops a run is `Stops` of specs/Bodies.antt, so a new encoding changes that and not
+// definition is `body_text` of specs/Units.antt; what stops a run is `Stops` of specs/Bodies.antt, so a new encoding changes that and not
 // the loop.
 ghost use Rattle.std.specs.Prelude.{◌≡◌, ◌||◌, ◌<◌, length, drop};
-ghost use Rattle.model.specs.rules.Utf8.{holdsLone};
+ghost use Rattle.model.specs.rules.Utf8.{holds_lone};
 ghost use Rattle.buffer.specs.Writes.{Room, WrittenAt};
-ghost use Rattle.cell_decoder.specs.FirstByte.{contentIn};
+ghost use Rattle.cell_decoder.specs.FirstByte.{content_in};
 ghost use Rattle.cell_decoder.specs.declared.first_byte.Spelling.TheVariants.{AsItStands};
-ghost use Rattle.cell_writer.specs.Units.{bodyText, beginsLone, paired};
-ghost use Rattle.cell_writer.specs.Contents.{contentFrom, Legible, Decoded};
+ghost use Rattle.cell_writer.specs.Units.{body_text, begins_lone, paired};
+ghost use Rattle.cell_writer.specs.Contents.{content_from, Legible, Decoded};
 ghost use Rattle.cell_writer.specs.Bodies.{Stops, Stepped};
 
 use crate::{escape, unit};
@@ -43,7 +43,7 @@ fn is_paired_at(content: &[u8], i: usize) -> bool
 // Whether a whole lone surrogate is at i.
 fn is_lone_at(content: &[u8], i: usize) -> bool
     requires { i < length content.now }
-    ensures { result ≡ beginsLone (drop i content.now) }
+    ensures { result ≡ begins_lone (drop i content.now) }
 {
     if content.len() - i < 3 {
         return false;
@@ -139,7 +139,7 @@ fn write_stop(
 ) -> Cursor
     requires i_in_bounds { i < length raw.now }
     requires legible { Legible c raw.now }
-    requires room { Room write o (bodyText t (contentFrom c raw.now i)) out.old }
+    requires room { Room write o (body_text t (content_from c raw.now i)) out.old }
     ensures { Stepped c t raw.now i write out.old o out.new result.read result.write result.lone }
 {
     let x = stop_text(c, t, raw, i);
@@ -182,9 +182,9 @@ pub fn write_body(
     write: bool,
 ) -> Body
     requires legible { Legible c raw.now }
-    requires room { Room write at (bodyText t (contentIn c raw.now)) out.old }
-    ensures written_at { WrittenAt write out.old at (bodyText t (contentIn c raw.now)) out.new result.end }
-    ensures lone_value { result.lone ≡ holdsLone (contentIn c raw.now) }
+    requires room { Room write at (body_text t (content_in c raw.now)) out.old }
+    ensures written_at { WrittenAt write out.old at (body_text t (content_in c raw.now)) out.new result.end }
+    ensures lone_value { result.lone ≡ holds_lone (content_in c raw.now) }
 {
     let p = cell_lexer::quote_of(t);
     let q = unit::quote_in(c);

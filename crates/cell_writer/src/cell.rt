@@ -1,17 +1,17 @@
 // The text of one cell, from its raw bytes in a file or from its content: source, target, kind and bytes go in; the end of the text comes
-// out, and whether the content holds a lone surrogate. The definition is `cellText` of model's specs/rules/Text.antt; specs/Cells.antt
+// out, and whether the content holds a lone surrogate. The definition is `cell_text` of model's specs/rules/Text.antt; specs/Cells.antt
 // splits it by the written form.
 ghost use Rattle.std.specs.Prelude.{◌≡◌, true, false};
 ghost use Rattle.model.specs.declared.Dialect.TheVariants.{Csvj, Tdif};
-ghost use Rattle.model.specs.rules.Dialect.{isCsvj};
-ghost use Rattle.model.specs.rules.Utf8.{holdsLone};
-ghost use Rattle.model.specs.rules.Text.{isText, cellText};
+ghost use Rattle.model.specs.rules.Dialect.{is_csvj};
+ghost use Rattle.model.specs.rules.Utf8.{holds_lone};
+ghost use Rattle.model.specs.rules.Text.{is_text, cell_text};
 ghost use Rattle.buffer.specs.Writes.{Room, WrittenAt};
-ghost use Rattle.cell_decoder.specs.FirstByte.{contentIn};
-ghost use Rattle.cell_decoder.specs.Sources.{contentBy, Encoded};
+ghost use Rattle.cell_decoder.specs.FirstByte.{content_in};
+ghost use Rattle.cell_decoder.specs.Sources.{content_by, Encoded};
 ghost use Rattle.cell_writer.specs.Units.{Spells};
 ghost use Rattle.cell_writer.specs.Contents.{Legible};
-ghost use Rattle.cell_writer.specs.Cells.{isQuoted, quoteBy, textCell, number_in, writtenAs, word_for, value_of};
+ghost use Rattle.cell_writer.specs.Cells.{is_quoted, quote_by, text_cell, number_in, written_as, word_for, value_of};
 
 use crate::body::Body;
 use crate::{body, special};
@@ -24,7 +24,7 @@ use model::{Dialect, Kind};
 
 fn is_quoted(c: Spelling, t: Dialect, raw: &[u8], only: bool, first: bool) -> bool
     requires { Legible c raw.now }
-    ensures { result ≡ isQuoted t only first (contentIn c raw.now) }
+    ensures { result ≡ is_quoted t only first (content_in c raw.now) }
 {
     match t {
         Dialect::Csvj => true,
@@ -35,8 +35,8 @@ fn is_quoted(c: Spelling, t: Dialect, raw: &[u8], only: bool, first: bool) -> bo
 
 // The opening or the closing quote of a text that has them.
 fn write_quote(quoted: bool, t: Dialect, out: &mut [u8], o: usize, write: bool) -> usize
-    requires { Room write o (quoteBy t quoted) out.old }
-    ensures { WrittenAt write out.old o (quoteBy t quoted) out.new result }
+    requires { Room write o (quote_by t quoted) out.old }
+    ensures { WrittenAt write out.old o (quote_by t quoted) out.new result }
 {
     if quoted {
         return buffer::emit_byte(out, o, cell_lexer::quote_of(t), write);
@@ -55,9 +55,9 @@ fn write_text(
     write: bool,
 ) -> Body
     requires legible { Legible c raw.now }
-    requires room { Room write o (textCell t only first (contentIn c raw.now)) out.old }
-    ensures written_at { WrittenAt write out.old o (textCell t only first (contentIn c raw.now)) out.new result.end }
-    ensures lone_value { result.lone ≡ holdsLone (contentIn c raw.now) }
+    requires room { Room write o (text_cell t only first (content_in c raw.now)) out.old }
+    ensures written_at { WrittenAt write out.old o (text_cell t only first (content_in c raw.now)) out.new result.end }
+    ensures lone_value { result.lone ≡ holds_lone (content_in c raw.now) }
 {
     let quoted = is_quoted(c, t, raw, only, first);
     let from = write_quote(quoted, t, out, o, write);
@@ -154,7 +154,7 @@ pub enum WrittenForm {
 }
 
 fn csvj_form(kind: Kind) -> WrittenForm
-    ensures { result ≡ writtenAs Csvj kind }
+    ensures { result ≡ written_as Csvj kind }
 {
     match kind {
         Kind::Text => WrittenForm::AsText,
@@ -166,7 +166,7 @@ fn csvj_form(kind: Kind) -> WrittenForm
 }
 
 fn tdif_form(kind: Kind) -> WrittenForm
-    ensures { result ≡ writtenAs Tdif kind }
+    ensures { result ≡ written_as Tdif kind }
 {
     match kind {
         Kind::Text => WrittenForm::AsText,
@@ -178,7 +178,7 @@ fn tdif_form(kind: Kind) -> WrittenForm
 }
 
 fn form_in(t: Dialect, kind: Kind) -> WrittenForm
-    ensures { result ≡ writtenAs t kind }
+    ensures { result ≡ written_as t kind }
 {
     match t {
         Dialect::Csvj => csvj_form(kind),
@@ -200,9 +200,9 @@ pub fn write_cell(
     write: bool,
 ) -> Body
     requires encoded { Encoded src kind raw.now }
-    requires room { Room write o (cellText t only first (value_of src kind raw.now)) out.old }
-    ensures written_at { WrittenAt write out.old o (cellText t only first (value_of src kind raw.now)) out.new result.end }
-    ensures lone_value { isText kind ≡ true → isCsvj t ≡ false → result.lone ≡ holdsLone (contentBy src raw.now) }
+    requires room { Room write o (cell_text t only first (value_of src kind raw.now)) out.old }
+    ensures written_at { WrittenAt write out.old o (cell_text t only first (value_of src kind raw.now)) out.new result.end }
+    ensures lone_value { is_text kind ≡ true → is_csvj t ≡ false → result.lone ≡ holds_lone (content_by src raw.now) }
 {
     match form_in(t, kind) {
         WrittenForm::AsText => {

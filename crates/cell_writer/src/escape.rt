@@ -1,12 +1,12 @@
 // The text of one unit of content between the quotes of a target: a byte, a character of more than one byte, or a lone surrogate. The
 // unit's bytes go in, those of its text come out. The definitions are `escaped`, `surrogate` and `doubled` of model's
-// specs/rules/Text.antt, joined as `bodyText` in specs/Units.antt.
+// specs/rules/Text.antt, joined as `body_text` in specs/Units.antt.
 ghost use Rattle.std.specs.Prelude.{◌≡◌, [], ◌∷◌, ◌-◌, ◌<◌, ◌≤◌, take};
 ghost use Rattle.model.specs.rules.Base.{BACKSLASH};
-ghost use Rattle.model.specs.rules.Dialect.{isCsvj};
-ghost use Rattle.model.specs.rules.Text.{hexDigit, escaped, surrogate, doubled};
+ghost use Rattle.model.specs.rules.Dialect.{is_csvj};
+ghost use Rattle.model.specs.rules.Text.{hex_digit, escaped, surrogate, doubled};
 ghost use Rattle.cell_decoder.specs.Units.{Unit};
-ghost use Rattle.cell_writer.specs.Units.{Spells, is_lone, bodyText};
+ghost use Rattle.cell_writer.specs.Units.{Spells, is_lone, body_text};
 
 use model::Dialect;
 
@@ -21,7 +21,7 @@ pub struct UnitText {
 
 fn hex_digit(n: u8) -> u8
     requires { n < 0x20 }
-    ensures { result ≡ hexDigit n }
+    ensures { result ≡ hex_digit n }
 {
     if n <= 9 {
         return 0x30 + n;
@@ -134,7 +134,7 @@ fn double(q: u8, b: u8) -> UnitText
 // ---- units
 
 pub fn byte_text(t: Dialect, b: u8) -> UnitText
-    ensures { Spells (bodyText t (b ∷ [])) result.bytes result.size }
+    ensures { Spells (body_text t (b ∷ [])) result.bytes result.size }
 {
     let q = cell_lexer::quote_of(t);
     match t {
@@ -159,7 +159,7 @@ pub fn is_lone(bytes: [u8; 4], size: usize) -> bool
 }
 
 pub fn is_csvj(t: Dialect) -> bool
-    ensures { result ≡ isCsvj t }
+    ensures { result ≡ is_csvj t }
 {
     match t {
         Dialect::Csvj => true,
@@ -171,7 +171,7 @@ pub fn is_csvj(t: Dialect) -> bool
 // The text of a unit, the first `size` of `bytes`.
 pub fn unit_text(t: Dialect, bytes: [u8; 4], size: usize) -> UnitText
     requires { (size ≤ 4) × Unit (take size bytes) }
-    ensures { Spells (bodyText t (take size bytes)) result.bytes result.size }
+    ensures { Spells (body_text t (take size bytes)) result.bytes result.size }
 {
     if size == 1 {
         return byte_text(t, bytes[0]);

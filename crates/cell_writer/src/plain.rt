@@ -1,8 +1,8 @@
 // Runs of plain bytes, which are verbatim in the source and in the target: an offset and the quotes go in, the end of the run comes out.
-// The definition is `plainRun` of specs/PlainRuns.antt.
+// The definition is `plain_run` of specs/PlainRuns.antt.
 ghost use Rattle.std.specs.Prelude.{◌≡◌, ◌+◌, ◌≤◌, length, drop};
 ghost use Rattle.swar.specs.Words.{Flags};
-ghost use Rattle.cell_writer.specs.PlainRuns.{is_plain, plainRun};
+ghost use Rattle.cell_writer.specs.PlainRuns.{is_plain, plain_run};
 
 // Whether a byte is plain: at least 20 hex, no backslash, not ED hex, which may begin a lone surrogate, and none of p, q and r, among
 // which are the quotes of the source and of the target.
@@ -33,7 +33,7 @@ fn is_plain(p: u8, q: u8, r: u8, b: u8) -> bool
 // The end of the run from `at`, a byte at a time.
 fn single_steps(s: &[u8], at: usize, p: u8, q: u8, r: u8) -> usize
     requires { at ≤ length s.now }
-    ensures { result ≡ at + plainRun p q r (drop at s.now) }
+    ensures { result ≡ at + plain_run p q r (drop at s.now) }
 {
     let mut i = at;
     while i < s.len() {
@@ -61,7 +61,7 @@ fn unplain(w: u64, p: u8, q: u8) -> u64
 // The end of the run from `at`, eight bytes to a step, if q and r are equal. A word with a flag ends it.
 fn word_steps(s: &[u8], at: usize, p: u8, q: u8) -> usize
     requires { at ≤ length s.now }
-    ensures { result ≡ at + plainRun p q q (drop at s.now) }
+    ensures { result ≡ at + plain_run p q q (drop at s.now) }
 {
     let mut i = at;
     while 8 <= s.len() - i {
@@ -78,7 +78,7 @@ fn word_steps(s: &[u8], at: usize, p: u8, q: u8) -> usize
 // time in long cells.
 pub fn plain_run(s: &[u8], at: usize, p: u8, q: u8, r: u8) -> usize
     requires { at ≤ length s.now }
-    ensures { result ≡ at + plainRun p q r (drop at s.now) }
+    ensures { result ≡ at + plain_run p q r (drop at s.now) }
 {
     if p == q {
         return word_steps(s, at, p, r);

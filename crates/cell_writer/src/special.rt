@@ -1,11 +1,11 @@
-// Whether CSV+ quotes a content (§14.7): the encoding and the raw bytes go in, the decision comes out. The definition is `hasQuotes` of
+// Whether CSV+ quotes a content (§14.7): the encoding and the raw bytes go in, the decision comes out. The definition is `has_quotes` of
 // model's specs/rules/Text.antt. The content is read by runs and units and not decoded, except for the byte order mark of a first header
 // cell.
 ghost use Rattle.std.specs.Prelude.{◌≡◌, ◌<◌, ◌≤◌, take};
 ghost use Rattle.model.specs.rules.Base.{holds};
-ghost use Rattle.model.specs.rules.Text.{special, beginsBom, hasQuotes};
+ghost use Rattle.model.specs.rules.Text.{special, begins_bom, has_quotes};
 ghost use Rattle.cell_decoder.specs.Units.{Unit};
-ghost use Rattle.cell_decoder.specs.FirstByte.{contentIn};
+ghost use Rattle.cell_decoder.specs.FirstByte.{content_in};
 ghost use Rattle.cell_writer.specs.Contents.{Decoded, Legible};
 
 use crate::unit;
@@ -44,7 +44,7 @@ fn is_special_unit(s: Settings, bytes: [u8; 4], size: usize) -> bool
 
 // Whether a byte of the content needs quotes.
 fn holds_special(s: Settings, c: Spelling, raw: &[u8]) -> bool
-    ensures { result ≡ holds (special s) (contentIn c raw.now) }
+    ensures { result ≡ holds (special s) (content_in c raw.now) }
 {
     let p = cell_lexer::quote_of(Dialect::CsvPlus(s));
     let q = unit::quote_in(c);
@@ -66,7 +66,7 @@ fn holds_special(s: Settings, c: Spelling, raw: &[u8]) -> bool
 }
 
 fn is_bom(content: &[u8]) -> bool
-    ensures { result ≡ beginsBom content.now }
+    ensures { result ≡ begins_bom content.now }
 {
     if content.len() < 3 {
         return false;
@@ -83,7 +83,7 @@ fn is_bom(content: &[u8]) -> bool
 // The content of a cell that has to be decoded is at most a record long.
 fn decodes_to_bom(c: Spelling, raw: &[u8]) -> bool
     requires { Decoded c raw.now }
-    ensures { result ≡ beginsBom (contentIn c raw.now) }
+    ensures { result ≡ begins_bom (content_in c raw.now) }
 {
     let mut room = [0u8; MAX_RECORD];
     content::write_in(c, raw, &mut room);
@@ -93,7 +93,7 @@ fn decodes_to_bom(c: Spelling, raw: &[u8]) -> bool
 
 fn begins_with_bom(c: Spelling, raw: &[u8]) -> bool
     requires { Legible c raw.now }
-    ensures { result ≡ beginsBom (contentIn c raw.now) }
+    ensures { result ≡ begins_bom (content_in c raw.now) }
 {
     match c {
         Spelling::Nothing => false,
@@ -106,7 +106,7 @@ fn begins_with_bom(c: Spelling, raw: &[u8]) -> bool
 // Whether a cell of this content is in quotes. `only`: its record has no other cell; `first`: it is the first header cell.
 pub fn is_quoted(s: Settings, c: Spelling, raw: &[u8], only: bool, first: bool) -> bool
     requires { Legible c raw.now }
-    ensures { result ≡ hasQuotes s only first (contentIn c raw.now) }
+    ensures { result ≡ has_quotes s only first (content_in c raw.now) }
 {
     if holds_special(s, c, raw) {
         return true;

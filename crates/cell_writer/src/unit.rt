@@ -1,9 +1,9 @@
 // One unit of a cell's content: an offset in the raw cell goes in; the unit's bytes and the offset where the content continues come out.
 // The definition is `Part` of specs/Contents.antt.
 ghost use Rattle.std.specs.Prelude.{◌≡◌, ◌<◌, length};
-ghost use Rattle.cell_decoder.specs.FirstByte.{contentIn};
+ghost use Rattle.cell_decoder.specs.FirstByte.{content_in};
 ghost use Rattle.cell_decoder.specs.declared.first_byte.Spelling.TheVariants.{AsItStands, Doubled, Escaped};
-ghost use Rattle.cell_writer.specs.Contents.{contentFrom, sourceQuote, Part};
+ghost use Rattle.cell_writer.specs.Contents.{content_from, source_quote, Part};
 
 use cell_decoder::escape;
 use cell_decoder::escape::Unescaped;
@@ -11,7 +11,7 @@ use cell_decoder::first_byte::Spelling;
 
 // Where the content begins: for a cell without content, at its end.
 pub fn content_start(c: Spelling, raw: &[u8]) -> usize
-    ensures { contentFrom c raw.now result ≡ contentIn c raw.now }
+    ensures { content_from c raw.now result ≡ content_in c raw.now }
 {
     match c {
         Spelling::Nothing => raw.len(),
@@ -23,7 +23,7 @@ pub fn content_start(c: Spelling, raw: &[u8]) -> usize
 
 // The quote that is not verbatim in the cell.
 pub fn quote_in(c: Spelling) -> u8
-    ensures { result ≡ sourceQuote c }
+    ensures { result ≡ source_quote c }
 {
     match c {
         Spelling::Nothing => 0x22,

@@ -7,16 +7,16 @@ use Rattle.model.specs.declared.Dialect.{Dialect}
 use Rattle.model.specs.declared.Dialect.TheVariants.{Csvj, Tdif, CsvPlus}
 use Rattle.model.specs.rules.Base.{if◌then◌else◌, Bytes}
 use Rattle.model.specs.rules.Decode.{kind_of}
-use Rattle.codes.specs.FirstByte.{kindBy}
+use Rattle.codes.specs.FirstByte.{kind_by}
 
-pub kind-first : (d : Dialect) (raw : Bytes) → kindBy d (get_or raw 0 0) ≡ kind_of d raw
-unfolding kindBy kind_of if◌then◌else◌
-kind-first Csvj [] = refl
-kind-first Csvj (b ∷ bs) = refl
-kind-first Tdif [] = refl
-kind-first Tdif (b ∷ bs) = refl
-kind-first (CsvPlus s) raw = refl
+pub kind_first : (d : Dialect) (raw : Bytes) → kind_by d (get_or raw 0 0) ≡ kind_of d raw
+unfolding kind_by kind_of if◌then◌else◌
+kind_first Csvj [] = refl
+kind_first Csvj (b ∷ bs) = refl
+kind_first Tdif [] = refl
+kind_first Tdif (b ∷ bs) = refl
+kind_first (CsvPlus s) raw = refl
 
-pub first-none : (raw : Bytes) → length raw ≡ 0 → 0 ≡ get_or raw 0 0
-first-none [] e = refl
-first-none (b ∷ bs) e = absurd (omega arith)
+pub first_none : (raw : Bytes) → length raw ≡ 0 → 0 ≡ get_or raw 0 0
+first_none [] e = refl
+first_none (b ∷ bs) e = absurd (omega arith)

@@ -6,12 +6,12 @@ use Rattle.model.specs.declared.Dialect.{Dialect}
 use Rattle.model.specs.declared.Dialect.TheVariants.{Csvj, Tdif, CsvPlus}
 use Rattle.model.specs.rules.Base.{if◌then◌else◌, ◌is◌, QUOTE}
 
-unfoldable pub kindBy : Dialect → ℕ → Kind
-kindBy Csvj b =
+unfoldable pub kind_by : Dialect → ℕ → Kind
+kind_by Csvj b =
     if b is QUOTE then Text
     else if b is 0x74 then True
     else if b is 0x66 then False
     else if b is 0x6E then Null
     else Number
-kindBy Tdif b = if b is QUOTE then Text else Null
-kindBy (CsvPlus s) b = Text
+kind_by Tdif b = if b is QUOTE then Text else Null
+kind_by (CsvPlus s) b = Text

@@ -11,14 +11,14 @@ use Rattle.codes.specs.declared.NamedKind.{NamedKind}
 use Rattle.codes.specs.declared.NamedKind.TheVariants as kinds
 use Rattle.codes.specs.declared.TextAnswer.{TextAnswer}
 
-abbrev pub dialectIn : NamedDialect → Option Dialect
-dialectIn (dialects.Known d) = some d
-dialectIn dialects.Unknown = none
+abbrev pub dialect_in : NamedDialect → Option Dialect
+dialect_in (dialects.Known d) = some d
+dialect_in dialects.Unknown = none
 
-abbrev pub kindIn : NamedKind → Option Kind
-kindIn (kinds.Known k) = some k
-kindIn kinds.Unknown = none
+abbrev pub kind_in : NamedKind → Option Kind
+kind_in (kinds.Known k) = some k
+kind_in kinds.Unknown = none
 
 -- the report, and the length in place of the text (§12.1 §13.1)
-abbrev pub textAnswer : Written → TextAnswer
-textAnswer w = record { report = w.report; length = length w.text }
+abbrev pub text_answer : Written → TextAnswer
+text_answer w = record { report = w.report; length = length w.text }

@@ -3,9 +3,9 @@
 // state or kind is a new arm, and its proof is the file of that function.
 ghost use Rattle.std.specs.Prelude.{◌≡◌, get_or};
 ghost use Rattle.model.specs.declared.Dialect.TheVariants.{Csvj, Tdif};
-ghost use Rattle.model.specs.rules.Cell.{betweenCharacters, mayBeEmpty, isNumeral, is_whole};
+ghost use Rattle.model.specs.rules.Cell.{between_characters, may_be_empty, is_numeral, is_whole};
 ghost use Rattle.model.specs.rules.Decode.{kind_of};
-ghost use Rattle.codes.specs.FirstByte.{kindBy};
+ghost use Rattle.codes.specs.FirstByte.{kind_by};
 
 use model::{Cell, Char, Dialect, Kind, Numeral};
 
@@ -22,7 +22,7 @@ pub fn first_of(raw: &[u8]) -> u8
 }
 
 fn csvj_kind(b: u8) -> Kind
-    ensures { result ≡ kindBy Csvj b }
+    ensures { result ≡ kind_by Csvj b }
 {
     if b == 0x22 {
         return Kind::Text;
@@ -40,7 +40,7 @@ fn csvj_kind(b: u8) -> Kind
 }
 
 fn tdif_kind(b: u8) -> Kind
-    ensures { result ≡ kindBy Tdif b }
+    ensures { result ≡ kind_by Tdif b }
 {
     if b == 0x22 {
         return Kind::Text;
@@ -49,7 +49,7 @@ fn tdif_kind(b: u8) -> Kind
 }
 
 fn kind_by(d: Dialect, b: u8) -> Kind
-    ensures { result ≡ kindBy d b }
+    ensures { result ≡ kind_by d b }
 {
     match d {
         Dialect::Csvj => csvj_kind(b),
@@ -68,7 +68,7 @@ pub fn kind_of(d: Dialect, raw: &[u8]) -> Kind
 // ---- whole cells
 
 fn may_be_empty(d: Dialect) -> bool
-    ensures { result ≡ mayBeEmpty d }
+    ensures { result ≡ may_be_empty d }
 {
     match d {
         Dialect::Csvj => false,
@@ -78,7 +78,7 @@ fn may_be_empty(d: Dialect) -> bool
 }
 
 fn is_numeral(n: Numeral) -> bool
-    ensures { result ≡ isNumeral n }
+    ensures { result ≡ is_numeral n }
 {
     match n {
         Numeral::Minus => false,
@@ -93,7 +93,7 @@ fn is_numeral(n: Numeral) -> bool
 }
 
 fn between_characters(t: Char) -> bool
-    ensures { result ≡ betweenCharacters t }
+    ensures { result ≡ between_characters t }
 {
     match t {
         Char::Whole => true,

@@ -1,14 +1,14 @@
 // The rules' numbers, each in one place: limits, dialects and kinds by number, and the reports of faults and of refused calls. Numbers
 // come in from C and go out to it here; the layers above use dialects, kinds and faults by name.
 //
-// The definitions are model's specs/rules/Report.antt, `dialectOf`, `kindNumber` and `kindNamed`; specs/Named.antt says what a result
+// The definitions are model's specs/rules/Report.antt, `dialect_of`, `kind_number` and `kind_named`; specs/Named.antt says what a result
 // means. They are tables: a number that changes there changes its arm here, and no other proof.
 ghost use Rattle.std.specs.Prelude.{◌≡◌};
-ghost use Rattle.model.specs.rules.Dialect.{dialectOf};
-ghost use Rattle.model.specs.rules.Decode.{kindNumber};
-ghost use Rattle.model.specs.rules.Report.{number_of, columnOf, report, refusal};
-ghost use Rattle.model.specs.rules.Api.{least, kindNamed, unwritten};
-ghost use Rattle.codes.specs.Named.{dialectIn, kindIn, textAnswer};
+ghost use Rattle.model.specs.rules.Dialect.{dialect_of};
+ghost use Rattle.model.specs.rules.Decode.{kind_number};
+ghost use Rattle.model.specs.rules.Report.{number_of, column_of, report, refusal};
+ghost use Rattle.model.specs.rules.Api.{least, kind_named, unwritten};
+ghost use Rattle.codes.specs.Named.{dialect_in, kind_in, text_answer};
 
 use model::{ByteFault, Delimiter, Dialect, Fault, Kind, Quote, Report, Settings};
 
@@ -50,7 +50,7 @@ pub enum NamedDialect {
 
 // The dialect that a number names (§1.4).
 pub fn dialect_of(number: u32) -> NamedDialect
-    ensures { dialectIn result ≡ dialectOf number }
+    ensures { dialect_in result ≡ dialect_of number }
 {
     if number == 1 {
         return NamedDialect::Known(Dialect::Csvj);
@@ -70,7 +70,7 @@ pub fn dialect_of(number: u32) -> NamedDialect
 // ---- kinds
 
 pub fn kind_number(k: Kind) -> u8
-    ensures { result ≡ kindNumber k }
+    ensures { result ≡ kind_number k }
 {
     match k {
         Kind::Text => 1,
@@ -89,7 +89,7 @@ pub enum NamedKind {
 
 // The kind that a number names (§2.3).
 pub fn kind_named(number: u8) -> NamedKind
-    ensures { kindIn result ≡ kindNamed number }
+    ensures { kind_in result ≡ kind_named number }
 {
     if number == 1 {
         return NamedKind::Known(Kind::Text);
@@ -143,7 +143,7 @@ fn number_of(e: Fault) -> usize
 }
 
 fn column_of(e: Fault) -> usize
-    ensures { result ≡ columnOf e }
+    ensures { result ≡ column_of e }
 {
     match e {
         Fault::NoRecord => 0,
@@ -166,7 +166,7 @@ fn column_of(e: Fault) -> usize
 
 // The report of a fault in the record with this number at this offset. The number is 0 for a cell that is in no record.
 pub fn record_report(e: Fault, number: usize, place: usize) -> Report
-    ensures { result ≡ report (number_of e) number (columnOf e) place }
+    ensures { result ≡ report (number_of e) number (column_of e) place }
 {
     Report {
         number: number_of(e),
@@ -209,7 +209,7 @@ pub struct TextAnswer {
 }
 
 pub fn refusal(e: Report) -> TextAnswer
-    ensures { result ≡ textAnswer (unwritten e) }
+    ensures { result ≡ text_answer (unwritten e) }
 {
     TextAnswer {
         report: e,

@@ -6,10 +6,10 @@
 ghost use Rattle.std.specs.Prelude.{◌≡◌, true, ◌++◌, length};
 ghost use Rattle.model.specs.rules.Base.{over};
 ghost use Rattle.model.specs.rules.Dialect.{into};
-ghost use Rattle.model.specs.rules.Text.{recordText, ending};
-ghost use Rattle.model.specs.rules.Api.{converter, converterLeaves};
+ghost use Rattle.model.specs.rules.Text.{record_text, ending};
+ghost use Rattle.model.specs.rules.Api.{converter, converter_leaves};
 ghost use Rattle.buffer.specs.Writes.{Room, WrittenAt};
-ghost use Rattle.codes.specs.Named.{textAnswer};
+ghost use Rattle.codes.specs.Named.{text_answer};
 ghost use Rattle.cell_decoder.specs.declared.source.Source.TheVariants.{File};
 ghost use Rattle.cell_decoder.specs.Sources.{cells_in, Cells};
 ghost use Rattle.file_converter.specs.Converts.{answer_in, MeasureSound, Accepts};
@@ -93,8 +93,8 @@ fn write_record(
     at: usize,
 ) -> usize
     requires cells { Cells (File d) file.now starts.now ends.now kinds.now }
-    requires room { Room true at (recordText (into t) header (cells_in (File d) file.now starts.now ends.now kinds.now) ++ ending t) room.old }
-    ensures { WrittenAt true room.old at (recordText (into t) header (cells_in (File d) file.now starts.now ends.now kinds.now) ++ ending t) room.new result }
+    requires room { Room true at (record_text (into t) header (cells_in (File d) file.now starts.now ends.now kinds.now) ++ ending t) room.old }
+    ensures { WrittenAt true room.old at (record_text (into t) header (cells_in (File d) file.now starts.now ends.now kinds.now) ++ ending t) room.new result }
 {
     let text = record::write_record(
         Source::File(d),
@@ -188,7 +188,7 @@ fn write_records(d: Dialect, t: Dialect, file: &[u8], room: &mut [u8])
 
 // A file of the one dialect into the other.
 pub fn convert_in(d: Dialect, t: Dialect, file: &[u8], room: &mut [u8]) -> TextAnswer
-    ensures value { result ≡ textAnswer (answer_in d t file.now (length room.old)) }
+    ensures value { result ≡ text_answer (answer_in d t file.now (length room.old)) }
     ensures room_after { room.new ≡ over (answer_in d t file.now (length room.old)).text room.old }
 {
     match measure(d, t, file) {
@@ -209,8 +209,8 @@ pub fn convert_in(d: Dialect, t: Dialect, file: &[u8], room: &mut [u8]) -> TextA
 // The whole converter (§12.1): 11 for a number that is no dialect's. It ends on every input, accepts exactly what the rules accept, and
 // its answer and its room are determined for all inputs (§19.1 §19.2 §19.5 §19.6).
 pub fn convert(from: u32, to: u32, file: &[u8], room: &mut [u8]) -> TextAnswer
-    ensures answer { result ≡ textAnswer (converter from to file.now (length room.old)) }
-    ensures leaves { room.new ≡ converterLeaves from to file.now room.old }
+    ensures answer { result ≡ text_answer (converter from to file.now (length room.old)) }
+    ensures leaves { room.new ≡ converter_leaves from to file.now room.old }
 {
     match codes::dialect_of(from) {
         NamedDialect::Known(d) => match codes::dialect_of(to) {

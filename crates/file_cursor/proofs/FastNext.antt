@@ -11,25 +11,25 @@ use Rattle.model.specs.declared.Dialect.{Dialect}
 use Rattle.model.specs.declared.FileState.{FileState}
 use Rattle.model.specs.rules.Base.{Bytes, is_empty}
 use Rattle.model.specs.rules.Report.{MAXFILE, MAXCOLUMNS}
-use Rattle.model.specs.rules.Records.{Rec, between-records}
+use Rattle.model.specs.rules.Records.{Rec, between_records}
 use Rattle.record_scanner.specs.Tokens.{outer}
 use Rattle.cell_fast.specs.Ends.{CleanIn}
 use Rattle.record_fast.specs.declared.FastScan.{FastScan}
 use Rattle.record_fast.specs.declared.FastScan.TheVariants as quick
 use Rattle.record_fast.specs.FastScan.{FastScanSound}
-use Rattle.file_cursor.specs.Next.{nextRecord}
+use Rattle.file_cursor.specs.Next.{next_record}
 use Rattle.file_cursor.specs.declared.scan.FileScan.TheVariants.{Completed}
-use Rattle.file_cursor.proofs.FastRecords.{told-record, told-clean, told-long}
+use Rattle.file_cursor.proofs.FastRecords.{told_record, told_clean, told_long}
 use Rattle.file_cursor.specs.declared.Aim.{Aim}
 use Rattle.file_cursor.specs.declared.Cursor.{Cursor}
 use Rattle.file_cursor.specs.NextRecord as visits
 use Rattle.record_fast.specs.CellLists.{Long, SameLengths}
-use Rattle.file_cursor.proofs.NextRecords.{Met, record-counts, record-visited}
-use Rattle.record_fast.proofs.CellLists.{clean-in}
+use Rattle.file_cursor.proofs.NextRecords.{Met, record_counts, record_visited}
+use Rattle.record_fast.proofs.CellLists.{clean_in}
 use Rattle.file_cursor.proofs.Traversal.{came}
 use Rattle.file_cursor.specs.declared.fast.FastNext.{FastNext}
 use Rattle.file_cursor.specs.declared.fast.FastNext.TheVariants as told
-use Rattle.file_cursor.specs.FastNext.{FastCheckSound, sound, unsure, FastNextSound, a-record, nothing}
+use Rattle.file_cursor.specs.FastNext.{FastCheckSound, sound, unsure, FastNextSound, a_record, nothing}
 
 -- after some records the next is no header
 pub no_header : (done : ℕ) → (done ≡ 0 → ⊥) → false ≡ eqb done 0
@@ -46,37 +46,37 @@ module _ {d : Dialect} {file : Bytes} {f : FileState} {i : ℕ} {s₀ e₀ k₀ 
       {start cells next : ℕ} {g : FileState} {clean : Bool} → q ≡ quick.Record start cells g next clean →
       Met d file f i s₀ e₀ k₀ s e k (Completed start cells g next)
   met z =
-      let o = told-record d file f i MAXCOLUMNS 0 t z inside in
+      let o = told_record d file f i MAXCOLUMNS 0 t z inside in
       record {
         between = between;
         inside = inside;
         long = long;
         event = o.event;
-        at-starts = o.at-starts;
-        at-ends = o.at-ends;
-        at-kinds = o.at-kinds;
+        at_starts = o.at_starts;
+        at_ends = o.at_ends;
+        at_kinds = o.at_kinds;
         bounds = o.bounds;
       }
 
   pub kept : SameLengths s₀ e₀ k₀ s e k
-  kept = let l = told-long d file f i MAXCOLUMNS 0 t in record { at-starts = l.0; at-ends = l.1; at-kinds = l.2 }
+  kept = let l = told_long d file f i MAXCOLUMNS 0 t in record { at_starts = l.0; at_ends = l.1; at_kinds = l.2 }
 
-  pub clean-cells :
+  pub clean_cells :
       {start cells next : ℕ} {g : FileState} {clean : Bool} → q ≡ quick.Record start cells g next clean → cells ≤ MAXCOLUMNS →
       clean ≡ true → CleanIn d file (take cells s) (take cells e)
-  clean-cells z few c = clean-in few (told-clean d file f i MAXCOLUMNS 0 t z c)
+  clean_cells z few c = clean_in few (told_clean d file f i MAXCOLUMNS 0 t z c)
 
   pub tells :
       (aim : Aim) (rs : List Rec) (done : ℕ) → length rs ≡ done → (done ≡ 0 → ⊥) → {start cells next : ℕ} {g : FileState} {clean : Bool} →
       q ≡ quick.Record start cells g next clean → {r : FastNext} →
-      FastCheckSound d aim rs (nextRecord d (between-records [] f i) (drop i file)).cells start g next clean r →
+      FastCheckSound d aim rs (next_record d (between_records [] f i) (drop i file)).cells start g next clean r →
       FastNextSound d aim file rs f i s e k r
   tells aim rs done l n z unsure = nothing
   tells aim rs done c₀ n₀ {start} {cells} {next} {g} {clean} z (sound (visits.sound {m = counted} {n = n} {w = w} fault c l few text short)) =
       let m = met z in
-      let same : cells ≡ n = sym (record-counts m refl) ∙ l in
-      a-record (some_read rs done c₀ n₀) (came (record-visited m aim rs refl (visits.sound fault c l few text short)) refl)
-      (λ c. subst (λ (j : ℕ). CleanIn d file (take j s) (take j e)) same (clean-cells z (omega arith) c))
+      let same : cells ≡ n = sym (record_counts m refl) ∙ l in
+      a_record (some_read rs done c₀ n₀) (came (record_visited m aim rs refl (visits.sound fault c l few text short)) refl)
+      (λ c. subst (λ (j : ℕ). CleanIn d file (take j s) (take j e)) same (clean_cells z (omega arith) c))
 
 -- ---- the fast path by its result
 
@@ -90,12 +90,12 @@ pub record DataRecord (d : Dialect) (aim : Aim) (file : Bytes) (rs : List Rec) (
   pub next : visits.Next d aim file rs f i s e k v
   pub cleans : clean ≡ true → CleanIn d file (take v.columns s) (take v.columns e)
 
-pub data-came :
+pub data_came :
     {d : Dialect} {aim : Aim} {file : Bytes} {rs : List Rec} {f : FileState} {i : ℕ} {s e k : List ℕ} {r : FastNext} {v : Cursor}
     {clean : Bool} → FastNextSound d aim file rs f i s e k r → r ≡ told.Record v clean → DataRecord d aim file rs f i s e k v clean
-data-came {d} {aim} {file} {rs} {f} {i} {s} {e} {k} {v = v} {clean = clean} (a-record {v = w} {clean = b} l n c) q =
+data_came {d} {aim} {file} {rs} {f} {i} {s} {e} {k} {v = v} {clean = clean} (a_record {v = w} {clean = b} l n c) q =
     let y : w ≡ v = cc in
     let z : b ≡ clean = cc in
     subst (λ (x : Cursor). DataRecord d aim file rs f i s e k x clean) y
     (subst (λ (x : Bool). DataRecord d aim file rs f i s e k w x) z (record { later = l; next = n; cleans = c }))
-data-came nothing q = other cc
+data_came nothing q = other cc

@@ -10,10 +10,10 @@ use lib.ListN.{length, drop, length-drop}
 use lib.Seq.{drop-drop}
 use lib.Dec.{leb}
 use Rattle.model.specs.rules.Base.{if◌then◌else◌, Bytes}
-use Rattle.model.specs.rules.File.{fileStep, fileEnd, counts}
-use Rattle.model.specs.rules.Report.{MAXFILE, MAXRECORD, isAtByte}
-use Rattle.model.specs.rules.Records.{Rec, Read, between-records, Progress, going, stopped, closing, move, fileFull, recordFull, readByte, readFrom}
-use Rattle.model.specs.rules.Records.{readEnd, end_at}
+use Rattle.model.specs.rules.File.{file_step, file_end, counts}
+use Rattle.model.specs.rules.Report.{MAXFILE, MAXRECORD, is_at_byte}
+use Rattle.model.specs.rules.Records.{Rec, Read, between_records, Progress, going, stopped, closing, move, file_full, record_full, read_byte, read_from}
+use Rattle.model.specs.rules.Records.{read_end, end_at}
 use Rattle.model.proofs.Tests.{impossible}
 use Rattle.model.specs.declared.Dialect.{Dialect}
 use Rattle.model.specs.declared.Target.{Target}
@@ -26,100 +26,100 @@ use Rattle.model.specs.declared.Ending.{Ending}
 use Rattle.model.specs.declared.Ending.TheVariants.{Clean, Final, Cut}
 use Rattle.model.specs.declared.Fault.{Fault}
 use Rattle.model.specs.declared.Fault.TheVariants.{Byte, CutShort, FileTooLong, RecordTooLong}
-use Rattle.record_scanner.specs.CurrentRecord.{endsRecord}
-use Rattle.file_cursor.specs.Next.{readAfter, failed, ended, stepped, nextRecord}
-use Rattle.file_cursor.specs.FileOutcome.{redone, ReadsAs, after-record, after_last, after-fault, after-all}
+use Rattle.record_scanner.specs.CurrentRecord.{ends_record}
+use Rattle.file_cursor.specs.Next.{read_after, failed, ended, stepped, next_record}
+use Rattle.file_cursor.specs.FileOutcome.{redone, ReadsAs, after_record, after_last, after_fault, after_all}
 
 -- what is left after one more byte
-pub next-drop : (xs : Bytes) (n b : ℕ) (bs : Bytes) → b ∷ bs ≡ drop n xs → bs ≡ drop (n + 1) xs
-next-drop xs n b bs e = ap (drop 1) e ∙ drop-drop 1 n xs
+pub next_drop : (xs : Bytes) (n b : ℕ) (bs : Bytes) → b ∷ bs ≡ drop n xs → bs ≡ drop (n + 1) xs
+next_drop xs n b bs e = ap (drop 1) e ∙ drop-drop 1 n xs
 
 -- a fault stays
-pub stays : (d : Dialect) (target : Option Target) (e : Fault) (r : Read) (bs : Bytes) → stopped e r ≡ readEnd d target (readFrom d target (stopped e r) bs)
-unfolding readFrom readEnd
+pub stays : (d : Dialect) (target : Option Target) (e : Fault) (r : Read) (bs : Bytes) → stopped e r ≡ read_end d target (read_from d target (stopped e r) bs)
+unfolding read_from read_end
 stays d target e r [] = refl
 stays d target e r (b ∷ bs) = refl
 
 module _ (d : Dialect) (target : Option Target) (file : Bytes) (rs : List Rec) where
   abbrev Rest : Progress → Bytes → Progress
-  Rest p bs = readEnd d target (readFrom d target p bs)
+  Rest p bs = read_end d target (read_from d target p bs)
 
   -- the end of the file
-  at-end : (r : Read) (x : Ending) → r.offset ≡ length file → ReadsAs d target file rs (ended d r x) (end_at d target (redone rs r) x)
-  at-end r Clean l = after-all (redone rs r) refl
-  at-end r Final l = after_last (redone rs r) (closing d true r) refl l
-  at-end r Cut l = after-fault CutShort (redone rs r) r.cells refl refl
+  at_end : (r : Read) (x : Ending) → r.offset ≡ length file → ReadsAs d target file rs (ended d r x) (end_at d target (redone rs r) x)
+  at_end r Clean l = after_all (redone rs r) refl
+  at_end r Final l = after_last (redone rs r) (closing d true r) refl l
+  at_end r Cut l = after_fault CutShort (redone rs r) r.cells refl refl
 
-  faulty : (e : Fault) (r : Read) (bs : Bytes) → isAtByte e ≡ true → ReadsAs d target file rs (failed e r) (Rest (stopped e (redone rs r)) bs)
+  faulty : (e : Fault) (r : Read) (bs : Bytes) → is_at_byte e ≡ true → ReadsAs d target file rs (failed e r) (Rest (stopped e (redone rs r)) bs)
   faulty e r bs q =
       subst (λ (p : Progress). ReadsAs d target file rs (failed e r) p) (stays d target e (redone rs r) bs)
-      (after-fault e (redone rs r) r.cells refl q)
+      (after_fault e (redone rs r) r.cells refl q)
 
   -- a byte within its record
-  within-record :
-      (r : Read) (b : ℕ) (f : FileState) (p : ByteRole) → endsRecord p ≡ false →
-      move d target (redone rs r) b (To f p) ≡ going (redone rs (readAfter d r b f p))
+  within_record :
+      (r : Read) (b : ℕ) (f : FileState) (p : ByteRole) → ends_record p ≡ false →
+      move d target (redone rs r) b (To f p) ≡ going (redone rs (read_after d r b f p))
   unfolding move
-  within-record r b f Outside e = rw (add-one r.offset)
-  within-record r b f Passed e = rw (add-one r.offset)
-  within-record r b f OfCell e = rw (add-one r.offset, add-one r.size)
-  within-record r b f (Between true) e = rw (add-one r.offset, add-one r.size)
-  within-record r b f (Between false) e = rw (add-one r.offset, add-one r.size)
-  within-record r b f (Tail true) e = rw (add-one r.offset)
-  within-record r b f (Tail false) e = rw (add-one r.offset)
-  within-record r b f (Ends k) e = impossible (sym e)
+  within_record r b f Outside e = rw (add-one r.offset)
+  within_record r b f Passed e = rw (add-one r.offset)
+  within_record r b f OfCell e = rw (add-one r.offset, add-one r.size)
+  within_record r b f (Between true) e = rw (add-one r.offset, add-one r.size)
+  within_record r b f (Between false) e = rw (add-one r.offset, add-one r.size)
+  within_record r b f (Tail true) e = rw (add-one r.offset)
+  within_record r b f (Tail false) e = rw (add-one r.offset)
+  within_record r b f (Ends k) e = impossible (sym e)
 
   -- the byte that ends its record
-  at-ending :
+  at_ending :
       (r : Read) (b : ℕ) (f : FileState) (k : Bool) (bs : Bytes) → bs ≡ drop (r.offset + 1) file →
-      ReadsAs d target file rs (stepped d r b (λ r'. nextRecord d r' bs) (To f (Ends k)))
+      ReadsAs d target file rs (stepped d r b (λ r'. next_record d r' bs) (To f (Ends k)))
       (Rest (move d target (redone rs r) b (To f (Ends k))) bs)
   unfolding stepped move if◌then◌else◌
-  at-ending r b f true bs e =
-      rw (e, ← add-one r.offset) (after-record (redone rs r) (closing d true r) f (r.offset + 1) refl)
-  at-ending r b f false bs e =
-      rw (e, ← add-one r.offset) (after-record (redone rs r) (closing d false r) f (r.offset + 1) refl)
+  at_ending r b f true bs e =
+      rw (e, ← add-one r.offset) (after_record (redone rs r) (closing d true r) f (r.offset + 1) refl)
+  at_ending r b f false bs e =
+      rw (e, ← add-one r.offset) (after_record (redone rs r) (closing d false r) f (r.offset + 1) refl)
 
   abbrev Ih : Bytes → Type 0
   Ih bs =
       (r : Read) → bs ≡ drop r.offset file → r.offset + length bs ≡ length file →
-      ReadsAs d target file rs (nextRecord d r bs) (Rest (going (redone rs r)) bs)
+      ReadsAs d target file rs (next_record d r bs) (Rest (going (redone rs r)) bs)
 
-  on-byte :
+  on_byte :
       (r : Read) (b : ℕ) (bs : Bytes) → bs ≡ drop (r.offset + 1) file → r.offset + 1 + length bs ≡ length file → Ih bs → (s : Step) →
-      ReadsAs d target file rs (stepped d r b (λ r'. nextRecord d r' bs) s) (Rest (move d target (redone rs r) b s) bs)
+      ReadsAs d target file rs (stepped d r b (λ r'. next_record d r' bs) s) (Rest (move d target (redone rs r) b s) bs)
   unfolding stepped if◌then◌else◌ move
-  on-byte r b bs e l ih (Reject x) = faulty (Byte x) r bs refl
-  on-byte r b bs e l ih (To f Outside) = rw (within-record r b f Outside refl) (ih (readAfter d r b f Outside) e l)
-  on-byte r b bs e l ih (To f Passed) = rw (within-record r b f Passed refl) (ih (readAfter d r b f Passed) e l)
-  on-byte r b bs e l ih (To f OfCell) = rw (within-record r b f OfCell refl) (ih (readAfter d r b f OfCell) e l)
-  on-byte r b bs e l ih (To f (Between k)) = rw (within-record r b f (Between k) refl) (ih (readAfter d r b f (Between k)) e l)
-  on-byte r b bs e l ih (To f (Tail k)) = rw (within-record r b f (Tail k) refl) (ih (readAfter d r b f (Tail k)) e l)
-  on-byte r b bs e l ih (To f (Ends k)) = at-ending r b f k bs e
+  on_byte r b bs e l ih (Reject x) = faulty (Byte x) r bs refl
+  on_byte r b bs e l ih (To f Outside) = rw (within_record r b f Outside refl) (ih (read_after d r b f Outside) e l)
+  on_byte r b bs e l ih (To f Passed) = rw (within_record r b f Passed refl) (ih (read_after d r b f Passed) e l)
+  on_byte r b bs e l ih (To f OfCell) = rw (within_record r b f OfCell refl) (ih (read_after d r b f OfCell) e l)
+  on_byte r b bs e l ih (To f (Between k)) = rw (within_record r b f (Between k) refl) (ih (read_after d r b f (Between k)) e l)
+  on_byte r b bs e l ih (To f (Tail k)) = rw (within_record r b f (Tail k) refl) (ih (read_after d r b f (Tail k)) e l)
+  on_byte r b bs e l ih (To f (Ends k)) = at_ending r b f k bs e
 
   choose :
       (r : Read) (b : ℕ) (bs : Bytes) → bs ≡ drop (r.offset + 1) file → r.offset + 1 + length bs ≡ length file → Ih bs →
       (x y : Bool) (s : Step) →
       ReadsAs d target file rs
-      (if x then failed FileTooLong r else if y then failed RecordTooLong r else stepped d r b (λ r'. nextRecord d r' bs) s)
+      (if x then failed FileTooLong r else if y then failed RecordTooLong r else stepped d r b (λ r'. next_record d r' bs) s)
       (Rest
       (if x then stopped FileTooLong (redone rs r)
       else if y then stopped RecordTooLong (redone rs r) else move d target (redone rs r) b s) bs)
   unfolding if◌then◌else◌
   choose r b bs e l ih true y s = faulty FileTooLong r bs refl
   choose r b bs e l ih false true s = faulty RecordTooLong r bs refl
-  choose r b bs e l ih false false s = on-byte r b bs e l ih s
+  choose r b bs e l ih false false s = on_byte r b bs e l ih s
 
   -- after the records rs, the next event and the result of reading on
   pub reads_as : (bs : Bytes) → Ih bs
-  unfolding nextRecord readFrom readEnd readByte fileFull recordFull
-  reads_as [] r e l = at-end r (fileEnd d r.state) (omega arith)
+  unfolding next_record read_from read_end read_byte file_full record_full
+  reads_as [] r e l = at_end r (file_end d r.state) (omega arith)
   reads_as (b ∷ bs) r e l =
-      choose r b bs (next-drop file r.offset b bs e) (omega arith) (reads_as bs) (leb MAXFILE r.offset)
-      (leb MAXRECORD r.size && counts r.state b) (fileStep d r.state b)
+      choose r b bs (next_drop file r.offset b bs e) (omega arith) (reads_as bs) (leb MAXFILE r.offset)
+      (leb MAXRECORD r.size && counts r.state b) (file_step d r.state b)
 
   -- the same from between records
   pub reads_on :
       (f : FileState) (o : ℕ) → o ≤ length file →
-      ReadsAs d target file rs (nextRecord d (between-records [] f o) (drop o file)) (Rest (going (between-records rs f o)) (drop o file))
-  reads_on f o h = reads_as (drop o file) (between-records [] f o) refl (omega (arith, length-drop o file))
+      ReadsAs d target file rs (next_record d (between_records [] f o) (drop o file)) (Rest (going (between_records rs f o)) (drop o file))
+  reads_on f o h = reads_as (drop o file) (between_records [] f o) refl (omega (arith, length-drop o file))

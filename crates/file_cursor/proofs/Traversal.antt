@@ -12,11 +12,11 @@ use Rattle.model.specs.declared.Fault.{Fault}
 use Rattle.model.specs.declared.Report.{Report}
 use Rattle.model.specs.rules.Base.{Bytes}
 use Rattle.model.specs.laws.Laws.{Grows}
-use Rattle.model.specs.rules.Text.{tableText}
+use Rattle.model.specs.rules.Text.{table_text}
 use Rattle.model.specs.rules.Report.{MAXFILE, MAXCOLUMNS}
-use Rattle.model.specs.rules.Records.{Rec, rows, Read, between-records, nothingRead, Progress, going, stopped, faultReport, readFrom, readBytes}
-use Rattle.model.specs.rules.Records.{readFile, recordsOf}
-use Rattle.model.proofs.file_laws.ReadAppend.{read-grows, end-grows, grows-trans}
+use Rattle.model.specs.rules.Records.{Rec, rows, Read, between_records, nothing_read, Progress, going, stopped, fault_report, read_from, read_bytes}
+use Rattle.model.specs.rules.Records.{read_file, records_of}
+use Rattle.model.proofs.file_laws.ReadAppend.{read_grows, end_grows, grows_trans}
 use Rattle.record_scanner.specs.Tokens.{outer}
 use Rattle.file_cursor.specs.declared.Aim.{Aim}
 use Rattle.file_cursor.specs.declared.Aim.TheVariants.{Reading, Into}
@@ -25,13 +25,13 @@ use Rattle.file_cursor.specs.declared.NextRecord.{NextRecord}
 use Rattle.file_cursor.specs.declared.NextRecord.TheVariants.{Record, End, Refused}
 use Rattle.file_cursor.specs.NextRecord as visits
 use Rattle.file_cursor.specs.FileOutcome.{rest_of}
-use Rattle.file_cursor.specs.NextRecord.{target_of, cursorOf, at_start, After, NextRecordSound}
+use Rattle.file_cursor.specs.NextRecord.{target_of, cursor_of, at_start, After, NextRecordSound}
 use Rattle.record_fast.specs.CellLists.{Long, SameLengths}
 
 -- the whole file is what is left from the cursor on, after the records rs
 pub record Walking (d : Dialect) (aim : Aim) (file : Bytes) (c : Cursor) : Type 0 where
   pub rs : List Rec
-  pub rest : readFile d (target_of aim) file ≡ rest_of d (target_of aim) file rs c.state c.offset
+  pub rest : read_file d (target_of aim) file ≡ rest_of d (target_of aim) file rs c.state c.offset
   pub after : After aim c rs
   pub inside : c.offset ≤ length file
   pub under : c.offset ≤ MAXFILE
@@ -40,26 +40,26 @@ pub record Walking (d : Dialect) (aim : Aim) (file : Bytes) (c : Cursor) : Type 
   pub short : c.written ≤ MAXFILE
 
 -- the same of the cursor's fields
-pub by-fields : {aim : Aim} {c : Cursor} {rs : List Rec} → After aim c rs → After aim (cursorOf c.done c.columns c.written c.offset c.state) rs
-by-fields a = record { count = a.count; headed = a.headed; text = a.text }
+pub by_fields : {aim : Aim} {c : Cursor} {rs : List Rec} → After aim c rs → After aim (cursor_of c.done c.columns c.written c.offset c.state) rs
+by_fields a = record { count = a.count; headed = a.headed; text = a.text }
 
 -- before the first record
 pub nothing_yet : (aim : Aim) → After aim at_start []
-unfolding rows tableText
+unfolding rows table_text
 nothing_yet Reading = record { count = refl; headed = tt; text = refl }
 nothing_yet (Into t) = record { count = refl; headed = tt; text = refl }
 
-pub whole-rest : (d : Dialect) (aim : Aim) (file : Bytes) → readFile d (target_of aim) file ≡ rest_of d (target_of aim) file [] Top 0
-unfolding readFile readBytes nothingRead
-whole-rest d aim file = refl
+pub whole_rest : (d : Dialect) (aim : Aim) (file : Bytes) → read_file d (target_of aim) file ≡ rest_of d (target_of aim) file [] Top 0
+unfolding read_file read_bytes nothing_read
+whole_rest d aim file = refl
 
 module _ (d : Dialect) (aim : Aim) (file : Bytes) (c : Cursor) (q : c ≡ at_start) where
-  pub sets-out : Walking d aim file c
-  sets-out =
+  pub sets_out : Walking d aim file c
+  sets_out =
       rw q
       (record {
         rs = [];
-        rest = whole-rest d aim file;
+        rest = whole_rest d aim file;
         after = nothing_yet aim;
         inside = omega arith;
         under = omega arith;
@@ -68,15 +68,15 @@ module _ (d : Dialect) (aim : Aim) (file : Bytes) (c : Cursor) (q : c ≡ at_sta
         short = omega arith;
       })
 
-  pub sets-rs : sets-out.rs ≡ []
-  unfolding sets-out
-  sets-rs = refl
+  pub sets_rs : sets_out.rs ≡ []
+  unfolding sets_out
+  sets_rs = refl
 
 module _ {d : Dialect} {aim : Aim} {file : Bytes} {c : Cursor} (y : Walking d aim file c) where
   -- one record more
   module _ {starts ends kinds : List ℕ} {v : Cursor} (n : visits.Next d aim file y.rs c.state c.offset starts ends kinds v) where
-    pub walks-on : Walking d aim file v
-    walks-on =
+    pub walks_on : Walking d aim file v
+    walks_on =
         let l : length (y.rs ++ (n.rec ∷ [])) ≡ length y.rs + 1 = length-append y.rs (n.rec ∷ []) in
         record {
           rs = y.rs ++ (n.rec ∷ []);
@@ -89,26 +89,26 @@ module _ {d : Dialect} {aim : Aim} {file : Bytes} {c : Cursor} (y : Walking d ai
           short = n.short;
         }
 
-    pub walks-rs : walks-on.rs ≡ y.rs ++ (n.rec ∷ [])
-    unfolding walks-on
-    walks-rs = refl
+    pub walks_rs : walks_on.rs ≡ y.rs ++ (n.rec ∷ [])
+    unfolding walks_on
+    walks_rs = refl
 
   -- the records so far are the first of the file
-  pub grows : Grows y.rs (recordsOf (readFile d (target_of aim) file))
+  pub grows : Grows y.rs (records_of (read_file d (target_of aim) file))
   grows =
       rw y.rest
-      (grows-trans (read-grows d (target_of aim) (going (between-records y.rs c.state c.offset)) (drop c.offset file))
-      (end-grows d (target_of aim) (readFrom d (target_of aim) (going (between-records y.rs c.state c.offset)) (drop c.offset file))))
+      (grows_trans (read_grows d (target_of aim) (going (between_records y.rs c.state c.offset)) (drop c.offset file))
+      (end_grows d (target_of aim) (read_from d (target_of aim) (going (between_records y.rs c.state c.offset)) (drop c.offset file))))
 
   -- what the cursor's call requires
-  pub walk-bounds : ((c.offset ≤ length file) × (c.offset ≤ MAXFILE) × (outer c.state ≡ true)) × ((c.done ≤ c.offset) × (c.written ≤ MAXFILE))
-  walk-bounds = ((y.inside, y.under, y.between), (y.many, y.short))
+  pub walk_bounds : ((c.offset ≤ length file) × (c.offset ≤ MAXFILE) × (outer c.state ≡ true)) × ((c.done ≤ c.offset) × (c.written ≤ MAXFILE))
+  walk_bounds = ((y.inside, y.under, y.between), (y.many, y.short))
 
   -- less is left after one record more
-  pub walk-less :
+  pub walk_less :
       {starts ends kinds : List ℕ} {v : Cursor} → visits.Next d aim file y.rs c.state c.offset starts ends kinds v →
       length file - v.offset < length file - c.offset
-  walk-less n = omega (arith, n.onward, n.inside)
+  walk_less n = omega (arith, n.onward, n.inside)
 
 -- ---- the cursor by its result
 
@@ -126,7 +126,7 @@ pub record AtFault (p : Progress) (t : Report) : Type 0 where
   pub fault : Fault
   pub r : Read
   pub rest : p ≡ stopped fault r
-  pub report : t ≡ faultReport fault r
+  pub report : t ≡ fault_report fault r
 
 module _ {d : Dialect} {aim : Aim} {file : Bytes} {rs : List Rec} {f : FileState} {i : ℕ} {starts ends kinds : List ℕ} where
   pub came :
@@ -136,28 +136,28 @@ module _ {d : Dialect} {aim : Aim} {file : Bytes} {rs : List Rec} {f : FileState
   came (visits.finished r p h) q = other cc
   came (visits.refused x r p) q = other cc
 
-  pub at-end : {o : NextRecord} → NextRecordSound d aim file rs f i starts ends kinds o → o ≡ End → AtEnd (rest_of d (target_of aim) file rs f i) rs
-  at-end (visits.read n) q = other cc
-  at-end (visits.finished r p h) q = record { r = r; rest = p; done = h }
-  at-end (visits.refused x r p) q = other cc
+  pub at_end : {o : NextRecord} → NextRecordSound d aim file rs f i starts ends kinds o → o ≡ End → AtEnd (rest_of d (target_of aim) file rs f i) rs
+  at_end (visits.read n) q = other cc
+  at_end (visits.finished r p h) q = record { r = r; rest = p; done = h }
+  at_end (visits.refused x r p) q = other cc
 
-  pub at-fault :
+  pub at_fault :
       {o : NextRecord} {t : Report} → NextRecordSound d aim file rs f i starts ends kinds o → o ≡ Refused t →
       AtFault (rest_of d (target_of aim) file rs f i) t
-  at-fault (visits.read n) q = other cc
-  at-fault (visits.finished r p h) q = other cc
-  at-fault {t = t} (visits.refused x r p) q = let z : faultReport x r ≡ t = cc in record { fault = x; r = r; rest = p; report = sym z }
+  at_fault (visits.read n) q = other cc
+  at_fault (visits.finished r p h) q = other cc
+  at_fault {t = t} (visits.refused x r p) q = let z : fault_report x r ≡ t = cc in record { fault = x; r = r; rest = p; report = sym z }
 
 -- ---- local lists
 
 -- lists with exactly as many places as a record may have cells
 pub record Full (starts ends kinds : List ℕ) : Type 0 where
-  pub at-starts : MAXCOLUMNS ≡ length starts
-  pub at-ends : MAXCOLUMNS ≡ length ends
-  pub at-kinds : MAXCOLUMNS ≡ length kinds
+  pub at_starts : MAXCOLUMNS ≡ length starts
+  pub at_ends : MAXCOLUMNS ≡ length ends
+  pub at_kinds : MAXCOLUMNS ≡ length kinds
 
-pub full-long : {s e k : List ℕ} → Full s e k → Long s e k
-full-long y = record { at-starts = omega (arith, y.at-starts); at-ends = omega (arith, y.at-ends); at-kinds = omega (arith, y.at-kinds) }
+pub full_long : {s e k : List ℕ} → Full s e k → Long s e k
+full_long y = record { at_starts = omega (arith, y.at_starts); at_ends = omega (arith, y.at_ends); at_kinds = omega (arith, y.at_kinds) }
 
-pub full-kept : {s₀ e₀ k₀ s e k : List ℕ} → Full s₀ e₀ k₀ → SameLengths s₀ e₀ k₀ s e k → Full s e k
-full-kept y z = record { at-starts = y.at-starts ∙ sym z.at-starts; at-ends = y.at-ends ∙ sym z.at-ends; at-kinds = y.at-kinds ∙ sym z.at-kinds }
+pub full_kept : {s₀ e₀ k₀ s e k : List ℕ} → Full s₀ e₀ k₀ → SameLengths s₀ e₀ k₀ s e k → Full s e k
+full_kept y z = record { at_starts = y.at_starts ∙ sym z.at_starts; at_ends = y.at_ends ∙ sym z.at_ends; at_kinds = y.at_kinds ∙ sym z.at_kinds }

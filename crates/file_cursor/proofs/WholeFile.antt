@@ -10,16 +10,16 @@ use lib.ListN.{length, drop, length-append, length-map}
 use lib.Dec.{leb}
 use Rattle.model.specs.rules.Base.{if◌then◌else◌, Bytes}
 use Rattle.model.specs.rules.Cell.{is_whole}
-use Rattle.model.specs.rules.Decode.{kindNumber, kind_of}
-use Rattle.model.specs.rules.File.{fileStep, fileEnd, lastCell, counts}
+use Rattle.model.specs.rules.Decode.{kind_number, kind_of}
+use Rattle.model.specs.rules.File.{file_step, file_end, last_cell, counts}
 use Rattle.model.specs.rules.Text.{Value}
 use Rattle.model.specs.rules.Report.{MAXFILE, MAXRECORD}
-use Rattle.model.specs.rules.Records.{between-records, closing, fileFull, recordFull}
-use Rattle.model.specs.rules.Api.{startsOf, endsOf, kindsOf, slice}
+use Rattle.model.specs.rules.Records.{between_records, closing, file_full, record_full}
+use Rattle.model.specs.rules.Api.{starts_of, ends_of, kinds_of, slice}
 use Rattle.model.specs.laws.Laws.{all_none}
-use Rattle.model.specs.laws.Scans.{RawCell, Scan, ScanResult, pends, fails, completes, closingRaw, scanStep, scan, value_of, read_of, inRecord, fresh}
-use Rattle.model.specs.laws.Places.{ScanIn, ScanResultIn, pends-in, fails-in, completes-in}
-use Rattle.model.proofs.piece_laws.ScanLaws.{values-closing}
+use Rattle.model.specs.laws.Scans.{RawCell, Scan, ScanResult, pends, fails, completes, closing_raw, scan_step, scan, value_of, read_of, in_record, fresh}
+use Rattle.model.specs.laws.Places.{ScanIn, ScanResultIn, pends_in, fails_in, completes_in}
+use Rattle.model.proofs.piece_laws.ScanLaws.{values_closing}
 use Rattle.model.proofs.piece_laws.PlaceLaws.{stretches}
 use Rattle.cell_scanner.proofs.Runs.{part_end}
 use Rattle.model.specs.declared.Dialect.{Dialect}
@@ -38,116 +38,116 @@ use Rattle.record_scanner.specs.declared.record_state.RecordState.{RecordState}
 use Rattle.record_scanner.specs.declared.token.ScanOutcome.{ScanOutcome}
 use Rattle.file_cursor.specs.Types.{FileScan, Completed, LastRecord, Failed, End}
 use Rattle.record_scanner.specs.declared.token.ScanOutcome.TheVariants as reached
-use Rattle.file_cursor.specs.Next.{Next, failed, completed, ended, stepped, nextRecord, EventInBounds}
-use Rattle.record_scanner.specs.Parts.{currentOf, foundOf, rawStarts, rawEnds, rawKinds, CurrentInBounds, ScanInBounds}
-use Rattle.file_cursor.specs.Ends.{isFinal, endEvent}
-use Rattle.record_scanner.specs.Stored.{storeIf, storedFrom}
-use Rattle.record_scanner.proofs.ScanInvariant.{cellHere, closing-written}
+use Rattle.file_cursor.specs.Next.{Next, failed, completed, ended, stepped, next_record, EventInBounds}
+use Rattle.record_scanner.specs.Parts.{current_of, found_of, raw_starts, raw_ends, raw_kinds, CurrentInBounds, ScanInBounds}
+use Rattle.file_cursor.specs.Ends.{is_final, end_event}
+use Rattle.record_scanner.specs.Stored.{store_if, stored_from}
+use Rattle.record_scanner.proofs.ScanInvariant.{cell_here, closing_written}
 
 -- ---- by scanning
 
 module _ (d : Dialect) where
   -- the result of scanning a file as its next record: where its bytes end, so does the file
   abbrev pub next_of : ScanResult → Next
-  next_of (pends s) = ended d (read_of d [] s) (fileEnd d s.state)
+  next_of (pends s) = ended d (read_of d [] s) (file_end d s.state)
   next_of (fails e s) = failed e (read_of d [] s)
   next_of (completes s cs f next left) = completed (read_of d [] s) (map (value_of d) cs) f next
 
   abbrev Comes : Bytes → Type 0
-  Comes bs = (s : Scan) → nextRecord d (read_of d [] s) bs ≡ next_of (scan d MAXFILE s bs)
+  Comes bs = (s : Scan) → next_record d (read_of d [] s) bs ≡ next_of (scan d MAXFILE s bs)
 
-  step-comes :
+  step_comes :
       (s : Scan) (b : ℕ) (bs : Bytes) → Comes bs → (x : Step) →
-      stepped d (read_of d [] s) b (λ r. nextRecord d r bs) x ≡ next_of (scanStep s b bs (λ s'. scan d MAXFILE s' bs) x)
-  unfolding stepped scanStep if◌then◌else◌
-  step-comes s b bs ih (Reject e) = refl
-  step-comes s b bs ih (To f Outside) = rw (add-one s.offset) (ih _)
-  step-comes s b bs ih (To f Passed) = rw (add-one s.offset) (ih _)
-  step-comes s b bs ih (To f OfCell) = rw (add-one s.offset, add-one s.size) (ih _)
-  step-comes s b bs ih (To f (Between k)) = rw (add-one s.offset, add-one s.size, values-closing d none [] k s) (ih _)
-  step-comes s b bs ih (To f (Tail k)) = rw (add-one s.offset, values-closing d none [] k s) (ih _)
-  step-comes s b bs ih (To f (Ends k)) = rw (add-one s.offset, values-closing d none [] k s)
+      stepped d (read_of d [] s) b (λ r. next_record d r bs) x ≡ next_of (scan_step s b bs (λ s'. scan d MAXFILE s' bs) x)
+  unfolding stepped scan_step if◌then◌else◌
+  step_comes s b bs ih (Reject e) = refl
+  step_comes s b bs ih (To f Outside) = rw (add-one s.offset) (ih _)
+  step_comes s b bs ih (To f Passed) = rw (add-one s.offset) (ih _)
+  step_comes s b bs ih (To f OfCell) = rw (add-one s.offset, add-one s.size) (ih _)
+  step_comes s b bs ih (To f (Between k)) = rw (add-one s.offset, add-one s.size, values_closing d none [] k s) (ih _)
+  step_comes s b bs ih (To f (Tail k)) = rw (add-one s.offset, values_closing d none [] k s) (ih _)
+  step_comes s b bs ih (To f (Ends k)) = rw (add-one s.offset, values_closing d none [] k s)
 
-  choose-comes :
+  choose_comes :
       (s : Scan) (b : ℕ) (bs : Bytes) → Comes bs → (u v : Bool) (x : Step) →
       (if u then failed FileTooLong (read_of d [] s)
-      else if v then failed RecordTooLong (read_of d [] s) else stepped d (read_of d [] s) b (λ r. nextRecord d r bs) x)
-      ≡ next_of (if u then fails FileTooLong s else if v then fails RecordTooLong s else scanStep s b bs (λ s'. scan d MAXFILE s' bs) x)
+      else if v then failed RecordTooLong (read_of d [] s) else stepped d (read_of d [] s) b (λ r. next_record d r bs) x)
+      ≡ next_of (if u then fails FileTooLong s else if v then fails RecordTooLong s else scan_step s b bs (λ s'. scan d MAXFILE s' bs) x)
   unfolding if◌then◌else◌
-  choose-comes s b bs ih true v x = refl
-  choose-comes s b bs ih false true x = refl
-  choose-comes s b bs ih false false x = step-comes s b bs ih x
+  choose_comes s b bs ih true v x = refl
+  choose_comes s b bs ih false true x = refl
+  choose_comes s b bs ih false false x = step_comes s b bs ih x
 
   -- the next record of a file is found by scanning its bytes
-  pub next-scans : (bs : Bytes) → Comes bs
-  unfolding nextRecord fileFull recordFull scan
-  next-scans [] s = refl
-  next-scans (b ∷ bs) s =
-      choose-comes s b bs (next-scans bs) (leb MAXFILE s.offset) (leb MAXRECORD s.size && counts s.state b)
-      (fileStep d s.state b)
+  pub next_scans : (bs : Bytes) → Comes bs
+  unfolding next_record file_full record_full scan
+  next_scans [] s = refl
+  next_scans (b ∷ bs) s =
+      choose_comes s b bs (next_scans bs) (leb MAXFILE s.offset) (leb MAXRECORD s.size && counts s.state b)
+      (file_step d s.state b)
 
 -- ---- a file ends between records where there is no current record
 
-last-unclean : {A : Type 0} (d : Dialect) (c : Cell) → lastCell d c ≡ Clean → A
-last-unclean Csvj c e = let z : ◌≡◌ {A = ℕ} 0 1 = cc in absurd (omega arith)
-last-unclean Tdif c e = let z : ◌≡◌ {A = ℕ} 0 1 = cc in absurd (omega arith)
-last-unclean (CsvPlus s) c e = go (is_whole (CsvPlus s) c) e
+last_unclean : {A : Type 0} (d : Dialect) (c : Cell) → last_cell d c ≡ Clean → A
+last_unclean Csvj c e = let z : ◌≡◌ {A = ℕ} 0 1 = cc in absurd (omega arith)
+last_unclean Tdif c e = let z : ◌≡◌ {A = ℕ} 0 1 = cc in absurd (omega arith)
+last_unclean (CsvPlus s) c e = go (is_whole (CsvPlus s) c) e
   where
     go : {A : Type 0} (t : Bool) → (if t then Final else Cut) ≡ Clean → A
     go true q = let k : Final ≡ Clean = unfold if◌then◌else◌ in q in let z : ◌≡◌ {A = ℕ} 0 1 = cc in absurd (omega arith)
     go false q = let k : Cut ≡ Clean = unfold if◌then◌else◌ in q in let z : ◌≡◌ {A = ℕ} 0 1 = cc in absurd (omega arith)
 
-cut-unclean : {A : Type 0} → Cut ≡ Clean → A
-cut-unclean e = let z : ◌≡◌ {A = ℕ} 0 1 = cc in absurd (omega arith)
+cut_unclean : {A : Type 0} → Cut ≡ Clean → A
+cut_unclean e = let z : ◌≡◌ {A = ℕ} 0 1 = cc in absurd (omega arith)
 
-pub clean-between : (d : Dialect) (f : FileState) → fileEnd d f ≡ Clean → inRecord f ≡ false
-unfolding fileEnd
-clean-between d Top e = refl
-clean-between d Begin e = refl
-clean-between d Ended e = refl
-clean-between d Bom1 e = refl
-clean-between d Bom2 e = refl
-clean-between d PlainBom1 e = cut-unclean e
-clean-between d PlainBom2 e = cut-unclean e
-clean-between d (Comment c) e = refl
-clean-between d Blanks e = refl
-clean-between d ExpectCell e = cut-unclean e
-clean-between d (Inside c) e = last-unclean d c e
-clean-between d After e = cut-unclean e
-clean-between d Cr e = cut-unclean e
+pub clean_between : (d : Dialect) (f : FileState) → file_end d f ≡ Clean → in_record f ≡ false
+unfolding file_end
+clean_between d Top e = refl
+clean_between d Begin e = refl
+clean_between d Ended e = refl
+clean_between d Bom1 e = refl
+clean_between d Bom2 e = refl
+clean_between d PlainBom1 e = cut_unclean e
+clean_between d PlainBom2 e = cut_unclean e
+clean_between d (Comment c) e = refl
+clean_between d Blanks e = refl
+clean_between d ExpectCell e = cut_unclean e
+clean_between d (Inside c) e = last_unclean d c e
+clean_between d After e = cut_unclean e
+clean_between d Cr e = cut_unclean e
 
 -- ---- the end of the file, over the numbers of the current record
 
 module _ (d : Dialect) where
   -- the event of a file of n bytes, of which this was reached
-  abbrev eventOf : (n : ℕ) → ScanOutcome → FileScan
-  eventOf n (reached.Completed start cells f next) = Completed start cells f next
-  eventOf n (reached.NeedInput f h) = endEvent (fileEnd d f) h n
-  eventOf n (reached.Failed e offset) = Failed e offset
+  abbrev event_of : (n : ℕ) → ScanOutcome → FileScan
+  event_of n (reached.Completed start cells f next) = Completed start cells f next
+  event_of n (reached.NeedInput f h) = end_event (file_end d f) h n
+  event_of n (reached.Failed e offset) = Failed e offset
 
   -- a list in which the last cell of a last record is stored, as this number
-  abbrev lastPut : (room base : ℕ) → (RecordState → ℕ) → ScanOutcome → List ℕ → List ℕ
-  lastPut room base number (reached.Completed start cells f next) xs = xs
-  lastPut room base number (reached.NeedInput f h) xs = storeIf (isFinal (fileEnd d f)) room (base + h.cells) (number h) xs
-  lastPut room base number (reached.Failed e offset) xs = xs
+  abbrev last_put : (room base : ℕ) → (RecordState → ℕ) → ScanOutcome → List ℕ → List ℕ
+  last_put room base number (reached.Completed start cells f next) xs = xs
+  last_put room base number (reached.NeedInput f h) xs = store_if (is_final (file_end d f)) room (base + h.cells) (number h) xs
+  last_put room base number (reached.Failed e offset) xs = xs
 
-  values-long : (cs : List RawCell) → length (map (value_of d) cs) ≡ length cs
-  values-long cs = length-map cs (value_of d)
+  values_long : (cs : List RawCell) → length (map (value_of d) cs) ≡ length cs
+  values_long cs = length-map cs (value_of d)
 
-  closing-long : (s : Scan) → length (closing d true (read_of d [] s)) ≡ length s.cells + 1
-  closing-long s =
-      ap length (values-closing d none [] true s) ∙ values-long (closingRaw true s)
-      ∙ length-append s.cells (cellHere s ∷ [])
+  closing_long : (s : Scan) → length (closing d true (read_of d [] s)) ≡ length s.cells + 1
+  closing_long s =
+      ap length (values_closing d none [] true s) ∙ values_long (closing_raw true s)
+      ∙ length-append s.cells (cell_here s ∷ [])
 
-  end-event : (s : Scan) (n : ℕ) (x : Ending) → s.offset ≡ n → (ended d (read_of d [] s) x).event ≡ endEvent x (currentOf s) n
-  end-event s n Clean e = ap End e
-  end-event s n Final e = ap (LastRecord s.start) (closing-long s)
-  end-event s n Cut e = ap (Failed CutShort) e
+  end_event_lem : (s : Scan) (n : ℕ) (x : Ending) → s.offset ≡ n → (ended d (read_of d [] s) x).event ≡ end_event x (current_of s) n
+  end_event_lem s n Clean e = ap End e
+  end_event_lem s n Final e = ap (LastRecord s.start) (closing_long s)
+  end_event_lem s n Cut e = ap (Failed CutShort) e
 
-  same-event : {bytes : Bytes} {w : ScanResult} → ScanResultIn bytes w → (next_of d w).event ≡ eventOf (length bytes) (foundOf w).answer
-  same-event {bytes = bytes} (pends-in {s = s} i e) = end-event s (length bytes) (fileEnd d s.state) e
-  same-event (fails-in i) = refl
-  same-event (completes-in {s = s} {cs = cs} {f = f} i j l m) = ap (λ n. Completed s.start n f (suc s.offset)) (values-long cs)
+  same_event : {bytes : Bytes} {w : ScanResult} → ScanResultIn bytes w → (next_of d w).event ≡ event_of (length bytes) (found_of w).answer
+  same_event {bytes = bytes} (pends_in {s = s} i e) = end_event_lem s (length bytes) (file_end d s.state) e
+  same_event (fails_in i) = refl
+  same_event (completes_in {s = s} {cs = cs} {f = f} i j l m) = ap (λ n. Completed s.start n f (suc s.offset)) (values_long cs)
 
   of_values : (φ : Value → ℕ) (cs : List RawCell) → map φ (map (value_of d) cs) ≡ map (λ c. φ (value_of d c)) cs
   of_values φ [] = refl
@@ -155,7 +155,7 @@ module _ (d : Dialect) where
 
   module _ (φ : Value → ℕ) (room base : ℕ) (old : List ℕ) where
     abbrev At : List RawCell → List ℕ
-    At cs = storedFrom room base (map (λ c. φ (value_of d c)) cs) old
+    At cs = stored_from room base (map (λ c. φ (value_of d c)) cs) old
 
     none_left : (s : Scan) → length s.cells ≡ 0 → s.cells ≡ []
     none_left s e = go s.cells e
@@ -164,35 +164,35 @@ module _ (d : Dialect) where
         go [] q = refl
         go (c ∷ cs) q = absurd (omega arith)
 
-    end-stored :
+    end_stored :
         (s : Scan) (x : Ending) → (x ≡ Clean → length s.cells ≡ 0) →
-        storedFrom room base (map φ (ended d (read_of d [] s) x).cells) old
-        ≡ storeIf (isFinal x) room (base + length s.cells) (φ (value_of d (cellHere s))) (At s.cells)
-    unfolding storeIf if◌then◌else◌
-    end-stored s Clean e = ap At (sym (none_left s (e refl)))
-    end-stored s Final e =
-        ap (λ vs. storedFrom room base (map φ vs) old) (values-closing d none [] true s)
-        ∙ ap (λ xs. storedFrom room base xs old) (of_values φ (closingRaw true s))
-        ∙ sym (closing-written (λ c. φ (value_of d c)) room base (length s.cells) old true s refl)
-    end-stored s Cut e = ap (λ xs. storedFrom room base xs old) (of_values φ s.cells)
+        stored_from room base (map φ (ended d (read_of d [] s) x).cells) old
+        ≡ store_if (is_final x) room (base + length s.cells) (φ (value_of d (cell_here s))) (At s.cells)
+    unfolding store_if if◌then◌else◌
+    end_stored s Clean e = ap At (sym (none_left s (e refl)))
+    end_stored s Final e =
+        ap (λ vs. stored_from room base (map φ vs) old) (values_closing d none [] true s)
+        ∙ ap (λ xs. stored_from room base xs old) (of_values φ (closing_raw true s))
+        ∙ sym (closing_written (λ c. φ (value_of d c)) room base (length s.cells) old true s refl)
+    end_stored s Cut e = ap (λ xs. stored_from room base xs old) (of_values φ s.cells)
 
-    same-stored :
+    same_stored :
         (from limit : ℕ) {bytes : Bytes} {w : ScanResult} (number : RecordState → ℕ) →
-        ((s : Scan) → ScanIn bytes s → s.offset ≡ length bytes → number (currentOf s) ≡ φ (value_of d (cellHere s))) →
-        ScanResultIn bytes w → ScanInBounds (length bytes) from limit base (foundOf w).answer →
-        storedFrom room base (map φ (next_of d w).cells) old ≡ lastPut room base number (foundOf w).answer (At (foundOf w).cells)
-    same-stored from limit number same (pends-in {s = s} i e) b =
-        end-stored s (fileEnd d s.state) (λ q. b.between (clean-between d s.state q))
-        ∙ ap (λ x. storeIf (isFinal (fileEnd d s.state)) room (base + length s.cells) x (At s.cells)) (sym (same s i e))
-    same-stored from limit number same (fails-in {s = s} i) b = ap (λ xs. storedFrom room base xs old) (of_values φ s.cells)
-    same-stored from limit number same (completes-in {cs = cs} i j l m) b = ap (λ xs. storedFrom room base xs old) (of_values φ cs)
+        ((s : Scan) → ScanIn bytes s → s.offset ≡ length bytes → number (current_of s) ≡ φ (value_of d (cell_here s))) →
+        ScanResultIn bytes w → ScanInBounds (length bytes) from limit base (found_of w).answer →
+        stored_from room base (map φ (next_of d w).cells) old ≡ last_put room base number (found_of w).answer (At (found_of w).cells)
+    same_stored from limit number same (pends_in {s = s} i e) b =
+        end_stored s (file_end d s.state) (λ q. b.between (clean_between d s.state q))
+        ∙ ap (λ x. store_if (is_final (file_end d s.state)) room (base + length s.cells) x (At s.cells)) (sym (same s i e))
+    same_stored from limit number same (fails_in {s = s} i) b = ap (λ xs. stored_from room base xs old) (of_values φ s.cells)
+    same_stored from limit number same (completes_in {cs = cs} i j l m) b = ap (λ xs. stored_from room base xs old) (of_values φ cs)
 
-  event-bounds : (n from base : ℕ) (r : ScanOutcome) → ScanInBounds n from MAXFILE base r → EventInBounds n from base (eventOf n r)
-  event-bounds n from base (reached.Completed start cells f next) b = (b.1, b.2, b.3, b.4)
-  event-bounds n from base (reached.Failed e offset) b = tt
-  event-bounds n from base (reached.NeedInput f h) b = go (fileEnd d f)
+  event_bounds : (n from base : ℕ) (r : ScanOutcome) → ScanInBounds n from MAXFILE base r → EventInBounds n from base (event_of n r)
+  event_bounds n from base (reached.Completed start cells f next) b = (b.1, b.2, b.3, b.4)
+  event_bounds n from base (reached.Failed e offset) b = tt
+  event_bounds n from base (reached.NeedInput f h) b = go (file_end d f)
     where
-      go : (x : Ending) → EventInBounds n from base (endEvent x h n)
+      go : (x : Ending) → EventInBounds n from base (end_event x h n)
       go Clean = tt
       go Final =
           let u : n ≤ MAXFILE = b.under in
@@ -204,7 +204,7 @@ module _ (d : Dialect) where
 
 module _ (d : Dialect) (file : Bytes) (first : FileState) (from room base : ℕ) (starts₀ ends₀ kinds₀ : List ℕ) where
   abbrev Whole : Next
-  Whole = nextRecord d (between-records [] first from) (drop from file)
+  Whole = next_record d (between_records [] first from) (drop from file)
 
   abbrev Scanned : ScanResult
   Scanned = scan d MAXFILE (fresh first 0 from) (drop from file)
@@ -212,96 +212,96 @@ module _ (d : Dialect) (file : Bytes) (first : FileState) (from room base : ℕ)
   -- the event, how far it lies, and the lists with the cells that go with it
   pub record Out (e : FileScan) (starts ends kinds : List ℕ) : Type 0 where
     pub event : e ≡ Whole.event
-    pub at-starts : starts ≡ storedFrom room base (startsOf Whole.cells) starts₀
-    pub at-ends : ends ≡ storedFrom room base (endsOf Whole.cells) ends₀
-    pub at-kinds : kinds ≡ storedFrom room base (kindsOf Whole.cells) kinds₀
+    pub at_starts : starts ≡ stored_from room base (starts_of Whole.cells) starts₀
+    pub at_ends : ends ≡ stored_from room base (ends_of Whole.cells) ends₀
+    pub at_kinds : kinds ≡ stored_from room base (kinds_of Whole.cells) kinds₀
     pub bounds : EventInBounds (length file) from base e
 
   -- the lists with the last cell of a last record
-  abbrev starts-put : ScanOutcome → List ℕ → List ℕ
-  starts-put r xs = lastPut d room base (λ h. h.opened) r xs
+  abbrev starts_put : ScanOutcome → List ℕ → List ℕ
+  starts_put r xs = last_put d room base (λ h. h.opened) r xs
 
-  abbrev ends-put : ScanOutcome → List ℕ → List ℕ
-  ends-put r xs = lastPut d room base (λ h. length file) r xs
+  abbrev ends_put : ScanOutcome → List ℕ → List ℕ
+  ends_put r xs = last_put d room base (λ h. length file) r xs
 
-  abbrev kinds-put : ScanOutcome → List ℕ → List ℕ
-  kinds-put r xs = lastPut d room base (λ h. kindNumber (kind_of d (slice file h.opened (length file)))) r xs
+  abbrev kinds_put : ScanOutcome → List ℕ → List ℕ
+  kinds_put r xs = last_put d room base (λ h. kind_number (kind_of d (slice file h.opened (length file)))) r xs
 
   whole : Whole ≡ next_of d Scanned
-  whole = next-scans d (drop from file) (fresh first 0 from)
+  whole = next_scans d (drop from file) (fresh first 0 from)
 
   within : from ≤ length file → ScanResultIn file Scanned
   within l = stretches d MAXFILE file (fresh first 0 from) (record { raw = sym (part_end file from); forward = omega arith; within = l; cells = all_none })
 
   list_put :
       (φ : Value → ℕ) (number : RecordState → ℕ) →
-      ((s : Scan) → ScanIn file s → s.offset ≡ length file → number (currentOf s) ≡ φ (value_of d (cellHere s))) → from ≤ length file →
-      ScanInBounds (length file) from MAXFILE base (foundOf Scanned).answer → (old xs : List ℕ) →
-      xs ≡ storedFrom room base (map (λ c. φ (value_of d c)) (foundOf Scanned).cells) old →
-      lastPut d room base number (foundOf Scanned).answer xs ≡ storedFrom room base (map φ Whole.cells) old
+      ((s : Scan) → ScanIn file s → s.offset ≡ length file → number (current_of s) ≡ φ (value_of d (cell_here s))) → from ≤ length file →
+      ScanInBounds (length file) from MAXFILE base (found_of Scanned).answer → (old xs : List ℕ) →
+      xs ≡ stored_from room base (map (λ c. φ (value_of d c)) (found_of Scanned).cells) old →
+      last_put d room base number (found_of Scanned).answer xs ≡ stored_from room base (map φ Whole.cells) old
   list_put φ number same l b old xs e =
-      ap (λ ys. lastPut d room base number (foundOf Scanned).answer ys) e
-      ∙ sym (same-stored d φ room base old from MAXFILE number same (within l) b)
-      ∙ ap (λ (x : Next). storedFrom room base (map φ x.cells) old) (sym whole)
+      ap (λ ys. last_put d room base number (found_of Scanned).answer ys) e
+      ∙ sym (same_stored d φ room base old from MAXFILE number same (within l) b)
+      ∙ ap (λ (x : Next). stored_from room base (map φ x.cells) old) (sym whole)
 
-  kind-same :
+  kind_same :
       (s : Scan) → ScanIn file s → s.offset ≡ length file →
-      kindNumber (kind_of d (slice file s.opened (length file))) ≡ kindNumber (kind_of d s.raw)
-  kind-same s i e = ap (λ x. kindNumber (kind_of d x)) (ap (λ n. slice file s.opened n) (sym e) ∙ sym i.raw)
+      kind_number (kind_of d (slice file s.opened (length file))) ≡ kind_number (kind_of d s.raw)
+  kind_same s i e = ap (λ x. kind_number (kind_of d x)) (ap (λ n. slice file s.opened n) (sym e) ∙ sym i.raw)
 
   -- what going over the file says
   abbrev Went : (r : ScanOutcome) (starts ends kinds : List ℕ) → Type 0
   Went r starts ends kinds =
-      (r ≡ (foundOf Scanned).answer)
-      × ((starts ≡ storedFrom room base (rawStarts (foundOf Scanned).cells) starts₀)
-      × ((ends ≡ storedFrom room base (rawEnds (foundOf Scanned).cells) ends₀)
-      × ((kinds ≡ storedFrom room base (rawKinds d (foundOf Scanned).cells) kinds₀) × ScanInBounds (length file) from MAXFILE base r)))
+      (r ≡ (found_of Scanned).answer)
+      × ((starts ≡ stored_from room base (raw_starts (found_of Scanned).cells) starts₀)
+      × ((ends ≡ stored_from room base (raw_ends (found_of Scanned).cells) ends₀)
+      × ((kinds ≡ stored_from room base (raw_kinds d (found_of Scanned).cells) kinds₀) × ScanInBounds (length file) from MAXFILE base r)))
 
   module _ (l : from ≤ length file) (r : ScanOutcome) (starts ends kinds : List ℕ) (q : Went r starts ends kinds) where
     abbrev Comes-to : ScanOutcome → Type 0
-    Comes-to x = Out (eventOf d (length file) x) (starts-put x starts) (ends-put x ends) (kinds-put x kinds)
+    Comes-to x = Out (event_of d (length file) x) (starts_put x starts) (ends_put x ends) (kinds_put x kinds)
 
     found : Comes-to r
     found =
-        let b : ScanInBounds (length file) from MAXFILE base (foundOf Scanned).answer
+        let b : ScanInBounds (length file) from MAXFILE base (found_of Scanned).answer
         = subst (λ x. ScanInBounds (length file) from MAXFILE base x) q.0 q.1.1.1.1 in
         subst Comes-to (sym q.0)
         (record {
-          event = sym (ap (λ (x : Next). x.event) whole ∙ same-event d (within l));
-          at-starts = list_put (λ v. v.from) (λ h. h.opened) (λ s i e. refl) l b starts₀ starts q.1.0;
-          at-ends = list_put (λ v. v.upto) (λ h. length file) (λ s i e. sym e) l b ends₀ ends q.1.1.0;
-          at-kinds =
-              list_put (λ v. kindNumber v.kind) (λ h. kindNumber (kind_of d (slice file h.opened (length file)))) kind-same l b kinds₀
+          event = sym (ap (λ (x : Next). x.event) whole ∙ same_event d (within l));
+          at_starts = list_put (λ v. v.from) (λ h. h.opened) (λ s i e. refl) l b starts₀ starts q.1.0;
+          at_ends = list_put (λ v. v.upto) (λ h. length file) (λ s i e. sym e) l b ends₀ ends q.1.1.0;
+          at_kinds =
+              list_put (λ v. kind_number v.kind) (λ h. kind_number (kind_of d (slice file h.opened (length file)))) kind_same l b kinds₀
               kinds q.1.1.1.0;
-          bounds = event-bounds d (length file) from base (foundOf Scanned).answer b;
+          bounds = event_bounds d (length file) from base (found_of Scanned).answer b;
         })
 
-    pub at-record :
+    pub at_record :
         (start cells : ℕ) (f : FileState) (next : ℕ) → r ≡ reached.Completed start cells f next →
         Out (Completed start cells f next) starts ends kinds
-    at-record start cells f next m = subst Comes-to m found
+    at_record start cells f next m = subst Comes-to m found
 
-    pub at-fault : (e : Fault) (offset : ℕ) → r ≡ reached.Failed e offset → Out (Failed e offset) starts ends kinds
-    at-fault e offset m = subst Comes-to m found
+    pub at_fault : (e : Fault) (offset : ℕ) → r ≡ reached.Failed e offset → Out (Failed e offset) starts ends kinds
+    at_fault e offset m = subst Comes-to m found
 
     module _ (f : FileState) (h : RecordState) (m : r ≡ reached.NeedInput f h) where
-      pub in-hand : CurrentInBounds (length file) MAXFILE base f h
-      in-hand = subst (λ x. ScanInBounds (length file) from MAXFILE base x) m q.1.1.1.1
+      pub in_hand : CurrentInBounds (length file) MAXFILE base f h
+      in_hand = subst (λ x. ScanInBounds (length file) from MAXFILE base x) m q.1.1.1.1
 
-      pub at-end :
+      pub at_end :
           (e : FileScan) (starts' ends' kinds' : List ℕ) →
-          (e ≡ endEvent (fileEnd d f) h (length file))
-          × ((starts' ≡ starts-put (reached.NeedInput f h) starts)
-          × ((ends' ≡ ends-put (reached.NeedInput f h) ends) × (kinds' ≡ kinds-put (reached.NeedInput f h) kinds))) →
+          (e ≡ end_event (file_end d f) h (length file))
+          × ((starts' ≡ starts_put (reached.NeedInput f h) starts)
+          × ((ends' ≡ ends_put (reached.NeedInput f h) ends) × (kinds' ≡ kinds_put (reached.NeedInput f h) kinds))) →
           Out e starts' ends' kinds'
-      at-end e starts' ends' kinds' p =
-          let o : Out (endEvent (fileEnd d f) h (length file)) (starts-put (reached.NeedInput f h) starts)
-          (ends-put (reached.NeedInput f h) ends) (kinds-put (reached.NeedInput f h) kinds)
+      at_end e starts' ends' kinds' p =
+          let o : Out (end_event (file_end d f) h (length file)) (starts_put (reached.NeedInput f h) starts)
+          (ends_put (reached.NeedInput f h) ends) (kinds_put (reached.NeedInput f h) kinds)
           = subst Comes-to m found in
           record {
             event = p.0 ∙ o.event;
-            at-starts = p.1.0 ∙ o.at-starts;
-            at-ends = p.1.1.0 ∙ o.at-ends;
-            at-kinds = p.1.1.1 ∙ o.at-kinds;
+            at_starts = p.1.0 ∙ o.at_starts;
+            at_ends = p.1.1.0 ∙ o.at_ends;
+            at_kinds = p.1.1.1 ∙ o.at_kinds;
             bounds = subst (λ x. EventInBounds (length file) from base x) (sym p.0) o.bounds;
           }

@@ -7,13 +7,13 @@ use Rattle.record_scanner.specs.declared.record_state.RecordState.{RecordState}
 use Rattle.file_cursor.specs.Types.{FileScan, LastRecord, Failed, End}
 
 -- the end completes a last record
-abbrev pub isFinal : Ending → Bool
-isFinal Clean = false
-isFinal Final = true
-isFinal Cut = false
+abbrev pub is_final : Ending → Bool
+is_final Clean = false
+is_final Final = true
+is_final Cut = false
 
 -- the event at the file's end, which lies at this offset
-abbrev pub endEvent : Ending → RecordState → (offset : ℕ) → FileScan
-endEvent Clean h o = End o
-endEvent Final h o = LastRecord h.start (h.cells + 1)
-endEvent Cut h o = Failed CutShort o
+abbrev pub end_event : Ending → RecordState → (offset : ℕ) → FileScan
+end_event Clean h o = End o
+end_event Final h o = LastRecord h.start (h.cells + 1)
+end_event Cut h o = Failed CutShort o

@@ -20,7 +20,7 @@ pub data FastCheckSound (d : Dialect) (aim : Aim) (rs : List Rec) (vs : List Val
 
 -- the record from i on, after the records rs
 pub data FastNextSound (d : Dialect) (aim : Aim) (file : Bytes) (rs : List Rec) (f : FileState) (i : ℕ) (starts ends kinds : List ℕ) : FastNext → Type 0 where
-  a-record :
+  a_record :
       {v : Cursor} {clean : Bool} → is_empty rs ≡ false → Next d aim file rs f i starts ends kinds v →
       (clean ≡ true → CleanIn d file (take v.columns starts) (take v.columns ends)) → FastNextSound d aim file rs f i starts ends kinds (Record v clean)
   nothing : FastNextSound d aim file rs f i starts ends kinds Fallback

@@ -3,8 +3,8 @@ use Rattle.std.specs.Prelude.{ℕ, ◌≡◌, true, List, [], length, drop}
 use Rattle.std.proofs.Math.Option.{Option}
 use Rattle.model.specs.rules.Base.{Bytes}
 use Rattle.model.specs.rules.Text.{Value}
-use Rattle.model.specs.rules.Report.{isAtByte}
-use Rattle.model.specs.rules.Records.{Rec, Read, between-records, Progress, going, stopped, complete, readFrom, readEnd, endBetween}
+use Rattle.model.specs.rules.Report.{is_at_byte}
+use Rattle.model.specs.rules.Records.{Rec, Read, between_records, Progress, going, stopped, complete, read_from, read_end, end_between}
 use Rattle.model.specs.declared.Dialect.{Dialect}
 use Rattle.model.specs.declared.Target.{Target}
 use Rattle.model.specs.declared.FileState.{FileState}
@@ -15,7 +15,7 @@ use Rattle.file_cursor.specs.Next.{Next}
 
 -- reading from i to the end of the file, after these records
 abbrev pub rest_of : Dialect → Option Target → (file : Bytes) → List Rec → FileState → (i : ℕ) → Progress
-rest_of d target file rs f i = readEnd d target (readFrom d target (going (between-records rs f i)) (drop i file))
+rest_of d target file rs f i = read_end d target (read_from d target (going (between_records rs f i)) (drop i file))
 
 -- the same place of reading, after these records
 abbrev pub redone : List Rec → Read → Read
@@ -33,14 +33,14 @@ redone rs r =
 
 -- after the records rs this is the next event, and that the result of reading on from it
 pub data ReadsAs (d : Dialect) (target : Option Target) (file : Bytes) (rs : List Rec) : Next → Progress → Type 0 where
-  after-record :
+  after_record :
       (r : Read) (vs : List Value) (f : FileState) (o : ℕ) → r.done ≡ rs →
       ReadsAs d target file rs (record { event = Completed r.start (length vs) f o; cells = vs })
-      (readEnd d target (readFrom d target (complete d target r vs f o) (drop o file)))
+      (read_end d target (read_from d target (complete d target r vs f o) (drop o file)))
   after_last :
       (r : Read) (vs : List Value) → r.done ≡ rs → r.offset ≡ length file →
       ReadsAs d target file rs (record { event = LastRecord r.start (length vs); cells = vs }) (complete d target r vs Begin r.offset)
-  after-fault :
-      (e : Fault) (r : Read) (vs : List Value) → r.done ≡ rs → isAtByte e ≡ true →
+  after_fault :
+      (e : Fault) (r : Read) (vs : List Value) → r.done ≡ rs → is_at_byte e ≡ true →
       ReadsAs d target file rs (record { event = Failed e r.offset; cells = vs }) (stopped e r)
-  after-all : (r : Read) → r.done ≡ rs → ReadsAs d target file rs (record { event = End r.offset; cells = [] }) (endBetween r rs)
+  after_all : (r : Read) → r.done ≡ rs → ReadsAs d target file rs (record { event = End r.offset; cells = [] }) (end_between r rs)

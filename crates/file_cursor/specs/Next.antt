@@ -2,10 +2,10 @@
 -- checked, so that reading a file is a sequence of next records.
 use Rattle.std.specs.Prelude.{ℕ, ◌+◌, ◌≤◌, ◌<◌, true, List, [], ◌∷◌, ◌++◌, length}
 use Rattle.model.specs.rules.Base.{if◌then◌else◌, Bytes}
-use Rattle.model.specs.rules.File.{fileStep, fileEnd}
+use Rattle.model.specs.rules.File.{file_step, file_end}
 use Rattle.model.specs.rules.Text.{Value}
 use Rattle.model.specs.rules.Report.{MAXFILE}
-use Rattle.model.specs.rules.Records.{Read, closing, fileFull, recordFull}
+use Rattle.model.specs.rules.Records.{Read, closing, file_full, record_full}
 use Rattle.model.specs.declared.Dialect.{Dialect}
 use Rattle.model.specs.declared.FileState.{FileState}
 use Rattle.model.specs.declared.ByteRole.{ByteRole}
@@ -17,37 +17,37 @@ use Rattle.model.specs.declared.Ending.TheVariants.{Clean, Final, Cut}
 use Rattle.model.specs.declared.Fault.{Fault}
 use Rattle.model.specs.declared.Fault.TheVariants.{Byte, CutShort, FileTooLong, RecordTooLong}
 use Rattle.record_scanner.specs.declared.record_state.RecordState.{RecordState}
-use Rattle.record_scanner.specs.CurrentRecord.{closesCell, endsRecord, stateAfterByte}
+use Rattle.record_scanner.specs.CurrentRecord.{closes_cell, ends_record, state_after_byte}
 use Rattle.file_cursor.specs.Types.{FileScan, Completed, LastRecord, Failed, End}
 
 -- ---- reading after a byte
 
 -- the bytes of the current cell after the byte b
-abbrev pub rawAfter : ByteRole → (b : ℕ) → Bytes → Bytes
-rawAfter Outside b raw = []
-rawAfter Passed b raw = []
-rawAfter OfCell b raw = raw ++ (b ∷ [])
-rawAfter (Between closes) b raw = []
-rawAfter (Tail closes) b raw = []
-rawAfter (Ends closes) b raw = []
+abbrev pub raw_after : ByteRole → (b : ℕ) → Bytes → Bytes
+raw_after Outside b raw = []
+raw_after Passed b raw = []
+raw_after OfCell b raw = raw ++ (b ∷ [])
+raw_after (Between closes) b raw = []
+raw_after (Tail closes) b raw = []
+raw_after (Ends closes) b raw = []
 
 -- the record's complete cells after the next byte
-abbrev pub cellsAfter : Dialect → ByteRole → Read → List Value
-cellsAfter d Outside r = []
-cellsAfter d Passed r = []
-cellsAfter d OfCell r = r.cells
-cellsAfter d (Between closes) r = closing d closes r
-cellsAfter d (Tail closes) r = closing d closes r
-cellsAfter d (Ends closes) r = closing d closes r
+abbrev pub cells_after : Dialect → ByteRole → Read → List Value
+cells_after d Outside r = []
+cells_after d Passed r = []
+cells_after d OfCell r = r.cells
+cells_after d (Between closes) r = closing d closes r
+cells_after d (Tail closes) r = closing d closes r
+cells_after d (Ends closes) r = closing d closes r
 
 -- the current record as numbers
-abbrev pub recordStateOf : Read → RecordState
-recordStateOf r = record { start = r.start; size = r.size; opened = r.opened; cells = length r.cells }
+abbrev pub record_state_of : Read → RecordState
+record_state_of r = record { start = r.start; size = r.size; opened = r.opened; cells = length r.cells }
 
 -- reading after the byte b, which is this part of the file
-abbrev pub readAfter : Dialect → Read → (b : ℕ) → FileState → ByteRole → Read
-readAfter d r b f p =
-    let h : RecordState = stateAfterByte p r.offset (recordStateOf r) in
+abbrev pub read_after : Dialect → Read → (b : ℕ) → FileState → ByteRole → Read
+read_after d r b f p =
+    let h : RecordState = state_after_byte p r.offset (record_state_of r) in
     record {
       done = r.done;
       state = f;
@@ -55,8 +55,8 @@ readAfter d r b f p =
       start = h.start;
       size = h.size;
       opened = h.opened;
-      raw = rawAfter p b r.raw;
-      cells = cellsAfter d p r;
+      raw = raw_after p b r.raw;
+      cells = cells_after d p r;
     }
 
 -- ---- the next record
@@ -77,7 +77,7 @@ completed r vs f o = record { event = Completed r.start (length vs) f o; cells =
 unfoldable pub stepped : Dialect → Read → (b : ℕ) → (rest : Read → Next) → Step → Next
 stepped d r b rest (Reject e) = failed (Byte e) r
 stepped d r b rest (To f p) =
-    if endsRecord p then completed r (closing d (closesCell p) r) f (r.offset + 1) else rest (readAfter d r b f p)
+    if ends_record p then completed r (closing d (closes_cell p) r) f (r.offset + 1) else rest (read_after d r b f p)
 
 -- the file ends here; between records there is no current cell
 abbrev pub ended : Dialect → Read → Ending → Next
@@ -85,18 +85,18 @@ ended d r Clean = record { event = End r.offset; cells = [] }
 ended d r Final = record { event = LastRecord r.start (length (closing d true r)); cells = closing d true r }
 ended d r Cut = failed CutShort r
 
-unfoldable pub nextRecord : Dialect → Read → Bytes → Next
-nextRecord d r [] = ended d r (fileEnd d r.state)
-nextRecord d r (b ∷ bs) =
-    if fileFull r then failed FileTooLong r
-    else if recordFull r b then failed RecordTooLong r
-    else stepped d r b (λ r'. nextRecord d r' bs) (fileStep d r.state b)
+unfoldable pub next_record : Dialect → Read → Bytes → Next
+next_record d r [] = ended d r (file_end d r.state)
+next_record d r (b ∷ bs) =
+    if file_full r then failed FileTooLong r
+    else if record_full r b then failed RecordTooLong r
+    else stepped d r b (λ r'. next_record d r' bs) (file_step d r.state b)
 
 -- ---- how far an event lies
 
 -- the cells up to here are at most as many as the bytes read, and a complete record lies in the file and under its limit.
 -- `base`: how many cells came before; `from`: where reading began
-abbrev pub EventInBounds : (file-length from base : ℕ) → FileScan → Type 0
+abbrev pub EventInBounds : (file_length from base : ℕ) → FileScan → Type 0
 EventInBounds n from base (Completed start cells f next) = (from < next) × (next ≤ n) × (next ≤ MAXFILE) × (base + cells ≤ next)
 EventInBounds n from base (LastRecord start cells) = (n ≤ MAXFILE) × (base + cells ≤ n + 1)
 EventInBounds n from base (Failed e offset) = Unit {0}

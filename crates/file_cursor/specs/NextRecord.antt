@@ -11,12 +11,12 @@ use Rattle.model.specs.declared.Fault.TheVariants.{NoRecord}
 use Rattle.model.specs.declared.CheckResult.TheVariants.{Sound, Faulty}
 use Rattle.model.specs.rules.Base.{Bytes, is_empty}
 use Rattle.model.specs.rules.Dialect.{into}
-use Rattle.model.specs.rules.Text.{Value, recordText, tableText, ending}
-use Rattle.model.specs.rules.Report.{report, number_of, columnOf, MAXFILE, MAXCOLUMNS}
-use Rattle.model.specs.rules.Records.{Rec, rows, Read, between-records, going, stopped, recordFault, faultReport}
+use Rattle.model.specs.rules.Text.{Value, record_text, table_text, ending}
+use Rattle.model.specs.rules.Report.{report, number_of, column_of, MAXFILE, MAXCOLUMNS}
+use Rattle.model.specs.rules.Records.{Rec, rows, Read, between_records, going, stopped, record_fault, fault_report}
 use Rattle.cell_decoder.specs.declared.source.Source.TheVariants.{File}
 use Rattle.cell_decoder.specs.Sources.{cells_in, Cells}
-use Rattle.file_cursor.specs.Next.{nextRecord}
+use Rattle.file_cursor.specs.Next.{next_record}
 use Rattle.file_cursor.specs.FileOutcome.{rest_of}
 use Rattle.record_scanner.specs.Tokens.{outer}
 use Rattle.record_target.specs.declared.TargetCheck.{TargetCheck}
@@ -35,12 +35,12 @@ target_of (Into t) = some (into t)
 -- the text of these records in the target, and none where there is no target
 abbrev pub text_of : Aim → List Rec → Bytes
 text_of Reading rs = []
-text_of (Into t) rs = tableText (into t) (rows rs)
+text_of (Into t) rs = table_text (into t) (rows rs)
 
 -- the text of one record more
-abbrev pub textNext : Aim → (header : Bool) → List Value → Bytes
-textNext Reading header vs = []
-textNext (Into t) header vs = recordText (into t) header vs ++ ending t
+abbrev pub text_next : Aim → (header : Bool) → List Value → Bytes
+text_next Reading header vs = []
+text_next (Into t) header vs = record_text (into t) header vs ++ ending t
 
 -- ---- what has been read
 
@@ -49,12 +49,12 @@ abbrev pub Columns : List Rec → ℕ → Type 0
 Columns [] n = Unit {0}
 Columns (h ∷ rs) n = length h.cells ≡ n
 
-abbrev pub cursorOf : (done columns written offset : ℕ) → FileState → Cursor
-cursorOf done columns written offset f = record { done = done; columns = columns; written = written; offset = offset; state = f }
+abbrev pub cursor_of : (done columns written offset : ℕ) → FileState → Cursor
+cursor_of done columns written offset f = record { done = done; columns = columns; written = written; offset = offset; state = f }
 
 -- the cursor before the first record
 abbrev pub at_start : Cursor
-at_start = cursorOf 0 0 0 0 Top
+at_start = cursor_of 0 0 0 0 Top
 
 -- the cursor counts the records that were read, the cells of the first, and the bytes of their text
 pub record After (aim : Aim) (c : Cursor) (rs : List Rec) : Type 0 where
@@ -66,31 +66,31 @@ pub record After (aim : Aim) (c : Cursor) (rs : List Rec) : Type 0 where
 
 -- the check result of the record with these cells, and the length of its text if it is sound
 pub record CheckSound (d : Dialect) (aim : Aim) (c : Cursor) (vs : List Value) (r : TargetCheck) : Type 0 where
-  pub verdict : (rs : List Rec) → After aim c rs → r.verdict ≡ recordFault d (target_of aim) rs vs
-  pub text : (rs : List Rec) → length rs ≡ c.done → r.verdict ≡ Sound → r.length ≡ length (textNext aim (is_empty rs) vs)
+  pub verdict : (rs : List Rec) → After aim c rs → r.verdict ≡ record_fault d (target_of aim) rs vs
+  pub text : (rs : List Rec) → length rs ≡ c.done → r.verdict ≡ Sound → r.length ≡ length (text_next aim (is_empty rs) vs)
   pub fits : r.verdict ≡ Sound → c.written + r.length ≤ MAXFILE
 
 -- the cursor's result for the record with these cells after the records rs, by the check result
 pub data RecordChecked (d : Dialect) (aim : Aim) (rs : List Rec) (vs : List Value) (start : ℕ) (f : FileState) (o : ℕ) : NextRecord → Type 0 where
   sound :
-      {m n w : ℕ} → recordFault d (target_of aim) rs vs ≡ Sound → length rs + 1 ≡ m → length vs ≡ n → n ≤ MAXCOLUMNS →
-      length (text_of aim rs) + length (textNext aim (is_empty rs) vs) ≡ w → w ≤ MAXFILE →
-      RecordChecked d aim rs vs start f o (Record (cursorOf m n w o f))
+      {m n w : ℕ} → record_fault d (target_of aim) rs vs ≡ Sound → length rs + 1 ≡ m → length vs ≡ n → n ≤ MAXCOLUMNS →
+      length (text_of aim rs) + length (text_next aim (is_empty rs) vs) ≡ w → w ≤ MAXFILE →
+      RecordChecked d aim rs vs start f o (Record (cursor_of m n w o f))
   faulty :
-      (e : Fault) → recordFault d (target_of aim) rs vs ≡ Faulty e →
-      RecordChecked d aim rs vs start f o (Refused (report (number_of e) (suc (length rs)) (columnOf e) start))
+      (e : Fault) → record_fault d (target_of aim) rs vs ≡ Faulty e →
+      RecordChecked d aim rs vs start f o (Refused (report (number_of e) (suc (length rs)) (column_of e) start))
 
 -- the cursor's result at the end of the file, at this offset after the records rs
 pub data FileEnded : (rs : List Rec) → (offset : ℕ) → NextRecord → Type 0 where
-  no_record : {o : ℕ} → FileEnded [] o (Refused (report (number_of NoRecord) 1 (columnOf NoRecord) o))
-  at-end : {h : Rec} {rs : List Rec} {o : ℕ} → FileEnded (h ∷ rs) o End
+  no_record : {o : ℕ} → FileEnded [] o (Refused (report (number_of NoRecord) 1 (column_of NoRecord) o))
+  at_end : {h : Rec} {rs : List Rec} {o : ℕ} → FileEnded (h ∷ rs) o End
 
 -- ---- the next record
 
 -- one record more was read: its cells are those that the scanner finds, the lists show them, and v is the place after it
 pub record Next (d : Dialect) (aim : Aim) (file : Bytes) (rs : List Rec) (f : FileState) (i : ℕ) (starts ends kinds : List ℕ) (v : Cursor) : Type 0 where
   pub rec : Rec
-  pub found : rec.cells ≡ (nextRecord d (between-records [] f i) (drop i file)).cells
+  pub found : rec.cells ≡ (next_record d (between_records [] f i) (drop i file)).cells
   pub rest : rest_of d (target_of aim) file rs f i ≡ rest_of d (target_of aim) file (rs ++ (rec ∷ [])) v.state v.offset
   pub after : After aim v (rs ++ (rec ∷ []))
   pub few : v.columns ≤ MAXCOLUMNS
@@ -109,4 +109,4 @@ pub data NextRecordSound (d : Dialect) (aim : Aim) (file : Bytes) (rs : List Rec
   finished : (r : Read) → rest_of d (target_of aim) file rs f i ≡ going r → r.done ≡ rs → NextRecordSound d aim file rs f i starts ends kinds End
   refused :
       (e : Fault) (r : Read) → rest_of d (target_of aim) file rs f i ≡ stopped e r →
-      NextRecordSound d aim file rs f i starts ends kinds (Refused (faultReport e r))
+      NextRecordSound d aim file rs f i starts ends kinds (Refused (fault_report e r))

@@ -9,7 +9,7 @@ ghost use Rattle.cell_fast.specs.Ends.{CleanIn};
 ghost use Rattle.cell_decoder.specs.declared.source.Source.TheVariants.{File};
 ghost use Rattle.cell_decoder.specs.Sources.{cells_in, Cells};
 ghost use Rattle.record_scanner.specs.Tokens.{outer};
-ghost use Rattle.file_cursor.specs.NextRecord.{cursorOf, After, CheckSound};
+ghost use Rattle.file_cursor.specs.NextRecord.{cursor_of, After, CheckSound};
 ghost use Rattle.record_fast.specs.CellLists.{Long, SameLengths, Shows};
 ghost use Rattle.file_cursor.specs.FastNext.{FastCheckSound, FastNextSound};
 
@@ -137,7 +137,7 @@ pub fn next_data_record(
     requires from_in_bounds { (from ≤ length file.now) × (from ≤ MAXFILE) × (outer state ≡ true) }
     requires done_le_from { (done ≤ from) × (written ≤ MAXFILE) }
     requires long { Long starts.old ends.old kinds.old }
-    ensures fast_next_sound { (rs : List Rec) → After aim (cursorOf done columns written from state) rs → FastNextSound d aim file.now rs state from starts.new ends.new kinds.new result }
+    ensures fast_next_sound { (rs : List Rec) → After aim (cursor_of done columns written from state) rs → FastNextSound d aim file.now rs state from starts.new ends.new kinds.new result }
     ensures same_lengths { SameLengths starts.old ends.old kinds.old starts.new ends.new kinds.new }
 {
     if done == 0 {

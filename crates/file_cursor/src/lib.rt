@@ -1,7 +1,7 @@
 // The cursor over the records of a whole file. In: a place between two records, and what was read before it. Out: the place after the next
 // record, with the spans and kinds of its cells in lent lists; or the file's end; or the report of a fault. A record is checked for its
 // source, and then for its target where the file is converted. A last record that the file's end completes is returned as any other, and
-// the next call returns the end. The definition is reading itself, `readFrom` and `readEnd` of model's specs/rules/Records.antt;
+// the next call returns the end. The definition is reading itself, `read_from` and `read_end` of model's specs/rules/Records.antt;
 // specs/NextRecord.antt has the contract. Proved again with it: proofs/RecordChecks.antt and NextRecords.antt, and the loops above.
 ghost use Rattle.std.specs.Prelude.{◌≡◌, true, List, ◌+◌, ◌≤◌, length, take};
 ghost use Rattle.model.specs.rules.Text.{Value};

@@ -1,15 +1,15 @@
 // The next record of a whole file, by form and limits: the scanner up to the record's end, and then the file's end. A complete record is
-// returned before it is checked. The definition is `nextRecord` of specs/Next.antt; proofs/RecordByRecord.antt has the law that reading a
+// returned before it is checked. The definition is `next_record` of specs/Next.antt; proofs/RecordByRecord.antt has the law that reading a
 // file is a sequence of next records, and proofs/WholeFile.antt what is proved again with this file.
 ghost use Rattle.std.specs.Prelude.{◌≡◌, [], ◌+◌, ◌≤◌, length, drop};
 ghost use Rattle.model.specs.rules.Report.{MAXFILE};
-ghost use Rattle.model.specs.rules.Decode.{kindNumber, kind_of};
-ghost use Rattle.model.specs.rules.File.{fileEnd};
-ghost use Rattle.model.specs.rules.Records.{between-records};
-ghost use Rattle.model.specs.rules.Api.{slice, startsOf, endsOf, kindsOf};
-ghost use Rattle.record_scanner.specs.Stored.{storeIf, storedFrom};
-ghost use Rattle.file_cursor.specs.Next.{nextRecord, EventInBounds};
-ghost use Rattle.file_cursor.specs.Ends.{isFinal, endEvent};
+ghost use Rattle.model.specs.rules.Decode.{kind_number, kind_of};
+ghost use Rattle.model.specs.rules.File.{file_end};
+ghost use Rattle.model.specs.rules.Records.{between_records};
+ghost use Rattle.model.specs.rules.Api.{slice, starts_of, ends_of, kinds_of};
+ghost use Rattle.record_scanner.specs.Stored.{store_if, stored_from};
+ghost use Rattle.file_cursor.specs.Next.{next_record, EventInBounds};
+ghost use Rattle.file_cursor.specs.Ends.{is_final, end_event};
 
 use model::{Dialect, Ending, Fault, FileState};
 use record_scanner::record_state::RecordState;
@@ -56,10 +56,10 @@ fn at_end(
 ) -> FileScan
     requires file_len_bound { (length file.now ≤ MAXFILE) × (h.opened ≤ length file.now) × (base + h.cells ≤ length file.now) }
     requires room_in_bounds { (room ≤ length starts.old) × (room ≤ length ends.old) × (room ≤ length kinds.old) }
-    ensures value { result ≡ endEvent (fileEnd d state) h (length file.now) }
-    ensures starts_after { starts.new ≡ storeIf (isFinal (fileEnd d state)) room (base + h.cells) h.opened starts.old }
-    ensures ends_after { ends.new ≡ storeIf (isFinal (fileEnd d state)) room (base + h.cells) (length file.now) ends.old }
-    ensures kinds_after { kinds.new ≡ storeIf (isFinal (fileEnd d state)) room (base + h.cells) (kindNumber (kind_of d (slice file.now h.opened (length file.now)))) kinds.old }
+    ensures value { result ≡ end_event (file_end d state) h (length file.now) }
+    ensures starts_after { starts.new ≡ store_if (is_final (file_end d state)) room (base + h.cells) h.opened starts.old }
+    ensures ends_after { ends.new ≡ store_if (is_final (file_end d state)) room (base + h.cells) (length file.now) ends.old }
+    ensures kinds_after { kinds.new ≡ store_if (is_final (file_end d state)) room (base + h.cells) (kind_number (kind_of d (slice file.now h.opened (length file.now)))) kinds.old }
 {
     let i = file.len();
     match limits::file_end(d, state) {
@@ -103,10 +103,10 @@ pub fn scan_next(
 ) -> FileScan
     requires from_in_bounds { (from ≤ length file.now) × (from ≤ MAXFILE) × (base ≤ from) }
     requires room_in_bounds { (room ≤ length starts.old) × (room ≤ length ends.old) × (room ≤ length kinds.old) }
-    ensures value { result ≡ (nextRecord d (between-records [] first from) (drop from file.now)).event }
-    ensures starts_after { starts.new ≡ storedFrom room base (startsOf (nextRecord d (between-records [] first from) (drop from file.now)).cells) starts.old }
-    ensures ends_after { ends.new ≡ storedFrom room base (endsOf (nextRecord d (between-records [] first from) (drop from file.now)).cells) ends.old }
-    ensures kinds_after { kinds.new ≡ storedFrom room base (kindsOf (nextRecord d (between-records [] first from) (drop from file.now)).cells) kinds.old }
+    ensures value { result ≡ (next_record d (between_records [] first from) (drop from file.now)).event }
+    ensures starts_after { starts.new ≡ stored_from room base (starts_of (next_record d (between_records [] first from) (drop from file.now)).cells) starts.old }
+    ensures ends_after { ends.new ≡ stored_from room base (ends_of (next_record d (between_records [] first from) (drop from file.now)).cells) ends.old }
+    ensures kinds_after { kinds.new ≡ stored_from room base (kinds_of (next_record d (between_records [] first from) (drop from file.now)).cells) kinds.old }
     ensures event_in_bounds { EventInBounds (length file.now) from base result }
 {
     match record_scanner::scan(

@@ -1,13 +1,13 @@
 // Whether a record's limit counts a byte: all but line breaks outside quotes (§7.4). The definition is `counts` of model's
 // specs/rules/File.antt.
 ghost use Rattle.std.specs.Prelude.{◌≡◌};
-ghost use Rattle.model.specs.rules.Cell.{inQuotes};
-ghost use Rattle.model.specs.rules.File.{quotesOpen, counts};
+ghost use Rattle.model.specs.rules.Cell.{in_quotes};
+ghost use Rattle.model.specs.rules.File.{quotes_open, counts};
 
 use model::{Cell, FileState};
 
 fn cell_in_quotes(c: Cell) -> bool
-    ensures { result ≡ inQuotes c }
+    ensures { result ≡ in_quotes c }
 {
     match c {
         Cell::Fresh => false,
@@ -23,7 +23,7 @@ fn cell_in_quotes(c: Cell) -> bool
 }
 
 fn quotes_open(f: FileState) -> bool
-    ensures { result ≡ quotesOpen f }
+    ensures { result ≡ quotes_open f }
 {
     match f {
         FileState::Inside(c) => cell_in_quotes(c),

@@ -5,8 +5,8 @@
 // `Dispatched` leaves the cell to the caller, so that most functions on the path of a byte have one call site and the compiler inlines
 // them into the loop that calls them; `make benchmark` measures the effect.
 ghost use Rattle.std.specs.Prelude.{◌≡◌};
-ghost use Rattle.model.specs.rules.Utf8.{charStep};
-ghost use Rattle.model.specs.rules.File.{beginRecord, beginFile, commented, fileStep};
+ghost use Rattle.model.specs.rules.Utf8.{char_step};
+ghost use Rattle.model.specs.rules.File.{begin_record, begin_file, commented, file_step};
 ghost use Rattle.file_lexer.specs.Dispatched.{step_of};
 
 use crate::separators::is_blank;
@@ -24,7 +24,7 @@ pub enum Dispatched {
 }
 
 fn begin_record(d: Dialect, b: u8) -> Dispatched
-    ensures { step_of d result b ≡ beginRecord d b }
+    ensures { step_of d result b ≡ begin_record d b }
 {
     match d {
         Dialect::Csvj => {
@@ -53,7 +53,7 @@ fn begin_record(d: Dialect, b: u8) -> Dispatched
 }
 
 fn begin_file(d: Dialect, b: u8) -> Dispatched
-    ensures { step_of d result b ≡ beginFile d b }
+    ensures { step_of d result b ≡ begin_file d b }
 {
     match d {
         Dialect::Csvj => {
@@ -73,7 +73,7 @@ fn begin_file(d: Dialect, b: u8) -> Dispatched
 }
 
 fn comment_text(t: Char, b: u8) -> Step
-    ensures { result ≡ commented (charStep t b) }
+    ensures { result ≡ commented (char_step t b) }
 {
     match utf8::char_step(t, b) {
         Advance::On(next) => Step::To(FileState::Comment(next), ByteRole::Outside),
@@ -82,7 +82,7 @@ fn comment_text(t: Char, b: u8) -> Step
 }
 
 fn in_comment(t: Char, b: u8) -> Step
-    ensures { result ≡ fileStep Dialect.Tdif (FileState.Comment t) b }
+    ensures { result ≡ file_step Dialect.Tdif (FileState.Comment t) b }
 {
     match t {
         Char::Whole => {
@@ -99,7 +99,7 @@ fn in_comment(t: Char, b: u8) -> Step
 }
 
 fn after_ended(d: Dialect, b: u8) -> Dispatched
-    ensures { step_of d result b ≡ fileStep d FileState.Ended b }
+    ensures { step_of d result b ≡ file_step d FileState.Ended b }
 {
     if b == 0x0A {
         return Dispatched::Is(Step::To(FileState::Begin, ByteRole::Passed));
@@ -108,7 +108,7 @@ fn after_ended(d: Dialect, b: u8) -> Dispatched
 }
 
 fn in_bom1(b: u8) -> Step
-    ensures { result ≡ fileStep Dialect.Csvj FileState.Bom1 b }
+    ensures { result ≡ file_step Dialect.Csvj FileState.Bom1 b }
 {
     if b == 0xBB {
         return Step::To(FileState::Bom2, ByteRole::Outside);
@@ -117,7 +117,7 @@ fn in_bom1(b: u8) -> Step
 }
 
 fn in_bom2(b: u8) -> Step
-    ensures { result ≡ fileStep Dialect.Csvj FileState.Bom2 b }
+    ensures { result ≡ file_step Dialect.Csvj FileState.Bom2 b }
 {
     if b == 0xBF {
         return Step::To(FileState::Begin, ByteRole::Passed);
@@ -126,7 +126,7 @@ fn in_bom2(b: u8) -> Step
 }
 
 fn in_plain_bom1(d: Dialect, b: u8) -> Dispatched
-    ensures { step_of d result b ≡ fileStep d FileState.PlainBom1 b }
+    ensures { step_of d result b ≡ file_step d FileState.PlainBom1 b }
 {
     if b == 0xBB {
         return Dispatched::Is(Step::To(FileState::PlainBom2, ByteRole::OfCell));
@@ -135,7 +135,7 @@ fn in_plain_bom1(d: Dialect, b: u8) -> Dispatched
 }
 
 fn in_plain_bom2(d: Dialect, b: u8) -> Dispatched
-    ensures { step_of d result b ≡ fileStep d FileState.PlainBom2 b }
+    ensures { step_of d result b ≡ file_step d FileState.PlainBom2 b }
 {
     if b == 0xBF {
         return Dispatched::Is(Step::Reject(ByteFault::Syntax));
@@ -144,7 +144,7 @@ fn in_plain_bom2(d: Dialect, b: u8) -> Dispatched
 }
 
 fn expect_cell(d: Dialect, b: u8) -> Dispatched
-    ensures { step_of d result b ≡ fileStep d FileState.ExpectCell b }
+    ensures { step_of d result b ≡ file_step d FileState.ExpectCell b }
 {
     if is_blank(b) {
         return Dispatched::Is(Step::To(FileState::ExpectCell, ByteRole::Between { closes: false }));
@@ -153,7 +153,7 @@ fn expect_cell(d: Dialect, b: u8) -> Dispatched
 }
 
 fn after_cr(b: u8) -> Step
-    ensures { result ≡ fileStep Dialect.Csvj FileState.Cr b }
+    ensures { result ≡ file_step Dialect.Csvj FileState.Cr b }
 {
     if b == 0x0A {
         return Step::To(FileState::Begin, ByteRole::Ends { closes: false });
@@ -163,7 +163,7 @@ fn after_cr(b: u8) -> Step
 
 // The step of a byte, up to the cell that decides it.
 pub fn dispatch(d: Dialect, f: FileState, b: u8) -> Dispatched
-    ensures { step_of d result b ≡ fileStep d f b }
+    ensures { step_of d result b ≡ file_step d f b }
 {
     match f {
         FileState::Top => begin_file(d, b),

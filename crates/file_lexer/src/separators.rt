@@ -1,12 +1,12 @@
-// The step of the byte after a cell, in all three dialects: delimiters, blanks and endings. Each is the definition's (`afterCell` of
+// The step of the byte after a cell, in all three dialects: delimiters, blanks and endings. Each is the definition's (`after_cell` of
 // model's specs/rules/File.antt), with its tests in the same order.
 ghost use Rattle.std.specs.Prelude.{◌≡◌};
-ghost use Rattle.model.specs.rules.File.{isBlank, afterCell};
+ghost use Rattle.model.specs.rules.File.{is_blank, after_cell};
 
 use model::{ByteFault, ByteRole, Cell, Dialect, FileState, Settings, Step};
 
 pub fn is_blank(b: u8) -> bool
-    ensures { result ≡ isBlank b }
+    ensures { result ≡ is_blank b }
 {
     if b == 0x20 {
         return true;
@@ -15,7 +15,7 @@ pub fn is_blank(b: u8) -> bool
 }
 
 fn csvj_after(closes: bool, b: u8) -> Step
-    ensures { result ≡ afterCell Dialect.Csvj closes b }
+    ensures { result ≡ after_cell Dialect.Csvj closes b }
 {
     if is_blank(b) {
         return Step::To(FileState::After, ByteRole::Between { closes });
@@ -33,7 +33,7 @@ fn csvj_after(closes: bool, b: u8) -> Step
 }
 
 fn tdif_after(closes: bool, b: u8) -> Step
-    ensures { result ≡ afterCell Dialect.Tdif closes b }
+    ensures { result ≡ after_cell Dialect.Tdif closes b }
 {
     if b == 0x2C {
         return Step::To(FileState::Inside(Cell::Fresh), ByteRole::Between { closes });
@@ -48,7 +48,7 @@ fn tdif_after(closes: bool, b: u8) -> Step
 }
 
 fn plus_after(s: Settings, closes: bool, b: u8) -> Step
-    ensures { result ≡ afterCell (Dialect.CsvPlus s) closes b }
+    ensures { result ≡ after_cell (Dialect.CsvPlus s) closes b }
 {
     if b == cell_lexer::delimiter_of(Dialect::CsvPlus(s)) {
         return Step::To(FileState::Inside(Cell::Fresh), ByteRole::Between { closes });
@@ -64,7 +64,7 @@ fn plus_after(s: Settings, closes: bool, b: u8) -> Step
 
 // The byte after a cell that ends before it (`closes`), or after blanks that follow a cell of CSVJ.
 pub fn after_cell(d: Dialect, closes: bool, b: u8) -> Step
-    ensures { result ≡ afterCell d closes b }
+    ensures { result ≡ after_cell d closes b }
 {
     match d {
         Dialect::Csvj => csvj_after(closes, b),

@@ -6,35 +6,35 @@ use lib.ListN.{length, drop}
 use Rattle.model.specs.declared.Dialect.{Dialect}
 use Rattle.model.specs.declared.FileState.{FileState}
 use Rattle.model.specs.rules.Base.{Bytes}
-use Rattle.model.specs.rules.Records.{between-records}
-use Rattle.model.specs.rules.Api.{startsOf, endsOf, kindsOf}
-use Rattle.record_scanner.specs.Stored.{storedFrom}
-use Rattle.record_scanner.proofs.StoreLaws.{length-stored-from}
-use Rattle.file_cursor.specs.Next.{Next, nextRecord, EventInBounds}
+use Rattle.model.specs.rules.Records.{between_records}
+use Rattle.model.specs.rules.Api.{starts_of, ends_of, kinds_of}
+use Rattle.record_scanner.specs.Stored.{stored_from}
+use Rattle.record_scanner.proofs.StoreLaws.{length_stored_from}
+use Rattle.file_cursor.specs.Next.{Next, next_record, EventInBounds}
 use Rattle.file_cursor.specs.declared.scan.FileScan.{FileScan}
 use Rattle.file_cursor.proofs.WholeFile.{Out}
-use Rattle.file_reader.specs.Passes.{dataScan}
+use Rattle.file_reader.specs.Passes.{data_scan}
 
 module _ {d : Dialect} {file : Bytes} {f : FileState} {i room base : ℕ} {s₀ e₀ k₀ : List ℕ} {v : FileScan} {s e k : List ℕ}
     (o : Out d file f i room base s₀ e₀ k₀ v s e k) where
   abbrev Here : Next
-  Here = nextRecord d (between-records [] f i) (drop i file)
+  Here = next_record d (between_records [] f i) (drop i file)
 
-  pub as-data :
+  pub as_data :
       (x : FileScan) → v ≡ x →
-      (dataScan (length file) x ≡ dataScan (length file) Here.event)
-      × ((s ≡ storedFrom room base (startsOf Here.cells) s₀)
-      × ((e ≡ storedFrom room base (endsOf Here.cells) e₀)
-      × ((k ≡ storedFrom room base (kindsOf Here.cells) k₀) × EventInBounds (length file) i base Here.event)))
-  as-data x w =
+      (data_scan (length file) x ≡ data_scan (length file) Here.event)
+      × ((s ≡ stored_from room base (starts_of Here.cells) s₀)
+      × ((e ≡ stored_from room base (ends_of Here.cells) e₀)
+      × ((k ≡ stored_from room base (kinds_of Here.cells) k₀) × EventInBounds (length file) i base Here.event)))
+  as_data x w =
       let z : x ≡ Here.event = sym w ∙ o.event in (
-        ap (dataScan (length file)) z,
-        (o.at-starts, (o.at-ends, (o.at-kinds, subst (EventInBounds (length file) i base) o.event o.bounds))),
+        ap (data_scan (length file)) z,
+        (o.at_starts, (o.at_ends, (o.at_kinds, subst (EventInBounds (length file) i base) o.event o.bounds))),
       )
 
   pub as_long : (length s ≡ length s₀) × (length e ≡ length e₀) × (length k ≡ length k₀)
   as_long = (
-    ap length o.at-starts ∙ length-stored-from room base (startsOf Here.cells) s₀,
-    ap length o.at-ends ∙ length-stored-from room base (endsOf Here.cells) e₀,
-    ap length o.at-kinds ∙ length-stored-from room base (kindsOf Here.cells) k₀,
+    ap length o.at_starts ∙ length_stored_from room base (starts_of Here.cells) s₀,
+    ap length o.at_ends ∙ length_stored_from room base (ends_of Here.cells) e₀,
+    ap length o.at_kinds ∙ length_stored_from room base (kinds_of Here.cells) k₀,
   )

@@ -15,58 +15,58 @@ use Rattle.model.specs.declared.CheckResult.{CheckResult}
 use Rattle.model.specs.declared.CheckResult.TheVariants.{Sound, Faulty}
 use Rattle.model.specs.rules.Base.{Bytes, concat}
 use Rattle.model.specs.rules.Text.{Value}
-use Rattle.model.specs.rules.Report.{report, number_of, columnOf, MAXFILE}
-use Rattle.model.specs.rules.Records.{Rec, rows, Read, between-records, Progress, going, stopped, complete, readFrom, readEnd, recordFault, dataFault}
-use Rattle.model.specs.rules.Records.{faultReport}
-use Rattle.model.specs.rules.Api.{startsOf, endsOf, kindsOf}
-use Rattle.file_cursor.specs.Next.{Next, nextRecord, EventInBounds}
-use Rattle.record_scanner.specs.Stored.{storedFrom}
+use Rattle.model.specs.rules.Report.{report, number_of, column_of, MAXFILE}
+use Rattle.model.specs.rules.Records.{Rec, rows, Read, between_records, Progress, going, stopped, complete, read_from, read_end, record_fault, data_fault}
+use Rattle.model.specs.rules.Records.{fault_report}
+use Rattle.model.specs.rules.Api.{starts_of, ends_of, kinds_of}
+use Rattle.file_cursor.specs.Next.{Next, next_record, EventInBounds}
+use Rattle.record_scanner.specs.Stored.{stored_from}
 use Rattle.file_cursor.specs.FileOutcome.{rest_of, ReadsAs}
 use Rattle.file_cursor.specs.declared.scan.FileScan.{FileScan}
 use Rattle.file_cursor.specs.declared.scan.FileScan.TheVariants.{Completed, LastRecord, Failed, End}
-use Rattle.record_scanner.proofs.StoreLaws.{length-stored-from}
+use Rattle.record_scanner.proofs.StoreLaws.{length_stored_from}
 use Rattle.file_cursor.proofs.RecordByRecord.{stays, reads_on}
 use Rattle.file_reader.specs.declared.pass.DataScan.{DataScan}
 use Rattle.file_reader.specs.declared.pass.DataScan.TheVariants as next
 use Rattle.file_reader.specs.declared.pass.PassResult.TheVariants.{Accepted, Refused}
-use Rattle.file_reader.specs.Passes.{dataScan, Holds, PassOutcome, accepted, refused, PassSound}
-use Rattle.record_scanner.proofs.FilledLists.{stored-from-append}
-use Rattle.file_cursor.proofs.Complete.{report-start, report-byte, data-fault, recOf, complete-sound, complete-faulty}
-use Rattle.file_cursor.proofs.Events.{on-record, on-last, on-fault, on-finish}
+use Rattle.file_reader.specs.Passes.{data_scan, Holds, PassOutcome, accepted, refused, PassSound}
+use Rattle.record_scanner.proofs.FilledLists.{stored_from_append}
+use Rattle.file_cursor.proofs.Complete.{report_start, report_byte, data_fault_lem, rec_of, complete_sound, complete_faulty}
+use Rattle.file_cursor.proofs.Events.{on_record, on_last, on_fault, on_finish}
 
 -- ---- lists
 
 -- more cells are stored after those that are there
 stored_more :
-    (φ : Value → ℕ) (room n : ℕ) (vs ws : List Value) (old new out : List ℕ) → length vs ≡ n → new ≡ storedFrom room 0 (map φ vs) old →
-    out ≡ storedFrom room n (map φ ws) new → out ≡ storedFrom room 0 (map φ (vs ++ ws)) old
+    (φ : Value → ℕ) (room n : ℕ) (vs ws : List Value) (old new out : List ℕ) → length vs ≡ n → new ≡ stored_from room 0 (map φ vs) old →
+    out ≡ stored_from room n (map φ ws) new → out ≡ stored_from room 0 (map φ (vs ++ ws)) old
 stored_more φ room n vs ws old new out l e f =
     let m : length (map φ vs) ≡ n = length-map vs φ ∙ l in
     let z : n ≡ 0 + length (map φ vs) = omega arith in
     f
-    ∙ ap (λ (xs : List ℕ). storedFrom room n (map φ ws) xs) e
-    ∙ ap (λ (i : ℕ). storedFrom room i (map φ ws) (storedFrom room 0 (map φ vs) old)) z
-    ∙ sym (stored-from-append room 0 (map φ vs) (map φ ws) old)
-    ∙ ap (λ (xs : List ℕ). storedFrom room 0 xs old) (sym (map-append φ vs ws))
+    ∙ ap (λ (xs : List ℕ). stored_from room n (map φ ws) xs) e
+    ∙ ap (λ (i : ℕ). stored_from room i (map φ ws) (stored_from room 0 (map φ vs) old)) z
+    ∙ sym (stored_from_append room 0 (map φ vs) (map φ ws) old)
+    ∙ ap (λ (xs : List ℕ). stored_from room 0 xs old) (sym (map-append φ vs ws))
 
-pub more-held :
+pub more_held :
     (room n : ℕ) (vs ws : List Value) (s₀ e₀ k₀ s e ks s' e' k' : List ℕ) → length vs ≡ n → Holds room vs s₀ e₀ k₀ s e ks →
-    (s' ≡ storedFrom room n (startsOf ws) s) → (e' ≡ storedFrom room n (endsOf ws) e) → (k' ≡ storedFrom room n (kindsOf ws) ks) →
+    (s' ≡ stored_from room n (starts_of ws) s) → (e' ≡ stored_from room n (ends_of ws) e) → (k' ≡ stored_from room n (kinds_of ws) ks) →
     Holds room (vs ++ ws) s₀ e₀ k₀ s' e' k'
-more-held room n vs ws s₀ e₀ k₀ s e ks s' e' k' l y a b c =
+more_held room n vs ws s₀ e₀ k₀ s e ks s' e' k' l y a b c =
     record {
-      at-starts = stored_more _ room n vs ws s₀ s s' l y.at-starts a;
-      at-ends = stored_more _ room n vs ws e₀ e e' l y.at-ends b;
-      at-kinds = stored_more _ room n vs ws k₀ ks k' l y.at-kinds c;
+      at_starts = stored_more _ room n vs ws s₀ s s' l y.at_starts a;
+      at_ends = stored_more _ room n vs ws e₀ e e' l y.at_ends b;
+      at_kinds = stored_more _ room n vs ws k₀ ks k' l y.at_kinds c;
     }
 
-pub held-lengths :
+pub held_lengths :
     {room : ℕ} {vs : List Value} {s₀ e₀ k₀ s e ks : List ℕ} → Holds room vs s₀ e₀ k₀ s e ks →
     (length s ≡ length s₀) × (length e ≡ length e₀) × (length ks ≡ length k₀)
-held-lengths {room} {vs} {s₀} {e₀} {k₀} y = (
-  ap length y.at-starts ∙ length-stored-from room 0 (startsOf vs) s₀,
-  ap length y.at-ends ∙ length-stored-from room 0 (endsOf vs) e₀,
-  ap length y.at-kinds ∙ length-stored-from room 0 (kindsOf vs) k₀,
+held_lengths {room} {vs} {s₀} {e₀} {k₀} y = (
+  ap length y.at_starts ∙ length_stored_from room 0 (starts_of vs) s₀,
+  ap length y.at_ends ∙ length_stored_from room 0 (ends_of vs) e₀,
+  ap length y.at_kinds ∙ length_stored_from room 0 (kinds_of vs) k₀,
 )
 
 rows_snoc : (ds : List Rec) (r : Rec) → concat (rows (ds ++ (r ∷ []))) ≡ concat (rows ds) ++ r.cells
@@ -74,33 +74,33 @@ unfolding rows concat
 rows_snoc [] r = append-nil r.cells
 rows_snoc (x ∷ ds) r = ap (λ (l : List Value). x.cells ++ l) (rows_snoc ds r) ∙ sym (append_assoc x.cells (concat (rows ds)) r.cells)
 
-length-snoc : (ds : List Rec) (r : Rec) → length (ds ++ (r ∷ [])) ≡ length ds + 1
-length-snoc ds r = length-append ds (r ∷ [])
+length_snoc : (ds : List Rec) (r : Rec) → length (ds ++ (r ∷ [])) ≡ length ds + 1
+length_snoc ds r = length-append ds (r ∷ [])
 
 -- ---- the next data record
 
-none-such : {A : Type 0} → ◌≡◌ {A = ℕ} 0 1 → A
-none-such z = absurd (omega arith)
+none_such : {A : Type 0} → ◌≡◌ {A = ℕ} 0 1 → A
+none_such z = absurd (omega arith)
 
 -- which event of reading it is
-is-record :
-    (m : ℕ) (x : FileScan) (start n : ℕ) (g : FileState) (o : ℕ) → next.Record start n g o false ≡ dataScan m x → x ≡ Completed start n g o
-is-record m (Completed start' n' g' o') start n g o z = cc
-is-record m (LastRecord start' n') start n g o z = none-such cc
-is-record m (Failed x' o') start n g o z = none-such cc
-is-record m (End o') start n g o z = none-such cc
+is_record :
+    (m : ℕ) (x : FileScan) (start n : ℕ) (g : FileState) (o : ℕ) → next.Record start n g o false ≡ data_scan m x → x ≡ Completed start n g o
+is_record m (Completed start' n' g' o') start n g o z = cc
+is_record m (LastRecord start' n') start n g o z = none_such cc
+is_record m (Failed x' o') start n g o z = none_such cc
+is_record m (End o') start n g o z = none_such cc
 
-is_last : (m : ℕ) (x : FileScan) (start n : ℕ) (g : FileState) (o : ℕ) → next.Record start n g o true ≡ dataScan m x → x ≡ LastRecord start n
-is_last m (Completed start' n' g' o') start n g o z = none-such cc
+is_last : (m : ℕ) (x : FileScan) (start n : ℕ) (g : FileState) (o : ℕ) → next.Record start n g o true ≡ data_scan m x → x ≡ LastRecord start n
+is_last m (Completed start' n' g' o') start n g o z = none_such cc
 is_last m (LastRecord start' n') start n g o z = cc
-is_last m (Failed x' o') start n g o z = none-such cc
-is_last m (End o') start n g o z = none-such cc
+is_last m (Failed x' o') start n g o z = none_such cc
+is_last m (End o') start n g o z = none_such cc
 
-is-fault : (m : ℕ) (x : FileScan) (t : Fault) (o : ℕ) → next.Failed t o ≡ dataScan m x → x ≡ Failed t o
-is-fault m (Completed start' n' g' o') t o z = none-such cc
-is-fault m (LastRecord start' n') t o z = none-such cc
-is-fault m (Failed t' o') t o z = cc
-is-fault m (End o') t o z = none-such cc
+is_fault : (m : ℕ) (x : FileScan) (t : Fault) (o : ℕ) → next.Failed t o ≡ data_scan m x → x ≡ Failed t o
+is_fault m (Completed start' n' g' o') t o z = none_such cc
+is_fault m (LastRecord start' n') t o z = none_such cc
+is_fault m (Failed t' o') t o z = cc
+is_fault m (End o') t o z = none_such cc
 
 -- the offset of the file's end
 abbrev end_of : FileScan → ℕ
@@ -109,11 +109,11 @@ end_of (LastRecord start n) = 0
 end_of (Failed t o) = 0
 end_of (End o) = o
 
-is-end : (m : ℕ) (x : FileScan) → next.End ≡ dataScan m x → x ≡ End (end_of x)
-is-end m (Completed start' n' g' o') z = none-such cc
-is-end m (LastRecord start' n') z = none-such cc
-is-end m (Failed t' o') z = none-such cc
-is-end m (End o') z = refl
+is_end_lem : (m : ℕ) (x : FileScan) → next.End ≡ data_scan m x → x ≡ End (end_of x)
+is_end_lem m (Completed start' n' g' o') z = none_such cc
+is_end_lem m (LastRecord start' n') z = none_such cc
+is_end_lem m (Failed t' o') z = none_such cc
+is_end_lem m (End o') z = refl
 
 -- ---- the invariant
 
@@ -150,11 +150,11 @@ module _ (call : Call) where
     pub turn : (h : Rec) → length h.cells ≡ columns → Turned h vs f i records
 
   pub goes : from ≤ length file → from ≤ MAXFILE → Going first from 0 0 s₀ e₀ k₀
-  unfolding storedFrom rows concat
+  unfolding stored_from rows concat
   goes l m =
       record {
         vs = [];
-        lists = record { at-starts = refl; at-ends = refl; at-kinds = refl };
+        lists = record { at_starts = refl; at_ends = refl; at_kinds = refl };
         counted = refl;
         inside = l;
         under = m;
@@ -165,44 +165,44 @@ module _ (call : Call) where
 
   module _ {f : FileState} {i cells records : ℕ} {s e k : List ℕ} (y : Going f i cells records s e k) where
     abbrev Here : Next
-    Here = nextRecord d (between-records [] f i) (drop i file)
+    Here = next_record d (between_records [] f i) (drop i file)
 
     -- the next data record
     module _ {v : DataScan} {s' e' k' : List ℕ}
         (found :
-        (v ≡ dataScan (length file) Here.event)
-        × ((s' ≡ storedFrom room cells (startsOf Here.cells) s)
-        × ((e' ≡ storedFrom room cells (endsOf Here.cells) e)
-        × ((k' ≡ storedFrom room cells (kindsOf Here.cells) k) × EventInBounds (length file) i cells Here.event)))) where
-      pub now-held : Holds room (y.vs ++ Here.cells) s₀ e₀ k₀ s' e' k'
-      now-held =
-          more-held room cells y.vs Here.cells s₀ e₀ k₀ s e k s' e' k' y.counted y.lists
+        (v ≡ data_scan (length file) Here.event)
+        × ((s' ≡ stored_from room cells (starts_of Here.cells) s)
+        × ((e' ≡ stored_from room cells (ends_of Here.cells) e)
+        × ((k' ≡ stored_from room cells (kinds_of Here.cells) k) × EventInBounds (length file) i cells Here.event)))) where
+      pub now_held : Holds room (y.vs ++ Here.cells) s₀ e₀ k₀ s' e' k'
+      now_held =
+          more_held room cells y.vs Here.cells s₀ e₀ k₀ s e k s' e' k' y.counted y.lists
           found.1.0 found.1.1.0 found.1.1.1.0
 
-      next-follows : (h : Rec) (ds : List Rec) → ReadsAs d none file (h ∷ ds) Here (rest_of d none file (h ∷ ds) f i)
-      next-follows h ds = reads_on d none file (h ∷ ds) f i y.inside
+      next_follows : (h : Rec) (ds : List Rec) → ReadsAs d none file (h ∷ ds) Here (rest_of d none file (h ∷ ds) f i)
+      next_follows h ds = reads_on d none file (h ∷ ds) f i y.inside
 
       number : (r : Read) (h : Rec) (ds : List Rec) → r.done ≡ h ∷ ds → length ds ≡ records → length r.done ≡ suc records
       number r h ds q c = ap length q ∙ ap suc c
 
-      two-more : suc (suc records) ≡ records + 2
-      two-more = omega arith
+      two_more : suc (suc records) ≡ records + 2
+      two_more = omega arith
 
       -- ---- a record
 
       module _ (start n : ℕ) (g : FileState) (o : ℕ) (last : Bool) (w : v ≡ next.Record start n g o last) (u : CheckResult)
-          (j : (ws : List Value) → length ws ≡ n → u ≡ dataFault columns ws) where
+          (j : (ws : List Value) → length ws ≡ n → u ≡ data_fault columns ws) where
         abbrev Is : Bool → Type 0
-        Is l = next.Record start n g o l ≡ dataScan (length file) Here.event
+        Is l = next.Record start n g o l ≡ data_scan (length file) Here.event
 
         here : Is last
         here = sym w ∙ found.0
 
-        complete-here : Is false → Here.event ≡ Completed start n g o
-        complete-here z = is-record (length file) Here.event start n g o z
+        complete_here : Is false → Here.event ≡ Completed start n g o
+        complete_here z = is_record (length file) Here.event start n g o z
 
-        last-here : Is true → Here.event ≡ LastRecord start n
-        last-here z = is_last (length file) Here.event start n g o z
+        last_here : Is true → Here.event ≡ LastRecord start n
+        last_here z = is_last (length file) Here.event start n g o z
 
         -- the record, whatever completes it, and that a fault of it ends reading
         record AtData (rs : List Rec) (p : Progress) : Type 0 where
@@ -210,11 +210,11 @@ module _ (call : Call) where
           pub done : r.done ≡ rs
           pub starts : r.start ≡ start
           pub counts : length Here.cells ≡ n
-          pub stops : (x : Fault) → recordFault d none r.done Here.cells ≡ Faulty x → p ≡ stopped x r
+          pub stops : (x : Fault) → record_fault d none r.done Here.cells ≡ Faulty x → p ≡ stopped x r
 
-        at-data : (rs : List Rec) (p : Progress) → ReadsAs d none file rs Here p → (l : Bool) → Is l → AtData rs p
-        at-data rs p t false z =
-            let at = on-record d none file rs Here p t start n g o (complete-here z) in
+        at_data : (rs : List Rec) (p : Progress) → ReadsAs d none file rs Here p → (l : Bool) → Is l → AtData rs p
+        at_data rs p t false z =
+            let at = on_record d none file rs Here p t start n g o (complete_here z) in
             record {
               r = at.r;
               done = at.done;
@@ -222,89 +222,89 @@ module _ (call : Call) where
               counts = at.counts;
               stops =
                   λ x q.
-                  at.rest ∙ ap (λ (b : Progress). readEnd d none (readFrom d none b (drop o file)))
-                  (complete-faulty d none at.r Here.cells g o x q)
+                  at.rest ∙ ap (λ (b : Progress). read_end d none (read_from d none b (drop o file)))
+                  (complete_faulty d none at.r Here.cells g o x q)
                   ∙ sym (stays d none x at.r (drop o file));
             }
-        at-data rs p t true z =
-            let at = on-last d none file rs Here p t start n (last-here z) in
+        at_data rs p t true z =
+            let at = on_last d none file rs Here p t start n (last_here z) in
             record {
               r = at.r;
               done = at.done;
               starts = at.starts;
               counts = at.counts;
-              stops = λ x q. at.rest ∙ complete-faulty d none at.r Here.cells Begin (length file) x q;
+              stops = λ x q. at.rest ∙ complete_faulty d none at.r Here.cells Begin (length file) x q;
             }
 
-        few-of : (l : Bool) → Is l → cells + n ≤ MAXFILE + 1
-        few-of false z =
+        few_of : (l : Bool) → Is l → cells + n ≤ MAXFILE + 1
+        few_of false z =
             let m : (i < o) × (o ≤ length file) × (o ≤ MAXFILE) × (cells + n ≤ o)
-            = subst (EventInBounds (length file) i cells) (complete-here z) found.1.1.1.1 in
+            = subst (EventInBounds (length file) i cells) (complete_here z) found.1.1.1.1 in
             let a : o ≤ MAXFILE = m.2 in
             let b : cells + n ≤ o = m.3 in
             omega arith
-        few-of true z =
+        few_of true z =
             let m : (length file ≤ MAXFILE) × (cells + n ≤ length file + 1)
-            = subst (EventInBounds (length file) i cells) (last-here z) found.1.1.1.1 in
+            = subst (EventInBounds (length file) i cells) (last_here z) found.1.1.1.1 in
             let a : length file ≤ MAXFILE = m.0 in
             let b : cells + n ≤ length file + 1 = m.1 in
             omega arith
 
-        pub few-here : cells + n ≤ MAXFILE + 1
-        few-here = few-of last here
+        pub few_here : cells + n ≤ MAXFILE + 1
+        few_here = few_of last here
 
-        counts-here : length Here.cells ≡ n
-        counts-here = (at-data [] _ (reads_on d none file [] f i y.inside) last here).counts
+        counts_here : length Here.cells ≡ n
+        counts_here = (at_data [] _ (reads_on d none file [] f i y.inside) last here).counts
 
-        validated-here : u ≡ dataFault columns Here.cells
-        validated-here = j Here.cells counts-here
+        validated_here : u ≡ data_fault columns Here.cells
+        validated_here = j Here.cells counts_here
 
         total : length (y.vs ++ Here.cells) ≡ cells + n
-        total = length-append y.vs Here.cells ∙ ap (λ (x : ℕ). x + length Here.cells) y.counted ∙ ap (λ (x : ℕ). cells + x) counts-here
+        total = length-append y.vs Here.cells ∙ ap (λ (x : ℕ). x + length Here.cells) y.counted ∙ ap (λ (x : ℕ). cells + x) counts_here
 
         -- what its check says of reading after the records of which the first is the header h
-        fault-of :
+        fault_of :
             (h : Rec) (ds : List Rec) (r : Read) → length h.cells ≡ columns → r.done ≡ h ∷ ds →
-            recordFault d none r.done Here.cells ≡ u
-        fault-of h ds r q a =
-            ap (λ (l : List Rec). recordFault d none l Here.cells) a ∙ data-fault d h ds Here.cells
-            ∙ ap (λ (m : ℕ). dataFault m Here.cells) q ∙ sym validated-here
+            record_fault d none r.done Here.cells ≡ u
+        fault_of h ds r q a =
+            ap (λ (l : List Rec). record_fault d none l Here.cells) a ∙ data_fault_lem d h ds Here.cells
+            ∙ ap (λ (m : ℕ). data_fault m Here.cells) q ∙ sym validated_here
 
-        sound-record :
+        sound_record :
             (h : Rec) (ds : List Rec) (r : Read) (g' : FileState) (o' : ℕ) → length h.cells ≡ columns → r.done ≡ h ∷ ds → u ≡ Sound →
-            complete d none r Here.cells g' o' ≡ going (between-records (h ∷ (ds ++ (recOf r Here.cells ∷ []))) g' o')
-        sound-record h ds r g' o' q a z =
-            complete-sound d none r Here.cells g' o' (fault-of h ds r q a ∙ z)
-            ∙ ap (λ (l : List Rec). going (between-records (l ++ (recOf r Here.cells ∷ [])) g' o')) a
+            complete d none r Here.cells g' o' ≡ going (between_records (h ∷ (ds ++ (rec_of r Here.cells ∷ []))) g' o')
+        sound_record h ds r g' o' q a z =
+            complete_sound d none r Here.cells g' o' (fault_of h ds r q a ∙ z)
+            ∙ ap (λ (l : List Rec). going (between_records (l ++ (rec_of r Here.cells ∷ [])) g' o')) a
 
-        pub record-refused :
-            (x : Fault) → u ≡ Faulty x → (t : Report) → t ≡ report (number_of x) (records + 2) (columnOf x) start →
+        pub record_refused :
+            (x : Fault) → u ≡ Faulty x → (t : Report) → t ≡ report (number_of x) (records + 2) (column_of x) start →
             PassSound d file from first columns room s₀ e₀ k₀ (Refused t) s' e' k'
-        record-refused x z t te =
-            record { vs = y.vs ++ Here.cells; lists = now-held; outcome = λ h q. out h q (y.turn h q); few = tt }
+        record_refused x z t te =
+            record { vs = y.vs ++ Here.cells; lists = now_held; outcome = λ h q. out h q (y.turn h q); few = tt }
           where
             out :
                 (h : Rec) → length h.cells ≡ columns → Turned h y.vs f i records →
                 PassOutcome h (y.vs ++ Here.cells) (rest_of d none file (h ∷ []) first from) (Refused t)
             out h q a =
-                let at : AtData (h ∷ a.ds) (rest_of d none file (h ∷ a.ds) f i) = at-data (h ∷ a.ds) _ (next-follows h a.ds) last here in
-                let fault : recordFault d none at.r.done Here.cells ≡ Faulty x = fault-of h a.ds at.r q at.done ∙ z in
+                let at : AtData (h ∷ a.ds) (rest_of d none file (h ∷ a.ds) f i) = at_data (h ∷ a.ds) _ (next_follows h a.ds) last here in
+                let fault : record_fault d none at.r.done Here.cells ≡ Faulty x = fault_of h a.ds at.r q at.done ∙ z in
                 let p : rest_of d none file (h ∷ []) first from ≡ stopped x at.r = a.rest ∙ at.stops x fault in
-                let b : t ≡ faultReport x at.r
-                = te ∙ ap (λ (m : ℕ). report (number_of x) m (columnOf x) start) (sym two-more)
-                ∙ ap (λ (m : ℕ). report (number_of x) (suc (suc records)) (columnOf x) m) (sym at.starts)
-                ∙ report-start d none at.r Here.cells x (suc records) fault (number at.r h a.ds at.done a.count) in
+                let b : t ≡ fault_report x at.r
+                = te ∙ ap (λ (m : ℕ). report (number_of x) m (column_of x) start) (sym two_more)
+                ∙ ap (λ (m : ℕ). report (number_of x) (suc (suc records)) (column_of x) m) (sym at.starts)
+                ∙ report_start d none at.r Here.cells x (suc records) fault (number at.r h a.ds at.done a.count) in
                 subst (λ (m : Progress). PassOutcome h (y.vs ++ Here.cells) m (Refused t)) (sym p)
                 (subst (λ (m : Report). PassOutcome h (y.vs ++ Here.cells) (stopped x at.r) (Refused m)) (sym b) (refused x at.r))
 
         -- ---- a sound record: more may follow, or the file's end completed it
 
-        pub fits-here : last ≡ false → (i < o) × (o ≤ length file) × (o ≤ MAXFILE) × (cells + n ≤ o)
-        fits-here z = subst (EventInBounds (length file) i cells) (complete-here (subst Is z here)) found.1.1.1.1
+        pub fits_here : last ≡ false → (i < o) × (o ≤ length file) × (o ≤ MAXFILE) × (cells + n ≤ o)
+        fits_here z = subst (EventInBounds (length file) i cells) (complete_here (subst Is z here)) found.1.1.1.1
 
-        pub record-on : last ≡ false → u ≡ Sound → Going g o (cells + n) (records + 1) s' e' k'
-        record-on lz z =
-            let m = fits-here lz in
+        pub record_on : last ≡ false → u ≡ Sound → Going g o (cells + n) (records + 1) s' e' k'
+        record_on lz z =
+            let m = fits_here lz in
             let a : i < o = m.0 in
             let b : o ≤ length file = m.1 in
             let c : o ≤ MAXFILE = m.2 in
@@ -312,7 +312,7 @@ module _ (call : Call) where
             let q : records ≤ i = y.many in
             record {
               vs = y.vs ++ Here.cells;
-              lists = now-held;
+              lists = now_held;
               counted = total;
               inside = b;
               under = c;
@@ -323,61 +323,61 @@ module _ (call : Call) where
           where
             turned : (h : Rec) → length h.cells ≡ columns → Turned h y.vs f i records → Turned h (y.vs ++ Here.cells) g o (records + 1)
             turned h t x =
-                let at = on-record d none file (h ∷ x.ds) Here _ (next-follows h x.ds) start n g o (complete-here (subst Is lz here)) in
-                let rec : Rec = recOf at.r Here.cells in
+                let at = on_record d none file (h ∷ x.ds) Here _ (next_follows h x.ds) start n g o (complete_here (subst Is lz here)) in
+                let rec : Rec = rec_of at.r Here.cells in
                 record {
                   ds = x.ds ++ (rec ∷ []);
                   cells = rows_snoc x.ds rec ∙ ap (λ (l : List Value). l ++ Here.cells) x.cells;
-                  count = length-snoc x.ds rec ∙ ap (λ (m : ℕ). m + 1) x.count;
+                  count = length_snoc x.ds rec ∙ ap (λ (m : ℕ). m + 1) x.count;
                   rest =
                       x.rest ∙ at.rest
-                      ∙ ap (λ (p : Progress). readEnd d none (readFrom d none p (drop o file)))
-                      (sound-record h x.ds at.r g o t at.done z);
+                      ∙ ap (λ (p : Progress). read_end d none (read_from d none p (drop o file)))
+                      (sound_record h x.ds at.r g o t at.done z);
                 }
 
-        pub last-accepted :
+        pub last_accepted :
             last ≡ true → u ≡ Sound →
             PassSound d file from first columns room s₀ e₀ k₀ (Accepted (records + 1) (cells + n)) s' e' k'
-        last-accepted lz z =
-            record { vs = y.vs ++ Here.cells; lists = now-held; outcome = λ h q. out h q (y.turn h q); few = few-here }
+        last_accepted lz z =
+            record { vs = y.vs ++ Here.cells; lists = now_held; outcome = λ h q. out h q (y.turn h q); few = few_here }
           where
             out :
                 (h : Rec) → length h.cells ≡ columns → Turned h y.vs f i records →
                 PassOutcome h (y.vs ++ Here.cells) (rest_of d none file (h ∷ []) first from) (Accepted (records + 1) (cells + n))
             out h q a =
-                let at = on-last d none file (h ∷ a.ds) Here _ (next-follows h a.ds) start n (last-here (subst Is lz here)) in
-                let rec : Rec = recOf at.r Here.cells in
+                let at = on_last d none file (h ∷ a.ds) Here _ (next_follows h a.ds) start n (last_here (subst Is lz here)) in
+                let rec : Rec = rec_of at.r Here.cells in
                 let ds : List Rec = a.ds ++ (rec ∷ []) in
-                let p : rest_of d none file (h ∷ []) first from ≡ going (between-records (h ∷ ds) Begin (length file))
-                = a.rest ∙ at.rest ∙ sound-record h a.ds at.r Begin (length file) q at.done z in
-                let c : length ds ≡ records + 1 = length-snoc a.ds rec ∙ ap (λ (m : ℕ). m + 1) a.count in
+                let p : rest_of d none file (h ∷ []) first from ≡ going (between_records (h ∷ ds) Begin (length file))
+                = a.rest ∙ at.rest ∙ sound_record h a.ds at.r Begin (length file) q at.done z in
+                let c : length ds ≡ records + 1 = length_snoc a.ds rec ∙ ap (λ (m : ℕ). m + 1) a.count in
                 let t : concat (rows ds) ≡ y.vs ++ Here.cells = rows_snoc a.ds rec ∙ ap (λ (l : List Value). l ++ Here.cells) a.cells in
-                rw (p, sym c, sym total) (accepted (between-records (h ∷ ds) Begin (length file)) ds refl t)
+                rw (p, sym c, sym total) (accepted (between_records (h ∷ ds) Begin (length file)) ds refl t)
 
       -- ---- a fault, and the end of the file
 
-      pub fault-refused :
-          (x : Fault) (o : ℕ) → v ≡ next.Failed x o → (t : Report) → t ≡ report (number_of x) (records + 2) (columnOf x) o →
+      pub fault_refused :
+          (x : Fault) (o : ℕ) → v ≡ next.Failed x o → (t : Report) → t ≡ report (number_of x) (records + 2) (column_of x) o →
           PassSound d file from first columns room s₀ e₀ k₀ (Refused t) s' e' k'
-      fault-refused x o w t te =
-          record { vs = y.vs ++ Here.cells; lists = now-held; outcome = λ h q. out h q (y.turn h q); few = tt }
+      fault_refused x o w t te =
+          record { vs = y.vs ++ Here.cells; lists = now_held; outcome = λ h q. out h q (y.turn h q); few = tt }
         where
           out :
               (h : Rec) → length h.cells ≡ columns → Turned h y.vs f i records →
               PassOutcome h (y.vs ++ Here.cells) (rest_of d none file (h ∷ []) first from) (Refused t)
           out h q a =
-              let at = on-fault d none file (h ∷ a.ds) Here _ (next-follows h a.ds) x o
-              (is-fault (length file) Here.event x o (sym w ∙ found.0)) in
+              let at = on_fault d none file (h ∷ a.ds) Here _ (next_follows h a.ds) x o
+              (is_fault (length file) Here.event x o (sym w ∙ found.0)) in
               let p : rest_of d none file (h ∷ []) first from ≡ stopped x at.r = a.rest ∙ at.rest in
-              let z : t ≡ faultReport x at.r
-              = te ∙ ap (λ (m : ℕ). report (number_of x) m (columnOf x) o) (sym two-more)
-              ∙ ap (λ (m : ℕ). report (number_of x) (suc (suc records)) (columnOf x) m) (sym at.place)
-              ∙ (report-byte x at.r (suc records) at.byte (number at.r h a.ds at.done a.count)) in
+              let z : t ≡ fault_report x at.r
+              = te ∙ ap (λ (m : ℕ). report (number_of x) m (column_of x) o) (sym two_more)
+              ∙ ap (λ (m : ℕ). report (number_of x) (suc (suc records)) (column_of x) m) (sym at.place)
+              ∙ (report_byte x at.r (suc records) at.byte (number at.r h a.ds at.done a.count)) in
               rw (p, z) (refused x at.r)
 
-      pub finish-accepted : v ≡ next.End → PassSound d file from first columns room s₀ e₀ k₀ (Accepted records cells) s' e' k'
-      finish-accepted w =
-          record { vs = y.vs ++ Here.cells; lists = now-held; outcome = λ h q. out h q (y.turn h q); few = small }
+      pub finish_accepted : v ≡ next.End → PassSound d file from first columns room s₀ e₀ k₀ (Accepted records cells) s' e' k'
+      finish_accepted w =
+          record { vs = y.vs ++ Here.cells; lists = now_held; outcome = λ h q. out h q (y.turn h q); few = small }
         where
           small : cells ≤ MAXFILE + 1
           small = let a : cells ≤ i = y.few in let b : i ≤ MAXFILE = y.under in omega arith
@@ -386,8 +386,8 @@ module _ (call : Call) where
               (h : Rec) → length h.cells ≡ columns → Turned h y.vs f i records →
               PassOutcome h (y.vs ++ Here.cells) (rest_of d none file (h ∷ []) first from) (Accepted records cells)
           out h q a =
-              let at = on-finish d none file (h ∷ a.ds) Here _ (next-follows h a.ds) _
-              (is-end (length file) Here.event (sym w ∙ found.0)) in
+              let at = on_finish d none file (h ∷ a.ds) Here _ (next_follows h a.ds) _
+              (is_end_lem (length file) Here.event (sym w ∙ found.0)) in
               let p : rest_of d none file (h ∷ []) first from ≡ going at.r = a.rest ∙ at.rest in
               let n : Here.cells ≡ [] = at.none_left in
               let t : y.vs ++ Here.cells ≡ y.vs = ap (λ (l : List Value). y.vs ++ l) n ∙ append-nil y.vs in

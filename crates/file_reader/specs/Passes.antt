@@ -8,9 +8,9 @@ use Rattle.model.specs.declared.Fault.{Fault}
 use Rattle.model.specs.rules.Base.{Bytes, concat}
 use Rattle.model.specs.rules.Text.{Value}
 use Rattle.model.specs.rules.Report.{MAXFILE}
-use Rattle.model.specs.rules.Records.{Rec, rows, Read, Progress, going, stopped, faultReport}
-use Rattle.model.specs.rules.Api.{startsOf, endsOf, kindsOf}
-use Rattle.record_scanner.specs.Stored.{storedFrom}
+use Rattle.model.specs.rules.Records.{Rec, rows, Read, Progress, going, stopped, fault_report}
+use Rattle.model.specs.rules.Api.{starts_of, ends_of, kinds_of}
+use Rattle.record_scanner.specs.Stored.{stored_from}
 use Rattle.file_cursor.specs.FileOutcome.{rest_of}
 use Rattle.file_cursor.specs.declared.scan.FileScan.{FileScan}
 use Rattle.file_cursor.specs.declared.scan.FileScan.TheVariants.{Completed, LastRecord, Failed, End}
@@ -20,23 +20,23 @@ use Rattle.file_reader.specs.declared.pass.PassResult.{PassResult}
 use Rattle.file_reader.specs.declared.pass.PassResult.TheVariants.{Accepted, Refused}
 
 -- the next event of reading, with a last record as a record that ends where the file does
-abbrev pub dataScan : (file-length : ℕ) → FileScan → DataScan
-dataScan n (Completed start cells f o) = next.Record start cells f o false
-dataScan n (LastRecord start cells) = next.Record start cells Begin n true
-dataScan n (Failed e o) = next.Failed e o
-dataScan n (End o) = next.End
+abbrev pub data_scan : (file_length : ℕ) → FileScan → DataScan
+data_scan n (Completed start cells f o) = next.Record start cells f o false
+data_scan n (LastRecord start cells) = next.Record start cells Begin n true
+data_scan n (Failed e o) = next.Failed e o
+data_scan n (End o) = next.End
 
 -- lists that hold these cells, as far as there is room
 pub record Holds (room : ℕ) (vs : List Value) (starts₀ ends₀ kinds₀ starts ends kinds : List ℕ) : Type 0 where
-  pub at-starts : starts ≡ storedFrom room 0 (startsOf vs) starts₀
-  pub at-ends : ends ≡ storedFrom room 0 (endsOf vs) ends₀
-  pub at-kinds : kinds ≡ storedFrom room 0 (kindsOf vs) kinds₀
+  pub at_starts : starts ≡ stored_from room 0 (starts_of vs) starts₀
+  pub at_ends : ends ≡ stored_from room 0 (ends_of vs) ends₀
+  pub at_kinds : kinds ≡ stored_from room 0 (kinds_of vs) kinds₀
 
 -- the result of a pass after the header h; `vs` are the cells that were found
 pub data PassOutcome (h : Rec) (vs : List Value) : Progress → PassResult → Type 0 where
   accepted :
       (r : Read) (ds : List Rec) → r.done ≡ h ∷ ds → concat (rows ds) ≡ vs → PassOutcome h vs (going r) (Accepted (length ds) (length vs))
-  refused : (e : Fault) (r : Read) → PassOutcome h vs (stopped e r) (Refused (faultReport e r))
+  refused : (e : Fault) (r : Read) → PassOutcome h vs (stopped e r) (Refused (fault_report e r))
 
 -- there are no more cells than a file has bytes, and one
 abbrev pub Few : PassResult → Type 0

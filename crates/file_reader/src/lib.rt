@@ -1,12 +1,12 @@
 // The whole-file reader. In: a dialect's number and a file, with lists to fill. Out: the file's columns, data records and cells, and in the
 // lists each cell's start, end and kind; or a refusal that leaves the lists as they were. After the header there are two passes over the
 // data records: the first checks and counts them, the second fills the lists, so that nothing is stored before the whole file is known to
-// be accepted and to have room. The definition is `readCall` of model's specs/rules/Api.antt; proofs/ReaderAnswers.antt is proved again
+// be accepted and to have room. The definition is `read_call` of model's specs/rules/Api.antt; proofs/ReaderAnswers.antt is proved again
 // with this file.
 ghost use Rattle.std.specs.Prelude.{◌≡◌, ◌≤◌, length};
 ghost use Rattle.model.specs.rules.Base.{over};
-ghost use Rattle.model.specs.rules.Api.{noAnswer, least, startsOf, endsOf, kindsOf, readCall};
-ghost use Rattle.file_reader.specs.Answers.{callAnswer, readerAnswer, answer_in};
+ghost use Rattle.model.specs.rules.Api.{no_answer, least, starts_of, ends_of, kinds_of, read_call};
+ghost use Rattle.file_reader.specs.Answers.{call_answer, reader_answer, answer_in};
 ghost use Rattle.file_reader.specs.Headers.{HeaderRead};
 
 use crate::pass::PassResult;
@@ -27,7 +27,7 @@ pub struct Answer {
 }
 
 fn refused(e: Report) -> Answer
-    ensures { result ≡ readerAnswer (noAnswer e) }
+    ensures { result ≡ reader_answer (no_answer e) }
 {
     Answer {
         report: e,
@@ -51,10 +51,10 @@ fn read_records(
 ) -> Answer
     requires header_read { HeaderRead d file.now columns state next }
     requires room_in_bounds { (room ≤ length starts.old) × (room ≤ length ends.old) × (room ≤ length kinds.old) }
-    ensures value { result ≡ readerAnswer (answer_in d file.now room) }
-    ensures starts_after { starts.new ≡ over (startsOf (answer_in d file.now room).cells) starts.old }
-    ensures ends_after { ends.new ≡ over (endsOf (answer_in d file.now room).cells) ends.old }
-    ensures kinds_after { kinds.new ≡ over (kindsOf (answer_in d file.now room).cells) kinds.old }
+    ensures value { result ≡ reader_answer (answer_in d file.now room) }
+    ensures starts_after { starts.new ≡ over (starts_of (answer_in d file.now room).cells) starts.old }
+    ensures ends_after { ends.new ≡ over (ends_of (answer_in d file.now room).cells) ends.old }
+    ensures kinds_after { kinds.new ≡ over (kinds_of (answer_in d file.now room).cells) kinds.old }
 {
     match crate::pass::data_records(d, file, next, state, columns, 0, starts, ends, kinds) {
         PassResult::Refused(e) => refused(e),
@@ -92,10 +92,10 @@ pub fn read_in(
     ends: &mut [usize],
     kinds: &mut [u8],
 ) -> Answer
-    ensures value { result ≡ readerAnswer (answer_in d file.now (least (length starts.old) (least (length ends.old) (length kinds.old)))) }
-    ensures starts_after { starts.new ≡ over (startsOf (answer_in d file.now (least (length starts.old) (least (length ends.old) (length kinds.old)))).cells) starts.old }
-    ensures ends_after { ends.new ≡ over (endsOf (answer_in d file.now (least (length starts.old) (least (length ends.old) (length kinds.old)))).cells) ends.old }
-    ensures kinds_after { kinds.new ≡ over (kindsOf (answer_in d file.now (least (length starts.old) (least (length ends.old) (length kinds.old)))).cells) kinds.old }
+    ensures value { result ≡ reader_answer (answer_in d file.now (least (length starts.old) (least (length ends.old) (length kinds.old)))) }
+    ensures starts_after { starts.new ≡ over (starts_of (answer_in d file.now (least (length starts.old) (least (length ends.old) (length kinds.old)))).cells) starts.old }
+    ensures ends_after { ends.new ≡ over (ends_of (answer_in d file.now (least (length starts.old) (least (length ends.old) (length kinds.old)))).cells) ends.old }
+    ensures kinds_after { kinds.new ≡ over (kinds_of (answer_in d file.now (least (length starts.old) (least (length ends.old) (length kinds.old)))).cells) kinds.old }
 {
     let room = codes::min_of(starts.len(), codes::min_of(ends.len(), kinds.len()));
     let mut header_starts = [0usize; MAX_COLUMNS];
@@ -131,10 +131,10 @@ pub fn read(
     ends: &mut [usize],
     kinds: &mut [u8],
 ) -> Answer
-    ensures answer { result ≡ callAnswer (readCall dialect file.now starts.old ends.old kinds.old) }
-    ensures leaves_starts { starts.new ≡ (readCall dialect file.now starts.old ends.old kinds.old).starts }
-    ensures leaves_ends { ends.new ≡ (readCall dialect file.now starts.old ends.old kinds.old).ends }
-    ensures leaves_kinds { kinds.new ≡ (readCall dialect file.now starts.old ends.old kinds.old).kinds }
+    ensures answer { result ≡ call_answer (read_call dialect file.now starts.old ends.old kinds.old) }
+    ensures leaves_starts { starts.new ≡ (read_call dialect file.now starts.old ends.old kinds.old).starts }
+    ensures leaves_ends { ends.new ≡ (read_call dialect file.now starts.old ends.old kinds.old).ends }
+    ensures leaves_kinds { kinds.new ≡ (read_call dialect file.now starts.old ends.old kinds.old).kinds }
 {
     match codes::dialect_of(dialect) {
         NamedDialect::Known(d) => read_in(d, file, starts, ends, kinds),

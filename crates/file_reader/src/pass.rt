@@ -3,11 +3,11 @@
 // or a report. The contract is `PassSound` of specs/Passes.antt; its invariant is in proofs/PassInvariant.antt.
 ghost use Rattle.std.specs.Prelude.{◌≡◌, [], ◌≤◌, length, drop};
 ghost use Rattle.model.specs.rules.Report.{MAXFILE};
-ghost use Rattle.model.specs.rules.Records.{between-records};
-ghost use Rattle.model.specs.rules.Api.{startsOf, endsOf, kindsOf};
-ghost use Rattle.record_scanner.specs.Stored.{storedFrom};
-ghost use Rattle.file_cursor.specs.Next.{nextRecord, EventInBounds};
-ghost use Rattle.file_reader.specs.Passes.{PassSound, dataScan};
+ghost use Rattle.model.specs.rules.Records.{between_records};
+ghost use Rattle.model.specs.rules.Api.{starts_of, ends_of, kinds_of};
+ghost use Rattle.record_scanner.specs.Stored.{stored_from};
+ghost use Rattle.file_cursor.specs.Next.{next_record, EventInBounds};
+ghost use Rattle.file_reader.specs.Passes.{PassSound, data_scan};
 
 use codes::MAX_FILE;
 use file_cursor::scan::FileScan;
@@ -56,11 +56,11 @@ fn next_data(
 ) -> DataScan
     requires from_in_bounds { (from ≤ length file.now) × (from ≤ MAXFILE) × (base ≤ from) }
     requires room_in_bounds { (room ≤ length starts.old) × (room ≤ length ends.old) × (room ≤ length kinds.old) }
-    ensures value { result ≡ dataScan (length file.now) (nextRecord d (between-records [] first from) (drop from file.now)).event }
-    ensures starts_after { starts.new ≡ storedFrom room base (startsOf (nextRecord d (between-records [] first from) (drop from file.now)).cells) starts.old }
-    ensures ends_after { ends.new ≡ storedFrom room base (endsOf (nextRecord d (between-records [] first from) (drop from file.now)).cells) ends.old }
-    ensures kinds_after { kinds.new ≡ storedFrom room base (kindsOf (nextRecord d (between-records [] first from) (drop from file.now)).cells) kinds.old }
-    ensures event_in_bounds { EventInBounds (length file.now) from base (nextRecord d (between-records [] first from) (drop from file.now)).event }
+    ensures value { result ≡ data_scan (length file.now) (next_record d (between_records [] first from) (drop from file.now)).event }
+    ensures starts_after { starts.new ≡ stored_from room base (starts_of (next_record d (between_records [] first from) (drop from file.now)).cells) starts.old }
+    ensures ends_after { ends.new ≡ stored_from room base (ends_of (next_record d (between_records [] first from) (drop from file.now)).cells) ends.old }
+    ensures kinds_after { kinds.new ≡ stored_from room base (kinds_of (next_record d (between_records [] first from) (drop from file.now)).cells) kinds.old }
+    ensures event_in_bounds { EventInBounds (length file.now) from base (next_record d (between_records [] first from) (drop from file.now)).event }
 {
     match record_fast::scan(
         d, file, from, first, MAX_FILE, room, base, starts, ends, kinds,

@@ -7,27 +7,27 @@ use mathlib.Core.Path.{◌≡◌, refl}
 use mathlib.Core.List.{List, [], ◌∷◌}
 use lib.ListN.{length, length-replicate}
 use Rattle.grammar.specs.rfc.Types.{Csvj}
-use Rattle.grammar.specs.rfc.Derived.{Derived, line, Every, every-cons}
+use Rattle.grammar.specs.rfc.Derived.{Derived, line, Every, every_cons}
 use Rattle.grammar.specs.rfc.Rfc8259 as json
 use Rattle.grammar.specs.dialects.Csvj as csvj
 use Rattle.grammar.proofs.AbsentInRfcs as rfcs
 use Rattle.grammar.proofs.AbsentInFiles as files
-use Rattle.grammar.specs.Accepted.{a-name, WithinLimits, ChecksHold, checks-hold}
+use Rattle.grammar.specs.Accepted.{a_name, WithinLimits, ChecksHold, checks_hold}
 use Rattle.grammar.specs.NextByte.{ProceedsOn}
-use Rattle.grammar.specs.Mistakes.{Mistakes, nameA, twoNames, tooLong}
+use Rattle.grammar.specs.Mistakes.{Mistakes, name_a, two_names, too_long}
 
 -- ---- record checks and limits
 
-repeated-name : ChecksHold Csvj (line twoNames (nameA ∷ nameA ∷ []) ∷ []) → ⊥
-repeated-name (checks-hold t (a-name (every-cons n m) d) k) = n refl
+repeated_name : ChecksHold Csvj (line two_names (name_a ∷ name_a ∷ []) ∷ []) → ⊥
+repeated_name (checks_hold t (a_name (every_cons n m) d) k) = n refl
 
-first-of : {A : Type 0} {P : A → Type 0} {x : A} {xs : List A} → Every P (x ∷ xs) → P x
-first-of (every-cons p k) = p
+first_of : {A : Type 0} {P : A → Type 0} {x : A} {xs : List A} → Every P (x ∷ xs) → P x
+first_of (every_cons p k) = p
 
-long-record : {c : Derived} → WithinLimits tooLong (line tooLong (c ∷ []) ∷ []) → ⊥
-long-record w =
-    let e : length tooLong ≡ 4097 = length-replicate {A = ℕ} 4097 0x61 in
-    let h = first-of w.records in
+long_record : {c : Derived} → WithinLimits too_long (line too_long (c ∷ []) ∷ []) → ⊥
+long_record w =
+    let e : length too_long ≡ 4097 = length-replicate {A = ℕ} 4097 0x61 in
+    let h = first_of w.records in
     omega arith
 
 -- ---- a CSVJ file may begin with a quote: two of them and LF
@@ -38,11 +38,11 @@ begun n =
       0x22 ∷ 0x0A ∷ [],
       _,
       csvj.unmarked
-          (csvj.csvj-file
-          (csvj.header-line
+          (csvj.csvj_file_lem
+          (csvj.header_line
           (csvj.ended
-          (csvj.filled csvj.no-ws
-          (csvj.value (csvj.a-string (json.string json.a-quotation-mark json.no_char json.a-quotation-mark json.nothing))) csvj.no-ws)
+          (csvj.filled csvj.no_ws
+          (csvj.value (csvj.a_string (json.string json.a_quotation_mark json.no_char json.a_quotation_mark json.nothing))) csvj.no_ws)
           csvj.lf))
           csvj.no_line),
     )
@@ -52,9 +52,9 @@ begun n =
 pub absent : Mistakes
 absent =
     record {
-      of-rfcs = rfcs.absent;
-      of-files = files.absent;
-      repeated-name = repeated-name;
-      long-record = long-record;
+      of_rfcs = rfcs.absent;
+      of_files = files.absent;
+      repeated_name = repeated_name;
+      long_record = long_record;
       begun = begun;
     }

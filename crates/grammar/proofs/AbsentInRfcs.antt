@@ -7,46 +7,46 @@ use mathlib.Core.Path.{◌≡◌, refl, ◌∙◌}
 use mathlib.Core.List.{[], ◌∷◌}
 use lib.ListN.{length, length-append}
 use Rattle.model.specs.rules.Base.{Bytes}
-use Rattle.grammar.specs.rfc.Rfc3629.{UTF8-3, e1-ec, ed, ee-ef, of_two, of_three, of_four}
-use Rattle.grammar.specs.rfc.Rfc3629.{Octets, one-octet, two-octets, three-octets, four-octets}
+use Rattle.grammar.specs.rfc.Rfc3629.{UTF8-3, e1_ec, ed, ee_ef, of_two, of_three, of_four}
+use Rattle.grammar.specs.rfc.Rfc3629.{Octets, one_octet, two_octets, three_octets, four_octets}
 use Rattle.grammar.specs.rfc.Rfc8259 as json
 use Rattle.grammar.specs.RfcMistakes.{RfcMistakes}
 
 -- ---- RFC 8259 and RFC 3629
 
 -- 01 is no int
-leading-zero : json.Int (0x30 ∷ 0x31 ∷ []) → ⊥
-leading-zero (json.nonzero (json.digit1-9 r) ds) = omega (arith, r)
+leading_zero : json.Int (0x30 ∷ 0x31 ∷ []) → ⊥
+leading_zero (json.nonzero (json.digit1_9 r) ds) = omega (arith, r)
 
 -- 01 hex is not unescaped
-control-byte : json.Unescaped (0x01 ∷ []) → ⊥
-control-byte (json.below-quote r) = omega (arith, r)
-control-byte (json.below-backslash r) = omega (arith, r)
-control-byte (json.above-backslash r) = omega (arith, r)
-control-byte (json.above-ascii (of_two u)) = elim u [ ]
-control-byte (json.above-ascii (of_three u)) = elim u [ ]
-control-byte (json.above-ascii (of_four u)) = elim u [ ]
+control_byte : json.Unescaped (0x01 ∷ []) → ⊥
+control_byte (json.below_quote r) = omega (arith, r)
+control_byte (json.below_backslash r) = omega (arith, r)
+control_byte (json.above_backslash r) = omega (arith, r)
+control_byte (json.above_ascii (of_two u)) = elim u [ ]
+control_byte (json.above_ascii (of_three u)) = elim u [ ]
+control_byte (json.above_ascii (of_four u)) = elim u [ ]
 
 -- ED A0 80 is not UTF-8
-raw-surrogate : UTF8-3 (0xED ∷ 0xA0 ∷ 0x80 ∷ []) → ⊥
-raw-surrogate (e1-ec r s t) = omega (arith, r)
-raw-surrogate (ed r t) = omega (arith, r)
-raw-surrogate (ee-ef r s t) = omega (arith, r)
+raw_surrogate : UTF8-3 (0xED ∷ 0xA0 ∷ 0x80 ∷ []) → ⊥
+raw_surrogate (e1_ec r s t) = omega (arith, r)
+raw_surrogate (ed r t) = omega (arith, r)
+raw_surrogate (ee_ef r s t) = omega (arith, r)
 
 -- ---- pairs
 
 four_bytes : {cs : Bytes} → Octets 0x1F600 cs → length cs ≡ 4
-four_bytes (one-octet r) = let h : 0x1F600 ≤ 0x007F = r.high in absurd (omega arith)
-four_bytes (two-octets w x r e f) = let h : 0x1F600 ≤ 0x07FF = r.high in absurd (omega arith)
-four_bytes (three-octets w x y r e f g) = let h : 0x1F600 ≤ 0xFFFF = r.high in absurd (omega arith)
-four_bytes (four-octets w x y z r e f g h) = refl
+four_bytes (one_octet r) = let h : 0x1F600 ≤ 0x007F = r.high in absurd (omega arith)
+four_bytes (two_octets w x r e f) = let h : 0x1F600 ≤ 0x07FF = r.high in absurd (omega arith)
+four_bytes (three_octets w x y r e f g) = let h : 0x1F600 ≤ 0xFFFF = r.high in absurd (omega arith)
+four_bytes (four_octets w x y z r e f g h) = refl
 
-nothing-more : {ts : Bytes} → json.Content [] ts → length ts ≡ 0
-nothing-more json.nothing = refl
+nothing_more : {ts : Bytes} → json.Content [] ts → length ts ≡ 0
+nothing_more json.nothing = refl
 
-halves-apart : {ts : Bytes} → json.Content (json.unit 0xD83D ∷ json.unit 0xDE00 ∷ []) ts → length ts ≡ 4
-halves-apart (json.paired {cs} {ts} p o k) = length-append cs ts ∙ (rw (four_bytes o, nothing-more k))
-halves-apart (json.single n o k) =
+halves_apart : {ts : Bytes} → json.Content (json.unit 0xD83D ∷ json.unit 0xDE00 ∷ []) ts → length ts ≡ 4
+halves_apart (json.paired {cs} {ts} p o k) = length-append cs ts ∙ (rw (four_bytes o, nothing_more k))
+halves_apart (json.single n o k) =
     absurd (n (json.halves (record { low = omega arith; high = omega arith }) (record { low = omega arith; high = omega arith })))
 
 -- ---- none of the mistakes
@@ -54,8 +54,8 @@ halves-apart (json.single n o k) =
 pub absent : RfcMistakes
 absent =
     record {
-      leading-zero = leading-zero;
-      control-byte = control-byte;
-      raw-surrogate = raw-surrogate;
-      halves-apart = λ ts k. halves-apart k;
+      leading_zero = leading_zero;
+      control_byte = control_byte;
+      raw_surrogate = raw_surrogate;
+      halves_apart = λ ts k. halves_apart k;
     }

@@ -1,4 +1,4 @@
--- What each step of a file does to the record and the current cell, from the case analysis of `fileStep`: a byte order mark or a
+-- What each step of a file does to the record and the current cell, from the case analysis of `file_step`: a byte order mark or a
 -- comment is where neither is; a byte of a cell leads into one, and a byte between cells into a record; and a cell is left only by
 -- closing it.
 use Prim.Native.Nat.{ℕ}
@@ -8,126 +8,126 @@ use Rattle.grammar.specs.rfc.Types.{Dialect, Csvj, Tdif, CsvPlus}
 use Rattle.grammar.specs.rfc.Types.{FileState, Top, Begin, Ended, Bom1, Bom2, PlainBom1, PlainBom2, Comment, Blanks, ExpectCell, Inside, After}
 use Rattle.grammar.specs.rfc.Types.{Cr, Outside, Passed, OfCell, Between, Tail, Ends, To}
 use Rattle.model.proofs.file_laws.FileSteps as steps
-use Rattle.model.proofs.file_laws.FileSteps.{Rests, Around, Grown, Free, Opens, Next, Leaves, Transition, starts-free}
+use Rattle.model.proofs.file_laws.FileSteps.{Rests, Around, Grown, Free, Opens, Next, Leaves, Transition, starts_free}
 
 -- ---- stages of a file
 
 -- between records; in a record and in none of its cells; in a cell
 pub data Stage : Type 0 where
   at_rest : Stage
-  in-record : Stage
-  in_cell : Stage
+  in_record_lem : Stage
+  in_cell_lem : Stage
 
 -- only CSVJ reads blanks before a record's first cell: elsewhere no byte leads here, and what follows is as between records
-abbrev pub blanksStage : Dialect → Stage
-blanksStage Csvj = in-record
-blanksStage Tdif = at_rest
-blanksStage (CsvPlus s) = at_rest
+abbrev pub blanks_stage : Dialect → Stage
+blanks_stage Csvj = in_record_lem
+blanks_stage Tdif = at_rest
+blanks_stage (CsvPlus s) = at_rest
 
-abbrev pub stageOf : Dialect → FileState → Stage
-stageOf d Top = at_rest
-stageOf d Begin = at_rest
-stageOf d Ended = at_rest
-stageOf d Bom1 = at_rest
-stageOf d Bom2 = at_rest
-stageOf d PlainBom1 = in_cell
-stageOf d PlainBom2 = in_cell
-stageOf d (Comment c) = at_rest
-stageOf d Blanks = blanksStage d
-stageOf d ExpectCell = in-record
-stageOf d (Inside c) = in_cell
-stageOf d After = in-record
-stageOf d Cr = in-record
+abbrev pub stage_of : Dialect → FileState → Stage
+stage_of d Top = at_rest
+stage_of d Begin = at_rest
+stage_of d Ended = at_rest
+stage_of d Bom1 = at_rest
+stage_of d Bom2 = at_rest
+stage_of d PlainBom1 = in_cell_lem
+stage_of d PlainBom2 = in_cell_lem
+stage_of d (Comment c) = at_rest
+stage_of d Blanks = blanks_stage d
+stage_of d ExpectCell = in_record_lem
+stage_of d (Inside c) = in_cell_lem
+stage_of d After = in_record_lem
+stage_of d Cr = in_record_lem
 
 -- in a record, in a cell or not
 pub data Recording : Stage → Type 0 where
-  record-open : Recording in-record
-  cell-open : Recording in_cell
+  record_open : Recording in_record_lem
+  cell_open : Recording in_cell_lem
 
 -- in no cell
 pub data NoCell : Stage → Type 0 where
-  none-at-rest : NoCell at_rest
-  none-in-record : NoCell in-record
+  none_at_rest : NoCell at_rest
+  none_in_record : NoCell in_record_lem
 
 -- ---- the stage of each class of states
 
 module _ (d : Dialect) where
-  rests-stage : {f : FileState} → Rests f → stageOf d f ≡ at_rest
-  rests-stage steps.top = refl
-  rests-stage steps.begin = refl
-  rests-stage steps.ended = refl
-  rests-stage steps.bom1 = refl
-  rests-stage steps.bom2 = refl
-  rests-stage steps.comment = refl
+  rests_stage : {f : FileState} → Rests f → stage_of d f ≡ at_rest
+  rests_stage steps.top = refl
+  rests_stage steps.begin = refl
+  rests_stage steps.ended = refl
+  rests_stage steps.bom1 = refl
+  rests_stage steps.bom2 = refl
+  rests_stage steps.comment = refl
 
-  next-stage : {f : FileState} → Next f → stageOf d f ≡ at_rest
-  next-stage steps.n-begin = refl
-  next-stage steps.n-ended = refl
+  next_stage : {f : FileState} → Next f → stage_of d f ≡ at_rest
+  next_stage steps.n_begin = refl
+  next_stage steps.n_ended = refl
 
-  grown-stage : {f : FileState} → Grown f → stageOf d f ≡ in_cell
-  grown-stage steps.g_inside = refl
-  grown-stage steps.g-plain1 = refl
-  grown-stage steps.g-plain2 = refl
+  grown_stage : {f : FileState} → Grown f → stage_of d f ≡ in_cell_lem
+  grown_stage steps.g_inside = refl
+  grown_stage steps.g_plain1 = refl
+  grown_stage steps.g_plain2 = refl
 
-  opens-stage : {f : FileState} → Opens f → Recording (stageOf d f)
-  opens-stage steps.o-after = record-open
-  opens-stage steps.o-wanting = record-open
-  opens-stage steps.o-fresh = cell-open
+  opens_stage : {f : FileState} → Opens f → Recording (stage_of d f)
+  opens_stage steps.o_after = record_open
+  opens_stage steps.o_wanting = record_open
+  opens_stage steps.o_fresh = cell_open
 
-around-stage : {d : Dialect} {f : FileState} → Around d f → stageOf d f ≡ at_rest
-around-stage {d} (steps.rests r) = rests-stage d r
-around-stage steps.unread = refl
+around_stage : {d : Dialect} {f : FileState} → Around d f → stage_of d f ≡ at_rest
+around_stage {d} (steps.rests r) = rests_stage d r
+around_stage steps.unread = refl
 
-blanks-no-cell : (d : Dialect) → NoCell (blanksStage d)
-blanks-no-cell Csvj = none-in-record
-blanks-no-cell Tdif = none-at-rest
-blanks-no-cell (CsvPlus s) = none-at-rest
+blanks_no_cell : (d : Dialect) → NoCell (blanks_stage d)
+blanks_no_cell Csvj = none_in_record
+blanks_no_cell Tdif = none_at_rest
+blanks_no_cell (CsvPlus s) = none_at_rest
 
-free-no-cell : (d : Dialect) {f : FileState} → Free f → NoCell (stageOf d f)
-free-no-cell d steps.f-top = none-at-rest
-free-no-cell d steps.f-begin = none-at-rest
-free-no-cell d steps.f-ended = none-at-rest
-free-no-cell d steps.f-blanks = blanks-no-cell d
-free-no-cell d steps.f-wanting = none-in-record
-free-no-cell d steps.f-after = none-in-record
+free_no_cell : (d : Dialect) {f : FileState} → Free f → NoCell (stage_of d f)
+free_no_cell d steps.f_top = none_at_rest
+free_no_cell d steps.f_begin = none_at_rest
+free_no_cell d steps.f_ended = none_at_rest
+free_no_cell d steps.f_blanks = blanks_no_cell d
+free_no_cell d steps.f_wanting = none_in_record
+free_no_cell d steps.f_after = none_in_record
 
-leaves-no-cell : {d : Dialect} {f : FileState} {b : ℕ} → Leaves d b f false → NoCell (stageOf d f)
-leaves-no-cell {d} (steps.none e) = free-no-cell d e
+leaves_no_cell : {d : Dialect} {f : FileState} {b : ℕ} → Leaves d b f false → NoCell (stage_of d f)
+leaves_no_cell {d} (steps.none e) = free_no_cell d e
 
 -- ---- the stages before and after a byte of each role
 
 module _ {d : Dialect} {f : FileState} {b : ℕ} where
-  pub outside-rests : {h : FileState} → Transition d f b (To h Outside) → (stageOf d f ≡ at_rest) × (stageOf d h ≡ at_rest)
-  outside-rests (steps.outside t r g) = (around-stage r, rests-stage d g)
+  pub outside_rests : {h : FileState} → Transition d f b (To h Outside) → (stage_of d f ≡ at_rest) × (stage_of d h ≡ at_rest)
+  outside_rests (steps.outside t r g) = (around_stage r, rests_stage d g)
 
-  pub passed-rests : {h : FileState} → Transition d f b (To h Passed) → (stageOf d f ≡ at_rest) × (stageOf d h ≡ at_rest)
-  passed-rests (steps.passes t r g) = (rests-stage d r, next-stage d g)
+  pub passed_rests : {h : FileState} → Transition d f b (To h Passed) → (stage_of d f ≡ at_rest) × (stage_of d h ≡ at_rest)
+  passed_rests (steps.passes t r g) = (rests_stage d r, next_stage d g)
 
-  pub cell-stage : {h : FileState} → Transition d f b (To h OfCell) → stageOf d h ≡ in_cell
-  cell-stage (steps.adds t n c g i s) = grown-stage d g
+  pub cell_stage : {h : FileState} → Transition d f b (To h OfCell) → stage_of d h ≡ in_cell_lem
+  cell_stage (steps.adds t n c g i s) = grown_stage d g
 
-  pub between-stage : {h : FileState} {k : Bool} → Transition d f b (To h (Between k)) → Recording (stageOf d h)
-  between-stage (steps.blanks t n e c) = rw c record-open
-  between-stage (steps.parts t n l o) = opens-stage d o
+  pub between_stage : {h : FileState} {k : Bool} → Transition d f b (To h (Between k)) → Recording (stage_of d h)
+  between_stage (steps.blanks t n e c) = rw c record_open
+  between_stage (steps.parts t n l o) = opens_stage d o
 
-  pub tail-stage : {h : FileState} {k : Bool} → Transition d f b (To h (Tail k)) → Recording (stageOf d h)
-  tail-stage (steps.turns t p l) = record-open
+  pub tail_stage : {h : FileState} {k : Bool} → Transition d f b (To h (Tail k)) → Recording (stage_of d h)
+  tail_stage (steps.turns t p l) = record_open
 
   pub ends_next : {h : FileState} {k : Bool} → Transition d f b (To h (Ends k)) → Next h
   ends_next (steps.ends t p l g) = g
-  ends_next (steps.ends-cr t e p) = steps.n-begin
+  ends_next (steps.ends_cr t e p) = steps.n_begin
 
-  pub ends-stage : {h : FileState} {k : Bool} → Transition d f b (To h (Ends k)) → stageOf d h ≡ at_rest
-  ends-stage x = next-stage d (ends_next x)
+  pub ends_stage : {h : FileState} {k : Bool} → Transition d f b (To h (Ends k)) → stage_of d h ≡ at_rest
+  ends_stage x = next_stage d (ends_next x)
 
   -- a cell is left only by closing it
-  pub between-no-cell : {h : FileState} → Transition d f b (To h (Between false)) → NoCell (stageOf d f)
-  between-no-cell (steps.blanks t n e c) = free-no-cell d (starts-free e)
-  between-no-cell (steps.parts t n l o) = leaves-no-cell l
+  pub between_no_cell : {h : FileState} → Transition d f b (To h (Between false)) → NoCell (stage_of d f)
+  between_no_cell (steps.blanks t n e c) = free_no_cell d (starts_free e)
+  between_no_cell (steps.parts t n l o) = leaves_no_cell l
 
-  pub tail-no-cell : {h : FileState} → Transition d f b (To h (Tail false)) → NoCell (stageOf d f)
-  tail-no-cell (steps.turns t p l) = leaves-no-cell l
+  pub tail_no_cell : {h : FileState} → Transition d f b (To h (Tail false)) → NoCell (stage_of d f)
+  tail_no_cell (steps.turns t p l) = leaves_no_cell l
 
-  pub ends-no-cell : {h : FileState} → Transition d f b (To h (Ends false)) → NoCell (stageOf d f)
-  ends-no-cell (steps.ends t p l g) = leaves-no-cell l
-  ends-no-cell (steps.ends-cr t e p) = rw e none-in-record
+  pub ends_no_cell : {h : FileState} → Transition d f b (To h (Ends false)) → NoCell (stage_of d f)
+  ends_no_cell (steps.ends t p l g) = leaves_no_cell l
+  ends_no_cell (steps.ends_cr t e p) = rw e none_in_record

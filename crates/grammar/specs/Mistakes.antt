@@ -12,24 +12,24 @@ use Rattle.grammar.specs.Accepted.{WithinLimits, ChecksHold}
 use Rattle.grammar.specs.NextByte.{ProceedsOn}
 
 -- `"a"`, and `"a","a"`
-abbrev pub nameA : Derived
-nameA = cell (0x22 ∷ 0x61 ∷ 0x22 ∷ []) Text (0x61 ∷ [])
+abbrev pub name_a : Derived
+name_a = cell (0x22 ∷ 0x61 ∷ 0x22 ∷ []) Text (0x61 ∷ [])
 
-abbrev pub twoNames : Bytes
-twoNames = 0x22 ∷ 0x61 ∷ 0x22 ∷ 0x2C ∷ 0x22 ∷ 0x61 ∷ 0x22 ∷ []
+abbrev pub two_names : Bytes
+two_names = 0x22 ∷ 0x61 ∷ 0x22 ∷ 0x2C ∷ 0x22 ∷ 0x61 ∷ 0x22 ∷ []
 
 -- 4,097 bytes of an unquoted CSV+ cell
-abbrev pub tooLong : Bytes
-tooLong = replicate 4097 0x61
+abbrev pub too_long : Bytes
+too_long = replicate 4097 0x61
 
 pub record Mistakes : Type 0 where
   -- at the productions of the RFCs
-  pub of-rfcs : RfcMistakes
+  pub of_rfcs : RfcMistakes
   -- at the productions of the dialects
-  pub of-files : FileMistakes
+  pub of_files : FileMistakes
   -- a header name that repeats another: `"a","a"`
-  pub repeated-name : ¬ ChecksHold Csvj (line twoNames (nameA ∷ nameA ∷ []) ∷ [])
+  pub repeated_name : ¬ ChecksHold Csvj (line two_names (name_a ∷ name_a ∷ []) ∷ [])
   -- a record of 4,097 bytes
-  pub long-record : ¬ WithinLimits tooLong (line tooLong (cell tooLong Text tooLong ∷ []) ∷ [])
+  pub long_record : ¬ WithinLimits too_long (line too_long (cell too_long Text too_long ∷ []) ∷ [])
   -- a byte that is refused though a file continues with it: the quote with which a CSVJ file begins
   pub begun : ¬ ¬ ProceedsOn Csvj [] 0x22

@@ -16,93 +16,93 @@ use Rattle.model.specs.declared.Report.{Report}
 use Rattle.model.specs.rules.Base.{Bytes, over, if◌then◌else◌, ◌is◌}
 use Rattle.model.proofs.Tests.{split}
 use Rattle.buffer.specs.Writes.{written}
-use Rattle.buffer.proofs.WriteProgress.{drop-next, Writing, put, room-left, done, filled as filled-out}
-use Rattle.messages.specs.Sentences.{places_of, decimal, part_of, filled, form_of, sentenceOf}
+use Rattle.buffer.proofs.WriteProgress.{drop_next, Writing, put, room_left, done, filled as filled-out}
+use Rattle.messages.specs.Sentences.{places_of, decimal, part_of, filled, form_of, sentence_of}
 
 -- ---- digits
 
-digits-length : (b k n : ℕ) → length (last_digits b k n) ≡ k
-digits-length b zero n = refl
-digits-length b (suc k) n = simp (length-append, digits-length b k (n / b)) (omega arith)
+digits_length : (b k n : ℕ) → length (last_digits b k n) ≡ k
+digits_length b zero n = refl
+digits_length b (suc k) n = simp (length-append, digits_length b k (n / b)) (omega arith)
 
-places-most : (most n : ℕ) → places_of most n ≤ suc most
+places_most : (most n : ℕ) → places_of most n ≤ suc most
 unfolding places_of
-places-most zero n = omega arith
-places-most (suc most) n =
-    split (λ (k : ℕ). k ≤ suc (suc most)) (ltb n 10) (λ _. omega arith) λ _. let h = places-most most (n / 10) in omega arith
+places_most zero n = omega arith
+places_most (suc most) n =
+    split (λ (k : ℕ). k ≤ suc (suc most)) (ltb n 10) (λ _. omega arith) λ _. let h = places_most most (n / 10) in omega arith
 
-decimal-short : (n : ℕ) → length (decimal n) ≤ 20
+decimal_short : (n : ℕ) → length (decimal n) ≤ 20
 unfolding decimal
-decimal-short n = omega (arith, digits-length 10 (places_of 19 n) n, places-most 19 n)
+decimal_short n = omega (arith, digits_length 10 (places_of 19 n) n, places_most 19 n)
 
 -- what is below ten takes one digit, and what is not takes one more than its tenth
-one-digit : (n k : ℕ) → n < 10 → IsDigitCount 10 1 n k → 1 ≡ k
-one-digit n zero h f = absurd (omega (arith, f.0))
-one-digit n (suc zero) h f = refl
-one-digit n (suc (suc k)) h f = let p : 10 ^ k * 10 ≤ n = simp unary_clauses at (f.2 (omega arith)) in absurd (omega (arith, one-le-pow k 10 (omega arith)))
+one_digit : (n k : ℕ) → n < 10 → IsDigitCount 10 1 n k → 1 ≡ k
+one_digit n zero h f = absurd (omega (arith, f.0))
+one_digit n (suc zero) h f = refl
+one_digit n (suc (suc k)) h f = let p : 10 ^ k * 10 ≤ n = simp unary_clauses at (f.2 (omega arith)) in absurd (omega (arith, one-le-pow k 10 (omega arith)))
 
-below-tenth : (n k : ℕ) → n < 10 ^ suc k → n / 10 < 10 ^ k
-below-tenth n k h = let p : n < 10 ^ k * 10 = rw pow-suc at h in (div-lt_iff_lt-mul {k = 10} (omega arith)).1 p
+below_tenth : (n k : ℕ) → n < 10 ^ suc k → n / 10 < 10 ^ k
+below_tenth n k h = let p : n < 10 ^ k * 10 = rw pow-suc at h in (div-lt_iff_lt-mul {k = 10} (omega arith)).1 p
 
 -- the digits of the tenth
 tenth : (n k : ℕ) → 10 ≤ n → IsDigitCount 10 1 n (suc k) → IsDigitCount 10 1 (n / 10) k
 tenth n zero h f = absurd (omega (arith, f.1))
 tenth n (suc k) h f =
     let p : 10 ^ k * 10 ≤ n = simp unary_clauses at (f.2 (omega arith)) in
-    (omega arith, below-tenth n (suc k) f.1, λ m. simp unary_clauses ((le-div_iff_mul-le {k = 10} (omega arith)).1 p))
+    (omega arith, below_tenth n (suc k) f.1, λ m. simp unary_clauses ((le-div_iff_mul-le {k = 10} (omega arith)).1 p))
 
-places-are : (most n k : ℕ) → n < 10 ^ suc most → IsDigitCount 10 1 n k → places_of most n ≡ k
+places_are : (most n k : ℕ) → n < 10 ^ suc most → IsDigitCount 10 1 n k → places_of most n ≡ k
 unfolding places_of
-places-are zero n k h f = one-digit n k h f
-places-are (suc most) n zero h f = absurd (omega (arith, f.0))
-places-are (suc most) n (suc k) h f =
-    split (λ (j : ℕ). j ≡ suc k) (ltb n 10) (λ t. one-digit n (suc k) (ltb-true n 10 t) f)
-    λ t. ap suc (places-are most (n / 10) k (below-tenth n (suc most) h) (tenth n k (ltb-false n 10 t) f))
+places_are zero n k h f = one_digit n k h f
+places_are (suc most) n zero h f = absurd (omega (arith, f.0))
+places_are (suc most) n (suc k) h f =
+    split (λ (j : ℕ). j ≡ suc k) (ltb n 10) (λ t. one_digit n (suc k) (ltb-true n 10 t) f)
+    λ t. ap suc (places_are most (n / 10) k (below_tenth n (suc most) h) (tenth n k (ltb-false n 10 t) f))
 
 -- the fewest digits that hold a number of 64 bits are its decimal text
 pub digits_decimal : (n k : ℕ) → n < 2 ^ 64 → IsDigitCount 10 1 n k → last_digits 10 k n ≡ decimal n
 unfolding decimal
-digits_decimal n k h f = ap (λ (j : ℕ). last_digits 10 j n) (sym (places-are 19 n k (omega arith) f))
+digits_decimal n k h f = ap (λ (j : ℕ). last_digits 10 j n) (sym (places_are 19 n k (omega arith) f))
 
 -- ---- forms
 
-part-short : (e : Report) (b : ℕ) → length (part_of e b) ≤ 20
+part_short : (e : Report) (b : ℕ) → length (part_of e b) ≤ 20
 unfolding part_of
-part-short e b =
-    split Short (b is 0x4E) (λ _. decimal-short e.number) λ _.
-    split Short (b is 0x52) (λ _. decimal-short e.record_number) λ _.
-    split Short (b is 0x43) (λ _. decimal-short e.column) λ _.
-    split Short (b is 0x42) (λ _. decimal-short e.offset) λ _. omega arith
+part_short e b =
+    split Short (b is 0x4E) (λ _. decimal_short e.number) λ _.
+    split Short (b is 0x52) (λ _. decimal_short e.record_number) λ _.
+    split Short (b is 0x43) (λ _. decimal_short e.column) λ _.
+    split Short (b is 0x42) (λ _. decimal_short e.offset) λ _. omega arith
   where
     Short : Bytes → Type 0
     Short w = length w ≤ 20
 
-pub filled-short : (e : Report) (form : Bytes) → length (filled e form) ≤ 20 * length form
+pub filled_short : (e : Report) (form : Bytes) → length (filled e form) ≤ 20 * length form
 unfolding filled
-filled-short e [] = omega arith
-filled-short e (b ∷ form) = simp length-append (omega (arith, part-short e b, filled-short e form))
+filled_short e [] = omega arith
+filled_short e (b ∷ form) = simp length-append (omega (arith, part_short e b, filled_short e form))
 
 -- a form from an index on, by the text of its next byte
 pub filled_next :
     (e : Report) (form : Bytes) (i : ℕ) → i < length form → filled e (drop i form) ≡ part_of e (get_or form i 0) ++ filled e (drop (i + 1) form)
 unfolding filled
-filled_next e form i h = rw (drop-next form i (i + 1) h refl)
+filled_next e form i h = rw (drop_next form i (i + 1) h refl)
 
 module _ (e : Report) (form : Bytes) (i : ℕ) {old out : Bytes} {o : ℕ} (w : Writing old 0 (filled e form) out o (filled e (drop i form))) where
   -- there is room for the next part
-  pub fill-room : i < length form → o + length (part_of e (get_or form i 0)) ≤ length out
-  fill-room h =
+  pub fill_room : i < length form → o + length (part_of e (get_or form i 0)) ≤ length out
+  fill_room h =
       let p : Bytes = part_of e (get_or form i 0) in
       let q : Bytes = filled e (drop (i + 1) form) in
-      let r : o + length (p ++ q) ≤ length out = room-left (rw (filled_next e form i h) at w) in
+      let r : o + length (p ++ q) ≤ length out = room_left (rw (filled_next e form i h) at w) in
       omega (arith, length-append p q)
 
   -- it is written
-  pub fill-next :
+  pub fill_next :
       {out' : Bytes} {o' : ℕ} → i < length form →
       (o' ≡ o + length (part_of e (get_or form i 0))) × (out' ≡ written out o (part_of e (get_or form i 0))) →
       Writing old 0 (filled e form) out' o' (filled e (drop (i + 1) form))
-  fill-next h p = rw (p.0, p.1) (put (part_of e (get_or form i 0)) (rw (filled_next e form i h) at w))
+  fill_next h p = rw (p.0, p.1) (put (part_of e (get_or form i 0)) (rw (filled_next e form i h) at w))
 
   -- the form is at its end
   pub fill_done : length form ≤ i → (o ≡ length (filled e form)) × (out ≡ over (filled e form) old)
@@ -114,28 +114,28 @@ module _ (e : Report) (form : Bytes) (i : ℕ) {old out : Bytes} {o : ℕ} (w : 
 -- ---- sentences
 
 -- the form of a number that is none of a file's faults
-pub other-form :
+pub other_form :
     (n column : ℕ) → (n ≡ 1 → ⊥) → (n ≡ 2 → ⊥) → (n ≡ 3 → ⊥) → (n ≡ 4 → ⊥) → (n ≡ 5 → ⊥) → (n ≡ 6 → ⊥) → (n ≡ 7 → ⊥) → (n ≡ 8 → ⊥) →
     (n ≡ 9 → ⊥) → form_of n column ≡ form_of 10 column
 unfolding form_of if◌then◌else◌
-other-form n column a b c d e f g h i =
+other_form n column a b c d e f g h i =
     rw (ne_eqb n 1 a, ne_eqb n 2 b, ne_eqb n 3 c, ne_eqb n 4 d, ne_eqb n 5 e, ne_eqb n 6 f, ne_eqb n 7 g, ne_eqb n 8 h, ne_eqb n 9 i)
 
 module _ (e : Report) (old : Bytes) {new : Bytes} {r : ℕ} where
   -- a form of the report's fault, filled, is its sentence
-  pub sentence-as :
+  pub sentence_as :
       {form : Bytes} → form_of e.number e.column ≡ form → (r ≡ length (filled e form)) × (new ≡ over (filled e form) old) →
-      (r ≡ length (sentenceOf e)) × (new ≡ over (sentenceOf e) old)
-  sentence-as q p = rw q p
+      (r ≡ length (sentence_of e)) × (new ≡ over (sentence_of e) old)
+  sentence_as q p = rw q p
 
   -- the same for the fault with this number
-  pub sentence-of :
+  pub sentence_of_lem :
       (n : ℕ) → e.number ≡ n → (r ≡ length (filled e (form_of n e.column))) × (new ≡ over (filled e (form_of n e.column)) old) →
-      (r ≡ length (sentenceOf e)) × (new ≡ over (sentenceOf e) old)
-  sentence-of n q = sentence-as (ap (λ (m : ℕ). form_of m e.column) q)
+      (r ≡ length (sentence_of e)) × (new ≡ over (sentence_of e) old)
+  sentence_of_lem n q = sentence_as (ap (λ (m : ℕ). form_of m e.column) q)
 
   -- and lies in the buffer
-  pub sentence-counts : (r ≡ length (sentenceOf e)) × (new ≡ over (sentenceOf e) old) → IsPrefixLen r new
-  sentence-counts p =
+  pub sentence_counts : (r ≡ length (sentence_of e)) × (new ≡ over (sentence_of e) old) → IsPrefixLen r new
+  sentence_counts p =
       let h : r ≤ length new = rw p.1 (simp length-append (omega (arith, p.0))) in
       (h, sym (length-take-le r new h))

@@ -31,8 +31,8 @@ filled e (b ∷ form) = part_of e b ++ filled e form
 
 -- the form of fault 9 by its column, which is that of a cell or a name (§8.3 §8.4), or 0 where the reason is the record as a whole (§8.2
 -- §8.5 §8.6)
-unfoldable pub uncarriedForm : (column : ℕ) → Bytes
-uncarriedForm column =
+unfoldable pub uncarried_form : (column : ℕ) → Bytes
+uncarried_form column =
     if column is 0 then ascii
     "refused (N): record R can't be written in the target dialect, which asks for a column or in which the record or the file gets too long; it begins at byte B\n"
     else ascii "refused (N): column C of record R can't be written in the target dialect, which lacks such a cell or character or takes the name for an earlier one; the record begins at byte B\n"
@@ -50,14 +50,14 @@ form_of n column =
     else if n is 7 then ascii "refused (N): record R, the header, has no name in column C, where the cell is not text; it begins at byte B\n"
     else if n is 8 then ascii
     "refused (N): at record R, a limit is passed (16,777,215 bytes in a file, 4,096 bytes or 64 columns in a record); byte B is the first too many or, for columns, the record's first\n"
-    else if n is 9 then uncarriedForm column
+    else if n is 9 then uncarried_form column
     else ascii "refused (N): the converter was not called as it has to be\n"
 
 -- the sentence for a report (§6.14)
-abbrev pub sentenceOf : Report → Bytes
-sentenceOf e = filled e (form_of e.number e.column)
+abbrev pub sentence_of : Report → Bytes
+sentence_of e = filled e (form_of e.number e.column)
 
--- helper: `unfolding sentences-compute` opens every definition of this module
-unfoldable pub sentences-compute : Type 0
-unfolding places_of decimal part_of filled uncarriedForm form_of
-sentences-compute = Unit {0}
+-- helper: `unfolding sentences_compute` opens every definition of this module
+unfoldable pub sentences_compute : Type 0
+unfolding places_of decimal part_of filled uncarried_form form_of
+sentences_compute = Unit {0}

@@ -1,7 +1,7 @@
 // Dialects by the words of the command line. Definition: specs/Words.antt.
 ghost use Rattle.std.specs.Prelude.{◌≡◌, ◌||◌};
 ghost use Rattle.model.specs.rules.Records.{lower};
-ghost use Rattle.messages.specs.Words.{spells, dialectNamed};
+ghost use Rattle.messages.specs.Words.{spells, dialect_named};
 
 // A to Z as a to z.
 fn lower_case(b: u8) -> u8
@@ -45,7 +45,7 @@ fn names(word: &[u8], name: &[u8], number: &[u8]) -> bool
 
 // The number of the dialect that a word names, 0 if it names none.
 pub fn dialect_named(word: &[u8]) -> u32
-    ensures { result ≡ dialectNamed word.now }
+    ensures { result ≡ dialect_named word.now }
 {
     if names(word, b"csvj", b"1") {
         return 1;

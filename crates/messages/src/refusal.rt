@@ -3,7 +3,7 @@
 ghost use Rattle.std.specs.Prelude.{◌≡◌, ◌+◌, ◌*◌, ◌≤◌, length};
 ghost use Rattle.model.specs.rules.Base.{over};
 ghost use Rattle.buffer.specs.Writes.{written};
-ghost use Rattle.messages.specs.Sentences.{decimal, part_of, filled, uncarriedForm, sentenceOf};
+ghost use Rattle.messages.specs.Sentences.{decimal, part_of, filled, uncarried_form, sentence_of};
 
 use model::Report;
 
@@ -56,7 +56,7 @@ fn fill(e: Report, form: &[u8], out: &mut [u8]) -> usize
 // ---- sentences
 
 fn uncarried(e: Report, out: &mut [u8; 4096]) -> usize
-    ensures { (result ≡ length (filled e (uncarriedForm e.column))) × (out.new ≡ over (filled e (uncarriedForm e.column)) out.old) }
+    ensures { (result ≡ length (filled e (uncarried_form e.column))) × (out.new ≡ over (filled e (uncarried_form e.column)) out.old) }
 {
     if e.column == 0 {
         return fill(
@@ -74,7 +74,7 @@ fn uncarried(e: Report, out: &mut [u8; 4096]) -> usize
 
 // Writes the sentence for a report to the beginning of `out`. Returns its length.
 pub fn sentence(e: Report, out: &mut [u8; 4096]) -> usize
-    ensures { (result ≡ length (sentenceOf e)) × (out.new ≡ over (sentenceOf e) out.old) }
+    ensures { (result ≡ length (sentence_of e)) × (out.new ≡ over (sentence_of e) out.old) }
 {
     let number = e.number;
     match number {

@@ -8,16 +8,16 @@ pub mistakes : Mistakes
 unfolding computes
 mistakes =
     record {
-      lone-cr = (refl, refl);
-      raw-names = refl;
-      fold-borders = refl;
-      empty-record = refl;
-      halves-joined = refl;
-      comment-uncounted = (refl, refl);
-      limit-first = (refl, refl);
-      mark-in-quotes = refl;
-      crlf-ends-once = refl;
-      cr-before-cut = (refl, refl);
-      lf-after-cut = refl;
-      halves-cut = refl;
+      lone_cr = (refl, refl);
+      raw_names = refl;
+      fold_borders = refl;
+      empty_record = refl;
+      halves_joined = refl;
+      comment_uncounted = (refl, refl);
+      limit_first = (refl, refl);
+      mark_in_quotes = refl;
+      crlf_ends_once = refl;
+      cr_before_cut = (refl, refl);
+      lf_after_cut = refl;
+      halves_cut = refl;
     }

@@ -15,16 +15,16 @@ unfolding if◌then◌else◌
 split P true f g = f refl
 split P false f g = g refl
 
-pub split-on : {A : Type 0} (t : Bool) → (t ≡ true → A) → (t ≡ false → A) → A
-split-on true f g = f refl
-split-on false f g = g refl
+pub split_on : {A : Type 0} (t : Bool) → (t ≡ true → A) → (t ≡ false → A) → A
+split_on true f g = f refl
+split_on false f g = g refl
 
 pub impossible : {A : Type 0} → false ≡ true → A
 impossible e = let z : ◌≡◌ {A = ℕ} 0 1 = cc in absurd (omega arith)
 
-pub and-true : (x y : Bool) → (x && y) ≡ true → (x ≡ true) × (y ≡ true)
-and-true true y e = (refl, e)
-and-true false y e = impossible e
+pub and_true : (x y : Bool) → (x && y) ≡ true → (x ≡ true) × (y ≡ true)
+and_true true y e = (refl, e)
+and_true false y e = impossible e
 
 pub is→eq : (b c : ℕ) → (b is c) ≡ true → b ≡ c
 is→eq b c e = eqb→eq b c (subst T (sym e) tt)
@@ -32,5 +32,5 @@ is→eq b c e = eqb→eq b c (subst T (sym e) tt)
 pub same_byte : (b : ℕ) → (b is b) ≡ true
 same_byte b = eq-eqb b b refl
 
-pub within-true : (lo hi b : ℕ) → within lo hi b ≡ true → (lo ≤ b) × (b ≤ hi)
-within-true lo hi b e = let x = and-true (leb lo b) (leb b hi) e in (leb-true lo b x.0, leb-true b hi x.1)
+pub within_true : (lo hi b : ℕ) → within lo hi b ≡ true → (lo ≤ b) × (b ≤ hi)
+within_true lo hi b e = let x = and_true (leb lo b) (leb b hi) e in (leb-true lo b x.0, leb-true b hi x.1)

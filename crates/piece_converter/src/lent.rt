@@ -3,7 +3,7 @@
 // (specs/Contract.antt), the ledger's answer after any calls; proofs/Contract.antt has the argument for both calls.
 ghost use Rattle.std.specs.Prelude.{length};
 ghost use Rattle.model.specs.rules.Ledger.{piece, finish};
-ghost use Rattle.piece_converter.specs.Contract.{converterOf, CallContract};
+ghost use Rattle.piece_converter.specs.Contract.{converter_of, CallContract};
 
 use crate::state;
 use codes::TextAnswer;
@@ -23,7 +23,7 @@ pub fn piece(
     input: &[u8],
     out: &mut [u8],
 ) -> TextAnswer
-    ensures { CallContract (converterOf source target numbers.old ends.old name_ends.old bytes.old names.old) (piece input.now (length out.old)) out.old result (converterOf source target numbers.new ends.new name_ends.new bytes.new names.new) out.new }
+    ensures { CallContract (converter_of source target numbers.old ends.old name_ends.old bytes.old names.old) (piece input.now (length out.old)) out.old result (converter_of source target numbers.new ends.new name_ends.new bytes.new names.new) out.new }
 {
     let before = *numbers;
     match checks::check_call(
@@ -63,7 +63,7 @@ pub fn end(
     names: &mut [u8; 4096],
     out: &mut [u8],
 ) -> TextAnswer
-    ensures { CallContract (converterOf source target numbers.old ends.old name_ends.old bytes.old names.old) (finish (length out.old)) out.old result (converterOf source target numbers.new ends.new name_ends.new bytes.new names.new) out.new }
+    ensures { CallContract (converter_of source target numbers.old ends.old name_ends.old bytes.old names.old) (finish (length out.old)) out.old result (converter_of source target numbers.new ends.new name_ends.new bytes.new names.new) out.new }
 {
     let before = *numbers;
     match checks::check_call(

@@ -2,11 +2,11 @@
 // of model's specs/rules/Ledger.antt.
 //
 // The calls take the state by value and return the next one, or work on a state that is lent field by field (`lent`). No call requires
-// anything of the state: it may be any numbers and bytes. A new field of the state is also one of state.rt, of `converterOf` in
+// anything of the state: it may be any numbers and bytes. A new field of the state is also one of state.rt, of `converter_of` in
 // specs/Contract.antt, of include/hemakuliwi.h and of rust/hemakuliwi/src/raw.rs.
 ghost use Rattle.std.specs.Prelude.{◌≡◌, length};
 ghost use Rattle.model.specs.rules.Ledger.{piece, finish};
-ghost use Rattle.piece_converter.specs.Contract.{newConverter, CallContract};
+ghost use Rattle.piece_converter.specs.Contract.{new_converter, CallContract};
 
 use codes::TextAnswer;
 use model::Report;
@@ -56,7 +56,7 @@ pub struct PieceAnswer {
 impl Converter {
     // A converter from one dialect to another. The numbers may be any: with one that is no dialect's every call is refused.
     pub fn new(source: u32, target: u32) -> Converter
-        ensures { result ≡ newConverter source target }
+        ensures { result ≡ new_converter source target }
     {
         Converter {
             source,

@@ -1,8 +1,8 @@
 // The numbers of a lent state, in the order and layout of the fields of a `Converter`: where the conversion is, whether its end was
-// accepted, and the report of a fault that was met. Definitions: specs/States.antt; `place-back` of proofs/Representation.antt is the
+// accepted, and the report of a fault that was met. Definitions: specs/States.antt; `place_back` of proofs/Representation.antt is the
 // round trip.
 ghost use Rattle.std.specs.Prelude.{◌≡◌};
-ghost use Rattle.piece_converter.specs.States.{place_in, storedFault, numbersOf};
+ghost use Rattle.piece_converter.specs.States.{place_in, stored_fault, numbers_of};
 
 use model::Report;
 use piece_state::place::Place;
@@ -46,7 +46,7 @@ pub fn place_in(n: [usize; 14]) -> Place
 }
 
 pub fn stored_fault(n: [usize; 14]) -> Report
-    ensures { result ≡ storedFault n }
+    ensures { result ≡ stored_fault n }
 {
     Report {
         number: n[FAULT],
@@ -57,7 +57,7 @@ pub fn stored_fault(n: [usize; 14]) -> Report
 }
 
 pub fn numbers_of(p: Place, ended: usize, e: Report) -> [usize; 14]
-    ensures { result ≡ numbersOf p ended e }
+    ensures { result ≡ numbers_of p ended e }
 {
     let f = p.state;
     [

@@ -9,85 +9,85 @@ use lib.Dec.{ltb}
 use borrow.Author.Tests.{ltb-true, ltb-false}
 use lib.Seq.{take_at, take-length, get_or-take, get_or-drop}
 use Rattle.model.specs.rules.Base.{if◌then◌else◌, Bytes, over}
-use Rattle.model.specs.rules.Decode.{kindNumber, kind_of}
+use Rattle.model.specs.rules.Decode.{kind_number, kind_of}
 use Rattle.model.specs.rules.Report.{MAXRECORD}
-use Rattle.model.specs.rules.Api.{slice, kindsOf, kindNamed}
-use Rattle.model.specs.laws.Places.{valuesIn}
+use Rattle.model.specs.rules.Api.{slice, kinds_of, kind_named}
+use Rattle.model.specs.laws.Places.{values_in}
 use Rattle.model.specs.declared.Kind.{Kind}
 use Rattle.model.specs.declared.Kind.TheVariants.{Text, Number, True, False, Null}
-use Rattle.model.proofs.Tests.{split-on, impossible}
+use Rattle.model.proofs.Tests.{split_on, impossible}
 use Rattle.buffer.specs.Writes.{Room}
 use Rattle.cell_decoder.specs.declared.source.Source.{Source}
 use Rattle.cell_decoder.specs.declared.source.Source.TheVariants.{File}
 use Rattle.cell_decoder.specs.Followed.{EdFollows, EdFollowed}
-use Rattle.cell_decoder.specs.Sources.{kindFrom, cells_in, Encoded, in-file, Cells}
-use Rattle.piece_state.specs.CurrentRecord.{SpansIn, kindsAt}
+use Rattle.cell_decoder.specs.Sources.{kind_from, cells_in, Encoded, in_file, Cells}
+use Rattle.piece_state.specs.CurrentRecord.{SpansIn, kinds_at}
 use Rattle.model.specs.declared.Dialect.{Dialect}
-use Rattle.piece_state.specs.Sound.{InOrder, order-end, order-next}
-use Rattle.piece_record.specs.Completion.{startsBy, end_of, HoldsNoEd}
+use Rattle.piece_state.specs.Sound.{InOrder, order_end, order_next}
+use Rattle.piece_record.specs.Completion.{starts_by, end_of, HoldsNoEd}
 
 -- ---- kinds
 
-pub kind-back : (k : Kind) → kindFrom (kindNumber k) ≡ k
-unfolding kindNamed if◌then◌else◌
-kind-back Text = refl
-kind-back Number = refl
-kind-back True = refl
-kind-back False = refl
-kind-back Null = refl
+pub kind_back : (k : Kind) → kind_from (kind_number k) ≡ k
+unfolding kind_named if◌then◌else◌
+kind_back Text = refl
+kind_back Number = refl
+kind_back True = refl
+kind_back False = refl
+kind_back Null = refl
 
 pub cells_are :
     (d : Dialect) (s : Bytes) (starts ends : List ℕ) →
-    cells_in (File d) s starts ends (kindsOf (valuesIn d s starts ends)) ≡ valuesIn d s starts ends
-unfolding cells_in valuesIn
+    cells_in (File d) s starts ends (kinds_of (values_in d s starts ends)) ≡ values_in d s starts ends
+unfolding cells_in values_in
 cells_are d s [] ends = refl
 cells_are d s (i ∷ starts) [] = refl
-cells_are d s (i ∷ starts) (j ∷ ends) = rw (kind-back (kind_of d (slice s i j)), cells_are d s starts ends)
+cells_are d s (i ∷ starts) (j ∷ ends) = rw (kind_back (kind_of d (slice s i j)), cells_are d s starts ends)
 
 -- ---- spans one after another
 
-pub starts-count : (at : ℕ) (ends : List ℕ) → length (startsBy at ends) ≡ length ends
-unfolding startsBy
-starts-count at [] = refl
-starts-count at (e ∷ es) = ap suc (starts-count e es)
+pub starts_count : (at : ℕ) (ends : List ℕ) → length (starts_by at ends) ≡ length ends
+unfolding starts_by
+starts_count at [] = refl
+starts_count at (e ∷ es) = ap suc (starts_count e es)
 
-pub kinds-count : (d : Dialect) (s : Bytes) (at : ℕ) (ends : List ℕ) → length (kindsOf (valuesIn d s (startsBy at ends) ends)) ≡ length ends
-unfolding startsBy valuesIn
-kinds-count d s at [] = refl
-kinds-count d s at (e ∷ es) = ap suc (kinds-count d s e es)
+pub kinds_count : (d : Dialect) (s : Bytes) (at : ℕ) (ends : List ℕ) → length (kinds_of (values_in d s (starts_by at ends) ends)) ≡ length ends
+unfolding starts_by values_in
+kinds_count d s at [] = refl
+kinds_count d s at (e ∷ es) = ap suc (kinds_count d s e es)
 
-order-over : {at upto : ℕ} {ends : List ℕ} → InOrder at ends upto → at ≤ upto
-order-over (order-end h) = h
-order-over (order-next h hs) = let k = order-over hs in omega arith
+order_over : {at upto : ℕ} {ends : List ℕ} → InOrder at ends upto → at ≤ upto
+order_over (order_end h) = h
+order_over (order_next h hs) = let k = order_over hs in omega arith
 
 ordered_at :
     (at upto : ℕ) (ends : List ℕ) → InOrder at ends upto → (k : ℕ) → k < length ends →
-    (get_or (startsBy at ends) k 0 ≤ get_or ends k 0) × (get_or ends k 0 ≤ upto)
-unfolding startsBy
-ordered_at at upto (e ∷ es) (order-next h hs) zero l = (h, order-over hs)
-ordered_at at upto (e ∷ es) (order-next h hs) (suc k) l = ordered_at e upto es hs k (omega arith)
-ordered_at at upto [] (order-end h) k l = absurd (omega arith)
+    (get_or (starts_by at ends) k 0 ≤ get_or ends k 0) × (get_or ends k 0 ≤ upto)
+unfolding starts_by
+ordered_at at upto (e ∷ es) (order_next h hs) zero l = (h, order_over hs)
+ordered_at at upto (e ∷ es) (order_next h hs) (suc k) l = ordered_at e upto es hs k (omega arith)
+ordered_at at upto [] (order_end h) k l = absurd (omega arith)
 
-pub lie-of : {s : Bytes} {ends : List ℕ} → InOrder 0 ends (length s) → SpansIn s (startsBy 0 ends) ends 0 (length ends)
-lie-of {s} {ends} h =
-    let n = starts-count 0 ends in
+pub lie_of : {s : Bytes} {ends : List ℕ} → InOrder 0 ends (length s) → SpansIn s (starts_by 0 ends) ends 0 (length ends)
+lie_of {s} {ends} h =
+    let n = starts_count 0 ends in
     record {
-      in-starts = omega arith;
-      in-stops = omega arith;
+      in_starts = omega arith;
+      in_stops = omega arith;
       forward = λ k _ l. (ordered_at 0 (length s) ends h k l).0;
       within = λ k _ l. (ordered_at 0 (length s) ends h k l).1;
     }
 
 -- starts by an array
-pub starts_by : (at : ℕ) (ends : List ℕ) → take (length ends) (at ∷ ends) ≡ startsBy at ends
-unfolding startsBy
-starts_by at [] = refl
-starts_by at (e ∷ es) = ap (λ (l : List ℕ). at ∷ l) (starts_by e es)
+pub starts_by_lem : (at : ℕ) (ends : List ℕ) → take (length ends) (at ∷ ends) ≡ starts_by at ends
+unfolding starts_by
+starts_by_lem at [] = refl
+starts_by_lem at (e ∷ es) = ap (λ (l : List ℕ). at ∷ l) (starts_by_lem e es)
 
 -- ---- what writing and the checks require
 
-slice-short : (s : Bytes) (i j : ℕ) → length s ≤ MAXRECORD → length (slice s i j) ≤ MAXRECORD
-slice-short s i j h = omega (arith, length-take (j - i) (drop i s), length-drop i s)
+slice_short : (s : Bytes) (i j : ℕ) → length s ≤ MAXRECORD → length (slice s i j) ≤ MAXRECORD
+slice_short s i j h = omega (arith, length-take (j - i) (drop i s), length-drop i s)
 
 -- where the last cell ends
 pub end_none : (ends : List ℕ) → length ends ≡ 0 → 0 ≡ end_of 0 ends
@@ -95,63 +95,63 @@ unfolding end_of
 end_none [] h = refl
 end_none (e ∷ es) h = absurd (omega arith)
 
-end-last : (at e : ℕ) (es : List ℕ) → get_or (e ∷ es) (length es) 0 ≡ end_of at (e ∷ es)
+end_last : (at e : ℕ) (es : List ℕ) → get_or (e ∷ es) (length es) 0 ≡ end_of at (e ∷ es)
 unfolding end_of
-end-last at e [] = refl
-end-last at e (x ∷ xs) = end-last e x xs
+end_last at e [] = refl
+end_last at e (x ∷ xs) = end_last e x xs
 
-pub end-some : (ends : List ℕ) (n : ℕ) → length ends ≡ n → 0 < n → get_or ends (n - 1) 0 ≡ end_of 0 ends
-end-some [] n e h = absurd (omega arith)
-end-some (x ∷ xs) n e h = let m : n - 1 ≡ length xs = omega arith in rw m (end-last 0 x xs)
+pub end_some : (ends : List ℕ) (n : ℕ) → length ends ≡ n → 0 < n → get_or ends (n - 1) 0 ≡ end_of 0 ends
+end_some [] n e h = absurd (omega arith)
+end_some (x ∷ xs) n e h = let m : n - 1 ≡ length xs = omega arith in rw m (end_last 0 x xs)
 
-end-over : (at upto : ℕ) (ends : List ℕ) → InOrder at ends upto → end_of at ends ≤ upto
+end_over : (at upto : ℕ) (ends : List ℕ) → InOrder at ends upto → end_of at ends ≤ upto
 unfolding end_of
-end-over at upto [] (order-end h) = h
-end-over at upto (e ∷ es) (order-next h hs) = end-over e upto es hs
+end_over at upto [] (order_end h) = h
+end_over at upto (e ∷ es) (order_next h hs) = end_over e upto es hs
 
-pub end-inside : {upto : ℕ} {ends : List ℕ} → InOrder 0 ends upto → end_of 0 ends ≤ upto
-end-inside {upto} {ends} h = end-over 0 upto ends h
+pub end_inside : {upto : ℕ} {ends : List ℕ} → InOrder 0 ends upto → end_of 0 ends ≤ upto
+end_inside {upto} {ends} h = end_over 0 upto ends h
 
-end-from : (at upto : ℕ) (ends : List ℕ) → InOrder at ends upto → at ≤ end_of at ends
+end_from : (at upto : ℕ) (ends : List ℕ) → InOrder at ends upto → at ≤ end_of at ends
 unfolding end_of
-end-from at upto [] (order-end h) = omega arith
-end-from at upto (e ∷ es) (order-next h hs) = let k = end-from e upto es hs in omega arith
+end_from at upto [] (order_end h) = omega arith
+end_from at upto (e ∷ es) (order_next h hs) = let k = end_from e upto es hs in omega arith
 
 -- ---- bytes tested in order
 
-pub no-ed-next : (s : Bytes) (i : ℕ) → ((j : ℕ) → j < i → get_or s j 0 ≡ 0xED → ⊥) → (get_or s i 0 ≡ 0xED → ⊥) → (j : ℕ) → j < i + 1 → get_or s j 0 ≡ 0xED → ⊥
-no-ed-next s i h n j l e =
-    split-on (ltb j i) (λ p. h j (ltb-true j i p) e) λ p. let q : i ≡ j = omega (arith, ltb-false j i p) in n (ap (λ (k : ℕ). get_or s k 0) q ∙ e)
+pub no_ed_next : (s : Bytes) (i : ℕ) → ((j : ℕ) → j < i → get_or s j 0 ≡ 0xED → ⊥) → (get_or s i 0 ≡ 0xED → ⊥) → (j : ℕ) → j < i + 1 → get_or s j 0 ≡ 0xED → ⊥
+no_ed_next s i h n j l e =
+    split_on (ltb j i) (λ p. h j (ltb-true j i p) e) λ p. let q : i ≡ j = omega (arith, ltb-false j i p) in n (ap (λ (k : ℕ). get_or s k 0) q ∙ e)
 
-pub no-ed-followed : (s : Bytes) → HoldsNoEd s → EdFollowed s
-no-ed-followed s h i l e = absurd (h i (omega arith) e)
+pub no_ed_followed : (s : Bytes) → HoldsNoEd s → EdFollowed s
+no_ed_followed s h i l e = absurd (h i (omega arith) e)
 
 -- up to i each ED is followed
 abbrev pub FollowedTo : Bytes → ℕ → Type 0
 FollowedTo s i = (j : ℕ) → j + 1 < i → j + 1 < length s → get_or s j 0 ≡ 0xED → EdFollows s j
 
-pub followed-next : (s : Bytes) (i : ℕ) → FollowedTo s i → (get_or s (i - 1) 0 ≡ 0xED → (0x80 ≤ get_or s i 0) × (get_or s i 0 < 0xA0)) → FollowedTo s (i + 1)
-followed-next s i h n j l m e =
-    split-on (ltb (j + 1) i) (λ p. h j (ltb-true (j + 1) i p) m e) λ p.
+pub followed_next : (s : Bytes) (i : ℕ) → FollowedTo s i → (get_or s (i - 1) 0 ≡ 0xED → (0x80 ≤ get_or s i 0) × (get_or s i 0 < 0xA0)) → FollowedTo s (i + 1)
+followed_next s i h n j l m e =
+    split_on (ltb (j + 1) i) (λ p. h j (ltb-true (j + 1) i p) m e) λ p.
     let g : i ≤ j + 1 = ltb-false (j + 1) i p in
     let back : i - 1 ≡ j = omega arith in
     let on : j + 1 ≡ i = omega arith in
     let w = n (ap (λ (k : ℕ). get_or s k 0) back ∙ e) in
     record { least = rw on w.0; most = rw on w.1 }
 
-pub followed-whole : (s : Bytes) (i : ℕ) → FollowedTo s i → length s ≤ i → EdFollowed s
-followed-whole s i h l j m e = h j (omega arith) m e
+pub followed_whole : (s : Bytes) (i : ℕ) → FollowedTo s i → length s ≤ i → EdFollowed s
+followed_whole s i h l j m e = h j (omega arith) m e
 
-pub not-followed : (s : Bytes) (i : ℕ) → 1 ≤ i → i < length s → get_or s (i - 1) 0 ≡ 0xED → (0x80 ≤ get_or s i 0 → get_or s i 0 < 0xA0 → ⊥) → EdFollowed s → ⊥
-not-followed s i f l e n h =
+pub not_followed : (s : Bytes) (i : ℕ) → 1 ≤ i → i < length s → get_or s (i - 1) 0 ≡ 0xED → (0x80 ≤ get_or s i 0 → get_or s i 0 < 0xA0 → ⊥) → EdFollowed s → ⊥
+not_followed s i f l e n h =
     let on : i - 1 + 1 ≡ i = omega arith in
     let w : EdFollows s (i - 1) = h (i - 1) (omega arith) e in
     n (rw on at w.least) (rw on at w.most)
 
 -- ---- a span of bytes that can be written can be
 
-slice-followed : (s : Bytes) (n i j : ℕ) → j ≤ n → EdFollowed (take n s) → EdFollowed (slice s i j)
-slice-followed s n i j below h k l e =
+slice_followed : (s : Bytes) (n i j : ℕ) → j ≤ n → EdFollowed (take n s) → EdFollowed (slice s i j)
+slice_followed s n i j below h k l e =
     let a : length (slice s i j) ≤ j - i = omega (arith, length-take (j - i) (drop i s)) in
     let b : length (slice s i j) ≤ length s - i = omega (arith, length-take (j - i) (drop i s), length-drop i s) in
     let m : i + k + 1 < length (take n s) = omega (arith, length-take n s) in
@@ -162,28 +162,28 @@ slice-followed s n i j below h k l e =
     record { least = rw next f.least; most = rw next f.most }
 
 module _ (d : Dialect) (s : Bytes) (short : length s ≤ MAXRECORD) (n : ℕ) (followed : EdFollowed (take n s)) where
-  spelt-at :
+  spelt_at :
       (at upto : ℕ) (ends : List ℕ) → InOrder at ends upto → end_of at ends ≤ n → (k : ℕ) → k < length ends →
-      Encoded (File d) (kindFrom (get_or (kindsOf (valuesIn d s (startsBy at ends) ends)) k 0)) (slice s (get_or (startsBy at ends) k 0) (get_or ends k 0))
-  unfolding startsBy valuesIn end_of
-  spelt-at at upto [] h w k l = absurd (omega arith)
-  spelt-at at upto (e ∷ es) (order-next h hs) w zero l =
-      in-file (slice-short s at e short) (slice-followed s n at e (omega (arith, end-from e upto es hs)) followed) (kind-back (kind_of d (slice s at e)))
-  spelt-at at upto (e ∷ es) (order-next h hs) w (suc k) l = spelt-at e upto es hs w k (omega arith)
+      Encoded (File d) (kind_from (get_or (kinds_of (values_in d s (starts_by at ends) ends)) k 0)) (slice s (get_or (starts_by at ends) k 0) (get_or ends k 0))
+  unfolding starts_by values_in end_of
+  spelt_at at upto [] h w k l = absurd (omega arith)
+  spelt_at at upto (e ∷ es) (order_next h hs) w zero l =
+      in_file (slice_short s at e short) (slice_followed s n at e (omega (arith, end_from e upto es hs)) followed) (kind_back (kind_of d (slice s at e)))
+  spelt_at at upto (e ∷ es) (order_next h hs) w (suc k) l = spelt_at e upto es hs w k (omega arith)
 
-pub cells-buffered :
+pub cells_buffered :
     (d : Dialect) (s : Bytes) (ends : List ℕ) → length s ≤ MAXRECORD → InOrder 0 ends (length s) → EdFollowed (take (end_of 0 ends) s) →
-    Cells (File d) s (startsBy 0 ends) ends (kindsOf (valuesIn d s (startsBy 0 ends) ends))
-cells-buffered d s ends short h w =
-    let n = starts-count 0 ends in
-    let m = kinds-count d s 0 ends in
+    Cells (File d) s (starts_by 0 ends) ends (kinds_of (values_in d s (starts_by 0 ends) ends))
+cells_buffered d s ends short h w =
+    let n = starts_count 0 ends in
+    let m = kinds_count d s 0 ends in
     record {
-      with-ends = n;
-      with-kinds = n ∙ sym m;
+      with_ends = n;
+      with_kinds = n ∙ sym m;
       each = λ k l. record {
         forward = (ordered_at 0 (length s) ends h k (omega arith)).0;
         within = (ordered_at 0 (length s) ends h k (omega arith)).1;
-        spelt = spelt-at d s short (end_of 0 ends) w 0 (length s) ends h (omega arith) k (omega arith);
+        spelt = spelt_at d s short (end_of 0 ends) w 0 (length s) ends h (omega arith) k (omega arith);
       };
     }
 
@@ -195,35 +195,35 @@ whole_room w h = record { measured = λ e. impossible (sym e); inside = λ _. h 
 -- ---- the lists that the code makes
 
 -- the beginning of an array
-take-over : (n : ℕ) (new old : List ℕ) → length new ≡ n → take n (over new old) ≡ new
-take-over n new old e = take_at new (drop (length new) old) n e
+take_over : (n : ℕ) (new old : List ℕ) → length new ≡ n → take n (over new old) ≡ new
+take_over n new old e = take_at new (drop (length new) old) n e
 
-pub starts-made : (ends old new : List ℕ) → new ≡ over (take (length ends) (0 ∷ ends)) old → take (length ends) new ≡ startsBy 0 ends
-starts-made ends old new e =
-    let n : length (take (length ends) (0 ∷ ends)) ≡ length ends = ap length (starts_by 0 ends) ∙ starts-count 0 ends in
-    ap (take (length ends)) e ∙ take-over (length ends) (take (length ends) (0 ∷ ends)) old n ∙ starts_by 0 ends
+pub starts_made : (ends old new : List ℕ) → new ≡ over (take (length ends) (0 ∷ ends)) old → take (length ends) new ≡ starts_by 0 ends
+starts_made ends old new e =
+    let n : length (take (length ends) (0 ∷ ends)) ≡ length ends = ap length (starts_by_lem 0 ends) ∙ starts_count 0 ends in
+    ap (take (length ends)) e ∙ take_over (length ends) (take (length ends) (0 ∷ ends)) old n ∙ starts_by_lem 0 ends
 
-module _ (d : Dialect) (s : Bytes) (starts ends : List ℕ) (e : starts ≡ startsBy 0 ends) where
-  pub starts-stand : InOrder 0 ends (length s) → SpansIn s starts ends 0 (length ends)
-  starts-stand h = rw e (lie-of h)
+module _ (d : Dialect) (s : Bytes) (starts ends : List ℕ) (e : starts ≡ starts_by 0 ends) where
+  pub starts_stand : InOrder 0 ends (length s) → SpansIn s starts ends 0 (length ends)
+  starts_stand h = rw e (lie_of h)
 
-  pub kinds-made :
-      (old new : List ℕ) → new ≡ over (kindsAt d s starts ends (length ends)) old →
-      take (length ends) new ≡ kindsOf (valuesIn d s (startsBy 0 ends) ends)
-  kinds-made old new f =
-      let n : length ends ≡ length (startsBy 0 ends) = sym (starts-count 0 ends) in
-      let a : take (length ends) starts ≡ startsBy 0 ends
-      = ap (take (length ends)) e ∙ ap (λ (m : ℕ). take m (startsBy 0 ends)) n ∙ take-length (startsBy 0 ends) in
+  pub kinds_made :
+      (old new : List ℕ) → new ≡ over (kinds_at d s starts ends (length ends)) old →
+      take (length ends) new ≡ kinds_of (values_in d s (starts_by 0 ends) ends)
+  kinds_made old new f =
+      let n : length ends ≡ length (starts_by 0 ends) = sym (starts_count 0 ends) in
+      let a : take (length ends) starts ≡ starts_by 0 ends
+      = ap (take (length ends)) e ∙ ap (λ (m : ℕ). take m (starts_by 0 ends)) n ∙ take-length (starts_by 0 ends) in
       let b : take (length ends) ends ≡ ends = take-length ends in
-      let k : kindsAt d s starts ends (length ends) ≡ kindsOf (valuesIn d s (startsBy 0 ends) ends) = ap₂ (λ (x y : List ℕ). kindsOf (valuesIn d s x y)) a b in
+      let k : kinds_at d s starts ends (length ends) ≡ kinds_of (values_in d s (starts_by 0 ends) ends) = ap₂ (λ (x y : List ℕ). kinds_of (values_in d s x y)) a b in
       ap (take (length ends)) (f ∙ ap (λ (x : List ℕ). over x old) k)
-      ∙ take-over (length ends) (kindsOf (valuesIn d s (startsBy 0 ends) ends)) old (kinds-count d s 0 ends)
+      ∙ take_over (length ends) (kinds_of (values_in d s (starts_by 0 ends) ends)) old (kinds_count d s 0 ends)
 
-  module _ (old new : List ℕ) (f : new ≡ over (kindsAt d s starts ends (length ends)) old) where
+  module _ (old new : List ℕ) (f : new ≡ over (kinds_at d s starts ends (length ends)) old) where
     pub made_cells :
         length s ≤ MAXRECORD → InOrder 0 ends (length s) → EdFollowed (take (end_of 0 ends) s) →
         Cells (File d) s starts ends (take (length ends) new)
-    made_cells short h w = rw (e, kinds-made old new f) (cells-buffered d s ends short h w)
+    made_cells short h w = rw (e, kinds_made old new f) (cells_buffered d s ends short h w)
 
-    pub made-values : cells_in (File d) s starts ends (take (length ends) new) ≡ valuesIn d s (startsBy 0 ends) ends
-    made-values = rw (e, kinds-made old new f) (cells_are d s (startsBy 0 ends) ends)
+    pub made_values : cells_in (File d) s starts ends (take (length ends) new) ≡ values_in d s (starts_by 0 ends) ends
+    made_values = rw (e, kinds_made old new f) (cells_are d s (starts_by 0 ends) ends)

@@ -2,9 +2,9 @@
 -- it.
 use Rattle.std.specs.Prelude.{ℕ, ◌+◌, ◌≤◌, ◌<◌, ◌≡◌, List, [], ◌∷◌, ◌++◌, length, take, get_or}
 use Rattle.model.specs.rules.Base.{if◌then◌else◌, ◌is◌, Bytes}
-use Rattle.model.specs.rules.Text.{Value, recordText, ending}
-use Rattle.model.specs.laws.Places.{valuesIn}
-use Rattle.model.specs.rules.Records.{◌orElse◌, headerFault, dataFault, targetFault}
+use Rattle.model.specs.rules.Text.{Value, record_text, ending}
+use Rattle.model.specs.laws.Places.{values_in}
+use Rattle.model.specs.rules.Records.{◌or_else◌, header_fault, data_fault, target_fault}
 use Rattle.buffer.specs.Writes.{written}
 use Rattle.cell_decoder.specs.Followed.{EdFollowed}
 use Rattle.model.specs.declared.Dialect.{Dialect}
@@ -19,9 +19,9 @@ use Rattle.piece_record.specs.declared.RecordResult.TheVariants.{Written, Refuse
 -- ---- spans one after another
 
 -- where cells with these ends start, if the first starts there
-unfoldable pub startsBy : (at : ℕ) → List ℕ → List ℕ
-startsBy at [] = []
-startsBy at (e ∷ es) = at ∷ startsBy e es
+unfoldable pub starts_by : (at : ℕ) → List ℕ → List ℕ
+starts_by at [] = []
+starts_by at (e ∷ es) = at ∷ starts_by e es
 
 -- where the last of them ends
 unfoldable pub end_of : (at : ℕ) → List ℕ → ℕ
@@ -35,29 +35,29 @@ HoldsNoEd bs = (i : ℕ) → i < length bs → get_or bs i 0 ≡ 0xED → ⊥
 -- ---- the result for a record
 
 -- the checks of a record at a place, with its records, columns and bytes so far: the source's in dialect d, and then the target's
-unfoldable pub faultAt : Dialect → Target → Place → List Value → CheckResult
-faultAt d t p vs =
-    (if p.records is 0 then headerFault d vs else dataFault p.columns vs) or_else targetFault t (p.records is 0) p.written vs
+unfoldable pub fault_at : Dialect → Target → Place → List Value → CheckResult
+fault_at d t p vs =
+    (if p.records is 0 then header_fault d vs else data_fault p.columns vs) or_else target_fault t (p.records is 0) p.written vs
 
 -- the text of a record at this place, with its ending
-abbrev pub textAt : Target → Place → List Value → Bytes
-textAt t p vs = recordText t (p.records is 0) vs ++ ending t.dialect
+abbrev pub text_at : Target → Place → List Value → Bytes
+text_at t p vs = record_text t (p.records is 0) vs ++ ending t.dialect
 
 -- its text is written at o, if it has no fault and there is room
 pub data FinishSound (v : CheckResult) (text : Bytes) (o : ℕ) (out out' : List ℕ) : RecordResult → Type 0 where
-  is-written :
+  is_written :
       {end : ℕ} → v ≡ Sound → o + length text ≤ length out → out' ≡ written out o text → end ≡ o + length text →
       FinishSound v text o out out' (Written end)
-  is-refused : {e : Fault} → v ≡ Faulty e → out' ≡ out → FinishSound v text o out out' (Refused e)
-  has-no-room : v ≡ Sound → length out < o + length text → out' ≡ out → FinishSound v text o out out' Invalid
+  is_refused : {e : Fault} → v ≡ Faulty e → out' ≡ out → FinishSound v text o out out' (Refused e)
+  has_no_room : v ≡ Sound → length out < o + length text → out' ≡ out → FinishSound v text o out out' Invalid
 
 -- the cells in the buffered bytes with these ends
-abbrev pub bufferedValues : Dialect → Bytes → (ends : List ℕ) → List Value
-bufferedValues d bytes ends = valuesIn d bytes (startsBy 0 ends) ends
+abbrev pub buffered_values : Dialect → Bytes → (ends : List ℕ) → List Value
+buffered_values d bytes ends = values_in d bytes (starts_by 0 ends) ends
 
 -- the same for a record whose cells are first checked for what writing requires
 pub data CompleteSound (d : Dialect) (t : Target) (p : Place) (bytes ends : List ℕ) (o : ℕ) (out out' : List ℕ) (r : RecordResult) : Type 0 where
-  not-encoded : r ≡ Invalid → (EdFollowed (take (end_of 0 ends) bytes) → ⊥) → out' ≡ out → CompleteSound d t p bytes ends o out out' r
+  not_encoded : r ≡ Invalid → (EdFollowed (take (end_of 0 ends) bytes) → ⊥) → out' ≡ out → CompleteSound d t p bytes ends o out out' r
   ruled :
-      FinishSound (faultAt d t p (bufferedValues d bytes ends)) (textAt t p (bufferedValues d bytes ends)) o out out' r →
+      FinishSound (fault_at d t p (buffered_values d bytes ends)) (text_at t p (buffered_values d bytes ends)) o out out' r →
       CompleteSound d t p bytes ends o out out' r

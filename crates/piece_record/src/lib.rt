@@ -11,7 +11,7 @@ ghost use Rattle.cell_decoder.specs.declared.source.Source.TheVariants.{File};
 ghost use Rattle.cell_decoder.specs.Followed.{EdFollowed};
 ghost use Rattle.cell_decoder.specs.Sources.{cells_in, Cells};
 ghost use Rattle.piece_state.specs.Sound.{InOrder};
-ghost use Rattle.piece_record.specs.Completion.{faultAt, textAt, startsBy, end_of, HoldsNoEd, FinishSound, CompleteSound};
+ghost use Rattle.piece_record.specs.Completion.{fault_at, text_at, starts_by, end_of, HoldsNoEd, FinishSound, CompleteSound};
 
 use cell_decoder::source::Source;
 use model::{CheckResult, Dialect, Fault};
@@ -42,7 +42,7 @@ fn finish(
 ) -> RecordResult
     requires cells { Cells (File d) s.now starts.now ends.now kinds.now }
     requires written_bound { (p.written ≤ MAXFILE) × (o ≤ length out.old) }
-    ensures { FinishSound (faultAt d (into t) p (cells_in (File d) s.now starts.now ends.now kinds.now)) (textAt (into t) p (cells_in (File d) s.now starts.now ends.now kinds.now)) o out.old out.new result }
+    ensures { FinishSound (fault_at d (into t) p (cells_in (File d) s.now starts.now ends.now kinds.now)) (text_at (into t) p (cells_in (File d) s.now starts.now ends.now kinds.now)) o out.old out.new result }
 {
     let header = p.records == 0;
     let clean = record_writer::clean::is_clean_record(d, s, starts, ends, header);
@@ -146,7 +146,7 @@ fn complete_spans(
     o: usize,
     kinds: &mut [u8],
 ) -> RecordResult
-    requires starts_value { starts.now ≡ startsBy 0 ends.now }
+    requires starts_value { starts.now ≡ starts_by 0 ends.now }
     requires in_order { InOrder 0 ends.now (length bytes.now) }
     requires ends_len_bound { (length ends.now ≤ MAXCOLUMNS) × (length bytes.now ≤ MAXRECORD) × (p.written ≤ MAXFILE) × (o ≤ length out.old) }
     requires kinds_len { length kinds.old ≡ MAXCOLUMNS }

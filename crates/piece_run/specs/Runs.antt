@@ -3,14 +3,14 @@ use Rattle.std.specs.Prelude.{ℕ, ◌≤◌, ◌≡◌, List, length, drop}
 use Rattle.std.proofs.Math.Option.{some}
 use Rattle.model.specs.rules.Base.{Bytes, over}
 use Rattle.model.specs.rules.Report.{accepted, MAXPIECE, LEASTOUTPUT}
-use Rattle.model.specs.rules.Records.{Rec, Read, going, stopped, readFrom, faultReport}
+use Rattle.model.specs.rules.Records.{Rec, Read, going, stopped, read_from, fault_report}
 use Rattle.model.specs.laws.Laws.{Grows}
 use Rattle.model.specs.laws.Scans.{Buffered}
-use Rattle.model.specs.laws.Machine.{newText}
+use Rattle.model.specs.laws.Machine.{new_text}
 use Rattle.piece_state.specs.declared.place.Place.{Place}
 use Rattle.piece_step.specs.Types.{Dialect, Target, Fault}
 use Rattle.piece_step.specs.declared.CallResult.{CallResult}
-use Rattle.piece_step.specs.Invariant.{readAt, StateInvariant}
+use Rattle.piece_step.specs.Invariant.{read_at, StateInvariant}
 use Rattle.piece_step.specs.Steps.{InBounds}
 use Rattle.piece_step.specs.Calls.{Reached, CountsRecords}
 
@@ -21,13 +21,13 @@ pub record StepsSoFar (d : Dialect) (t : Target) (piece : Bytes) (place : Place)
   pub k' : Buffered
   pub hold : StateInvariant d t p bytes ends done' k'
   pub grown : Grows done done'
-  pub reads : readFrom d (some t) (going (readAt d place done k)) piece ≡ readFrom d (some t) (going (readAt d p done' k')) (drop i piece)
-  pub text : out ≡ over (newText t done done') out₀
-  pub long : o ≡ length (newText t done done')
+  pub reads : read_from d (some t) (going (read_at d place done k)) piece ≡ read_from d (some t) (going (read_at d p done' k')) (drop i piece)
+  pub text : out ≡ over (new_text t done done') out₀
+  pub long : o ≡ length (new_text t done done')
 
 -- the call began where earlier calls ended, with a piece and an output of allowed sizes
 pub record Entered (d : Dialect) (t : Target) (piece : Bytes) (place : Place) (done : List Rec) (k : Buffered) (out₀ : Bytes) : Type 0 where
-  pub reached : Reached d t (readAt d place done k)
+  pub reached : Reached d t (read_at d place done k)
   pub short : length piece ≤ MAXPIECE
   pub room : LEASTOUTPUT ≤ length out₀
 
@@ -35,12 +35,12 @@ pub record Entered (d : Dialect) (t : Target) (piece : Bytes) (place : Place) (d
 -- still counts the records before it
 pub data StepsSound (d : Dialect) (t : Target) (piece : Bytes) (place : Place) (done : List Rec) (k : Buffered) (mid : List Rec)
     (out₀ bytes' ends' out' : List ℕ) (r : CallResult) : Type 0 where
-  proceeds-all :
-      (done' : List Rec) (k' : Buffered) → Grows mid done' → readFrom d (some t) (going (readAt d place done k)) piece ≡ going (readAt d r.place done' k') →
-      StateInvariant d t r.place bytes' ends' done' k' → InBounds r.place ends' → r.report ≡ accepted → out' ≡ over (newText t done done') out₀ →
-      r.length ≡ length (newText t done done') → StepsSound d t piece place done k mid out₀ bytes' ends' out' r
-  proceeds-fault :
-      (x : Fault) (q : Read) → Grows mid q.done → readFrom d (some t) (going (readAt d place done k)) piece ≡ stopped x q →
+  proceeds_all :
+      (done' : List Rec) (k' : Buffered) → Grows mid done' → read_from d (some t) (going (read_at d place done k)) piece ≡ going (read_at d r.place done' k') →
+      StateInvariant d t r.place bytes' ends' done' k' → InBounds r.place ends' → r.report ≡ accepted → out' ≡ over (new_text t done done') out₀ →
+      r.length ≡ length (new_text t done done') → StepsSound d t piece place done k mid out₀ bytes' ends' out' r
+  proceeds_fault :
+      (x : Fault) (q : Read) → Grows mid q.done → read_from d (some t) (going (read_at d place done k)) piece ≡ stopped x q →
       CountsRecords r.place q.done →
-      r.report ≡ faultReport x q → out' ≡ over (newText t done q.done) out₀ → r.length ≡ length (newText t done q.done) →
+      r.report ≡ fault_report x q → out' ≡ over (new_text t done q.done) out₀ → r.length ≡ length (new_text t done q.done) →
       StepsSound d t piece place done k mid out₀ bytes' ends' out' r

@@ -2,7 +2,7 @@
 // which every state that calls make satisfies.
 ghost use Rattle.std.specs.Prelude.{◌≡◌, true, length};
 ghost use Rattle.model.specs.rules.Report.{MAXCOLUMNS};
-ghost use Rattle.piece_step.specs.Steps.{InBounds, currentIn};
+ghost use Rattle.piece_step.specs.Steps.{InBounds, current_in};
 
 use codes::{MAX_COLUMNS, MAX_FILE, MAX_RECORD};
 use piece_state::checks;
@@ -44,8 +44,8 @@ fn is_buffered_in_bounds(p: Place, ends: &[usize]) -> bool
 // The same for the current ends: those of the header's names, or of another record's cells.
 pub fn is_in_bounds(p: Place, name_ends: &[usize], ends: &[usize]) -> bool
     requires { (length name_ends.now ≡ MAXCOLUMNS) × (length ends.now ≡ MAXCOLUMNS) }
-    ensures in_bounds { result ≡ true → InBounds p (currentIn p name_ends.now ends.now) }
-    ensures value { InBounds p (currentIn p name_ends.now ends.now) → result ≡ true }
+    ensures in_bounds { result ≡ true → InBounds p (current_in p name_ends.now ends.now) }
+    ensures value { InBounds p (current_in p name_ends.now ends.now) → result ≡ true }
 {
     if p.records == 0 {
         return is_buffered_in_bounds(p, name_ends);

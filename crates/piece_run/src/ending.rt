@@ -6,11 +6,11 @@ ghost use Rattle.model.specs.rules.Base.{Bytes};
 ghost use Rattle.model.specs.rules.Report.{MAXFILE};
 ghost use Rattle.model.specs.declared.Ending.TheVariants.{Final};
 ghost use Rattle.model.specs.rules.Dialect.{into};
-ghost use Rattle.model.specs.rules.File.{fileEnd};
+ghost use Rattle.model.specs.rules.File.{file_end};
 ghost use Rattle.model.specs.rules.Records.{Rec};
 ghost use Rattle.model.specs.laws.Scans.{Buffered};
 ghost use Rattle.piece_step.specs.Steps.{StepReady};
-ghost use Rattle.piece_step.specs.Calls.{CallStart, Named, ReadyPiece, Begun, failedAs, Finished};
+ghost use Rattle.piece_step.specs.Calls.{CallStart, Named, ReadyPiece, Begun, failed_as, Finished};
 
 use codes::MAX_COLUMNS;
 use model::{Dialect, Ending, Fault};
@@ -21,7 +21,7 @@ use piece_step::CallResult;
 // Reports a fault at offset `at` of the file.
 fn fault_at(p: Place, e: Fault, at: usize) -> CallResult
     requires { p.records ≤ MAXFILE }
-    ensures { result ≡ failedAs p e at }
+    ensures { result ≡ failed_as p e at }
 {
     CallResult {
         place: p,
@@ -40,7 +40,7 @@ fn last_record(
     out: &mut [u8],
 ) -> CallResult
     requires step_ready { StepReady [] p.offset 0 p bytes.now ends.old out.old 0 }
-    requires state_value { fileEnd d p.state ≡ Final }
+    requires state_value { file_end d p.state ≡ Final }
     ensures finished { (done : List Rec) (k : Buffered) → CallStart d (into t) [] p bytes.now ends.old out.old done k → Finished d (into t) p done k out.old out.new result }
     ensures length_in_bounds { result.length ≤ length out.old }
 {

@@ -8,47 +8,47 @@ use borrow.Author.Tests.{lt-ltb}
 use Rattle.model.specs.declared.Report.{Report}
 use Rattle.model.specs.declared.Dialect.{Dialect}
 use Rattle.model.specs.rules.Base.{if◌then◌else◌}
-use Rattle.model.specs.rules.Dialect.{dialectOf}
+use Rattle.model.specs.rules.Dialect.{dialect_of}
 use Rattle.model.specs.rules.Report.{refusal}
 use Rattle.model.specs.rules.Records.{Read}
-use Rattle.model.specs.rules.Ledger.{Call, bytes_of, roomOf, tooSmall}
-use Rattle.model.specs.laws.Machine.{ConverterStage, taking, faulted, ended, answerAt, stageAfter}
+use Rattle.model.specs.rules.Ledger.{Call, bytes_of, room_of, too_small}
+use Rattle.model.specs.laws.Machine.{ConverterStage, taking, faulted, ended, answer_at, stage_after}
 use Rattle.piece_state.specs.declared.checks.CallCheck.TheVariants.{Refused, Proceed}
-use Rattle.piece_state.specs.Checks.{checkBetween, checkNamed, checkNow, StageEncoded, reports-taking, reports-faulted, reports-ended, CallCheckSound}
-use Rattle.piece_state.specs.Checks.{means-refused, means-taken, ChecksMean}
+use Rattle.piece_state.specs.Checks.{check_between, check_named, check_now, StageEncoded, reports_taking, reports_faulted, reports_ended, CallCheckSound}
+use Rattle.piece_state.specs.Checks.{means_refused, means_taken, ChecksMean}
 
 -- ---- dialects
 
 module _ (m n : ℕ) (fault : Report) (over piece room : ℕ) where
-  pub unknown-source : dialectOf m ≡ none → checkNow m n fault over piece room ≡ Refused (refusal 11)
-  unknown-source e = ap (λ (o : Option Dialect). checkNamed o (dialectOf n) fault over piece room) e
+  pub unknown_source : dialect_of m ≡ none → check_now m n fault over piece room ≡ Refused (refusal 11)
+  unknown_source e = ap (λ (o : Option Dialect). check_named o (dialect_of n) fault over piece room) e
 
-  no_target : (o : Option Dialect) → checkNamed o none fault over piece room ≡ Refused (refusal 11)
+  no_target : (o : Option Dialect) → check_named o none fault over piece room ≡ Refused (refusal 11)
   no_target none = refl
   no_target (some d) = refl
 
-  pub unknown-target : dialectOf n ≡ none → checkNow m n fault over piece room ≡ Refused (refusal 11)
-  unknown-target e = ap (λ (o : Option Dialect). checkNamed (dialectOf m) o fault over piece room) e ∙ no_target (dialectOf m)
+  pub unknown_target : dialect_of n ≡ none → check_now m n fault over piece room ≡ Refused (refusal 11)
+  unknown_target e = ap (λ (o : Option Dialect). check_named (dialect_of m) o fault over piece room) e ∙ no_target (dialect_of m)
 
-  pub both-known : (d t : Dialect) → dialectOf m ≡ some d → dialectOf n ≡ some t → checkNow m n fault over piece room ≡ checkBetween d t fault over piece room
-  both-known d t e f = ap₂ (λ (o p : Option Dialect). checkNamed o p fault over piece room) e f
+  pub both_known : (d t : Dialect) → dialect_of m ≡ some d → dialect_of n ≡ some t → check_now m n fault over piece room ≡ check_between d t fault over piece room
+  both_known d t e f = ap₂ (λ (o p : Option Dialect). check_named o p fault over piece room) e f
 
 -- ---- stages
 
 module _ (d t : Dialect) (c : Call) where
   -- a call to a converter that takes bytes
-  by_size : (r : Read) (small : Bool) → tooSmall c ≡ small → CallCheckSound d t (taking r) c (if small then Refused (refusal 10) else Proceed d t)
-  unfolding answerAt stageAfter if◌then◌else◌
-  by_size r true e = means-refused {e = refusal 10} (rw e) e (rw e)
-  by_size r false e = means-taken r refl e
+  by_size : (r : Read) (small : Bool) → too_small c ≡ small → CallCheckSound d t (taking r) c (if small then Refused (refusal 10) else Proceed d t)
+  unfolding answer_at stage_after if◌then◌else◌
+  by_size r true e = means_refused {e = refusal 10} (rw e) e (rw e)
+  by_size r false e = means_taken r refl e
 
   between :
       (w : ConverterStage) (fault : Report) (over : ℕ) → StageEncoded w fault over →
-      CallCheckSound d t w c (checkBetween d t fault over (length (bytes_of c)) (roomOf c))
-  unfolding checkBetween answerAt stageAfter if◌then◌else◌
-  between (taking r) fault over (reports-taking e) = rw e (by_size r (tooSmall c) refl)
-  between (faulted e) fault over (reports-faulted h) = rw (lt-ltb 0 e.number h) (means-refused refl refl refl)
-  between ended fault over (reports-ended e h) = rw (e, lt-ltb 0 over h) (means-refused refl refl refl)
+      CallCheckSound d t w c (check_between d t fault over (length (bytes_of c)) (room_of c))
+  unfolding check_between answer_at stage_after if◌then◌else◌
+  between (taking r) fault over (reports_taking e) = rw e (by_size r (too_small c) refl)
+  between (faulted e) fault over (reports_faulted h) = rw (lt-ltb 0 e.number h) (means_refused refl refl refl)
+  between ended fault over (reports_ended e h) = rw (e, lt-ltb 0 over h) (means_refused refl refl refl)
 
-pub checks-mean : ChecksMean
-checks-mean m n d t w fault over c e f h = rw (both-known m n fault over (length (bytes_of c)) (roomOf c) d t e f) (between d t c w fault over h)
+pub checks_mean : ChecksMean
+checks_mean m n d t w fault over c e f h = rw (both_known m n fault over (length (bytes_of c)) (room_of c) d t e f) (between d t c w fault over h)

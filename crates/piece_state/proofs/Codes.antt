@@ -20,47 +20,47 @@ use Rattle.model.specs.declared.Cell.{Cell}
 use Rattle.model.specs.declared.Cell.TheVariants.{Fresh, Quoted, Closed, Escape, Hex, InNumber, InWord, Plain, Complete}
 use Rattle.model.specs.declared.FileState.TheVariants.{Top, Begin, Ended, Bom1, Bom2, PlainBom1, PlainBom2, Comment, Blanks, ExpectCell, Inside, After, Cr}
 use Rattle.model.specs.rules.Base.{if◌then◌else◌}
-use Rattle.piece_state.specs.Codes.{leadNumber, leadFrom, innerNumber, innerFrom, charNumber, charFrom, hexNumber, hexFrom, numeralNumber, numeralFrom}
-use Rattle.piece_state.specs.Codes.{wordNumber, wordFrom, cellNumber, fixedCell, cellFrom, fixedState, stateFrom, StateBack}
+use Rattle.piece_state.specs.Codes.{lead_number, lead_from, inner_number, inner_from, char_number, char_from, hex_number, hex_from, numeral_number, numeral_from}
+use Rattle.piece_state.specs.Codes.{word_number, word_from, cell_number, fixed_cell, cell_from, fixed_state, state_from, StateBack}
 
 -- ---- how large the numbers are
 
-pub lead-small : (l : Lead) → leadNumber l ≤ 7
-lead-small C2ToDf = omega arith
-lead-small E0 = omega arith
-lead-small E1ToEc = omega arith
-lead-small Ed = omega arith
-lead-small EeToEf = omega arith
-lead-small F0 = omega arith
-lead-small F1ToF3 = omega arith
-lead-small F4 = omega arith
+pub lead_small : (l : Lead) → lead_number l ≤ 7
+lead_small C2ToDf = omega arith
+lead_small E0 = omega arith
+lead_small E1ToEc = omega arith
+lead_small Ed = omega arith
+lead_small EeToEf = omega arith
+lead_small F0 = omega arith
+lead_small F1ToF3 = omega arith
+lead_small F4 = omega arith
 
-pub inner-small : (i : Inner) → innerNumber i ≤ 9
-inner-small Last = omega arith
-inner-small LastTwo = omega arith
-inner-small (Second l) = omega (arith, lead-small l)
+pub inner_small : (i : Inner) → inner_number i ≤ 9
+inner_small Last = omega arith
+inner_small LastTwo = omega arith
+inner_small (Second l) = omega (arith, lead_small l)
 
-pub char-small : (t : Char) → charNumber t ≤ 10
-char-small Whole = omega arith
-char-small (Within i) = omega (arith, inner-small i)
+pub char_small : (t : Char) → char_number t ≤ 10
+char_small Whole = omega arith
+char_small (Within i) = omega (arith, inner_small i)
 
-pub hex-small : (h : HexLeft) → hexNumber h ≤ 3
-hex-small Four = omega arith
-hex-small Three = omega arith
-hex-small Two = omega arith
-hex-small One = omega arith
+pub hex_small : (h : HexLeft) → hex_number h ≤ 3
+hex_small Four = omega arith
+hex_small Three = omega arith
+hex_small Two = omega arith
+hex_small One = omega arith
 
-pub numeral-small : (m : Numeral) → numeralNumber m ≤ 7
-numeral-small Minus = omega arith
-numeral-small Zero = omega arith
-numeral-small Integer = omega arith
-numeral-small Point = omega arith
-numeral-small Fraction = omega arith
-numeral-small E = omega arith
-numeral-small ESign = omega arith
-numeral-small Exponent = omega arith
+pub numeral_small : (m : Numeral) → numeral_number m ≤ 7
+numeral_small Minus = omega arith
+numeral_small Zero = omega arith
+numeral_small Integer = omega arith
+numeral_small Point = omega arith
+numeral_small Fraction = omega arith
+numeral_small E = omega arith
+numeral_small ESign = omega arith
+numeral_small Exponent = omega arith
 
-pub word_small : (w : Word) → wordNumber w ≤ 10
+pub word_small : (w : Word) → word_number w ≤ 10
 word_small T = omega arith
 word_small Tr = omega arith
 word_small Tru = omega arith
@@ -73,115 +73,115 @@ word_small Nu = omega arith
 word_small Nul = omega arith
 word_small Backslash = omega arith
 
-pub cell-small : (c : Cell) → cellNumber c ≤ 90
-cell-small Fresh = omega arith
-cell-small Closed = omega arith
-cell-small Escape = omega arith
-cell-small Complete = omega arith
-cell-small (Quoted t) = omega (arith, char-small t)
-cell-small (Plain t) = omega (arith, char-small t)
-cell-small (Hex h) = omega (arith, hex-small h)
-cell-small (InNumber m) = omega (arith, numeral-small m)
-cell-small (InWord w) = omega (arith, word_small w)
+pub cell_small : (c : Cell) → cell_number c ≤ 90
+cell_small Fresh = omega arith
+cell_small Closed = omega arith
+cell_small Escape = omega arith
+cell_small Complete = omega arith
+cell_small (Quoted t) = omega (arith, char_small t)
+cell_small (Plain t) = omega (arith, char_small t)
+cell_small (Hex h) = omega (arith, hex_small h)
+cell_small (InNumber m) = omega (arith, numeral_small m)
+cell_small (InWord w) = omega (arith, word_small w)
 
 -- ---- decoding
 
-char-back : (t : Char) → charFrom (charNumber t) ≡ t
-unfolding charFrom innerFrom leadFrom if◌then◌else◌
-char-back Whole = refl
-char-back (Within Last) = refl
-char-back (Within LastTwo) = refl
-char-back (Within (Second C2ToDf)) = refl
-char-back (Within (Second E0)) = refl
-char-back (Within (Second E1ToEc)) = refl
-char-back (Within (Second Ed)) = refl
-char-back (Within (Second EeToEf)) = refl
-char-back (Within (Second F0)) = refl
-char-back (Within (Second F1ToF3)) = refl
-char-back (Within (Second F4)) = refl
+char_back : (t : Char) → char_from (char_number t) ≡ t
+unfolding char_from inner_from lead_from if◌then◌else◌
+char_back Whole = refl
+char_back (Within Last) = refl
+char_back (Within LastTwo) = refl
+char_back (Within (Second C2ToDf)) = refl
+char_back (Within (Second E0)) = refl
+char_back (Within (Second E1ToEc)) = refl
+char_back (Within (Second Ed)) = refl
+char_back (Within (Second EeToEf)) = refl
+char_back (Within (Second F0)) = refl
+char_back (Within (Second F1ToF3)) = refl
+char_back (Within (Second F4)) = refl
 
 -- a number of each row
 module _ (k : ℕ) (h : k < 16) where
-  quoted-row : cellFrom (16 + k) ≡ Quoted (charFrom k)
-  unfolding cellFrom if◌then◌else◌
-  quoted-row =
+  quoted_row : cell_from (16 + k) ≡ Quoted (char_from k)
+  unfolding cell_from if◌then◌else◌
+  quoted_row =
       let n : 16 + k - 16 ≡ k = omega arith in
       rw (le-ltb (16 + k) 16 (omega arith), lt-ltb (16 + k) 32 (omega arith), n)
 
-  plain_row : cellFrom (32 + k) ≡ Plain (charFrom k)
-  unfolding cellFrom if◌then◌else◌
+  plain_row : cell_from (32 + k) ≡ Plain (char_from k)
+  unfolding cell_from if◌then◌else◌
   plain_row =
       let n : 32 + k - 32 ≡ k = omega arith in
       rw (le-ltb (32 + k) 16 (omega arith), le-ltb (32 + k) 32 (omega arith), lt-ltb (32 + k) 48 (omega arith), n)
 
-  comment-row : stateFrom (16 + k) ≡ Comment (charFrom k)
-  unfolding stateFrom if◌then◌else◌
-  comment-row =
+  comment_row : state_from (16 + k) ≡ Comment (char_from k)
+  unfolding state_from if◌then◌else◌
+  comment_row =
       let n : 16 + k - 16 ≡ k = omega arith in
       rw (le-ltb (16 + k) 16 (omega arith), lt-ltb (16 + k) 32 (omega arith), n)
 
-inside-row : (k : ℕ) → stateFrom (32 + k) ≡ Inside (cellFrom k)
-unfolding stateFrom if◌then◌else◌
-inside-row k =
+inside_row : (k : ℕ) → state_from (32 + k) ≡ Inside (cell_from k)
+unfolding state_from if◌then◌else◌
+inside_row k =
     let n : 32 + k - 32 ≡ k = omega arith in
     rw (le-ltb (32 + k) 16 (omega arith), le-ltb (32 + k) 32 (omega arith), n)
 
-hex-cell-back : (h : HexLeft) → cellFrom (48 + hexNumber h) ≡ Hex h
-unfolding cellFrom hexFrom if◌then◌else◌
-hex-cell-back Four = refl
-hex-cell-back Three = refl
-hex-cell-back Two = refl
-hex-cell-back One = refl
+hex_cell_back : (h : HexLeft) → cell_from (48 + hex_number h) ≡ Hex h
+unfolding cell_from hex_from if◌then◌else◌
+hex_cell_back Four = refl
+hex_cell_back Three = refl
+hex_cell_back Two = refl
+hex_cell_back One = refl
 
-number-back : (m : Numeral) → cellFrom (64 + numeralNumber m) ≡ InNumber m
-unfolding cellFrom numeralFrom if◌then◌else◌
-number-back Minus = refl
-number-back Zero = refl
-number-back Integer = refl
-number-back Point = refl
-number-back Fraction = refl
-number-back E = refl
-number-back ESign = refl
-number-back Exponent = refl
+number_back : (m : Numeral) → cell_from (64 + numeral_number m) ≡ InNumber m
+unfolding cell_from numeral_from if◌then◌else◌
+number_back Minus = refl
+number_back Zero = refl
+number_back Integer = refl
+number_back Point = refl
+number_back Fraction = refl
+number_back E = refl
+number_back ESign = refl
+number_back Exponent = refl
 
-word-cell-back : (w : Word) → cellFrom (80 + wordNumber w) ≡ InWord w
-unfolding cellFrom wordFrom if◌then◌else◌
-word-cell-back T = refl
-word-cell-back Tr = refl
-word-cell-back Tru = refl
-word-cell-back F = refl
-word-cell-back Fa = refl
-word-cell-back Fal = refl
-word-cell-back Fals = refl
-word-cell-back N = refl
-word-cell-back Nu = refl
-word-cell-back Nul = refl
-word-cell-back Backslash = refl
+word_cell_back : (w : Word) → cell_from (80 + word_number w) ≡ InWord w
+unfolding cell_from word_from if◌then◌else◌
+word_cell_back T = refl
+word_cell_back Tr = refl
+word_cell_back Tru = refl
+word_cell_back F = refl
+word_cell_back Fa = refl
+word_cell_back Fal = refl
+word_cell_back Fals = refl
+word_cell_back N = refl
+word_cell_back Nu = refl
+word_cell_back Nul = refl
+word_cell_back Backslash = refl
 
-cell-back : (c : Cell) → cellFrom (cellNumber c) ≡ c
-unfolding cellFrom fixedCell if◌then◌else◌
-cell-back Fresh = refl
-cell-back Closed = refl
-cell-back Escape = refl
-cell-back Complete = refl
-cell-back (Quoted t) = quoted-row (charNumber t) (omega (arith, char-small t)) ∙ ap Quoted (char-back t)
-cell-back (Plain t) = plain_row (charNumber t) (omega (arith, char-small t)) ∙ ap Plain (char-back t)
-cell-back (Hex h) = hex-cell-back h
-cell-back (InNumber m) = number-back m
-cell-back (InWord w) = word-cell-back w
+cell_back : (c : Cell) → cell_from (cell_number c) ≡ c
+unfolding cell_from fixed_cell if◌then◌else◌
+cell_back Fresh = refl
+cell_back Closed = refl
+cell_back Escape = refl
+cell_back Complete = refl
+cell_back (Quoted t) = quoted_row (char_number t) (omega (arith, char_small t)) ∙ ap Quoted (char_back t)
+cell_back (Plain t) = plain_row (char_number t) (omega (arith, char_small t)) ∙ ap Plain (char_back t)
+cell_back (Hex h) = hex_cell_back h
+cell_back (InNumber m) = number_back m
+cell_back (InWord w) = word_cell_back w
 
-pub state-back : StateBack
-unfolding stateFrom fixedState if◌then◌else◌
-state-back Top = refl
-state-back Begin = refl
-state-back Ended = refl
-state-back Bom1 = refl
-state-back Bom2 = refl
-state-back PlainBom1 = refl
-state-back PlainBom2 = refl
-state-back Blanks = refl
-state-back ExpectCell = refl
-state-back After = refl
-state-back Cr = refl
-state-back (Comment t) = comment-row (charNumber t) (omega (arith, char-small t)) ∙ ap Comment (char-back t)
-state-back (Inside c) = inside-row (cellNumber c) ∙ ap Inside (cell-back c)
+pub state_back : StateBack
+unfolding state_from fixed_state if◌then◌else◌
+state_back Top = refl
+state_back Begin = refl
+state_back Ended = refl
+state_back Bom1 = refl
+state_back Bom2 = refl
+state_back PlainBom1 = refl
+state_back PlainBom2 = refl
+state_back Blanks = refl
+state_back ExpectCell = refl
+state_back After = refl
+state_back Cr = refl
+state_back (Comment t) = comment_row (char_number t) (omega (arith, char_small t)) ∙ ap Comment (char_back t)
+state_back (Inside c) = inside_row (cell_number c) ∙ ap Inside (cell_back c)

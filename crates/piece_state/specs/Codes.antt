@@ -20,18 +20,18 @@ use Rattle.model.specs.rules.Base.{if◌then◌else◌, ◌is◌}
 
 -- ---- characters
 
-abbrev pub leadNumber : Lead → ℕ
-leadNumber C2ToDf = 0
-leadNumber E0 = 1
-leadNumber E1ToEc = 2
-leadNumber Ed = 3
-leadNumber EeToEf = 4
-leadNumber F0 = 5
-leadNumber F1ToF3 = 6
-leadNumber F4 = 7
+abbrev pub lead_number : Lead → ℕ
+lead_number C2ToDf = 0
+lead_number E0 = 1
+lead_number E1ToEc = 2
+lead_number Ed = 3
+lead_number EeToEf = 4
+lead_number F0 = 5
+lead_number F1ToF3 = 6
+lead_number F4 = 7
 
-unfoldable pub leadFrom : ℕ → Lead
-leadFrom n =
+unfoldable pub lead_from : ℕ → Lead
+lead_from n =
     if n is 0 then C2ToDf
     else if n is 1 then E0
     else if n is 2 then E1ToEc
@@ -41,51 +41,51 @@ leadFrom n =
     else if n is 6 then F1ToF3
     else F4
 
-abbrev pub innerNumber : Inner → ℕ
-innerNumber Last = 0
-innerNumber LastTwo = 1
-innerNumber (Second l) = 2 + leadNumber l
+abbrev pub inner_number : Inner → ℕ
+inner_number Last = 0
+inner_number LastTwo = 1
+inner_number (Second l) = 2 + lead_number l
 
-unfoldable pub innerFrom : ℕ → Inner
-innerFrom n =
+unfoldable pub inner_from : ℕ → Inner
+inner_from n =
     if n is 0 then Last
     else if n is 1 then LastTwo
-    else Second (leadFrom (n - 2))
+    else Second (lead_from (n - 2))
 
-abbrev pub charNumber : Char → ℕ
-charNumber Whole = 0
-charNumber (Within i) = 1 + innerNumber i
+abbrev pub char_number : Char → ℕ
+char_number Whole = 0
+char_number (Within i) = 1 + inner_number i
 
-unfoldable pub charFrom : ℕ → Char
-charFrom n = if n is 0 then Whole else Within (innerFrom (n - 1))
+unfoldable pub char_from : ℕ → Char
+char_from n = if n is 0 then Whole else Within (inner_from (n - 1))
 
 -- ---- cells
 
-abbrev pub hexNumber : HexLeft → ℕ
-hexNumber Four = 0
-hexNumber Three = 1
-hexNumber Two = 2
-hexNumber One = 3
+abbrev pub hex_number : HexLeft → ℕ
+hex_number Four = 0
+hex_number Three = 1
+hex_number Two = 2
+hex_number One = 3
 
-unfoldable pub hexFrom : ℕ → HexLeft
-hexFrom n =
+unfoldable pub hex_from : ℕ → HexLeft
+hex_from n =
     if n is 0 then Four
     else if n is 1 then Three
     else if n is 2 then Two
     else One
 
-abbrev pub numeralNumber : Numeral → ℕ
-numeralNumber Minus = 0
-numeralNumber Zero = 1
-numeralNumber Integer = 2
-numeralNumber Point = 3
-numeralNumber Fraction = 4
-numeralNumber E = 5
-numeralNumber ESign = 6
-numeralNumber Exponent = 7
+abbrev pub numeral_number : Numeral → ℕ
+numeral_number Minus = 0
+numeral_number Zero = 1
+numeral_number Integer = 2
+numeral_number Point = 3
+numeral_number Fraction = 4
+numeral_number E = 5
+numeral_number ESign = 6
+numeral_number Exponent = 7
 
-unfoldable pub numeralFrom : ℕ → Numeral
-numeralFrom n =
+unfoldable pub numeral_from : ℕ → Numeral
+numeral_from n =
     if n is 0 then Minus
     else if n is 1 then Zero
     else if n is 2 then Integer
@@ -95,21 +95,21 @@ numeralFrom n =
     else if n is 6 then ESign
     else Exponent
 
-abbrev pub wordNumber : Word → ℕ
-wordNumber T = 0
-wordNumber Tr = 1
-wordNumber Tru = 2
-wordNumber F = 3
-wordNumber Fa = 4
-wordNumber Fal = 5
-wordNumber Fals = 6
-wordNumber N = 7
-wordNumber Nu = 8
-wordNumber Nul = 9
-wordNumber Backslash = 10
+abbrev pub word_number : Word → ℕ
+word_number T = 0
+word_number Tr = 1
+word_number Tru = 2
+word_number F = 3
+word_number Fa = 4
+word_number Fal = 5
+word_number Fals = 6
+word_number N = 7
+word_number Nu = 8
+word_number Nul = 9
+word_number Backslash = 10
 
-unfoldable pub wordFrom : ℕ → Word
-wordFrom n =
+unfoldable pub word_from : ℕ → Word
+word_from n =
     if n is 0 then T
     else if n is 1 then Tr
     else if n is 2 then Tru
@@ -123,52 +123,52 @@ wordFrom n =
     else Backslash
 
 -- a state with an argument has a row of sixteen numbers
-abbrev pub cellNumber : Cell → ℕ
-cellNumber Fresh = 0
-cellNumber Closed = 1
-cellNumber Escape = 2
-cellNumber Complete = 3
-cellNumber (Quoted t) = 16 + charNumber t
-cellNumber (Plain t) = 32 + charNumber t
-cellNumber (Hex h) = 48 + hexNumber h
-cellNumber (InNumber m) = 64 + numeralNumber m
-cellNumber (InWord w) = 80 + wordNumber w
+abbrev pub cell_number : Cell → ℕ
+cell_number Fresh = 0
+cell_number Closed = 1
+cell_number Escape = 2
+cell_number Complete = 3
+cell_number (Quoted t) = 16 + char_number t
+cell_number (Plain t) = 32 + char_number t
+cell_number (Hex h) = 48 + hex_number h
+cell_number (InNumber m) = 64 + numeral_number m
+cell_number (InWord w) = 80 + word_number w
 
-unfoldable pub fixedCell : ℕ → Cell
-fixedCell n =
+unfoldable pub fixed_cell : ℕ → Cell
+fixed_cell n =
     if n is 0 then Fresh
     else if n is 1 then Closed
     else if n is 2 then Escape
     else Complete
 
-unfoldable pub cellFrom : ℕ → Cell
-cellFrom n =
-    if ltb n 16 then fixedCell n
-    else if ltb n 32 then Quoted (charFrom (n - 16))
-    else if ltb n 48 then Plain (charFrom (n - 32))
-    else if ltb n 64 then Hex (hexFrom (n - 48))
-    else if ltb n 80 then InNumber (numeralFrom (n - 64))
-    else InWord (wordFrom (n - 80))
+unfoldable pub cell_from : ℕ → Cell
+cell_from n =
+    if ltb n 16 then fixed_cell n
+    else if ltb n 32 then Quoted (char_from (n - 16))
+    else if ltb n 48 then Plain (char_from (n - 32))
+    else if ltb n 64 then Hex (hex_from (n - 48))
+    else if ltb n 80 then InNumber (numeral_from (n - 64))
+    else InWord (word_from (n - 80))
 
 -- ---- files
 
-abbrev pub stateNumber : FileState → ℕ
-stateNumber Top = 0
-stateNumber Begin = 1
-stateNumber Ended = 2
-stateNumber Bom1 = 3
-stateNumber Bom2 = 4
-stateNumber PlainBom1 = 5
-stateNumber PlainBom2 = 6
-stateNumber Blanks = 7
-stateNumber ExpectCell = 8
-stateNumber After = 9
-stateNumber Cr = 10
-stateNumber (Comment t) = 16 + charNumber t
-stateNumber (Inside c) = 32 + cellNumber c
+abbrev pub state_number : FileState → ℕ
+state_number Top = 0
+state_number Begin = 1
+state_number Ended = 2
+state_number Bom1 = 3
+state_number Bom2 = 4
+state_number PlainBom1 = 5
+state_number PlainBom2 = 6
+state_number Blanks = 7
+state_number ExpectCell = 8
+state_number After = 9
+state_number Cr = 10
+state_number (Comment t) = 16 + char_number t
+state_number (Inside c) = 32 + cell_number c
 
-unfoldable pub fixedState : ℕ → FileState
-fixedState n =
+unfoldable pub fixed_state : ℕ → FileState
+fixed_state n =
     if n is 0 then Top
     else if n is 1 then Begin
     else if n is 2 then Ended
@@ -181,12 +181,12 @@ fixedState n =
     else if n is 9 then After
     else Cr
 
-unfoldable pub stateFrom : ℕ → FileState
-stateFrom n =
-    if ltb n 16 then fixedState n
-    else if ltb n 32 then Comment (charFrom (n - 16))
-    else Inside (cellFrom (n - 32))
+unfoldable pub state_from : ℕ → FileState
+state_from n =
+    if ltb n 16 then fixed_state n
+    else if ltb n 32 then Comment (char_from (n - 16))
+    else Inside (cell_from (n - 32))
 
 -- the number of a state decodes to that state
 abbrev pub StateBack : Type 0
-StateBack = (f : FileState) → stateFrom (stateNumber f) ≡ f
+StateBack = (f : FileState) → state_from (state_number f) ≡ f

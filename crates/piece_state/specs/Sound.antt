@@ -2,7 +2,7 @@
 use Rattle.std.specs.Prelude.{ℕ, ◌≤◌, Bool, ◌&&◌, ◌||◌, List, [], ◌∷◌, leb}
 use Rattle.model.specs.declared.FileState.TheVariants.{Top}
 use Rattle.model.specs.rules.Base.{◌is◌}
-use Rattle.model.specs.laws.Scans.{inRecord}
+use Rattle.model.specs.laws.Scans.{in_record}
 use Rattle.piece_state.specs.declared.place.Place.{Place}
 
 -- before the first call
@@ -10,16 +10,16 @@ abbrev pub at_start : Place
 at_start = record { state = Top; offset = 0; start = 0; size = 0; fill = 0; cells = 0; columns = 0; records = 0; written = 0 }
 
 -- cells are buffered only in a record (§15.2)
-unfoldable pub bufferedInRecord : Place → Bool
-bufferedInRecord p = inRecord p.state || (leb p.fill 0 && p.cells is 0)
+unfoldable pub buffered_in_record : Place → Bool
+buffered_in_record p = in_record p.state || (leb p.fill 0 && p.cells is 0)
 
 -- ends ascend, from `at` up to `fill`
-unfoldable pub inOrder : (at : ℕ) → List ℕ → (fill : ℕ) → Bool
-inOrder at [] fill = leb at fill
-inOrder at (e ∷ es) fill = leb at e && inOrder e es fill
+unfoldable pub in_order : (at : ℕ) → List ℕ → (fill : ℕ) → Bool
+in_order at [] fill = leb at fill
+in_order at (e ∷ es) fill = leb at e && in_order e es fill
 
 -- ---- the same as a proposition
 
 pub data InOrder : (at : ℕ) → List ℕ → (fill : ℕ) → Type 0 where
-  order-end : {at fill : ℕ} → at ≤ fill → InOrder at [] fill
-  order-next : {at e fill : ℕ} {es : List ℕ} → at ≤ e → InOrder e es fill → InOrder at (e ∷ es) fill
+  order_end : {at fill : ℕ} → at ≤ fill → InOrder at [] fill
+  order_next : {at e fill : ℕ} {es : List ℕ} → at ≤ e → InOrder e es fill → InOrder at (e ∷ es) fill

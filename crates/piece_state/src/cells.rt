@@ -3,9 +3,9 @@
 // the loops are proved by proofs/BufferedLists.antt. Another layout is also one for piece_record and piece_step.
 ghost use Rattle.std.specs.Prelude.{◌≡◌, ◌∷◌, ◌+◌, ◌≤◌, length, take};
 ghost use Rattle.model.specs.rules.Base.{over};
-ghost use Rattle.model.specs.laws.Places.{bufferedBytes, bufferedEnds};
+ghost use Rattle.model.specs.laws.Places.{buffered_bytes, buffered_ends};
 ghost use Rattle.buffer.specs.Writes.{written};
-ghost use Rattle.piece_state.specs.CurrentRecord.{rawCellsAt, SpansIn, kindsAt};
+ghost use Rattle.piece_state.specs.CurrentRecord.{raw_cells_at, SpansIn, kinds_at};
 
 use codes::cell;
 use model::Dialect;
@@ -24,10 +24,10 @@ pub fn buffer_cells(
 ) -> usize
     requires spans_in { SpansIn piece.now starts.now stops.now from n }
     requires from_le_n { (from ≤ n) × (n ≤ length ends.old) }
-    requires n_in_bounds { fill + length (bufferedBytes (rawCellsAt piece.now starts.now stops.now from n)) ≤ length bytes.old }
-    ensures value { result ≡ fill + length (bufferedBytes (rawCellsAt piece.now starts.now stops.now from n)) }
-    ensures bytes_after { bytes.new ≡ written bytes.old fill (bufferedBytes (rawCellsAt piece.now starts.now stops.now from n)) }
-    ensures ends_after { ends.new ≡ written ends.old from (bufferedEnds fill (rawCellsAt piece.now starts.now stops.now from n)) }
+    requires n_in_bounds { fill + length (buffered_bytes (raw_cells_at piece.now starts.now stops.now from n)) ≤ length bytes.old }
+    ensures value { result ≡ fill + length (buffered_bytes (raw_cells_at piece.now starts.now stops.now from n)) }
+    ensures bytes_after { bytes.new ≡ written bytes.old fill (buffered_bytes (raw_cells_at piece.now starts.now stops.now from n)) }
+    ensures ends_after { ends.new ≡ written ends.old from (buffered_ends fill (raw_cells_at piece.now starts.now stops.now from n)) }
 {
     let mut k = from;
     let mut at = fill;
@@ -75,7 +75,7 @@ pub fn kinds_of(
 )
     requires spans_in { SpansIn bytes.now starts.now ends.now 0 n }
     requires n_in_bounds { n ≤ length kinds.old }
-    ensures { kinds.new ≡ over (kindsAt d bytes.now starts.now ends.now n) kinds.old }
+    ensures { kinds.new ≡ over (kinds_at d bytes.now starts.now ends.now n) kinds.old }
 {
     let mut k = 0;
     while k < n {

@@ -3,9 +3,9 @@
 // dialects. Definitions: specs/Checks.antt and specs/Sound.antt. A new check is proved in proofs/CallChecks.antt, and then
 // piece_converter again.
 ghost use Rattle.std.specs.Prelude.{◌≡◌, ◌≤◌, length, take};
-ghost use Rattle.piece_state.specs.Checks.{checkBetween, checkNow};
-ghost use Rattle.model.specs.laws.Scans.{inRecord};
-ghost use Rattle.piece_state.specs.Sound.{bufferedInRecord, inOrder};
+ghost use Rattle.piece_state.specs.Checks.{check_between, check_now};
+ghost use Rattle.model.specs.laws.Scans.{in_record};
+ghost use Rattle.piece_state.specs.Sound.{buffered_in_record, in_order};
 
 use crate::place::Place;
 use codes::NamedDialect;
@@ -28,7 +28,7 @@ fn check_between(
     piece: usize,
     room: usize,
 ) -> CallCheck
-    ensures { result ≡ checkBetween d t fault ended piece room }
+    ensures { result ≡ check_between d t fault ended piece room }
 {
     if 0 < fault.number {
         return CallCheck::Refused(fault);
@@ -54,7 +54,7 @@ pub fn check_call(
     piece: usize,
     room: usize,
 ) -> CallCheck
-    ensures { result ≡ checkNow source target fault ended piece room }
+    ensures { result ≡ check_now source target fault ended piece room }
 {
     let NamedDialect::Known(d) = codes::dialect_of(source) else {
         return CallCheck::Refused(codes::call_report(codes::WRONG_CALL));
@@ -70,7 +70,7 @@ pub fn check_call(
 // Whether the first n ends ascend, up to `fill`.
 pub fn is_in_order(ends: &[usize], n: usize, fill: usize) -> bool
     requires { n ≤ length ends.now }
-    ensures { result ≡ inOrder 0 (take n ends.now) fill }
+    ensures { result ≡ in_order 0 (take n ends.now) fill }
 {
     let mut k = 0;
     let mut at = 0;
@@ -86,7 +86,7 @@ pub fn is_in_order(ends: &[usize], n: usize, fill: usize) -> bool
 
 // Whether a cell of the current record was begun or is complete.
 pub fn in_record(f: FileState) -> bool
-    ensures { result ≡ inRecord f }
+    ensures { result ≡ in_record f }
 {
     match f {
         FileState::Top => false,
@@ -107,7 +107,7 @@ pub fn in_record(f: FileState) -> bool
 
 // Whether cells are buffered only in a record: outside of one `size` may restart at 0, and would say nothing about what is buffered.
 pub fn is_buffered_in_record(p: Place) -> bool
-    ensures { result ≡ bufferedInRecord p }
+    ensures { result ≡ buffered_in_record p }
 {
     let state = p.state;
     if in_record(state) {

@@ -1,14 +1,14 @@
 // Lexer states as numbers, so that a saved state is plain numbers. Every number decodes to some state, and the number of a state to that
-// state. Definitions: specs/Codes.antt. A new state needs a number of its own, and `state-back` of proofs/Codes.antt again.
+// state. Definitions: specs/Codes.antt. A new state needs a number of its own, and `state_back` of proofs/Codes.antt again.
 ghost use Rattle.std.specs.Prelude.{◌≡◌};
-ghost use Rattle.piece_state.specs.Codes.{leadNumber, leadFrom, innerNumber, innerFrom, charNumber, charFrom, hexNumber, hexFrom, numeralNumber, numeralFrom, wordNumber, wordFrom, cellNumber, fixedCell, cellFrom, stateNumber, fixedState, stateFrom};
+ghost use Rattle.piece_state.specs.Codes.{lead_number, lead_from, inner_number, inner_from, char_number, char_from, hex_number, hex_from, numeral_number, numeral_from, word_number, word_from, cell_number, fixed_cell, cell_from, state_number, fixed_state, state_from};
 
 use model::{Cell, Char, FileState, HexLeft, Inner, Lead, Numeral, Word};
 
 // ---- characters
 
 fn lead_number(l: Lead) -> usize
-    ensures { result ≡ leadNumber l }
+    ensures { result ≡ lead_number l }
 {
     match l {
         Lead::C2ToDf => 0,
@@ -23,7 +23,7 @@ fn lead_number(l: Lead) -> usize
 }
 
 fn lead_of(n: usize) -> Lead
-    ensures { result ≡ leadFrom n }
+    ensures { result ≡ lead_from n }
 {
     if n == 0 {
         return Lead::C2ToDf;
@@ -50,7 +50,7 @@ fn lead_of(n: usize) -> Lead
 }
 
 fn inner_number(i: Inner) -> usize
-    ensures { result ≡ innerNumber i }
+    ensures { result ≡ inner_number i }
 {
     match i {
         Inner::Last => 0,
@@ -60,7 +60,7 @@ fn inner_number(i: Inner) -> usize
 }
 
 fn inner_of(n: usize) -> Inner
-    ensures { result ≡ innerFrom n }
+    ensures { result ≡ inner_from n }
 {
     if n == 0 {
         return Inner::Last;
@@ -72,7 +72,7 @@ fn inner_of(n: usize) -> Inner
 }
 
 fn char_number(t: Char) -> usize
-    ensures { result ≡ charNumber t }
+    ensures { result ≡ char_number t }
 {
     match t {
         Char::Whole => 0,
@@ -81,7 +81,7 @@ fn char_number(t: Char) -> usize
 }
 
 fn char_of(n: usize) -> Char
-    ensures { result ≡ charFrom n }
+    ensures { result ≡ char_from n }
 {
     if n == 0 {
         return Char::Whole;
@@ -92,7 +92,7 @@ fn char_of(n: usize) -> Char
 // ---- cells
 
 fn hex_number(h: HexLeft) -> usize
-    ensures { result ≡ hexNumber h }
+    ensures { result ≡ hex_number h }
 {
     match h {
         HexLeft::Four => 0,
@@ -103,7 +103,7 @@ fn hex_number(h: HexLeft) -> usize
 }
 
 fn hex_of(n: usize) -> HexLeft
-    ensures { result ≡ hexFrom n }
+    ensures { result ≡ hex_from n }
 {
     if n == 0 {
         return HexLeft::Four;
@@ -118,7 +118,7 @@ fn hex_of(n: usize) -> HexLeft
 }
 
 fn numeral_number(m: Numeral) -> usize
-    ensures { result ≡ numeralNumber m }
+    ensures { result ≡ numeral_number m }
 {
     match m {
         Numeral::Minus => 0,
@@ -133,7 +133,7 @@ fn numeral_number(m: Numeral) -> usize
 }
 
 fn numeral_of(n: usize) -> Numeral
-    ensures { result ≡ numeralFrom n }
+    ensures { result ≡ numeral_from n }
 {
     if n == 0 {
         return Numeral::Minus;
@@ -160,7 +160,7 @@ fn numeral_of(n: usize) -> Numeral
 }
 
 fn word_number(w: Word) -> usize
-    ensures { result ≡ wordNumber w }
+    ensures { result ≡ word_number w }
 {
     match w {
         Word::T => 0,
@@ -178,7 +178,7 @@ fn word_number(w: Word) -> usize
 }
 
 fn word_of(n: usize) -> Word
-    ensures { result ≡ wordFrom n }
+    ensures { result ≡ word_from n }
 {
     if n == 0 {
         return Word::T;
@@ -214,7 +214,7 @@ fn word_of(n: usize) -> Word
 }
 
 fn cell_number(c: Cell) -> usize
-    ensures { result ≡ cellNumber c }
+    ensures { result ≡ cell_number c }
 {
     match c {
         Cell::Fresh => 0,
@@ -230,7 +230,7 @@ fn cell_number(c: Cell) -> usize
 }
 
 fn fixed_cell(n: usize) -> Cell
-    ensures { result ≡ fixedCell n }
+    ensures { result ≡ fixed_cell n }
 {
     if n == 0 {
         return Cell::Fresh;
@@ -245,7 +245,7 @@ fn fixed_cell(n: usize) -> Cell
 }
 
 fn cell_of(n: usize) -> Cell
-    ensures { result ≡ cellFrom n }
+    ensures { result ≡ cell_from n }
 {
     if n < 16 {
         return fixed_cell(n);
@@ -268,7 +268,7 @@ fn cell_of(n: usize) -> Cell
 // ---- files
 
 pub fn state_number(f: FileState) -> usize
-    ensures { result ≡ stateNumber f }
+    ensures { result ≡ state_number f }
 {
     match f {
         FileState::Top => 0,
@@ -288,7 +288,7 @@ pub fn state_number(f: FileState) -> usize
 }
 
 fn fixed_state(n: usize) -> FileState
-    ensures { result ≡ fixedState n }
+    ensures { result ≡ fixed_state n }
 {
     if n == 0 {
         return FileState::Top;
@@ -324,7 +324,7 @@ fn fixed_state(n: usize) -> FileState
 }
 
 pub fn state_of(n: usize) -> FileState
-    ensures { result ≡ stateFrom n }
+    ensures { result ≡ state_from n }
 {
     if n < 16 {
         return fixed_state(n);

@@ -8,17 +8,17 @@ use lib.Seq.{drop-drop, drop-nil, take_all}
 use borrow.Rule.Slice.PartMut.{put_mid}
 use Rattle.model.specs.rules.Base.{Bytes}
 use Rattle.model.specs.laws.Scans.{RawCell}
-use Rattle.model.specs.laws.Places.{bufferedBytes, bufferedEnds}
+use Rattle.model.specs.laws.Places.{buffered_bytes, buffered_ends}
 use Rattle.buffer.specs.Writes.{written}
-use Rattle.piece_state.specs.CurrentRecord.{SpansIn, rawCellsIn, rawCellsAt}
-use Rattle.piece_state.proofs.BufferedLists.{ends-count}
-use Rattle.piece_state.specs.Sound.{InOrder, order-end, order-next}
-use Rattle.piece_state.proofs.CurrentRecord.{take-written}
+use Rattle.piece_state.specs.CurrentRecord.{SpansIn, raw_cells_in, raw_cells_at}
+use Rattle.piece_state.proofs.BufferedLists.{ends_count}
+use Rattle.piece_state.specs.Sound.{InOrder, order_end, order_next}
+use Rattle.piece_state.proofs.CurrentRecord.{take_written}
 
-drop-over : (n : ℕ) (l : List ℕ) → length l ≤ n → drop n l ≡ []
-drop-over n [] h = drop-nil n
-drop-over zero (x ∷ l) h = absurd (omega arith)
-drop-over (suc n) (x ∷ l) h = drop-over n l (omega arith)
+drop_over : (n : ℕ) (l : List ℕ) → length l ≤ n → drop n l ≡ []
+drop_over n [] h = drop-nil n
+drop_over zero (x ∷ l) h = absurd (omega arith)
+drop_over (suc n) (x ∷ l) h = drop_over n l (omega arith)
 
 -- a list written from index `at` on, as the slice from `at` on written from its beginning
 pub written_behind :
@@ -30,64 +30,64 @@ written_behind l at w new h e =
     let z : 0 + length w ≡ length w = omega arith in
     let new' : new ≡ w ++ drop (at + length w) l =
     e ∙ ap (λ (x : List ℕ). written x 0 w) all ∙ ap (λ (m : ℕ). w ++ drop m (drop at l)) z ∙ ap (λ (x : List ℕ). w ++ x) (drop-drop (length w) at l) in
-    let last : drop (length l - at) (drop at l) ≡ [] = drop-over (length l - at) (drop at l) (omega arith) in
+    let last : drop (length l - at) (drop at l) ≡ [] = drop_over (length l - at) (drop at l) (omega arith) in
     ap₂ (λ (x y : List ℕ). take at l ++ (x ++ y)) new' last ∙ ap (λ (x : List ℕ). take at l ++ x) (append-nil (w ++ drop (at + length w) l))
 
 -- ---- ends ascend
 
-pub order-more : {at b c : ℕ} {ends : List ℕ} → InOrder at ends b → b ≤ c → InOrder at ends c
-order-more {at} {c = c} (order-end h) l = let g : at ≤ c = omega arith in order-end g
-order-more (order-next h hs) l = order-next h (order-more hs l)
+pub order_more : {at b c : ℕ} {ends : List ℕ} → InOrder at ends b → b ≤ c → InOrder at ends c
+order_more {at} {c = c} (order_end h) l = let g : at ≤ c = omega arith in order_end g
+order_more (order_next h hs) l = order_next h (order_more hs l)
 
-from-lower : {a b c : ℕ} {ends : List ℕ} → a ≤ b → InOrder b ends c → InOrder a ends c
-from-lower {a} {c = c} l (order-end h) = let g : a ≤ c = omega arith in order-end g
-from-lower {a} l (order-next {e = e} h hs) = let g : a ≤ e = omega arith in order-next g hs
+from_lower : {a b c : ℕ} {ends : List ℕ} → a ≤ b → InOrder b ends c → InOrder a ends c
+from_lower {a} {c = c} l (order_end h) = let g : a ≤ c = omega arith in order_end g
+from_lower {a} l (order_next {e = e} h hs) = let g : a ≤ e = omega arith in order_next g hs
 
-pub order-append : {a b c : ℕ} {xs ys : List ℕ} → InOrder a xs b → InOrder b ys c → InOrder a (xs ++ ys) c
-order-append (order-end h) k = from-lower h k
-order-append (order-next h hs) k = order-next h (order-append hs k)
+pub order_append : {a b c : ℕ} {xs ys : List ℕ} → InOrder a xs b → InOrder b ys c → InOrder a (xs ++ ys) c
+order_append (order_end h) k = from_lower h k
+order_append (order_next h hs) k = order_next h (order_append hs k)
 
-buffered-order : (o : ℕ) (cs : List RawCell) → InOrder o (bufferedEnds o cs) (o + length (bufferedBytes cs))
-unfolding bufferedEnds bufferedBytes
-buffered-order o [] = let g : o ≤ o + 0 = omega arith in order-end g
-buffered-order o (c ∷ cs) =
-    let e : o + length (c.bytes ++ bufferedBytes cs) ≡ o + length c.bytes + length (bufferedBytes cs) =
-    omega (arith, length-append c.bytes (bufferedBytes cs)) in
+buffered_order : (o : ℕ) (cs : List RawCell) → InOrder o (buffered_ends o cs) (o + length (buffered_bytes cs))
+unfolding buffered_ends buffered_bytes
+buffered_order o [] = let g : o ≤ o + 0 = omega arith in order_end g
+buffered_order o (c ∷ cs) =
+    let e : o + length (c.bytes ++ buffered_bytes cs) ≡ o + length c.bytes + length (buffered_bytes cs) =
+    omega (arith, length-append c.bytes (buffered_bytes cs)) in
     let g : o ≤ o + length c.bytes = omega arith in
-    let x : InOrder (o + length c.bytes) (bufferedEnds (o + length c.bytes) cs) (o + length (c.bytes ++ bufferedBytes cs)) =
-    rw e (buffered-order (o + length c.bytes) cs) in
-    order-next g x
+    let x : InOrder (o + length c.bytes) (buffered_ends (o + length c.bytes) cs) (o + length (c.bytes ++ buffered_bytes cs)) =
+    rw e (buffered_order (o + length c.bytes) cs) in
+    order_next g x
 
 -- the ends then
 module _ (ends ends' : List ℕ) (fill kept : ℕ) (cs : List RawCell) (total : ℕ) (count : kept + length cs ≡ total) (inside : total ≤ length ends)
-    (e : ends' ≡ written ends kept (bufferedEnds fill cs)) where
-  pub ends-then : take total ends' ≡ take kept ends ++ bufferedEnds fill cs
-  ends-then =
-      let n : kept + length (bufferedEnds fill cs) ≡ total = omega (arith, ends-count fill cs) in
-      ap (take total) e ∙ ap (λ (m : ℕ). take m (written ends kept (bufferedEnds fill cs))) (sym n)
-      ∙ take-written ends kept (bufferedEnds fill cs) (omega arith)
+    (e : ends' ≡ written ends kept (buffered_ends fill cs)) where
+  pub ends_then : take total ends' ≡ take kept ends ++ buffered_ends fill cs
+  ends_then =
+      let n : kept + length (buffered_ends fill cs) ≡ total = omega (arith, ends_count fill cs) in
+      ap (take total) e ∙ ap (λ (m : ℕ). take m (written ends kept (buffered_ends fill cs))) (sym n)
+      ∙ take_written ends kept (buffered_ends fill cs) (omega arith)
 
-  pub order-then : InOrder 0 (take kept ends) fill → InOrder 0 (take total ends') (fill + length (bufferedBytes cs))
-  order-then h = rw ends-then (order-append h (buffered-order fill cs))
+  pub order_then : InOrder 0 (take kept ends) fill → InOrder 0 (take total ends') (fill + length (buffered_bytes cs))
+  order_then h = rw ends_then (order_append h (buffered_order fill cs))
 
-  pub ends-long : length (take total ends') ≡ total
-  ends-long = ap length ends-then ∙ omega (arith, length-append (take kept ends) (bufferedEnds fill cs), length-take kept ends, ends-count fill cs)
+  pub ends_long : length (take total ends') ≡ total
+  ends_long = ap length ends_then ∙ omega (arith, length-append (take kept ends) (buffered_ends fill cs), length-take kept ends, ends_count fill cs)
 
 -- ---- how many cells the lists hold
 
-cells-long : (s : Bytes) (starts stops : List ℕ) (n : ℕ) → length starts ≡ n → length stops ≡ n → length (rawCellsIn s starts stops) ≡ n
-unfolding rawCellsIn
-cells-long s [] stops n e f = e
-cells-long s (i ∷ starts) [] n e f = absurd (omega arith)
-cells-long s (i ∷ starts) (j ∷ stops) n e f = ap suc (cells-long s starts stops (length starts) refl (omega arith)) ∙ e
+cells_long : (s : Bytes) (starts stops : List ℕ) (n : ℕ) → length starts ≡ n → length stops ≡ n → length (raw_cells_in s starts stops) ≡ n
+unfolding raw_cells_in
+cells_long s [] stops n e f = e
+cells_long s (i ∷ starts) [] n e f = absurd (omega arith)
+cells_long s (i ∷ starts) (j ∷ stops) n e f = ap suc (cells_long s starts stops (length starts) refl (omega arith)) ∙ e
 
-pub listed : {s : Bytes} {starts stops : List ℕ} {n : ℕ} → SpansIn s starts stops 0 n → length (rawCellsAt s starts stops 0 n) ≡ n
+pub listed : {s : Bytes} {starts stops : List ℕ} {n : ℕ} → SpansIn s starts stops 0 n → length (raw_cells_at s starts stops 0 n) ≡ n
 listed {s} {starts} {stops} {n} h =
-    let a : n ≤ length starts = h.in-starts in
-    let b : n ≤ length stops = h.in-stops in
-    cells-long s (take (n - 0) (drop 0 starts)) (take (n - 0) (drop 0 stops)) n
+    let a : n ≤ length starts = h.in_starts in
+    let b : n ≤ length stops = h.in_stops in
+    cells_long s (take (n - 0) (drop 0 starts)) (take (n - 0) (drop 0 stops)) n
     (omega (arith, length-take (n - 0) (drop 0 starts), length-drop 0 starts)) (omega (arith, length-take (n - 0) (drop 0 stops), length-drop 0 stops))
 
 -- all that follows an index
-pub tail-part : (l : List ℕ) (at : ℕ) → take (length l - at) (drop at l) ≡ drop at l
-tail-part l at = take_all (length l - at) (drop at l) (omega (arith, length-drop at l))
+pub tail_part : (l : List ℕ) (at : ℕ) → take (length l - at) (drop at l) ≡ drop at l
+tail_part l at = take_all (length l - at) (drop at l) (omega (arith, length-drop at l))

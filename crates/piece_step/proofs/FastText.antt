@@ -11,13 +11,13 @@ use Rattle.model.specs.declared.FileState.{FileState}
 use Rattle.model.specs.declared.CheckResult.TheVariants.{Sound}
 use Rattle.model.specs.rules.Base.{if◌then◌else◌, ◌is◌}
 use Rattle.model.specs.rules.Dialect.{into}
-use Rattle.model.specs.rules.Text.{Value, recordText, ending}
+use Rattle.model.specs.rules.Text.{Value, record_text, ending}
 use Rattle.model.specs.rules.Report.{MAXFILE, MAXCOLUMNS}
-use Rattle.model.specs.rules.Records.{dataFault, targetFault}
+use Rattle.model.specs.rules.Records.{data_fault, target_fault}
 use Rattle.model.proofs.file_laws.CheckResults.{target_sound}
 use Rattle.buffer.specs.Writes.{written}
 use Rattle.piece_state.specs.declared.place.Place.{Place}
-use Rattle.piece_step.specs.Invariant.{columnsWith}
+use Rattle.piece_step.specs.Invariant.{columns_with}
 use Rattle.piece_step.specs.declared.fast.FastText.{FastText}
 use Rattle.piece_step.specs.declared.fast.FastText.TheVariants as put
 use Rattle.piece_step.specs.declared.fast.FastStep.TheVariants.{Next, Fallback}
@@ -27,35 +27,35 @@ other : {A : Type 0} → ◌≡◌ {A = ℕ} 0 1 → A
 other z = absurd (omega arith)
 
 pub record UpTo (t : Dialect) (columns before : ℕ) (vs : List Value) (o : ℕ) (out out' : List ℕ) (end : ℕ) : Type 0 where
-  pub source : dataFault columns vs ≡ Sound
-  pub target : targetFault (into t) false before vs ≡ Sound
-  pub room : o + length (recordText (into t) false vs ++ ending t) ≤ length out
-  pub text : out' ≡ written out o (recordText (into t) false vs ++ ending t)
-  pub place : end ≡ o + length (recordText (into t) false vs ++ ending t)
+  pub source : data_fault columns vs ≡ Sound
+  pub target : target_fault (into t) false before vs ≡ Sound
+  pub room : o + length (record_text (into t) false vs ++ ending t) ≤ length out
+  pub text : out' ≡ written out o (record_text (into t) false vs ++ ending t)
+  pub place : end ≡ o + length (record_text (into t) false vs ++ ending t)
 
 module _ {t : Dialect} {columns before : ℕ} {vs : List Value} {o : ℕ} {out out' : List ℕ} where
-  pub put-to : {r : FastText} {end : ℕ} → FastTextSound t columns before vs o out out' r → r ≡ put.To end → UpTo t columns before vs o out out' end
-  put-to {end = end} (up_to {end = e} a b l w y) q =
+  pub put_to : {r : FastText} {end : ℕ} → FastTextSound t columns before vs o out out' r → r ≡ put.To end → UpTo t columns before vs o out out' end
+  put_to {end = end} (up_to {end = e} a b l w y) q =
       let z : e ≡ end = cc in
       subst (λ (x : ℕ). UpTo t columns before vs o out out' x) z (record { source = a; target = b; room = l; text = w; place = y })
-  put-to (no_text w) q = other cc
+  put_to (no_text w) q = other cc
 
-  pub put-nowhere : {r : FastText} → FastTextSound t columns before vs o out out' r → r ≡ put.Fallback → out' ≡ out
-  put-nowhere (up_to a b l w y) q = other cc
-  put-nowhere (no_text w) q = w
+  pub put_nowhere : {r : FastText} → FastTextSound t columns before vs o out out' r → r ≡ put.Fallback → out' ≡ out
+  put_nowhere (up_to a b l w y) q = other cc
+  put_nowhere (no_text w) q = w
 
 -- the text fits into the file, and ends after o
-pub written-fits :
+pub written_fits :
     {t : Dialect} {columns before : ℕ} {vs : List Value} {o : ℕ} {out out' : List ℕ} {end : ℕ} → UpTo t columns before vs o out out' end →
     (o ≤ end) × (before + (end - o) ≤ MAXFILE)
-written-fits {t} {columns} {before} {vs} {o} {out} {out'} {end} y =
+written_fits {t} {columns} {before} {vs} {o} {out} {out'} {end} y =
     let f = target_sound (into t) false before vs y.target in
-    let l : before + length (recordText (into t) false vs ++ ending t) ≤ MAXFILE = f.fits in
-    let e : end ≡ o + length (recordText (into t) false vs ++ ending t) = y.place in
+    let l : before + length (record_text (into t) false vs ++ ending t) ≤ MAXFILE = f.fits in
+    let e : end ≡ o + length (record_text (into t) false vs ++ ending t) = y.place in
     (omega arith, omega arith)
 
 -- the place after it
-pub written-place :
+pub written_place :
     {t : Dialect} {p : Place} {vs : List Value} {o : ℕ} {out out' : List ℕ} {end : ℕ} (n next : ℕ) (f : FileState) (cells : ℕ) →
     (p.records ≡ 0 → ⊥) → cells ≤ MAXCOLUMNS →
     UpTo t p.columns p.written vs o out out' end →
@@ -72,8 +72,8 @@ pub written-place :
       written = p.written + (end - o);
     }) next end)
 unfolding if◌then◌else◌
-written-place {t} {p} {vs} {o} {out} {out'} {end} n next f cells l few y =
-    let c : columnsWith p (length vs) ≡ p.columns = rw (ne_eqb p.records 0 l) in
+written_place {t} {p} {vs} {o} {out} {out'} {end} n next f cells l few y =
+    let c : columns_with p (length vs) ≡ p.columns = rw (ne_eqb p.records 0 l) in
     subst (λ (m : ℕ). FastStepWrites t p n next f cells vs o out out'
     (Next (record {
       state = f;

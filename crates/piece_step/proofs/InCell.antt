@@ -14,31 +14,31 @@ use Rattle.model.specs.declared.FileState.TheVariants.{Inside}
 use Rattle.model.specs.declared.Step.TheVariants.{To}
 use Rattle.model.specs.declared.ByteRole.TheVariants.{OfCell}
 use Rattle.model.specs.rules.Base.{Bytes, if◌then◌else◌}
-use Rattle.model.specs.rules.Dialect.{quoteOf}
-use Rattle.model.specs.rules.File.{inCell, fileStep}
+use Rattle.model.specs.rules.Dialect.{quote_of}
+use Rattle.model.specs.rules.File.{in_cell, file_step}
 use Rattle.model.specs.rules.Report.{MAXFILE, MAXRECORD, MAXCOLUMNS}
-use Rattle.model.specs.laws.Scans.{Scan, pends, scanStep, scan, fresh}
-use Rattle.model.specs.laws.Places.{bufferedBytes, bufferedEnds}
-use Rattle.model.proofs.Tests.{and-true}
+use Rattle.model.specs.laws.Scans.{Scan, pends, scan_step, scan, fresh}
+use Rattle.model.specs.laws.Places.{buffered_bytes, buffered_ends}
+use Rattle.model.proofs.Tests.{and_true}
 use Rattle.buffer.specs.Writes.{written}
-use Rattle.buffer.proofs.WriteProgress.{written-nil}
-use Rattle.swar.specs.Words.{ordinary, allPass, AllIn}
+use Rattle.buffer.proofs.WriteProgress.{written_nil}
+use Rattle.swar.specs.Words.{ordinary, all_pass, AllIn}
 use Rattle.swar.proofs.Spans.{in_whole}
-use Rattle.cell_scanner.specs.Run.{runStop}
+use Rattle.cell_scanner.specs.Run.{run_stop}
 use Rattle.cell_scanner.specs.declared.RunStop.TheVariants.{At}
 use Rattle.cell_scanner.proofs.Runs.{run_step}
 use Rattle.record_scanner.specs.declared.record_state.RecordState.{RecordState}
 use Rattle.piece_state.specs.declared.place.Place.{Place}
 use Rattle.piece_step.specs.declared.PieceStep.TheVariants.{NeedInput}
-use Rattle.piece_step.specs.Steps.{InBounds, StepReady, StepInBounds, pending-bounds, RecordBuffered, buffered-on, placeAtPieceEnd}
+use Rattle.piece_step.specs.Steps.{InBounds, StepReady, StepInBounds, pending_bounds, RecordBuffered, buffered_on, place_at_piece_end}
 use Rattle.piece_step.proofs.ScanAnswers.{PendingAs}
-use Rattle.piece_step.proofs.Steps.{here, bounds-pended, turns-pended-on}
-use Rattle.piece_step.specs.InCell.{Fits, InCellSound, all-buffered}
+use Rattle.piece_step.proofs.Steps.{here, bounds_pended, turns_pended_on}
+use Rattle.piece_step.specs.InCell.{Fits, InCellSound, all_buffered_lem}
 use Rattle.piece_step.specs.declared.in_cell.InCellStep.TheVariants as told
 
 -- ---- a scan over ordinary bytes
 
-module _ (d : Dialect) (limit : ℕ) (c : Cell) (q : ℕ) (stops : runStop d c ≡ At q) where
+module _ (d : Dialect) (limit : ℕ) (c : Cell) (q : ℕ) (stops : run_stop d c ≡ At q) where
   -- the scan after them
   abbrev behind : Scan → Bytes → Scan
   behind s xs =
@@ -52,39 +52,39 @@ module _ (d : Dialect) (limit : ℕ) (c : Cell) (q : ℕ) (stops : runStop d c �
         cells = s.cells;
       }
 
-  steps : (f : FileState) (b : ℕ) → f ≡ Inside c → ordinary (quoteOf d) q b ≡ true → fileStep d f b ≡ To (Inside c) OfCell
-  unfolding fileStep inCell
+  steps : (f : FileState) (b : ℕ) → f ≡ Inside c → ordinary (quote_of d) q b ≡ true → file_step d f b ≡ To (Inside c) OfCell
+  unfolding file_step in_cell
   steps f b e h = rw (e, run_step d c q b stops h) refl
 
-  scan-run :
-      (xs : Bytes) (s : Scan) → s.state ≡ Inside c → allPass (ordinary (quoteOf d) q) xs ≡ true → s.offset + length xs ≤ limit →
+  scan_run :
+      (xs : Bytes) (s : Scan) → s.state ≡ Inside c → all_pass (ordinary (quote_of d) q) xs ≡ true → s.offset + length xs ≤ limit →
       s.size + length xs ≤ MAXRECORD → scan d limit s xs ≡ pends (behind s xs)
-  unfolding scan scanStep allPass if◌then◌else◌
-  scan-run [] s e all l m = rw (sym e, add-zero s.offset, add-zero s.size, append-nil s.raw) refl
-  scan-run (b ∷ xs) s e all l m =
-      let x = and-true (ordinary (quoteOf d) q b) (allPass (ordinary (quoteOf d) q) xs) all in
+  unfolding scan scan_step all_pass if◌then◌else◌
+  scan_run [] s e all l m = rw (sym e, add-zero s.offset, add-zero s.size, append-nil s.raw) refl
+  scan_run (b ∷ xs) s e all l m =
+      let x = and_true (ordinary (quote_of d) q b) (all_pass (ordinary (quote_of d) q) xs) all in
       let o : suc s.offset + length xs ≡ s.offset + suc (length xs) = omega arith in
       let z : suc s.size + length xs ≡ s.size + suc (length xs) = omega arith in
       rw (lt-leb limit s.offset (omega arith), lt-leb MAXRECORD s.size (omega arith), steps s.state b e x.0)
-      (scan-run xs _ refl x.1 (omega arith) (omega arith) ∙ rw (o, z, append_assoc s.raw (b ∷ []) xs) refl)
+      (scan_run xs _ refl x.1 (omega arith) (omega arith) ∙ rw (o, z, append_assoc s.raw (b ∷ []) xs) refl)
 
 -- ---- a piece
 
-module _ (d : Dialect) (piece : Bytes) (p : Place) (bytes ends : List ℕ) (bounds : InBounds p ends) (long-bytes : length bytes ≡ MAXRECORD)
-    (long-ends : length ends ≡ MAXCOLUMNS)
-    (c : Cell) (q : ℕ) (state : p.state ≡ Inside c) (stops : runStop d c ≡ At q) (all : AllIn (ordinary (quoteOf d) q) piece 0 (length piece))
+module _ (d : Dialect) (piece : Bytes) (p : Place) (bytes ends : List ℕ) (bounds : InBounds p ends) (long_bytes : length bytes ≡ MAXRECORD)
+    (long_ends : length ends ≡ MAXCOLUMNS)
+    (c : Cell) (q : ℕ) (state : p.state ≡ Inside c) (stops : run_stop d c ≡ At q) (all : AllIn (ordinary (quote_of d) q) piece 0 (length piece))
     (fits : Fits p (length piece))
     (bytes' : List ℕ) (kept : bytes' ≡ written bytes p.fill piece) where
   ready : (out : List ℕ) → StepReady piece p.offset 0 p bytes ends out 0
   ready out =
-      record { bounds = bounds; at = sym (add-zero p.offset); inside = omega arith; room = omega arith; long-bytes = long-bytes; long-ends = long-ends }
+      record { bounds = bounds; at = sym (add-zero p.offset); inside = omega arith; room = omega arith; long_bytes = long_bytes; long_ends = long_ends }
 
   abbrev hand : RecordState
   hand = record { start = 0; size = p.size + length piece; opened = 0; cells = 0 }
 
   -- the place after it
-  abbrev placeBehind : (fill : ℕ) → Place
-  placeBehind fill =
+  abbrev place_behind : (fill : ℕ) → Place
+  place_behind fill =
       record {
         state = Inside c;
         offset = p.offset + length piece;
@@ -102,31 +102,31 @@ module _ (d : Dialect) (piece : Bytes) (p : Place) (bytes ends : List ℕ) (boun
       record {
         s = behind d (MAXFILE - p.offset) c q stops (fresh p.state p.size 0) piece;
         came =
-            scan-run d (MAXFILE - p.offset) c q stops piece (fresh p.state p.size 0) state (in_whole (ordinary (quoteOf d) q) all)
-            (omega (arith, fits.in-file)) fits.in-record;
+            scan_run d (MAXFILE - p.offset) c q stops piece (fresh p.state p.size 0) state (in_whole (ordinary (quote_of d) q) all)
+            (omega (arith, fits.in_file)) fits.in_record_lem;
         state = refl;
         hand = refl;
       }
 
   place_is :
-      placeBehind (p.fill + length piece) ≡ placeAtPieceEnd p p.offset 0 (length piece) (Inside c) hand
-      (p.fill + length (bufferedBytes []) + length (drop 0 piece))
-  unfolding bufferedBytes if◌then◌else◌
+      place_behind (p.fill + length piece) ≡ place_at_piece_end p p.offset 0 (length piece) (Inside c) hand
+      (p.fill + length (buffered_bytes []) + length (drop 0 piece))
+  unfolding buffered_bytes if◌then◌else◌
   place_is = rw (add-zero p.cells, add-zero p.fill) refl
 
-  keeps : RecordBuffered p p.offset 0 (Inside c) hand piece [] (p.cells + hand.cells) bytes ends bytes' ends (placeBehind (p.fill + length piece))
-  unfolding bufferedBytes bufferedEnds
+  keeps : RecordBuffered p p.offset 0 (Inside c) hand piece [] (p.cells + hand.cells) bytes ends bytes' ends (place_behind (p.fill + length piece))
+  unfolding buffered_bytes buffered_ends
   keeps =
-      buffered-on (omega (arith, fits.columns)) (rw (written-nil bytes p.fill, add-zero p.fill) kept) (sym (written-nil ends p.cells)) place_is
+      buffered_on (omega (arith, fits.columns)) (rw (written_nil bytes p.fill, add-zero p.fill) kept) (sym (written_nil ends p.cells)) place_is
 
-  told-kept : InCellSound d piece p bytes ends bytes' (told.Buffered (placeBehind (p.fill + length piece)))
+  told_kept : InCellSound d piece p bytes ends bytes' (told.Buffered (place_behind (p.fill + length piece)))
   unfolding pended
-  told-kept = all-buffered (within (bounds-pended d piece p.offset 0 p bytes ends [] 0 (ready []) _ _ (pended []) [] bytes' ends _ keeps (λ _. refl)))
-      λ t done k out hold. turns-pended-on d piece p.offset 0 p bytes ends out 0 (ready out) _ _ (pended out) [] bytes' ends _ keeps
+  told_kept = all_buffered_lem (within (bounds_pended d piece p.offset 0 p bytes ends [] 0 (ready []) _ _ (pended []) [] bytes' ends _ keeps (λ _. refl)))
+      λ t done k out hold. turns_pended_on d piece p.offset 0 p bytes ends out 0 (ready out) _ _ (pended out) [] bytes' ends _ keeps
       (λ _. refl) t done k hold keeps
     where
       within : {q : Place} → StepInBounds piece p.offset 0 ends [] (NeedInput q) → InBounds q ends
-      within (pending-bounds x) = x
+      within (pending_bounds x) = x
 
-  pub piece-kept : {fill : ℕ} → fill ≡ p.fill + length piece → InCellSound d piece p bytes ends bytes' (told.Buffered (placeBehind fill))
-  piece-kept e = rw e told-kept
+  pub piece_kept : {fill : ℕ} → fill ≡ p.fill + length piece → InCellSound d piece p bytes ends bytes' (told.Buffered (place_behind fill))
+  piece_kept e = rw e told_kept

@@ -8,13 +8,13 @@ use Rattle.model.specs.declared.FileState.TheVariants.{Begin, Ended}
 use Rattle.model.specs.declared.CheckResult.TheVariants.{Sound}
 use Rattle.model.specs.rules.Base.{Bytes, is_empty}
 use Rattle.model.specs.rules.Dialect.{into}
-use Rattle.model.specs.rules.Text.{Value, recordText, ending}
-use Rattle.model.specs.rules.Records.{Rec, going, readFrom, dataFault, targetFault}
+use Rattle.model.specs.rules.Text.{Value, record_text, ending}
+use Rattle.model.specs.rules.Records.{Rec, going, read_from, data_fault, target_fault}
 use Rattle.model.specs.rules.Report.{MAXFILE, MAXCOLUMNS}
 use Rattle.model.specs.laws.Scans.{Buffered}
 use Rattle.buffer.specs.Writes.{written}
 use Rattle.piece_state.specs.declared.place.Place.{Place}
-use Rattle.piece_step.specs.Invariant.{readAt, StateInvariant, placeAfter}
+use Rattle.piece_step.specs.Invariant.{read_at, StateInvariant, place_after}
 use Rattle.piece_step.specs.Steps.{InBounds}
 use Rattle.piece_step.specs.declared.fast.FastText.{FastText}
 use Rattle.piece_step.specs.declared.fast.FastText.TheVariants as put
@@ -26,9 +26,9 @@ use Rattle.piece_step.specs.declared.fast.FastStep.TheVariants.{Next, Fallback}
 -- the text lies from o up to `end` in the output, if the record has no fault and there is room
 pub data FastTextSound (t : Dialect) (columns before : ℕ) (vs : List Value) (o : ℕ) (out out' : List ℕ) : FastText → Type 0 where
   up_to :
-      {end : ℕ} → dataFault columns vs ≡ Sound → targetFault (into t) false before vs ≡ Sound →
-      o + length (recordText (into t) false vs ++ ending t) ≤ length out →
-      out' ≡ written out o (recordText (into t) false vs ++ ending t) → end ≡ o + length (recordText (into t) false vs ++ ending t) →
+      {end : ℕ} → data_fault columns vs ≡ Sound → target_fault (into t) false before vs ≡ Sound →
+      o + length (record_text (into t) false vs ++ ending t) ≤ length out →
+      out' ≡ written out o (record_text (into t) false vs ++ ending t) → end ≡ o + length (record_text (into t) false vs ++ ending t) →
       FastTextSound t columns before vs o out out' (put.To end)
   no_text : out' ≡ out → FastTextSound t columns before vs o out out' put.Fallback
 
@@ -58,26 +58,26 @@ pub record Between (p : Place) : Type 0 where
 pub data FastStepWrites (t : Dialect) (p : Place) (n next : ℕ) (f : FileState) (cells : ℕ) (vs : List Value) (o : ℕ)
     (out out' : List ℕ) : FastStep → Type 0 where
   at_next :
-      {end : ℕ} → cells ≤ MAXCOLUMNS → dataFault p.columns vs ≡ Sound → targetFault (into t) false p.written vs ≡ Sound →
-      o + length (recordText (into t) false vs ++ ending t) ≤ length out →
-      out' ≡ written out o (recordText (into t) false vs ++ ending t) → end ≡ o + length (recordText (into t) false vs ++ ending t) →
-      FastStepWrites t p n next f cells vs o out out' (Next (placeAfter p (length vs) (end - o) f (n + next)) next end)
+      {end : ℕ} → cells ≤ MAXCOLUMNS → data_fault p.columns vs ≡ Sound → target_fault (into t) false p.written vs ≡ Sound →
+      o + length (record_text (into t) false vs ++ ending t) ≤ length out →
+      out' ≡ written out o (record_text (into t) false vs ++ ending t) → end ≡ o + length (record_text (into t) false vs ++ ending t) →
+      FastStepWrites t p n next f cells vs o out out' (Next (place_after p (length vs) (end - o) f (n + next)) next end)
   not_found : out' ≡ out → FastStepWrites t p n next f cells vs o out out' Fallback
 
 -- it stays in bounds, whatever state it began with; and a fallback writes nothing
 pub data FastStepInBounds (piece : Bytes) (n i : ℕ) (out out' : List ℕ) : FastStep → Type 0 where
-  next-in-bounds :
+  next_in_bounds :
       {q : Place} {at end : ℕ} → ((ends : List ℕ) → InBounds q ends) → q.offset ≡ n + at → i < at → at ≤ length piece → end ≤ length out →
       FastStepInBounds piece n i out out' (Next q at end)
-  nothing-in-bounds : out' ≡ out → FastStepInBounds piece n i out out' Fallback
+  nothing_in_bounds : out' ≡ out → FastStepInBounds piece n i out out' Fallback
 
 -- what it results in, if its place represents reading after the records `done`
 pub data FastStepSound (d : Dialect) (t : Target) (piece : Bytes) (i : ℕ) (p : Place) (bytes ends : List ℕ) (done : List Rec) (k : Buffered) (o : ℕ)
     (out out' : List ℕ) : FastStep → Type 0 where
-  a-record :
+  a_record :
       {q : Place} {at end : ℕ} (x : Rec) (k' : Buffered) →
-      readFrom d (some t) (going (readAt d p done k)) (drop i piece) ≡ readFrom d (some t) (going (readAt d q (done ++ (x ∷ [])) k')) (drop at piece) →
-      StateInvariant d t q bytes ends (done ++ (x ∷ [])) k' → out' ≡ written out o (recordText t (is_empty done) x.cells ++ ending t.dialect) →
-      end ≡ o + length (recordText t (is_empty done) x.cells ++ ending t.dialect) →
+      read_from d (some t) (going (read_at d p done k)) (drop i piece) ≡ read_from d (some t) (going (read_at d q (done ++ (x ∷ [])) k')) (drop at piece) →
+      StateInvariant d t q bytes ends (done ++ (x ∷ [])) k' → out' ≡ written out o (record_text t (is_empty done) x.cells ++ ending t.dialect) →
+      end ≡ o + length (record_text t (is_empty done) x.cells ++ ending t.dialect) →
       FastStepSound d t piece i p bytes ends done k o out out' (Next q at end)
   nothing : FastStepSound d t piece i p bytes ends done k o out out' Fallback

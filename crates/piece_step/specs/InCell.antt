@@ -16,12 +16,12 @@ use Rattle.piece_step.specs.declared.in_cell.InCellStep.TheVariants as told
 -- `size` more bytes of a cell stay within the limits
 pub record Fits (p : Place) (size : ℕ) : Type 0 where
   pub columns : p.cells ≤ MAXCOLUMNS
-  pub in-record : p.size + size ≤ MAXRECORD
-  pub in-file : p.offset + size ≤ MAXFILE
+  pub in_record_lem : p.size + size ≤ MAXRECORD
+  pub in_file : p.offset + size ≤ MAXFILE
 
 -- the place after the piece, which a step over it results in with any output; or a fallback, with nothing buffered
 pub data InCellSound (d : Dialect) (piece : Bytes) (p : Place) (bytes ends bytes' : List ℕ) : InCellStep → Type 0 where
-  all-buffered :
+  all_buffered_lem :
       {q : Place} → InBounds q ends →
       ((t : Target) (done : List Rec) (k : Buffered) (out : List ℕ) → StateInvariant d t p bytes ends done k →
       StepSound d t piece 0 p done k 0 out bytes' ends out (NeedInput q)) →

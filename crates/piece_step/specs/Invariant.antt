@@ -5,91 +5,91 @@ use Rattle.piece_step.specs.Types.{ExpectCell, Inside, After, Cr}
 use Rattle.model.specs.rules.Base.{if◌then◌else◌, ◌is◌, Bytes}
 use Rattle.model.specs.rules.Cell.{Runs}
 use Rattle.model.specs.rules.File.{cell_at}
-use Rattle.model.specs.rules.Decode.{validateCell}
-use Rattle.model.specs.rules.Text.{tableText}
+use Rattle.model.specs.rules.Decode.{validate_cell}
+use Rattle.model.specs.rules.Text.{table_text}
 use Rattle.model.specs.rules.Report.{MAXCOLUMNS}
 use Rattle.model.specs.rules.Records.{Rec, rows, Read}
 use Rattle.model.specs.laws.Laws.{All}
 use Rattle.model.specs.laws.Scans.{RawCell, Scan, read_of, Buffered, Holds, Sized}
-use Rattle.model.specs.laws.Places.{bufferedBytes, bufferedEnds}
+use Rattle.model.specs.laws.Places.{buffered_bytes, buffered_ends}
 use Rattle.piece_state.specs.declared.place.Place.{Place}
 
 -- ---- what is buffered
 
 -- a cell is open
-abbrev pub inCell : FileState → Bool
-inCell Top = false
-inCell Begin = false
-inCell Ended = false
-inCell Bom1 = false
-inCell Bom2 = false
-inCell PlainBom1 = true
-inCell PlainBom2 = true
-inCell (Comment c) = false
-inCell Blanks = false
-inCell ExpectCell = false
-inCell (Inside c) = true
-inCell After = false
-inCell Cr = false
+abbrev pub in_cell : FileState → Bool
+in_cell Top = false
+in_cell Begin = false
+in_cell Ended = false
+in_cell Bom1 = false
+in_cell Bom2 = false
+in_cell PlainBom1 = true
+in_cell PlainBom2 = true
+in_cell (Comment c) = false
+in_cell Blanks = false
+in_cell ExpectCell = false
+in_cell (Inside c) = true
+in_cell After = false
+in_cell Cr = false
 
 -- bytes of an open cell are buffered only where one is open
 pub data Open (f : FileState) (raw : Bytes) : Type 0 where
-  in_cell : inCell f ≡ true → Open f raw
+  in_cell_lem : in_cell f ≡ true → Open f raw
   no_bytes : raw ≡ [] → Open f raw
 
 -- the buffered bytes, one after another: those of the complete cells, and of the open one
-abbrev pub allBuffered : Buffered → Bytes
-allBuffered k = bufferedBytes k.cells ++ k.raw
+abbrev pub all_buffered : Buffered → Bytes
+all_buffered k = buffered_bytes k.cells ++ k.raw
 
 -- a raw cell is whole
 abbrev pub IsWhole : Dialect → RawCell → Type 0
-IsWhole d c = validateCell d c.bytes ≡ WholeCell
+IsWhole d c = validate_cell d c.bytes ≡ WholeCell
 
 -- ---- the position of the reader
 
 -- the current record at this place
-abbrev pub scanAt : Place → Buffered → Scan
-scanAt p k =
+abbrev pub scan_at : Place → Buffered → Scan
+scan_at p k =
     record { state = p.state; offset = p.offset; start = k.start; size = p.size; opened = k.opened; raw = k.raw; cells = k.cells }
 
 -- reading at this place, after the records `done`
-abbrev pub readAt : Dialect → Place → (done : List Rec) → Buffered → Read
-readAt d p done k = read_of d done (scanAt p k)
+abbrev pub read_at : Dialect → Place → (done : List Rec) → Buffered → Read
+read_at d p done k = read_of d done (scan_at p k)
 
 -- the columns of a table: the cells of its header
-abbrev pub columnsOf : List Rec → ℕ
-columnsOf [] = 0
-columnsOf (h ∷ rs) = length h.cells
+abbrev pub columns_of : List Rec → ℕ
+columns_of [] = 0
+columns_of (h ∷ rs) = length h.cells
 
 -- the arrays hold the bytes and the ends of these cells
 pub record Shown (p : Place) (k : Buffered) (bytes ends : List ℕ) : Type 0 where
-  pub fill : p.fill ≡ length (allBuffered k)
-  pub bytes-kept : take p.fill bytes ≡ allBuffered k
-  pub ends-kept : take (length k.cells) ends ≡ bufferedEnds 0 k.cells
+  pub fill : p.fill ≡ length (all_buffered k)
+  pub bytes_kept : take p.fill bytes ≡ all_buffered k
+  pub ends_kept : take (length k.cells) ends ≡ buffered_ends 0 k.cells
 
 -- the place and the arrays represent reading after the records `done`, with the buffered part k of the current record
 pub record StateInvariant (d : Dialect) (t : Target) (p : Place) (bytes ends : List ℕ) (done : List Rec) (k : Buffered) : Type 0 where
   pub starts : p.start ≡ k.start
   pub opens : Open p.state k.raw
   pub holds : Holds p.state k
-  pub sized : Sized (scanAt p k)
+  pub sized : Sized (scan_at p k)
   pub runs : Runs d Fresh k.raw (cell_at p.state)
   pub whole : All (IsWhole d) k.cells
   pub cells : p.cells ≡ length k.cells
   pub shown : length k.cells ≤ MAXCOLUMNS → Shown p k bytes ends
   pub records : p.records ≡ length done
-  pub columns : p.columns ≡ columnsOf done
-  pub written : p.written ≡ length (tableText t (rows done))
+  pub columns : p.columns ≡ columns_of done
+  pub written : p.written ≡ length (table_text t (rows done))
 
 -- ---- a complete record
 
 -- the columns of the table once this record is complete
-abbrev pub columnsWith : Place → (cells : ℕ) → ℕ
-columnsWith p cells = if p.records is 0 then cells else p.columns
+abbrev pub columns_with : Place → (cells : ℕ) → ℕ
+columns_with p cells = if p.records is 0 then cells else p.columns
 
 -- the place after a record
-abbrev pub placeAfter : Place → (cells size : ℕ) → FileState → (offset : ℕ) → Place
-placeAfter p cells size f o =
+abbrev pub place_after : Place → (cells size : ℕ) → FileState → (offset : ℕ) → Place
+place_after p cells size f o =
     record {
       state = f;
       offset = o;
@@ -97,27 +97,27 @@ placeAfter p cells size f o =
       size = 0;
       fill = 0;
       cells = 0;
-      columns = columnsWith p cells;
+      columns = columns_with p cells;
       records = p.records + 1;
       written = p.written + size;
     }
 
 -- nothing is buffered after a record
-abbrev pub bufferedNone : (offset : ℕ) → Buffered
-bufferedNone o = record { start = o; opened = o; raw = []; cells = [] }
+abbrev pub buffered_none : (offset : ℕ) → Buffered
+buffered_none o = record { start = o; opened = o; raw = []; cells = [] }
 
 -- where in the file the current record starts, by where it starts in the part: one that starts where the part began may have started
 -- before
-abbrev pub startFrom : Place → (before began start : ℕ) → ℕ
-startFrom p n i start = if start is i then p.start else n + start
+abbrev pub start_from : Place → (before began start : ℕ) → ℕ
+start_from p n i start = if start is i then p.start else n + start
 
 -- the place where a part ends
-abbrev pub placePending : Place → (before began fill : ℕ) → Scan → Place
-placePending p n i fill s =
+abbrev pub place_pending : Place → (before began fill : ℕ) → Scan → Place
+place_pending p n i fill s =
     record {
       state = s.state;
       offset = n + s.offset;
-      start = startFrom p n i s.start;
+      start = start_from p n i s.start;
       size = s.size;
       fill = fill;
       cells = p.cells + length s.cells;

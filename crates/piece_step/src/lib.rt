@@ -9,11 +9,11 @@ ghost use Rattle.model.specs.rules.Dialect.{into};
 ghost use Rattle.model.specs.rules.Report.{MAXFILE, MAXCOLUMNS};
 ghost use Rattle.model.specs.rules.Records.{Rec};
 ghost use Rattle.model.specs.laws.Scans.{Buffered};
-ghost use Rattle.model.specs.laws.Places.{bufferedBytes, bufferedEnds};
+ghost use Rattle.model.specs.laws.Places.{buffered_bytes, buffered_ends};
 ghost use Rattle.buffer.specs.Writes.{written};
-ghost use Rattle.piece_state.specs.CurrentRecord.{SpansIn, rawCellsAt};
-ghost use Rattle.piece_step.specs.Invariant.{startFrom, StateInvariant, columnsWith};
-ghost use Rattle.piece_step.specs.Steps.{Scratch, Lists, RecordCompleted, placeAtPieceEnd, RecordBuffered, stepAfter, Fitting, StepReady, StepInBounds, StepSound};
+ghost use Rattle.piece_state.specs.CurrentRecord.{SpansIn, raw_cells_at};
+ghost use Rattle.piece_step.specs.Invariant.{start_from, StateInvariant, columns_with};
+ghost use Rattle.piece_step.specs.Steps.{Scratch, Lists, RecordCompleted, place_at_piece_end, RecordBuffered, step_after, Fitting, StepReady, StepInBounds, StepSound};
 
 use codes::{MAX_COLUMNS, MAX_FILE};
 use model::{Dialect, Fault, FileState, Report};
@@ -41,10 +41,10 @@ fn buffer_more(
 ) -> usize
     requires spans_in { SpansIn piece.now starts.now stops.now 0 cells }
     requires cells_in_bounds { kept + cells ≤ length ends.old }
-    requires cells_in_bounds_2 { fill + length (bufferedBytes (rawCellsAt piece.now starts.now stops.now 0 cells)) ≤ length bytes.old }
-    ensures value { result ≡ fill + length (bufferedBytes (rawCellsAt piece.now starts.now stops.now 0 cells)) }
-    ensures bytes_after { bytes.new ≡ written bytes.old fill (bufferedBytes (rawCellsAt piece.now starts.now stops.now 0 cells)) }
-    ensures ends_after { ends.new ≡ written ends.old kept (bufferedEnds fill (rawCellsAt piece.now starts.now stops.now 0 cells)) }
+    requires cells_in_bounds_2 { fill + length (buffered_bytes (raw_cells_at piece.now starts.now stops.now 0 cells)) ≤ length bytes.old }
+    ensures value { result ≡ fill + length (buffered_bytes (raw_cells_at piece.now starts.now stops.now 0 cells)) }
+    ensures bytes_after { bytes.new ≡ written bytes.old fill (buffered_bytes (raw_cells_at piece.now starts.now stops.now 0 cells)) }
+    ensures ends_after { ends.new ≡ written ends.old kept (buffered_ends fill (raw_cells_at piece.now starts.now stops.now 0 cells)) }
 {
     cells::buffer_cells(
         piece,
@@ -79,7 +79,7 @@ fn complete_record(
     requires scratch { Scratch starts.old stops.now kinds.old }
     requires lists { Lists piece.now starts.old stops.now cells p bytes.old ends.old }
     requires written_bound { (p.written ≤ MAXFILE) × (o ≤ length out.old) }
-    ensures { RecordCompleted d (into t) p (rawCellsAt piece.now starts.old stops.now 0 cells) (p.cells + cells) bytes.old ends.old o out.old bytes.new ends.new out.new result }
+    ensures { RecordCompleted d (into t) p (raw_cells_at piece.now starts.old stops.now 0 cells) (p.cells + cells) bytes.old ends.old o out.old bytes.new ends.new out.new result }
 {
     let kept = p.cells;
     let total = kept + cells;
@@ -94,7 +94,7 @@ fn complete_record(
 // before.
 fn record_start(p: Place, n: usize, i: usize, start: usize) -> usize
     requires { n + start < 2 ^ 64 }
-    ensures { result ≡ startFrom p n i start }
+    ensures { result ≡ start_from p n i start }
 {
     if start == i {
         return p.start;
@@ -114,7 +114,7 @@ fn need_input(
     fill: usize,
 ) -> Place
     requires { (n + size < 2 ^ 64) × (h.start ≤ size) × (p.cells + h.cells < 2 ^ 64) }
-    ensures { result ≡ placeAtPieceEnd p n i size state h fill }
+    ensures { result ≡ place_at_piece_end p n i size state h fill }
 {
     Place {
         state,
@@ -145,8 +145,8 @@ fn buffer_rest(
 ) -> Place
     requires lists { Lists piece.now starts.now stops.now h.cells p bytes.old ends.old }
     requires piece_bound { (n + length piece.now < 2 ^ 64) × (h.start ≤ length piece.now) × (h.opened ≤ length piece.now) }
-    requires piece_in_bounds { p.cells + h.cells ≤ MAXCOLUMNS → p.fill + length (bufferedBytes (rawCellsAt piece.now starts.now stops.now 0 h.cells)) + (length piece.now) ≤ length bytes.old + h.opened }
-    ensures { RecordBuffered p n i state h piece.now (rawCellsAt piece.now starts.now stops.now 0 h.cells) (p.cells + h.cells) bytes.old ends.old bytes.new ends.new result }
+    requires piece_in_bounds { p.cells + h.cells ≤ MAXCOLUMNS → p.fill + length (buffered_bytes (raw_cells_at piece.now starts.now stops.now 0 h.cells)) + (length piece.now) ≤ length bytes.old + h.opened }
+    ensures { RecordBuffered p n i state h piece.now (raw_cells_at piece.now starts.now stops.now 0 h.cells) (p.cells + h.cells) bytes.old ends.old bytes.new ends.new result }
 {
     let kept = p.cells;
     let cells = h.cells;
@@ -183,7 +183,7 @@ pub struct CallResult {
 }
 
 fn columns_with(p: Place, cells: usize) -> usize
-    ensures { result ≡ columnsWith p cells }
+    ensures { result ≡ columns_with p cells }
 {
     if p.records == 0 {
         return cells;
@@ -205,7 +205,7 @@ fn after_record(
 ) -> PieceStep
     requires next_bound { (n + next ≤ MAXFILE) × (start ≤ next) × (p.records ≤ MAXFILE) }
     requires fitting { Fitting p o r }
-    ensures { result ≡ stepAfter p n i start total state next o r }
+    ensures { result ≡ step_after p n i start total state next o r }
 {
     match r {
         RecordResult::Written(end) => PieceStep::Next {

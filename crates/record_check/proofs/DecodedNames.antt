@@ -11,37 +11,37 @@ use Rattle.model.specs.declared.Kind.TheVariants.{Text, Number, True, False, Nul
 use Rattle.model.specs.declared.Dialect.{Dialect}
 use Rattle.model.specs.rules.Base.{if◌then◌else◌, Bytes, over}
 use Rattle.model.specs.rules.Report.{accepted}
-use Rattle.model.specs.rules.Decode.{kindNumber, kind_of, contentOf}
+use Rattle.model.specs.rules.Decode.{kind_number, kind_of, content_of}
 use Rattle.model.specs.rules.Api as api
-use Rattle.model.proofs.file_laws.Lengths.{content-length}
+use Rattle.model.proofs.file_laws.Lengths.{content_length}
 use Rattle.cell_decoder.specs.declared.Decoded.{Decoded}
 use Rattle.cell_decoder.specs.declared.Decoded.TheVariants.{Content, Refused}
-use Rattle.cell_decoder.specs.Answer.{CellAnswer, givenAnswer, decoderAnswer, soundCell}
+use Rattle.cell_decoder.specs.Answer.{CellAnswer, given_answer, decoder_answer, sound_cell}
 
-some-kind : (k : Kind) → 0 ≡ kindNumber k → ⊥
-some-kind Text e = omega arith
-some-kind Number e = omega arith
-some-kind True e = omega arith
-some-kind False e = omega arith
-some-kind Null e = omega arith
+some_kind : (k : Kind) → 0 ≡ kind_number k → ⊥
+some_kind Text e = omega arith
+some_kind Number e = omega arith
+some_kind True e = omega arith
+some_kind False e = omega arith
+some_kind Null e = omega arith
 
 module _ (d : Dialect) (raw old : Bytes) (h : length raw ≤ length old) where
-  fits : soundCell d raw (length old) ≡ record { report = accepted; kind = kindNumber (kind_of d raw); content = contentOf d raw }
+  fits : sound_cell d raw (length old) ≡ record { report = accepted; kind = kind_number (kind_of d raw); content = content_of d raw }
   unfolding if◌then◌else◌
   fits =
-      let k : length (contentOf d raw) ≤ length old = omega (arith, content-length d raw) in
-      rw (le-ltb (length old) (length (contentOf d raw)) k)
+      let k : length (content_of d raw) ≤ length old = omega (arith, content_length d raw) in
+      rw (le-ltb (length old) (length (content_of d raw)) k)
 
-  pub never-refused : {A : Type 0} (r : Decoded) (e : Report) → r ≡ Refused e → givenAnswer r ≡ decoderAnswer (soundCell d raw (length old)) → A
-  never-refused r e told ensured =
-      let z : 0 ≡ kindNumber (kind_of d raw) = ap (λ (s : CellAnswer). s.kind) (sym (ap givenAnswer told) ∙ ensured ∙ ap decoderAnswer fits) in
-      absurd (some-kind (kind_of d raw) z)
+  pub never_refused : {A : Type 0} (r : Decoded) (e : Report) → r ≡ Refused e → given_answer r ≡ decoder_answer (sound_cell d raw (length old)) → A
+  never_refused r e told ensured =
+      let z : 0 ≡ kind_number (kind_of d raw) = ap (λ (s : CellAnswer). s.kind) (sym (ap given_answer told) ∙ ensured ∙ ap decoder_answer fits) in
+      absurd (some_kind (kind_of d raw) z)
 
   pub decoded : (r : Decoded) (n : ℕ) (k : Kind) (new : Bytes) → r ≡ Content n k
-      → (givenAnswer r ≡ decoderAnswer (soundCell d raw (length old))) × (new ≡ over (soundCell d raw (length old)).content old)
-      → (n ≡ length (contentOf d raw)) × (new ≡ over (contentOf d raw) old)
+      → (given_answer r ≡ decoder_answer (sound_cell d raw (length old))) × (new ≡ over (sound_cell d raw (length old)).content old)
+      → (n ≡ length (content_of d raw)) × (new ≡ over (content_of d raw) old)
   decoded r n k new told ensured = (
-    ap (λ (s : CellAnswer). s.size) (sym (ap givenAnswer told) ∙ ensured.0 ∙ ap decoderAnswer fits),
+    ap (λ (s : CellAnswer). s.size) (sym (ap given_answer told) ∙ ensured.0 ∙ ap decoder_answer fits),
     ensured.1 ∙ ap (λ (a : api.Decoded). over a.content old) fits,
   )
 

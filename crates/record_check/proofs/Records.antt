@@ -13,72 +13,72 @@ use Rattle.model.specs.declared.Fault.TheVariants.{CellCount, RepeatedName, Head
 use Rattle.model.specs.declared.CheckResult.{CheckResult}
 use Rattle.model.specs.declared.CheckResult.TheVariants.{Sound, Faulty}
 use Rattle.model.specs.rules.Base.{Bytes}
-use Rattle.model.specs.rules.Text.{Value, isText}
-use Rattle.model.specs.rules.Records.{◌orElse◌, when, repeatFault, headerKindFrom, headerFault, dataFault}
-use Rattle.buffer.proofs.WriteProgress.{drop-next}
+use Rattle.model.specs.rules.Text.{Value, is_text}
+use Rattle.model.specs.rules.Records.{◌or_else◌, when, repeat_fault, header_kind_from, header_fault, data_fault}
+use Rattle.buffer.proofs.WriteProgress.{drop_next}
 use Rattle.cell_decoder.specs.declared.source.Source.{Source}
-use Rattle.cell_decoder.specs.Sources.{kindFrom, cells_in}
-use Rattle.record_check.specs.Kinds.{notTextFrom}
+use Rattle.cell_decoder.specs.Sources.{kind_from, cells_in}
+use Rattle.record_check.specs.Kinds.{not_text_from}
 
 -- ---- data records
 
 module _ (columns cells : ℕ) (vs : List Value) (e : length vs ≡ cells) where
-  pub data-too-many : 64 < cells → Faulty TooManyColumns ≡ dataFault columns vs
-  unfolding dataFault when ◌orElse◌
-  data-too-many h = rw (e, lt-ltb 64 cells h)
+  pub data_too_many : 64 < cells → Faulty TooManyColumns ≡ data_fault columns vs
+  unfolding data_fault when ◌or_else◌
+  data_too_many h = rw (e, lt-ltb 64 cells h)
 
-  pub data-uneven : cells ≤ 64 → (cells ≡ columns → ⊥) → Faulty CellCount ≡ dataFault columns vs
-  unfolding dataFault when ◌orElse◌
-  data-uneven h n = rw (e, le-ltb 64 cells h, ne_eqb cells columns n)
+  pub data_uneven : cells ≤ 64 → (cells ≡ columns → ⊥) → Faulty CellCount ≡ data_fault columns vs
+  unfolding data_fault when ◌or_else◌
+  data_uneven h n = rw (e, le-ltb 64 cells h, ne_eqb cells columns n)
 
-  pub data-sound : cells ≤ 64 → cells ≡ columns → Sound ≡ dataFault columns vs
-  unfolding dataFault when ◌orElse◌
-  data-sound h n = rw (e, le-ltb 64 cells h, eq-eqb cells columns n)
+  pub data_sound : cells ≤ 64 → cells ≡ columns → Sound ≡ data_fault columns vs
+  unfolding data_fault when ◌or_else◌
+  data_sound h n = rw (e, le-ltb 64 cells h, eq-eqb cells columns n)
 
 -- ---- the kinds of a header, from place n on
 
 module _ (kinds : List ℕ) where
-  abbrev pub notTextAt : ℕ → CheckResult
-  notTextAt n = notTextFrom (n + 1) (drop n kinds)
+  abbrev pub not_text_at : ℕ → CheckResult
+  not_text_at n = not_text_from (n + 1) (drop n kinds)
 
   module _ (n : ℕ) where
-    pub not-text-end : length kinds ≤ n → notTextAt n ≡ Sound
-    unfolding notTextFrom
-    not-text-end h = rw (drop_of_length-le kinds h)
+    pub not_text_end : length kinds ≤ n → not_text_at n ≡ Sound
+    unfolding not_text_from
+    not_text_end h = rw (drop_of_length-le kinds h)
 
     module _ (h : n < length kinds) where
-      pub not-text-here : isText (kindFrom (get_or kinds n 0)) ≡ false → notTextAt n ≡ Faulty (HeaderKind (n + 1))
-      unfolding notTextFrom when ◌orElse◌
-      not-text-here e = rw (drop-next kinds n (n + 1) h refl, e)
+      pub not_text_here : is_text (kind_from (get_or kinds n 0)) ≡ false → not_text_at n ≡ Faulty (HeaderKind (n + 1))
+      unfolding not_text_from when ◌or_else◌
+      not_text_here e = rw (drop_next kinds n (n + 1) h refl, e)
 
-      pub not-text-next : isText (kindFrom (get_or kinds n 0)) ≡ true → notTextAt n ≡ notTextAt (n + 1)
-      unfolding notTextFrom when ◌orElse◌
-      not-text-next e = rw (drop-next kinds n (n + 1) h refl, e) (ap (λ (k : ℕ). notTextFrom k (drop (n + 1) kinds)) (sym (add-one (n + 1))))
+      pub not_text_next : is_text (kind_from (get_or kinds n 0)) ≡ true → not_text_at n ≡ not_text_at (n + 1)
+      unfolding not_text_from when ◌or_else◌
+      not_text_next e = rw (drop_next kinds n (n + 1) h refl, e) (ap (λ (k : ℕ). not_text_from k (drop (n + 1) kinds)) (sym (add-one (n + 1))))
 
 -- the check of the kinds' numbers is that of the cells
-pub not-text-cells : (n : ℕ) (src : Source) (s : Bytes) (starts ends kinds : List ℕ) → length starts ≡ length ends → length starts ≡ length kinds
-    → notTextFrom n kinds ≡ headerKindFrom n (cells_in src s starts ends kinds)
-unfolding notTextFrom headerKindFrom cells_in
-not-text-cells n src s [] ends [] e k = refl
-not-text-cells n src s [] ends (x ∷ kinds) e k = absurd (omega arith)
-not-text-cells n src s (i ∷ starts) [] kinds e k = absurd (omega arith)
-not-text-cells n src s (i ∷ starts) (j ∷ ends) [] e k = absurd (omega arith)
-not-text-cells n src s (i ∷ starts) (j ∷ ends) (x ∷ kinds) e k =
-    ap (λ (v : CheckResult). when (not (isText (kindFrom x))) (HeaderKind n) or_else v)
-    (not-text-cells (suc n) src s starts ends kinds (omega arith) (omega arith))
+pub not_text_cells : (n : ℕ) (src : Source) (s : Bytes) (starts ends kinds : List ℕ) → length starts ≡ length ends → length starts ≡ length kinds
+    → not_text_from n kinds ≡ header_kind_from n (cells_in src s starts ends kinds)
+unfolding not_text_from header_kind_from cells_in
+not_text_cells n src s [] ends [] e k = refl
+not_text_cells n src s [] ends (x ∷ kinds) e k = absurd (omega arith)
+not_text_cells n src s (i ∷ starts) [] kinds e k = absurd (omega arith)
+not_text_cells n src s (i ∷ starts) (j ∷ ends) [] e k = absurd (omega arith)
+not_text_cells n src s (i ∷ starts) (j ∷ ends) (x ∷ kinds) e k =
+    ap (λ (v : CheckResult). when (not (is_text (kind_from x))) (HeaderKind n) or_else v)
+    (not_text_cells (suc n) src s starts ends kinds (omega arith) (omega arith))
 
 -- ---- headers
 
 module _ (d : Dialect) (vs : List Value) where
-  pub header-too-many : 64 < length vs → Faulty TooManyColumns ≡ headerFault d vs
-  unfolding headerFault when ◌orElse◌
-  header-too-many h = rw (lt-ltb 64 (length vs) h)
+  pub header_too_many : 64 < length vs → Faulty TooManyColumns ≡ header_fault d vs
+  unfolding header_fault when ◌or_else◌
+  header_too_many h = rw (lt-ltb 64 (length vs) h)
 
   module _ (few : length vs ≤ 64) where
-    pub header-not-text : (e : Fault) → headerKindFrom 1 vs ≡ Faulty e → Faulty e ≡ headerFault d vs
-    unfolding headerFault when ◌orElse◌
-    header-not-text e h = rw (le-ltb 64 (length vs) few, h)
+    pub header_not_text : (e : Fault) → header_kind_from 1 vs ≡ Faulty e → Faulty e ≡ header_fault d vs
+    unfolding header_fault when ◌or_else◌
+    header_not_text e h = rw (le-ltb 64 (length vs) few, h)
 
-    pub header-names : headerKindFrom 1 vs ≡ Sound → repeatFault d RepeatedName vs ≡ headerFault d vs
-    unfolding headerFault when ◌orElse◌
-    header-names h = rw (le-ltb 64 (length vs) few, h)
+    pub header_names : header_kind_from 1 vs ≡ Sound → repeat_fault d RepeatedName vs ≡ header_fault d vs
+    unfolding header_fault when ◌or_else◌
+    header_names h = rw (le-ltb 64 (length vs) few, h)

@@ -6,12 +6,12 @@ use Rattle.model.specs.declared.Fault.{Fault}
 use Rattle.model.specs.declared.CheckResult.{CheckResult}
 use Rattle.model.specs.declared.CheckResult.TheVariants.{Sound, Faulty}
 use Rattle.model.specs.rules.Base.{Bytes}
-use Rattle.model.specs.rules.Records.{lower, nameKey}
+use Rattle.model.specs.rules.Records.{lower, name_key}
 use Rattle.model.specs.rules.Report.{MAXRECORD}
 use Rattle.model.specs.rules.Api.{slice}
 use Rattle.cell_decoder.specs.declared.source.Source.{Source}
 use Rattle.cell_decoder.specs.declared.source.Source.TheVariants.{File, Contents}
-use Rattle.cell_decoder.specs.Sources.{contentBy}
+use Rattle.cell_decoder.specs.Sources.{content_by}
 use Rattle.record_check.specs.declared.names.Repeat.{Repeat}
 use Rattle.record_check.specs.declared.names.Repeat.TheVariants.{NoRepeat, AtColumn}
 
@@ -23,8 +23,8 @@ folded (CsvPlus s) b = b
 
 -- how long the bytes of a name may be: in a file no longer than a record, as contents of any length
 pub data Short : Source → ℕ → Type 0 where
-  in-file : {d : Dialect} {n : ℕ} → n ≤ MAXRECORD → Short (File d) n
-  as-content : {n : ℕ} → Short Contents n
+  in_file : {d : Dialect} {n : ℕ} → n ≤ MAXRECORD → Short (File d) n
+  as_content : {n : ℕ} → Short Contents n
 
 -- a span of s whose bytes a name may have
 pub record NameIn (src : Source) (s : Bytes) (from upto : ℕ) : Type 0 where
@@ -39,14 +39,14 @@ pub record NamesIn (src : Source) (s : Bytes) (starts ends : List ℕ) : Type 0 
 
 -- the key, by a rule, of the cell that lies in s from `from` up to `upto` (§6.6)
 abbrev pub key_at : Source → (rule : Dialect) → (s : Bytes) → (from upto : ℕ) → Bytes
-key_at src rule s i j = nameKey rule (contentBy src (slice s i j))
+key_at src rule s i j = name_key rule (content_by src (slice s i j))
 
 -- the keys of the first n cells, the latest first
-unfoldable pub keysBefore : Source → (rule : Dialect) → (s : Bytes) → (starts ends : List ℕ) → (n : ℕ) → List Bytes
-keysBefore src rule s starts ends zero = []
-keysBefore src rule s starts ends (suc n) = key_at src rule s (get_or starts n 0) (get_or ends n 0) ∷ keysBefore src rule s starts ends n
+unfoldable pub keys_before : Source → (rule : Dialect) → (s : Bytes) → (starts ends : List ℕ) → (n : ℕ) → List Bytes
+keys_before src rule s starts ends zero = []
+keys_before src rule s starts ends (suc n) = key_at src rule s (get_or starts n 0) (get_or ends n 0) ∷ keys_before src rule s starts ends n
 
 -- the check result for a repeated name, with the caller's fault
-abbrev pub repeatedAs : (ℕ → Fault) → Repeat → CheckResult
-repeatedAs fault NoRepeat = Sound
-repeatedAs fault (AtColumn n) = Faulty (fault n)
+abbrev pub repeated_as : (ℕ → Fault) → Repeat → CheckResult
+repeated_as fault NoRepeat = Sound
+repeated_as fault (AtColumn n) = Faulty (fault n)

@@ -2,14 +2,14 @@
 // a data record the number of its cells. In: the spans and kinds of the cells, raw bytes of a file or contents. Out: the first fault, or
 // none.
 //
-// The definitions are `headerFault` and `dataFault` of model's specs/rules/Records.antt, over the cells of the lists (cell_decoder's
+// The definitions are `header_fault` and `data_fault` of model's specs/rules/Records.antt, over the cells of the lists (cell_decoder's
 // specs/Sources.antt). A check that changes there changes its function here and its law in proofs/Records.antt.
 ghost use Rattle.std.specs.Prelude.{◌≡◌, List, length};
 ghost use Rattle.model.specs.rules.Text.{Value};
-ghost use Rattle.model.specs.rules.Records.{headerFault, dataFault};
+ghost use Rattle.model.specs.rules.Records.{header_fault, data_fault};
 ghost use Rattle.cell_decoder.specs.Sources.{cells_in, Cells};
-ghost use Rattle.record_check.specs.Kinds.{notTextFrom};
-ghost use Rattle.record_check.specs.SourceFault.{sourceFault};
+ghost use Rattle.record_check.specs.Kinds.{not_text_from};
+ghost use Rattle.record_check.specs.SourceFault.{source_fault};
 
 use crate::names::Repeat;
 use cell_decoder::source;
@@ -23,7 +23,7 @@ pub mod names;
 
 // The first cell that is not text (§6.7).
 fn first_not_text(kinds: &[u8]) -> CheckResult
-    ensures { result ≡ notTextFrom 1 kinds.now }
+    ensures { result ≡ not_text_from 1 kinds.now }
 {
     let mut n = 0;
     while n < kinds.len() {
@@ -46,7 +46,7 @@ pub fn header(
     kinds: &[u8],
 ) -> CheckResult
     requires { Cells src s.now starts.now ends.now kinds.now }
-    ensures { result ≡ headerFault rule (cells_in src s.now starts.now ends.now kinds.now) }
+    ensures { result ≡ header_fault rule (cells_in src s.now starts.now ends.now kinds.now) }
 {
     if MAX_COLUMNS < starts.len() {
         return CheckResult::Faulty(Fault::TooManyColumns);
@@ -65,7 +65,7 @@ pub fn header(
 // The checks of a data record with this number of cells, under a header of `columns` columns. Only the number counts, so a caller need not
 // have the cells in lists.
 pub fn data(columns: usize, cells: usize) -> CheckResult
-    ensures { (vs : List Value) → length vs ≡ cells → result ≡ dataFault columns vs }
+    ensures { (vs : List Value) → length vs ≡ cells → result ≡ data_fault columns vs }
 {
     if MAX_COLUMNS < cells {
         return CheckResult::Faulty(Fault::TooManyColumns);
@@ -90,7 +90,7 @@ pub fn check(
     columns: usize,
 ) -> CheckResult
     requires { Cells src s.now starts.now ends.now kinds.now }
-    ensures { result ≡ sourceFault d header columns
+    ensures { result ≡ source_fault d header columns
         (cells_in src s.now starts.now ends.now kinds.now) }
 {
     if header {

@@ -4,17 +4,17 @@
 // each time it is compared: at most 64 passes over a header of at most 4,096 bytes, and no room for all names at once. A name given as
 // content is compared where it lies, however long.
 //
-// The definition is `nameKey` of model's specs/rules/Records.antt, byte by byte in specs/Keys.antt. Another rule for upper and lower case
+// The definition is `name_key` of model's specs/rules/Records.antt, byte by byte in specs/Keys.antt. Another rule for upper and lower case
 // changes `fold_byte`, `folded` there and the laws of a key in proofs/Keys.antt; one that changes a name's length changes `same_name` too.
 ghost use Rattle.std.specs.Prelude.{◌≡◌, List, ℕ, ◌<◌, ◌≤◌, length, get_or};
 ghost use Rattle.model.specs.declared.Fault.{Fault};
 ghost use Rattle.model.specs.rules.Base.{same};
-ghost use Rattle.model.specs.rules.Decode.{contentOf};
-ghost use Rattle.model.specs.rules.Records.{lower, nameKey, among, repeatFault};
+ghost use Rattle.model.specs.rules.Decode.{content_of};
+ghost use Rattle.model.specs.rules.Records.{lower, name_key, among, repeat_fault};
 ghost use Rattle.model.specs.rules.Report.{MAXRECORD};
 ghost use Rattle.cell_decoder.specs.declared.source.Source.TheVariants.{File};
-ghost use Rattle.cell_decoder.specs.Sources.{contentBy, cells_in};
-ghost use Rattle.record_check.specs.Keys.{folded, Short, NamesIn, key_at, keysBefore, repeatedAs};
+ghost use Rattle.cell_decoder.specs.Sources.{content_by, cells_in};
+ghost use Rattle.record_check.specs.Keys.{folded, Short, NamesIn, key_at, keys_before, repeated_as};
 
 use cell_decoder::source::Source;
 use codes::MAX_RECORD;
@@ -50,7 +50,7 @@ fn fold_byte(rule: Dialect, b: u8) -> u8
 
 // Whether two names are the same by a rule. The one place that folds.
 fn same_name(rule: Dialect, a: &[u8], b: &[u8]) -> bool
-    ensures { result ≡ same (nameKey rule a.now) (nameKey rule b.now) }
+    ensures { result ≡ same (name_key rule a.now) (name_key rule b.now) }
 {
     if a.len() != b.len() {
         return false;
@@ -68,7 +68,7 @@ fn same_name(rule: Dialect, a: &[u8], b: &[u8]) -> bool
 // Whether the name in a cell of a file is this one. The room is for its content.
 fn is_in_file(d: Dialect, rule: Dialect, name: &[u8], raw: &[u8], room: &mut [u8]) -> bool
     requires { (length raw.now ≤ MAXRECORD) × (length room.old ≡ MAXRECORD) }
-    ensures { result ≡ same (nameKey rule name.now) (nameKey rule (contentOf d raw.now)) }
+    ensures { result ≡ same (name_key rule name.now) (name_key rule (content_of d raw.now)) }
 {
     let size = content::write_content(d, raw, room);
     same_name(rule, name, &room[..size])
@@ -77,7 +77,7 @@ fn is_in_file(d: Dialect, rule: Dialect, name: &[u8], raw: &[u8], room: &mut [u8
 // Whether the name in a cell is this one.
 fn is_name(src: Source, rule: Dialect, name: &[u8], raw: &[u8], room: &mut [u8]) -> bool
     requires { Short src (length raw.now) × (length room.old ≡ MAXRECORD) }
-    ensures { result ≡ same (nameKey rule name.now) (nameKey rule (contentBy src raw.now)) }
+    ensures { result ≡ same (name_key rule name.now) (name_key rule (content_by src raw.now)) }
 {
     match src {
         Source::File(d) => is_in_file(d, rule, name, raw, room),
@@ -99,7 +99,7 @@ fn is_among(
 ) -> bool
     requires names_in { NamesIn src s.now starts.now ends.now }
     requires n_in_bounds { n ≤ length starts.now }
-    ensures { result ≡ among (nameKey rule name.now) (keysBefore src rule s.now starts.now ends.now n) }
+    ensures { result ≡ among (name_key rule name.now) (keys_before src rule s.now starts.now ends.now n) }
 {
     let mut room = [0u8; MAX_RECORD];
     let mut j = n;
@@ -127,8 +127,8 @@ fn repeats_in_file(
     requires raw_len_bound { length raw.now ≤ MAXRECORD }
     requires names_in { NamesIn (File d) s.now starts.now ends.now }
     requires n_in_bounds { n ≤ length starts.now }
-    ensures { result ≡ among (nameKey rule (contentOf d raw.now))
-        (keysBefore (File d) rule s.now starts.now ends.now n) }
+    ensures { result ≡ among (name_key rule (content_of d raw.now))
+        (keys_before (File d) rule s.now starts.now ends.now n) }
 {
     let mut room = [0u8; MAX_RECORD];
     let size = content::write_content(d, raw, &mut room);
@@ -140,7 +140,7 @@ fn repeats(src: Source, rule: Dialect, s: &[u8], starts: &[usize], ends: &[usize
     requires names_in { NamesIn src s.now starts.now ends.now }
     requires n_in_bounds { n < length starts.now }
     ensures { result ≡ among (key_at src rule s.now (get_or starts.now n 0) (get_or ends.now n 0))
-        (keysBefore src rule s.now starts.now ends.now n) }
+        (keys_before src rule s.now starts.now ends.now n) }
 {
     let from = starts[n];
     let upto = ends[n];
@@ -168,7 +168,7 @@ pub fn first_repeat(
 ) -> Repeat
     requires { NamesIn src s.now starts.now ends.now }
     ensures { (fault : ℕ → Fault) (kinds : List ℕ) → length kinds ≡ length starts.now
-        → repeatedAs fault result ≡ repeatFault rule fault (cells_in src s.now starts.now ends.now kinds) }
+        → repeated_as fault result ≡ repeat_fault rule fault (cells_in src s.now starts.now ends.now kinds) }
 {
     let mut n = 0;
     while n < starts.len() {

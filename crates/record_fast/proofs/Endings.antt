@@ -15,50 +15,50 @@ use Rattle.model.specs.declared.FileState.TheVariants.{Begin, Ended, ExpectCell,
 use Rattle.model.specs.declared.ByteRole.TheVariants.{Between, Tail, Ends}
 use Rattle.model.specs.declared.Step.TheVariants.{To}
 use Rattle.model.specs.rules.Base.{if◌then◌else◌, ◌is◌, LF, CR}
-use Rattle.model.specs.rules.Dialect.{delimiterByte, delimiterOf}
-use Rattle.model.specs.rules.File.{afterCell}
+use Rattle.model.specs.rules.Dialect.{delimiter_byte, delimiter_of}
+use Rattle.model.specs.rules.File.{after_cell}
 
 -- the file's state after a delimiter
-abbrev pub nextCell : Dialect → FileState
-nextCell Csvj = ExpectCell
-nextCell Tdif = Inside Fresh
-nextCell (CsvPlus s) = Inside Fresh
+abbrev pub next_cell : Dialect → FileState
+next_cell Csvj = ExpectCell
+next_cell Tdif = Inside Fresh
+next_cell (CsvPlus s) = Inside Fresh
 
-pub after-delimiter : (d : Dialect) → afterCell d true (delimiterOf d) ≡ To (nextCell d) (Between true)
-unfolding afterCell if◌then◌else◌
-after-delimiter Csvj = refl
-after-delimiter Tdif = refl
-after-delimiter (CsvPlus s) =
-    let e : (delimiterByte s.delimiter is delimiterByte s.delimiter) ≡ true = eq-eqb (delimiterByte s.delimiter) (delimiterByte s.delimiter) refl in
+pub after_delimiter : (d : Dialect) → after_cell d true (delimiter_of d) ≡ To (next_cell d) (Between true)
+unfolding after_cell if◌then◌else◌
+after_delimiter Csvj = refl
+after_delimiter Tdif = refl
+after_delimiter (CsvPlus s) =
+    let e : (delimiter_byte s.delimiter is delimiter_byte s.delimiter) ≡ true = eq-eqb (delimiter_byte s.delimiter) (delimiter_byte s.delimiter) refl in
     rw e
 
 -- no delimiter is a line break
-no-lf : (x : Delimiter) → (LF is delimiterByte x) ≡ false
-no-lf Comma = refl
-no-lf Semicolon = refl
-no-lf Tab = refl
-no-lf Bar = refl
+no_lf : (x : Delimiter) → (LF is delimiter_byte x) ≡ false
+no_lf Comma = refl
+no_lf Semicolon = refl
+no_lf Tab = refl
+no_lf Bar = refl
 
-no-cr : (x : Delimiter) → (CR is delimiterByte x) ≡ false
-no-cr Comma = refl
-no-cr Semicolon = refl
-no-cr Tab = refl
-no-cr Bar = refl
+no_cr : (x : Delimiter) → (CR is delimiter_byte x) ≡ false
+no_cr Comma = refl
+no_cr Semicolon = refl
+no_cr Tab = refl
+no_cr Bar = refl
 
-pub after-lf : (d : Dialect) → afterCell d true LF ≡ To Begin (Ends true)
-unfolding afterCell if◌then◌else◌
-after-lf Csvj = refl
-after-lf Tdif = refl
-after-lf (CsvPlus s) = rw (no-lf s.delimiter)
+pub after_lf : (d : Dialect) → after_cell d true LF ≡ To Begin (Ends true)
+unfolding after_cell if◌then◌else◌
+after_lf Csvj = refl
+after_lf Tdif = refl
+after_lf (CsvPlus s) = rw (no_lf s.delimiter)
 
-pub after-cr-csvj : afterCell Csvj true CR ≡ To Cr (Tail true)
-unfolding afterCell if◌then◌else◌
-after-cr-csvj = refl
+pub after_cr_csvj : after_cell Csvj true CR ≡ To Cr (Tail true)
+unfolding after_cell if◌then◌else◌
+after_cr_csvj = refl
 
-pub after-cr-tdif : afterCell Tdif true CR ≡ To Ended (Ends true)
-unfolding afterCell if◌then◌else◌
-after-cr-tdif = refl
+pub after_cr_tdif : after_cell Tdif true CR ≡ To Ended (Ends true)
+unfolding after_cell if◌then◌else◌
+after_cr_tdif = refl
 
-pub after-cr-plus : (s : Settings) → afterCell (CsvPlus s) true CR ≡ To Cr (Tail true)
-unfolding afterCell if◌then◌else◌
-after-cr-plus s = rw (no-cr s.delimiter)
+pub after_cr_plus : (s : Settings) → after_cell (CsvPlus s) true CR ≡ To Cr (Tail true)
+unfolding after_cell if◌then◌else◌
+after_cr_plus s = rw (no_cr s.delimiter)

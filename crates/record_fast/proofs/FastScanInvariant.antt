@@ -22,10 +22,10 @@ use Rattle.model.specs.declared.ByteRole.TheVariants.{Passed, Between, Tail, End
 use Rattle.model.specs.declared.Step.{Step}
 use Rattle.model.specs.declared.Step.TheVariants.{To}
 use Rattle.model.specs.rules.Base.{if◌then◌else◌, ◌is◌, Bytes, QUOTE, LF, CR}
-use Rattle.model.specs.rules.Dialect.{quoteOf, delimiterOf}
-use Rattle.model.specs.rules.Cell.{firstByte, cellStep}
-use Rattle.model.specs.rules.File.{isBlank, afterCell, inCell, beginRecord, fileStep, counts}
-use Rattle.model.specs.rules.Decode.{kindNumber, kind_of}
+use Rattle.model.specs.rules.Dialect.{quote_of, delimiter_of}
+use Rattle.model.specs.rules.Cell.{first_byte, cell_step}
+use Rattle.model.specs.rules.File.{is_blank, after_cell, in_cell, begin_record, file_step, counts}
+use Rattle.model.specs.rules.Decode.{kind_number, kind_of}
 use Rattle.model.specs.rules.Report.{MAXFILE, MAXRECORD}
 use Rattle.model.specs.laws.Scans.{
   RawCell,
@@ -38,105 +38,105 @@ use Rattle.model.specs.laws.Scans.{
   fresh,
   Buffered,
   joined,
-  joinedTo,
-  joinedCell,
-  joinedPlace,
-  joinedRaw,
+  joined_to,
+  joined_cell,
+  joined_place,
+  joined_raw,
   Holds,
   current,
-  nothing-current,
+  nothing_current,
 }
 use Rattle.model.specs.rules.Api.{slice}
-use Rattle.model.proofs.Tests.{split, split-on, impossible, same_byte, and-true}
+use Rattle.model.proofs.Tests.{split, split_on, impossible, same_byte, and_true}
 use Rattle.model.proofs.piece_laws.View.{view}
 use Rattle.cell_scanner.specs.declared.CellEnd.{CellEnd}
 use Rattle.cell_scanner.specs.declared.CellEnd.TheVariants as cell-end
-use Rattle.cell_scanner.specs.Run.{cellRun}
-use Rattle.cell_scanner.proofs.Runs.{part_end, rest-refused}
+use Rattle.cell_scanner.specs.Run.{cell_run}
+use Rattle.cell_scanner.proofs.Runs.{part_end, rest_refused}
 use Rattle.record_scanner.specs.declared.record_state.RecordState.{RecordState}
 use Rattle.record_scanner.specs.declared.token.Token.{Token}
 use Rattle.record_scanner.specs.declared.token.Token.TheVariants.{Is, AfterCell}
 use Rattle.record_scanner.specs.declared.token.ScanOutcome.{ScanOutcome}
 use Rattle.record_scanner.specs.declared.token.ScanOutcome.TheVariants as reached
-use Rattle.record_scanner.specs.CurrentRecord.{oneMore, stateAfterByte, extended_by}
-use Rattle.record_scanner.specs.Parts.{Found, foundOf, foundIn, ScanInBounds}
-use Rattle.record_scanner.specs.Tokens.{scanAt, outer, Free, TokenCorrect, TokenInBounds}
-use Rattle.record_scanner.specs.Stored.{storeAt, storeIf}
-use Rattle.record_scanner.proofs.StoreLaws.{not-stored, length-stored-if}
-use Rattle.record_scanner.proofs.TokenOutcomes.{metOf, cell-results, cell_lies, byte-results}
-use Rattle.record_scanner.proofs.ScanInvariant.{Call, Scanning, Asked, Stepping, Out, begins, by_byte, by-cell, step-on, step-over, lengths}
+use Rattle.record_scanner.specs.CurrentRecord.{one_more, state_after_byte, extended_by}
+use Rattle.record_scanner.specs.Parts.{Found, found_of, found_in, ScanInBounds}
+use Rattle.record_scanner.specs.Tokens.{scan_at, outer, Free, TokenCorrect, TokenInBounds}
+use Rattle.record_scanner.specs.Stored.{store_at, store_if}
+use Rattle.record_scanner.proofs.StoreLaws.{not_stored, length_stored_if}
+use Rattle.record_scanner.proofs.TokenOutcomes.{met_of, cell_results, cell_lies, byte_results}
+use Rattle.record_scanner.proofs.ScanInvariant.{Call, Scanning, Asked, Stepping, Out, begins, by_byte, by_cell, step_on, step_over, lengths}
 use Rattle.cell_fast.specs.Ends.{EndsFrom, CleanCell}
 use Rattle.record_fast.specs.FastScan.{
   FirstCellAt,
   here,
-  after-cr,
-  after-pair,
+  after_cr,
+  after_pair,
   unknown,
-  nextFound,
+  next_found,
   StoredCells,
   Clean,
   FastScanSound,
   is_found,
-  is-fallback,
+  is_fallback,
   RecordEndSound,
   at_once,
-  by-pair,
+  by_pair,
   nowhere,
 }
 use Rattle.record_fast.specs.declared.FastScan.TheVariants.{Record, Fallback}
 use Rattle.record_fast.specs.declared.RecordEnd.TheVariants as closing
-use Rattle.record_fast.proofs.Endings.{nextCell, after-delimiter}
+use Rattle.record_fast.proofs.Endings.{next_cell, after_delimiter}
 
-no-and : (x : Bool) → (x && false) ≡ false
-no-and true = refl
-no-and false = refl
+no_and : (x : Bool) → (x && false) ≡ false
+no_and true = refl
+no_and false = refl
 
 -- ---- where a cell may begin
 
 pub data Opening (d : Dialect) (b : ℕ) : FileState → Type 0 where
-  at-begin : Opening d b Begin
+  at_begin : Opening d b Begin
   at_ended : (b is LF) ≡ false → Opening d b Ended
-  at-fresh : Opening d b (Inside Fresh)
-  at-wanting : d ≡ Csvj → Opening d b ExpectCell
+  at_fresh : Opening d b (Inside Fresh)
+  at_wanting : d ≡ Csvj → Opening d b ExpectCell
 
 -- no value of CSVJ begins with a blank or a line break
-blank-refused : (b : ℕ) → isBlank b ≡ true → firstByte Csvj b ≡ Refuse Syntax
-unfolding firstByte if◌then◌else◌
-blank-refused b e =
-    split-on (b is 0x20)
+blank_refused : (b : ℕ) → is_blank b ≡ true → first_byte Csvj b ≡ Refuse Syntax
+unfolding first_byte if◌then◌else◌
+blank_refused b e =
+    split_on (b is 0x20)
     (λ q. rw (eqb-true b 0x20 q))
     λ q. let r : (b is 0x09) ≡ true = rw q at e in rw (eqb-true b 0x09 r)
 
-lf-refused : (b : ℕ) → (b is LF) ≡ true → firstByte Csvj b ≡ Refuse Syntax
-unfolding firstByte if◌then◌else◌
-lf-refused b e = rw (eqb-true b LF e)
+lf_refused : (b : ℕ) → (b is LF) ≡ true → first_byte Csvj b ≡ Refuse Syntax
+unfolding first_byte if◌then◌else◌
+lf_refused b e = rw (eqb-true b LF e)
 
-cr-refused : (b : ℕ) → (b is CR) ≡ true → firstByte Csvj b ≡ Refuse Syntax
-unfolding firstByte if◌then◌else◌
-cr-refused b e = rw (eqb-true b CR e)
+cr_refused : (b : ℕ) → (b is CR) ≡ true → first_byte Csvj b ≡ Refuse Syntax
+unfolding first_byte if◌then◌else◌
+cr_refused b e = rw (eqb-true b CR e)
 
-comment-refused : (b : ℕ) → (b is 0x23) ≡ true → firstByte Tdif b ≡ Refuse Syntax
-unfolding firstByte if◌then◌else◌
-comment-refused b e = rw (eqb-true b 0x23 e)
+comment_refused : (b : ℕ) → (b is 0x23) ≡ true → first_byte Tdif b ≡ Refuse Syntax
+unfolding first_byte if◌then◌else◌
+comment_refused b e = rw (eqb-true b 0x23 e)
 
 -- a byte with which a cell may begin begins the record's first cell
-begins-record : (d : Dialect) (b : ℕ) → (cellStep d Fresh b ≡ Refuse Syntax → ⊥) → inCell d Fresh b ≡ beginRecord d b
-unfolding beginRecord cellStep
-begins-record Csvj b n =
-    split (λ (s : Step). inCell Csvj Fresh b ≡ s) (isBlank b) (λ e. absurd (n (blank-refused b e)))
-    λ _. split (λ (s : Step). inCell Csvj Fresh b ≡ s) (b is LF) (λ e. absurd (n (lf-refused b e)))
-    λ _. split (λ (s : Step). inCell Csvj Fresh b ≡ s) (b is CR) (λ e. absurd (n (cr-refused b e))) λ _. refl
-begins-record Tdif b n = split (λ (s : Step). inCell Tdif Fresh b ≡ s) (b is 0x23) (λ e. absurd (n (comment-refused b e))) λ _. refl
-begins-record (CsvPlus s) b n = refl
+begins_record : (d : Dialect) (b : ℕ) → (cell_step d Fresh b ≡ Refuse Syntax → ⊥) → in_cell d Fresh b ≡ begin_record d b
+unfolding begin_record cell_step
+begins_record Csvj b n =
+    split (λ (s : Step). in_cell Csvj Fresh b ≡ s) (is_blank b) (λ e. absurd (n (blank_refused b e)))
+    λ _. split (λ (s : Step). in_cell Csvj Fresh b ≡ s) (b is LF) (λ e. absurd (n (lf_refused b e)))
+    λ _. split (λ (s : Step). in_cell Csvj Fresh b ≡ s) (b is CR) (λ e. absurd (n (cr_refused b e))) λ _. refl
+begins_record Tdif b n = split (λ (s : Step). in_cell Tdif Fresh b ≡ s) (b is 0x23) (λ e. absurd (n (comment_refused b e))) λ _. refl
+begins_record (CsvPlus s) b n = refl
 
-opens : (d : Dialect) (b : ℕ) (f : FileState) → Opening d b f → (cellStep d Fresh b ≡ Refuse Syntax → ⊥) → inCell d Fresh b ≡ fileStep d f b
-unfolding fileStep cellStep if◌then◌else◌
-opens d b Begin at-begin n = begins-record d b n
-opens d b Ended (at_ended e) n = begins-record d b n ∙ rw e
-opens d b (Inside Fresh) at-fresh n = refl
-opens d b ExpectCell (at-wanting e) n =
-    split (λ (s : Step). inCell d Fresh b ≡ s) (isBlank b)
-    (λ q. absurd (n (ap (λ (x : Dialect). cellStep x Fresh b) e ∙ blank-refused b q)))
+opens : (d : Dialect) (b : ℕ) (f : FileState) → Opening d b f → (cell_step d Fresh b ≡ Refuse Syntax → ⊥) → in_cell d Fresh b ≡ file_step d f b
+unfolding file_step cell_step if◌then◌else◌
+opens d b Begin at_begin n = begins_record d b n
+opens d b Ended (at_ended e) n = begins_record d b n ∙ rw e
+opens d b (Inside Fresh) at_fresh n = refl
+opens d b ExpectCell (at_wanting e) n =
+    split (λ (s : Step). in_cell d Fresh b ≡ s) (is_blank b)
+    (λ q. absurd (n (ap (λ (x : Dialect). cell_step x Fresh b) e ∙ blank_refused b q)))
     λ _. refl
 
 -- ---- a cell and the byte after it
@@ -164,15 +164,15 @@ module _ (call : Call) where
         let c : stop ≤ start + MAXRECORD = w.short in
         record { on = on; inside = a; under = b; fits = λ _. omega arith }
 
-    begins-cell : inCell d Fresh (get_or part at 0) ≡ fileStep d f (get_or part at 0)
-    begins-cell =
+    begins_cell : in_cell d Fresh (get_or part at 0) ≡ file_step d f (get_or part at 0)
+    begins_cell =
         opens d (get_or part at 0) f o
         λ q. let z : cell-end.Refused Syntax at ≡ cell-end.Stopped ends_at.cell
-        e = sym (rest-refused d Fresh part at stop on w.inside Syntax q) ∙ ends_at.ran in
+        e = sym (rest_refused d Fresh part at stop on w.inside Syntax q) ∙ ends_at.ran in
         let x : ◌≡◌ {A = ℕ} 0 1 = cc in omega arith
 
-    met : metOf stop (cellRun d Fresh at (slice part at stop)) ≡ AfterCell true e
-    met = ap (metOf stop) ends_at.ran
+    met : met_of stop (cell_run d Fresh at (slice part at stop)) ≡ AfterCell true e
+    met = ap (met_of stop) ends_at.ran
 
     asked : Asked call f at (hand start at n) starts ends kinds (AfterCell true e)
     asked =
@@ -188,12 +188,12 @@ module _ (call : Call) where
           lies = subst (λ (m : Token). TokenInBounds d limit part f at m) met (cell_lies d limit Fresh part f at (at - start) stop free);
           comes =
               subst (λ (m : Token). TokenCorrect d limit part f at (at - start) m) met
-              (cell-results d limit part f Fresh at (at - start) stop free begins-cell);
+              (cell_results d limit part f Fresh at (at - start) stop free begins_cell);
         }
 
     -- the byte after the cell takes its step
-    pub after : Stepping call f e (extended_by (hand start at n) (e - at)) (afterCell d true (get_or part e 0)) starts ends kinds
-    after = by-cell call asked true e refl _ refl _ refl
+    pub after : Stepping call f e (extended_by (hand start at n) (e - at)) (after_cell d true (get_or part e 0)) starts ends kinds
+    after = by_cell call asked true e refl _ refl _ refl
 
     -- the bounds of the cell
     pub cell_in : (at ≤ e) × (e < length part) × (e < limit)
@@ -203,31 +203,31 @@ module _ (call : Call) where
 
 -- the cell from `at` up to e, stored at index base + n of each list
 pub record Writes (d : Dialect) (part : Bytes) (room base n at e : ℕ) (starts ends kinds starts' ends' kinds' : List ℕ) : Type 0 where
-  pub put : (starts' ≡ storeIf true room (base + n) at starts) ×
-      ((ends' ≡ storeIf true room (base + n) e ends) × (kinds' ≡ storeIf true room (base + n) (kindNumber (kind_of d (slice part at e))) kinds))
+  pub put : (starts' ≡ store_if true room (base + n) at starts) ×
+      ((ends' ≡ store_if true room (base + n) e ends) × (kinds' ≡ store_if true room (base + n) (kind_number (kind_of d (slice part at e))) kinds))
 
-stored_here : (room k x : ℕ) (old : List ℕ) → k < room → room ≤ length old → get_or (storeIf true room k x old) k 0 ≡ x
-unfolding storeIf storeAt if◌then◌else◌
+stored_here : (room k x : ℕ) (old : List ℕ) → k < room → room ≤ length old → get_or (store_if true room k x old) k 0 ≡ x
+unfolding store_if store_at if◌then◌else◌
 stored_here room k x old l m = rw (lt-ltb k room l) (get_or-set_same old k x 0 (omega arith))
 
-stored_other : (room k x j : ℕ) (old : List ℕ) → j < k → get_or (storeIf true room k x old) j 0 ≡ get_or old j 0
-unfolding storeIf storeAt
+stored_other : (room k x j : ℕ) (old : List ℕ) → j < k → get_or (store_if true room k x old) j 0 ≡ get_or old j 0
+unfolding store_if store_at
 stored_other room k x j old l =
     split (λ (xs : List ℕ). get_or xs j 0 ≡ get_or old j 0) true
     (λ _. split (λ (xs : List ℕ). get_or xs j 0 ≡ get_or old j 0) (ltb k room) (λ _. get_or-set_other old k j x 0 (λ e. omega arith)) λ _. refl)
     λ _. refl
 
 -- one verbatim cell more
-more-clean : {d : Dialect} {part : Bytes} {room base n at e : ℕ} {starts ends kinds starts' ends' kinds' : List ℕ} → room ≤ length starts
+more_clean : {d : Dialect} {part : Bytes} {room base n at e : ℕ} {starts ends kinds starts' ends' kinds' : List ℕ} → room ≤ length starts
     → room ≤ length ends → Clean d part room base n starts ends → CleanCell d (slice part at e)
     → Writes d part room base n at e starts ends kinds starts' ends' kinds' → Clean d part room base (n + 1) starts' ends'
-more-clean {d} {part} {room} {base} {n} {at} {e} {starts} {ends} {kinds} {starts'} {ends'} {kinds'} ls le c x y =
+more_clean {d} {part} {room} {base} {n} {at} {e} {starts} {ends} {kinds} {starts'} {ends'} {kinds'} ls le c x y =
     record {
       quotes = c.quotes;
       each =
           λ k l m.
           let p = y.put in
-          split-on (ltb k n)
+          split_on (ltb k n)
           (λ q.
           let j : k < n = ltb-true k n q in
           let z : base + k < base + n = omega arith in
@@ -273,11 +273,11 @@ call_of d part first limit from room base starts₀ ends₀ kinds₀ =
 
 -- ---- the first cell
 
-pub begins-on : (first : FileState) (part : Bytes) (from start : ℕ) → FirstCellAt first part from start → from ≤ length part → from ≤ start
-begins-on first part from start (here e) l = omega arith
-begins-on first part from start (after-cr e q) l = omega arith
-begins-on first part from start (after-pair e k q) l = omega arith
-begins-on first part from start unknown l = l
+pub begins_on : (first : FileState) (part : Bytes) (from start : ℕ) → FirstCellAt first part from start → from ≤ length part → from ≤ start
+begins_on first part from start (here e) l = omega arith
+begins_on first part from start (after_cr e q) l = omega arith
+begins_on first part from start (after_pair e k q) l = omega arith
+begins_on first part from start unknown l = l
 
 module _ (d : Dialect) (part : Bytes) (limit from room base : ℕ) (starts₀ ends₀ kinds₀ : List ℕ) (l : from ≤ length part) (m : from ≤ limit)
     (b : base ≤ from) (low : limit ≤ MAXFILE) where
@@ -292,12 +292,12 @@ module _ (d : Dialect) (part : Bytes) (limit from room base : ℕ) (starts₀ en
       (begins (From first) l m b (omega arith) low)
 
   -- the LF of a CRLF is skipped
-  after-lf : from < length part → from < limit → get_or part from 0 ≡ LF
+  after_lf : from < length part → from < limit → get_or part from 0 ≡ LF
       → Scanning (From Ended) Begin (from + 1) (hand (from + 1) (from + 1) 0) starts₀ ends₀ kinds₀
-  unfolding fileStep if◌then◌else◌
-  after-lf i u q =
+  unfolding file_step if◌then◌else◌
+  after_lf i u q =
       let k : Call = From Ended in
-      let s : To Begin Passed ≡ fileStep d Ended (get_or part from 0) = rw q in
+      let s : To Begin Passed ≡ file_step d Ended (get_or part from 0) = rw q in
       let z : from - from ≡ 0 = omega arith in
       let a : Asked k Ended from (hand from from 0) starts₀ ends₀ kinds₀ (Is (To Begin Passed)) =
       record {
@@ -306,36 +306,36 @@ module _ (d : Dialect) (part : Bytes) (limit from room base : ℕ) (starts₀ en
         under = u;
         fits = rw z;
         lies = s;
-        comes = byte-results d limit part Ended from (from - from) i u (To Begin Passed) s;
+        comes = byte_results d limit part Ended from (from - from) i u (To Begin Passed) s;
       } in
       let v = by_byte k a (To Begin Passed) refl in
       let x : 0 ≡ from + 1 - (from + 1) = omega arith in
-      step-on k v Begin Passed refl false refl starts₀ ends₀ kinds₀ (
-        not-stored false room (base + 0) from starts₀ refl,
-        (not-stored false room (base + 0) from ends₀ refl, not-stored false room (base + 0) _ kinds₀ refl),
+      step_on k v Begin Passed refl false refl starts₀ ends₀ kinds₀ (
+        not_stored false room (base + 0) from starts₀ refl,
+        (not_stored false room (base + 0) from ends₀ refl, not_stored false room (base + 0) _ kinds₀ refl),
       ) (hand (from + 1)
       (from + 1) 0) (ap (λ (n : ℕ). record { start = from + 1; size = n; opened = from + 1; cells = 0 }) (sym x)) false refl refl
 
-  pub rest-begins : (first : FileState) {start : ℕ} → FirstCellAt first part from start → start < length part → start < limit
+  pub rest_begins : (first : FileState) {start : ℕ} → FirstCellAt first part from start → start < length part → start < limit
       → Rest (From first) start start 0 starts₀ ends₀ kinds₀
-  rest-begins first (here e) i u =
-      record { state = first; opening = subst (λ (f : FileState). Opening d (get_or part from 0) f) (sym e) at-begin; scanning = at_from first }
-  rest-begins first (after-cr e q) i u =
+  rest_begins first (here e) i u =
+      record { state = first; opening = subst (λ (f : FileState). Opening d (get_or part from 0) f) (sym e) at_begin; scanning = at_from first }
+  rest_begins first (after_cr e q) i u =
       record { state = first; opening = subst (λ (f : FileState). Opening d (get_or part from 0) f) (sym e) (at_ended q); scanning = at_from first }
-  rest-begins first (after-pair e k q) i u =
+  rest_begins first (after_pair e k q) i u =
       subst (λ (f : FileState). Rest (From f) (from + 1) (from + 1) 0 starts₀ ends₀ kinds₀) (sym e) (record {
         state = Begin;
-        opening = at-begin;
-        scanning = after-lf k (omega arith) q;
+        opening = at_begin;
+        scanning = after_lf k (omega arith) q;
       })
-  rest-begins first unknown i u = absurd (omega arith)
+  rest_begins first unknown i u = absurd (omega arith)
 
 module _ (d : Dialect) (part : Bytes) (limit from room base : ℕ) (starts₀ ends₀ kinds₀ : List ℕ) (start stop : ℕ) where
   pub record Row (clean : Bool) (at n : ℕ) (starts ends kinds : List ℕ) : Type 0 where
     pub bounds : Bounds (length part) limit start stop
     pub low : limit ≤ MAXFILE
     pub past : start ≤ at
-    pub to-stop : at ≤ stop
+    pub to_stop : at ≤ stop
     pub few : base + n ≤ at
     pub long : (length starts ≡ length starts₀) × (length ends ≡ length ends₀) × (length kinds ≡ length kinds₀)
     pub roomy : (room ≤ length starts₀) × (room ≤ length ends₀) × (room ≤ length kinds₀)
@@ -345,18 +345,18 @@ module _ (d : Dialect) (part : Bytes) (limit from room base : ℕ) (starts₀ en
 
   module _ {clean : Bool} {at n : ℕ} {starts ends kinds : List ℕ} (r : Row clean at n starts ends kinds) (on : at < stop) {e : ℕ}
       (ends_at : EndsFrom d part stop Fresh at e) where
-    pub cell-lies-in : (first : FileState) → FirstCellAt first part from start → (at ≤ e) × (e < length part) × (e < limit)
-    cell-lies-in first b =
+    pub cell_lies_in : (first : FileState) → FirstCellAt first part from start → (at ≤ e) × (e < length part) × (e < limit)
+    cell_lies_in first b =
         let y = r.rest first b in
         let i : stop ≤ length part = r.bounds.inside in
         cell_in (call_of d part first limit from room base starts₀ ends₀ kinds₀) r.bounds r.past on y.opening y.scanning ends_at
 
     -- after a delimiter the next cell begins
-    pub next-cell : e < stop → get_or part e 0 ≡ delimiterOf d → {tells : Bool} → (tells ≡ true → CleanCell d (slice part at e))
+    pub next_cell_lem : e < stop → get_or part e 0 ≡ delimiter_of d → {tells : Bool} → (tells ≡ true → CleanCell d (slice part at e))
         → {starts' ends' kinds' : List ℕ} → Writes d part room base n at e starts ends kinds starts' ends' kinds' → at ≤ e
         → Row (clean && tells) (e + 1) (n + 1) starts' ends' kinds'
-    unfolding oneMore if◌then◌else◌
-    next-cell before q {tells} x {starts'} {ends'} {kinds'} y l =
+    unfolding one_more if◌then◌else◌
+    next_cell_lem before q {tells} x {starts'} {ends'} {kinds'} y l =
         let i : stop ≤ length part = r.bounds.inside in
         let f : base + n ≤ at = r.few in
         let p : start ≤ at = r.past in
@@ -365,38 +365,38 @@ module _ (d : Dialect) (part : Bytes) (limit from room base : ℕ) (starts₀ en
           bounds = r.bounds;
           low = r.low;
           past = omega arith;
-          to-stop = omega arith;
+          to_stop = omega arith;
           few = omega arith;
           long = (
-            ap length put.0 ∙ length-stored-if true room (base + n) at starts ∙ r.long.0,
-            ap length put.1.0 ∙ length-stored-if true room (base + n) e ends ∙ r.long.1,
-            ap length put.1.1 ∙ length-stored-if true room (base + n) (kindNumber (kind_of d (slice part at e))) kinds ∙ r.long.2,
+            ap length put.0 ∙ length_stored_if true room (base + n) at starts ∙ r.long.0,
+            ap length put.1.0 ∙ length_stored_if true room (base + n) e ends ∙ r.long.1,
+            ap length put.1.1 ∙ length_stored_if true room (base + n) (kind_number (kind_of d (slice part at e))) kinds ∙ r.long.2,
           );
           roomy = r.roomy;
           cleans =
               λ c.
-              let z = and-true clean tells c in
-              more-clean (rw r.long.0 r.roomy.0) (rw r.long.1 r.roomy.1) (r.cleans z.0) (x z.1) y;
+              let z = and_true clean tells c in
+              more_clean (rw r.long.0 r.roomy.0) (rw r.long.1 r.roomy.1) (r.cleans z.0) (x z.1) y;
           rest =
               λ first b.
               let k : Call = call_of d part first limit from room base starts₀ ends₀ kinds₀ in
               let g = r.rest first b in
               let t = after k r.bounds p on g.opening g.scanning ends_at in
-              let s : afterCell d true (get_or part e 0) ≡ To (nextCell d) (Between true) = ap (λ (c : ℕ). afterCell d true c) q ∙ after-delimiter d in
+              let s : after_cell d true (get_or part e 0) ≡ To (next_cell d) (Between true) = ap (λ (c : ℕ). after_cell d true c) q ∙ after_delimiter d in
               let sized : e + 1 - start ≡ at - start + (e - at) + 1 = omega arith in
-              let h : hand start (e + 1) (n + 1) ≡ stateAfterByte (Between true) e (extended_by (hand start at n) (e - at)) =
+              let h : hand start (e + 1) (n + 1) ≡ state_after_byte (Between true) e (extended_by (hand start at n) (e - at)) =
               ap (λ (m : ℕ). record { start = start; size = m; opened = e + 1; cells = n + 1 }) sized in
               record {
-                state = nextCell d;
-                opening = next-opens d (get_or part (e + 1) 0);
-                scanning = step-on k t (nextCell d) (Between true) s true refl starts' ends' kinds' put (hand start (e + 1) (n + 1)) h false refl refl;
+                state = next_cell d;
+                opening = next_opens d (get_or part (e + 1) 0);
+                scanning = step_on k t (next_cell d) (Between true) s true refl starts' ends' kinds' put (hand start (e + 1) (n + 1)) h false refl refl;
               };
         }
       where
-        next-opens : (x : Dialect) (b : ℕ) → Opening x b (nextCell x)
-        next-opens Csvj b = at-wanting refl
-        next-opens Tdif b = at-fresh
-        next-opens (CsvPlus z) b = at-fresh
+        next_opens : (x : Dialect) (b : ℕ) → Opening x b (next_cell x)
+        next_opens Csvj b = at_wanting refl
+        next_opens Tdif b = at_fresh
+        next_opens (CsvPlus z) b = at_fresh
 
   -- the scanner's outcome is found
   found : {first : FileState} {s m next : ℕ} {g : FileState} {clean : Bool} {starts ends kinds : List ℕ}
@@ -404,116 +404,116 @@ module _ (d : Dialect) (part : Bytes) (limit from room base : ℕ) (starts₀ en
       → (clean ≡ true → Clean d part room base m starts ends)
       → FastScanSound d limit part from first room base starts₀ ends₀ kinds₀ starts ends kinds (Record s m g next clean)
   found {first} {s} {m} {next} {g} o c =
-      let cs : List RawCell = (nextFound d limit part from first).cells in
+      let cs : List RawCell = (next_found d limit part from first).cells in
       is_found cs (ap (λ (a : ScanOutcome). record {
         answer = a;
         cells = cs;
-      }) (sym o.answer)) o.bounds (record { at-starts = o.at-starts; at-ends = o.at-ends; at-kinds = o.at-kinds }) c
+      }) (sym o.answer)) o.bounds (record { at_starts = o.at_starts; at_ends = o.at_ends; at_kinds = o.at_kinds }) c
 
   module _ {clean : Bool} {at n : ℕ} {starts ends kinds : List ℕ} (r : Row clean at n starts ends kinds) (on : at < stop) {e : ℕ}
       (ends_at : EndsFrom d part stop Fresh at e) (l : at ≤ e) where
-    all-clean : {tells : Bool} → (tells ≡ true → CleanCell d (slice part at e)) → {starts' ends' kinds' : List ℕ}
+    all_clean : {tells : Bool} → (tells ≡ true → CleanCell d (slice part at e)) → {starts' ends' kinds' : List ℕ}
         → Writes d part room base n at e starts ends kinds starts' ends' kinds' → (clean && tells) ≡ true → Clean d part room base (n + 1) starts' ends'
-    all-clean {tells} x y c =
-        let z = and-true clean tells c in
-        more-clean (rw r.long.0 r.roomy.0) (rw r.long.1 r.roomy.1) (r.cleans z.0) (x z.1) y
+    all_clean {tells} x y c =
+        let z = and_true clean tells c in
+        more_clean (rw r.long.0 r.roomy.0) (rw r.long.1 r.roomy.1) (r.cleans z.0) (x z.1) y
 
     -- the LF after a CR
-    asked-lf : (first : FileState) {h : RecordState} {starts' ends' kinds' : List ℕ}
+    asked_lf : (first : FileState) {h : RecordState} {starts' ends' kinds' : List ℕ}
         → Scanning (call_of d part first limit from room base starts₀ ends₀ kinds₀) Cr (e + 1) h starts' ends' kinds' → e + 1 < length part
         → e + 1 < limit → get_or part (e + 1) 0 ≡ LF
         → Asked (call_of d part first limit from room base starts₀ ends₀ kinds₀) Cr (e + 1) h starts' ends' kinds' (Is (To Begin (Ends false)))
-    unfolding fileStep counts if◌then◌else◌
-    asked-lf first {h} w i u q =
-        let s : To Begin (Ends false) ≡ fileStep d Cr (get_or part (e + 1) 0) = rw q in
+    unfolding file_step counts if◌then◌else◌
+    asked_lf first {h} w i u q =
+        let s : To Begin (Ends false) ≡ file_step d Cr (get_or part (e + 1) 0) = rw q in
         record {
           scanning = w;
           inside = i;
           under = u;
-          fits = rw q (no-and (leb MAXRECORD h.size));
+          fits = rw q (no_and (leb MAXRECORD h.size));
           lies = s;
-          comes = byte-results d limit part Cr (e + 1) h.size i u (To Begin (Ends false)) s;
+          comes = byte_results d limit part Cr (e + 1) h.size i u (To Begin (Ends false)) s;
         }
 
     -- after an ending the record is complete
-    pub last-cell : e < stop → {f : FileState} {next : ℕ} → RecordEndSound d part e stop (closing.After f next) → {tells : Bool}
+    pub last_cell_lem : e < stop → {f : FileState} {next : ℕ} → RecordEndSound d part e stop (closing.After f next) → {tells : Bool}
         → (tells ≡ true → CleanCell d (slice part at e)) → {starts' ends' kinds' : List ℕ}
         → Writes d part room base n at e starts ends kinds starts' ends' kinds' → (first : FileState) → FirstCellAt first part from start
         → FastScanSound d limit part from first room base starts₀ ends₀ kinds₀ starts' ends' kinds' (Record start (n + 1) f next (clean && tells))
-    unfolding oneMore if◌then◌else◌
-    last-cell before {f} (at_once s) {tells} x {starts'} {ends'} {kinds'} y first b =
+    unfolding one_more if◌then◌else◌
+    last_cell_lem before {f} (at_once s) {tells} x {starts'} {ends'} {kinds'} y first b =
         let k : Call = call_of d part first limit from room base starts₀ ends₀ kinds₀ in
         let i : stop ≤ length part = r.bounds.inside in
         let g = r.rest first b in
         let t = after k r.bounds r.past on g.opening g.scanning ends_at in
-        found (step-over k t f (Ends true) s true refl starts' ends' kinds' y.put _ refl true refl refl) (all-clean x y)
-    last-cell before (by-pair m s z) {tells} x {starts'} {ends'} {kinds'} y first b =
+        found (step_over k t f (Ends true) s true refl starts' ends' kinds' y.put _ refl true refl refl) (all_clean x y)
+    last_cell_lem before (by_pair m s z) {tells} x {starts'} {ends'} {kinds'} y first b =
         let k : Call = call_of d part first limit from room base starts₀ ends₀ kinds₀ in
         let i : stop ≤ length part = r.bounds.inside in
         let u : stop ≤ limit = r.bounds.under in
         let g = r.rest first b in
         let t = after k r.bounds r.past on g.opening g.scanning ends_at in
-        let h : RecordState = stateAfterByte (Tail true) e (extended_by (hand start at n) (e - at)) in
-        let w = step-on k t Cr (Tail true) s true refl starts' ends' kinds' y.put h refl false refl refl in
-        let a : Asked k Cr (e + 1) h starts' ends' kinds' (Is (To Begin (Ends false))) = asked-lf first w (omega arith) (omega arith) z in
+        let h : RecordState = state_after_byte (Tail true) e (extended_by (hand start at n) (e - at)) in
+        let w = step_on k t Cr (Tail true) s true refl starts' ends' kinds' y.put h refl false refl refl in
+        let a : Asked k Cr (e + 1) h starts' ends' kinds' (Is (To Begin (Ends false))) = asked_lf first w (omega arith) (omega arith) z in
         let v = by_byte k a (To Begin (Ends false)) refl in
         let o =
-        step-over k v Begin (Ends false) refl false refl starts' ends' kinds' (
-          not-stored false room (base + (n + 1)) (e + 1) starts' refl,
-          (not-stored false room (base + (n + 1)) (e + 1) ends' refl, not-stored false room (base + (n + 1)) _ kinds' refl),
+        step_over k v Begin (Ends false) refl false refl starts' ends' kinds' (
+          not_stored false room (base + (n + 1)) (e + 1) starts' refl,
+          (not_stored false room (base + (n + 1)) (e + 1) ends' refl, not_stored false room (base + (n + 1)) _ kinds' refl),
         ) _ refl true refl refl in
         let two : e + 1 + 1 ≡ e + 2 = omega arith in
-        found (subst (λ (j : ℕ). Out k (reached.Completed start (n + 1) Begin j) starts' ends' kinds') two o) (all-clean x y)
+        found (subst (λ (j : ℕ). Out k (reached.Completed start (n + 1) Begin j) starts' ends' kinds') two o) (all_clean x y)
 
   -- ---- fallback
 
   -- the cells found after those of the current record
   abbrev further : Buffered → (began : ℕ) → ScanResult → List RawCell
-  further k began (pends s) = map (joinedCell k began) s.cells
-  further k began (fails e s) = map (joinedCell k began) s.cells
-  further k began (completes s cs f next left) = map (joinedCell k began) cs
+  further k began (pends s) = map (joined_cell k began) s.cells
+  further k began (fails e s) = map (joined_cell k began) s.cells
+  further k began (completes s cs f next left) = map (joined_cell k began) cs
 
-  joined-further : (k : Buffered) (began : ℕ) (w : ScanResult) → (foundOf (joinedTo k began w)).cells ≡ k.cells ++ further k began w
-  joined-further k began (pends s) = refl
-  joined-further k began (fails e s) = refl
-  joined-further k began (completes s cs f next left) = refl
+  joined_further : (k : Buffered) (began : ℕ) (w : ScanResult) → (found_of (joined_to k began w)).cells ≡ k.cells ++ further k began w
+  joined_further k began (pends s) = refl
+  joined_further k began (fails e s) = refl
+  joined_further k began (completes s cs f next left) = refl
 
   holds : {f : FileState} {b : ℕ} {k : Buffered} → Opening d b f → k.raw ≡ [] → (outer f ≡ true → k.cells ≡ []) → Holds f k
-  holds at-begin e c = nothing-current e (c refl)
-  holds (at_ended x) e c = nothing-current e (c refl)
-  holds at-fresh e c = current refl
-  holds (at-wanting x) e c = current refl
+  holds at_begin e c = nothing_current e (c refl)
+  holds (at_ended x) e c = nothing_current e (c refl)
+  holds at_fresh e c = current refl
+  holds (at_wanting x) e c = current refl
 
   pub odd : {clean : Bool} {at n : ℕ} {starts ends kinds : List ℕ} → Row clean at n starts ends kinds → (first : FileState)
       → FirstCellAt first part from start → FastScanSound d limit part from first room base starts₀ ends₀ kinds₀ starts ends kinds Fallback
-  unfolding joinedPlace joinedRaw if◌then◌else◌
+  unfolding joined_place joined_raw if◌then◌else◌
   odd {at = at} {n = n} r first b =
       let g = r.rest first b in
       let y = g.scanning in
       let cs : List RawCell = y.cs in
       let k : Buffered = record { start = start; opened = at; raw = []; cells = cs } in
       let s : Scan = record { state = g.state; offset = at; start = at; size = at - start; opened = at; raw = []; cells = [] } in
-      let same : joined k at s ≡ scanAt part g.state at (hand start at n) cs = rw (same_byte at, append-nil cs, part_end part at) in
-      let seen : scan d limit (joined k at s) (drop at part) ≡ joinedTo k at (scan d limit s (drop at part)) =
+      let same : joined k at s ≡ scan_at part g.state at (hand start at n) cs = rw (same_byte at, append-nil cs, part_end part at) in
+      let seen : scan d limit (joined k at s) (drop at part) ≡ joined_to k at (scan d limit s (drop at part)) =
       view d limit k at s (drop at part) (holds g.opening refl y.place.rest) (omega arith) in
-      is-fallback cs (further k at (scan d limit s (drop at part)))
-      (ap (λ (x : Found). x.cells) y.same ∙ ap (λ (x : Scan). (foundIn d limit x (drop at part)).cells) (sym same) ∙
-      ap (λ (w : ScanResult). (foundOf w).cells) seen ∙ joined-further k at (scan d limit s (drop at part)))
-      (record { at-starts = y.lists.at-starts; at-ends = y.lists.at-ends; at-kinds = y.lists.at-kinds })
+      is_fallback cs (further k at (scan d limit s (drop at part)))
+      (ap (λ (x : Found). x.cells) y.same ∙ ap (λ (x : Scan). (found_in d limit x (drop at part)).cells) (sym same) ∙
+      ap (λ (w : ScanResult). (found_of w).cells) seen ∙ joined_further k at (scan d limit s (drop at part)))
+      (record { at_starts = y.lists.at_starts; at_ends = y.lists.at_ends; at_kinds = y.lists.at_kinds })
 
   -- the first cell begins
-  pub row-begins : from ≤ length part → from ≤ limit → base ≤ from → limit ≤ MAXFILE
+  pub row_begins : from ≤ length part → from ≤ limit → base ≤ from → limit ≤ MAXFILE
       → (room ≤ length starts₀) × (room ≤ length ends₀) × (room ≤ length kinds₀) → Bounds (length part) limit start stop → from ≤ start
-      → start ≤ stop → start < length part → start < limit → {clean : Bool} → (clean ≡ true → quoteOf d ≡ QUOTE) → Row clean start 0 starts₀ ends₀ kinds₀
-  row-begins l m b low roomy w past to-stop inside under q =
+      → start ≤ stop → start < length part → start < limit → {clean : Bool} → (clean ≡ true → quote_of d ≡ QUOTE) → Row clean start 0 starts₀ ends₀ kinds₀
+  row_begins l m b low roomy w past to_stop inside under q =
       record {
         bounds = w;
         low = low;
         past = omega arith;
-        to-stop = to-stop;
+        to_stop = to_stop;
         few = omega arith;
         long = (refl, refl, refl);
         roomy = roomy;
         cleans = λ c. record { quotes = q c; each = λ k n. absurd (omega arith) };
-        rest = λ first x. rest-begins d part limit from room base starts₀ ends₀ kinds₀ l m b low first x inside under;
+        rest = λ first x. rest_begins d part limit from room base starts₀ ends₀ kinds₀ l m b low first x inside under;
       }

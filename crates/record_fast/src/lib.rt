@@ -8,8 +8,8 @@ ghost use Rattle.model.specs.declared.Dialect.{Dialect};
 ghost use Rattle.model.specs.declared.FileState.TheVariants.{Cr, Ended};
 ghost use Rattle.model.specs.declared.ByteRole.TheVariants.{Tail};
 ghost use Rattle.model.specs.declared.Step.TheVariants.{To};
-ghost use Rattle.model.specs.rules.Dialect.{delimiterOf};
-ghost use Rattle.model.specs.rules.File.{afterCell};
+ghost use Rattle.model.specs.rules.Dialect.{delimiter_of};
+ghost use Rattle.model.specs.rules.File.{after_cell};
 ghost use Rattle.model.specs.rules.Report.{MAXFILE};
 ghost use Rattle.record_fast.specs.FastScan.{FirstCellAt, RecordEndSound, FastScanSound};
 
@@ -73,7 +73,7 @@ pub enum RecordEnd {
 // CR and LF.
 fn crlf_end(part: &[u8], e: usize, stop: usize) -> RecordEnd
     requires { (e < stop) × (stop ≤ length part.now) }
-    ensures { (d : Dialect) → afterCell d true (get_or part.now e 0) ≡ To Cr (Tail true) → RecordEndSound d part.now e stop result }
+    ensures { (d : Dialect) → after_cell d true (get_or part.now e 0) ≡ To Cr (Tail true) → RecordEndSound d part.now e stop result }
 {
     if stop - e < 2 {
         return RecordEnd::Fallback;

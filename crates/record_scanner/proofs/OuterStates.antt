@@ -4,12 +4,12 @@ use Prim.Native.Nat.{ℕ}
 use mathlib.Core.Path.{◌≡◌, refl}
 use mathlib.Core.Bool.{Bool, true, false}
 use Rattle.model.specs.rules.Base.{COMMA, ◌is◌}
-use Rattle.model.specs.rules.Dialect.{delimiterOf}
-use Rattle.model.specs.rules.File.{isBlank, afterCell, fileStep, counts}
+use Rattle.model.specs.rules.Dialect.{delimiter_of}
+use Rattle.model.specs.rules.File.{is_blank, after_cell, file_step, counts}
 use Rattle.model.proofs.Tests.{split}
-use Rattle.model.proofs.file_laws.Counted.{blank-counted, delimiter-counted}
+use Rattle.model.proofs.file_laws.Counted.{blank_counted, delimiter_counted}
 use Rattle.model.proofs.file_laws.FileSteps as steps
-use Rattle.model.proofs.file_laws.FileSteps.{Rests, Around, Starts, Grown, Opens, Transition, step-transition}
+use Rattle.model.proofs.file_laws.FileSteps.{Rests, Around, Starts, Grown, Opens, Transition, step_transition}
 use Rattle.model.specs.declared.Dialect.{Dialect}
 use Rattle.model.specs.declared.Dialect.TheVariants.{Csvj, Tdif, CsvPlus}
 use Rattle.model.specs.declared.ByteFault.{ByteFault}
@@ -30,64 +30,64 @@ pub data Calm (f : FileState) (b : ℕ) : Step → Type 0 where
   finishes : {g : FileState} {k : Bool} → outer g ≡ true → Calm f b (To g (Ends k))
 
 module _ (f : FileState) (b : ℕ) where
-  pub after-calm : (d : Dialect) (k : Bool) → Calm f b (afterCell d k b)
-  unfolding afterCell
-  after-calm Csvj k =
+  pub after_calm : (d : Dialect) (k : Bool) → Calm f b (after_cell d k b)
+  unfolding after_cell
+  after_calm Csvj k =
       let P : Step → Type 0 = Calm f b in
-      split P (isBlank b) (λ p. parts (blank-counted f b p) refl) λ _.
-      split P (b is COMMA) (λ p. parts (delimiter-counted Csvj f b p) refl) λ _.
+      split P (is_blank b) (λ p. parts (blank_counted f b p) refl) λ _.
+      split P (b is COMMA) (λ p. parts (delimiter_counted Csvj f b p) refl) λ _.
       split P _ (λ _. finishes refl) λ _. split P _ (λ _. tails refl) λ _. refuses
-  after-calm Tdif k =
+  after_calm Tdif k =
       let P : Step → Type 0 = Calm f b in
-      split P (b is COMMA) (λ p. parts (delimiter-counted Tdif f b p) refl) λ _.
+      split P (b is COMMA) (λ p. parts (delimiter_counted Tdif f b p) refl) λ _.
       split P _ (λ _. finishes refl) λ _. split P _ (λ _. finishes refl) λ _. refuses
-  after-calm (CsvPlus s) k =
+  after_calm (CsvPlus s) k =
       let P : Step → Type 0 = Calm f b in
-      split P (b is delimiterOf (CsvPlus s)) (λ p. parts (delimiter-counted (CsvPlus s) f b p) refl) λ _.
+      split P (b is delimiter_of (CsvPlus s)) (λ p. parts (delimiter_counted (CsvPlus s) f b p) refl) λ _.
       split P _ (λ _. finishes refl) λ _. split P _ (λ _. tails refl) λ _. refuses
 
-rests-outer : {f : FileState} → Rests f → outer f ≡ true
-rests-outer steps.top = refl
-rests-outer steps.begin = refl
-rests-outer steps.ended = refl
-rests-outer steps.bom1 = refl
-rests-outer steps.bom2 = refl
-rests-outer steps.comment = refl
+rests_outer : {f : FileState} → Rests f → outer f ≡ true
+rests_outer steps.top = refl
+rests_outer steps.begin = refl
+rests_outer steps.ended = refl
+rests_outer steps.bom1 = refl
+rests_outer steps.bom2 = refl
+rests_outer steps.comment = refl
 
-around-outer : {d : Dialect} {f : FileState} → Around d f → outer f ≡ true
-around-outer (steps.rests r) = rests-outer r
-around-outer steps.unread = refl
+around_outer : {d : Dialect} {f : FileState} → Around d f → outer f ≡ true
+around_outer (steps.rests r) = rests_outer r
+around_outer steps.unread = refl
 
-starts-outer : {f : FileState} → Starts f → outer f ≡ true
-starts-outer steps.s-top = refl
-starts-outer steps.s-begin = refl
-starts-outer steps.s-ended = refl
-starts-outer steps.s-blanks = refl
+starts_outer : {f : FileState} → Starts f → outer f ≡ true
+starts_outer steps.s_top = refl
+starts_outer steps.s_begin = refl
+starts_outer steps.s_ended = refl
+starts_outer steps.s_blanks = refl
 
-next-outer : {g : FileState} → steps.Next g → outer g ≡ true
-next-outer steps.n-begin = refl
-next-outer steps.n-ended = refl
+next_outer : {g : FileState} → steps.Next g → outer g ≡ true
+next_outer steps.n_begin = refl
+next_outer steps.n_ended = refl
 
-grown-inner : {g : FileState} → Grown g → outer g ≡ false
-grown-inner steps.g_inside = refl
-grown-inner steps.g-plain1 = refl
-grown-inner steps.g-plain2 = refl
+grown_inner : {g : FileState} → Grown g → outer g ≡ false
+grown_inner steps.g_inside = refl
+grown_inner steps.g_plain1 = refl
+grown_inner steps.g_plain2 = refl
 
-opens-inner : {g : FileState} → Opens g → outer g ≡ false
-opens-inner steps.o-after = refl
-opens-inner steps.o-wanting = refl
-opens-inner steps.o-fresh = refl
+opens_inner : {g : FileState} → Opens g → outer g ≡ false
+opens_inner steps.o_after = refl
+opens_inner steps.o_wanting = refl
+opens_inner steps.o_fresh = refl
 
 calm : {d : Dialect} {f : FileState} {b : ℕ} {s : Step} → Transition d f b s → Calm f b s
 calm (steps.refuses t) = refuses
-calm (steps.outside t r g) = leaves (around-outer r)
-calm (steps.passes t r g) = passes (rests-outer r)
-calm (steps.adds t n h g i s) = grows n (grown-inner g)
-calm (steps.blanks t n e c) = blanks n (starts-outer e)
-calm (steps.parts t n l o) = parts n (opens-inner o)
+calm (steps.outside t r g) = leaves (around_outer r)
+calm (steps.passes t r g) = passes (rests_outer r)
+calm (steps.adds t n h g i s) = grows n (grown_inner g)
+calm (steps.blanks t n e c) = blanks n (starts_outer e)
+calm (steps.parts t n l o) = parts n (opens_inner o)
 calm (steps.turns t p l) = tails refl
-calm (steps.ends t p l g) = finishes (next-outer g)
-calm (steps.ends-cr t e p) = finishes refl
+calm (steps.ends t p l g) = finishes (next_outer g)
+calm (steps.ends_cr t e p) = finishes refl
 
-pub step-calm : (d : Dialect) (f : FileState) (b : ℕ) → Calm f b (fileStep d f b)
-step-calm d f b = calm (step-transition d f b)
+pub step_calm : (d : Dialect) (f : FileState) (b : ℕ) → Calm f b (file_step d f b)
+step_calm d f b = calm (step_transition d f b)

@@ -2,9 +2,9 @@
 -- Scans. All offsets are those of the part, and a cell that began before the part has its bytes in the part only.
 use Rattle.std.specs.Prelude.{ℕ, ◌+◌, ◌≤◌, ◌<◌, ◌≡◌, false, List, map, length}
 use Rattle.model.specs.rules.Base.{Bytes}
-use Rattle.model.specs.rules.Decode.{kindNumber, kind_of}
+use Rattle.model.specs.rules.Decode.{kind_number, kind_of}
 use Rattle.model.specs.rules.Report.{MAXRECORD}
-use Rattle.model.specs.laws.Scans.{RawCell, Scan, ScanResult, pends, fails, completes, scan, inRecord}
+use Rattle.model.specs.laws.Scans.{RawCell, Scan, ScanResult, pends, fails, completes, scan, in_record}
 use Rattle.model.specs.declared.Dialect.{Dialect}
 use Rattle.model.specs.declared.FileState.{FileState}
 use Rattle.record_scanner.specs.Types.{RecordState, ScanOutcome}
@@ -13,32 +13,32 @@ use Rattle.record_scanner.specs.declared.token.ScanOutcome.TheVariants as reache
 -- ---- the outcome
 
 -- the current record as numbers
-abbrev pub currentOf : Scan → RecordState
-currentOf s = record { start = s.start; size = s.size; opened = s.opened; cells = length s.cells }
+abbrev pub current_of : Scan → RecordState
+current_of s = record { start = s.start; size = s.size; opened = s.opened; cells = length s.cells }
 
 -- the outcome, and the cells of the record that are complete then
 pub record Found : Type 0 where
   pub answer : ScanOutcome
   pub cells : List RawCell
 
-abbrev pub foundOf : ScanResult → Found
-foundOf (pends s) = record { answer = reached.NeedInput s.state (currentOf s); cells = s.cells }
-foundOf (fails e s) = record { answer = reached.Failed e s.offset; cells = s.cells }
-foundOf (completes s cs f next left) = record { answer = reached.Completed s.start (length cs) f next; cells = cs }
+abbrev pub found_of : ScanResult → Found
+found_of (pends s) = record { answer = reached.NeedInput s.state (current_of s); cells = s.cells }
+found_of (fails e s) = record { answer = reached.Failed e s.offset; cells = s.cells }
+found_of (completes s cs f next left) = record { answer = reached.Completed s.start (length cs) f next; cells = cs }
 
 -- the result of scanning these bytes
-abbrev pub foundIn : Dialect → (limit : ℕ) → Scan → Bytes → Found
-foundIn d limit s bs = foundOf (scan d limit s bs)
+abbrev pub found_in : Dialect → (limit : ℕ) → Scan → Bytes → Found
+found_in d limit s bs = found_of (scan d limit s bs)
 
 -- the starts and the ends of cells, and the numbers of their kinds
-abbrev pub rawStarts : List RawCell → List ℕ
-rawStarts = map (λ (c : RawCell). c.from)
+abbrev pub raw_starts : List RawCell → List ℕ
+raw_starts = map (λ (c : RawCell). c.from)
 
-abbrev pub rawEnds : List RawCell → List ℕ
-rawEnds = map (λ (c : RawCell). c.upto)
+abbrev pub raw_ends : List RawCell → List ℕ
+raw_ends = map (λ (c : RawCell). c.upto)
 
-abbrev pub rawKinds : Dialect → List RawCell → List ℕ
-rawKinds d = map (λ (c : RawCell). kindNumber (kind_of d c.bytes))
+abbrev pub raw_kinds : Dialect → List RawCell → List ℕ
+raw_kinds d = map (λ (c : RawCell). kind_number (kind_of d c.bytes))
 
 -- ---- bounds
 
@@ -49,7 +49,7 @@ pub record CurrentInBounds (part_length limit base : ℕ) (f : FileState) (h : R
   pub start : h.start ≤ part_length
   pub opened : h.opened ≤ part_length
   pub few : base + h.cells ≤ part_length
-  pub between : inRecord f ≡ false → h.cells ≡ 0
+  pub between : in_record f ≡ false → h.cells ≡ 0
 
 -- `from`: where reading began; `base`: the number of cells before
 abbrev pub ScanInBounds : (part_length from limit base : ℕ) → ScanOutcome → Type 0

@@ -1,9 +1,9 @@
 -- The next token of a file: a byte outside cells, the rest of a cell up to its end, or the ordinary bytes of a comment.
 use Rattle.std.specs.Prelude.{ℕ, ◌+◌, ◌-◌, ◌≤◌, ◌<◌, ◌≡◌, Bool, true, false, ◌&&◌, List, [], length, drop, get_or, leb}
 use Rattle.model.specs.rules.Base.{Bytes}
-use Rattle.model.specs.rules.File.{afterCell, fileStep, counts}
+use Rattle.model.specs.rules.File.{after_cell, file_step, counts}
 use Rattle.model.specs.rules.Report.{MAXRECORD}
-use Rattle.model.specs.laws.Scans.{RawCell, Scan, closingRaw, scanStep, scan}
+use Rattle.model.specs.laws.Scans.{RawCell, Scan, closing_raw, scan_step, scan}
 use Rattle.model.specs.rules.Api.{least, slice}
 use Rattle.cell_scanner.specs.Run.{leading}
 use Rattle.model.specs.declared.Dialect.{Dialect}
@@ -16,12 +16,12 @@ use Rattle.model.specs.declared.Step.{Step}
 use Rattle.model.specs.declared.Fault.TheVariants.{Byte}
 use Rattle.record_scanner.specs.Types.{RecordState, Token, Is, Skipped, AfterCell, Refused, Open}
 use Rattle.record_scanner.specs.declared.token.ScanOutcome.TheVariants as reached
-use Rattle.record_scanner.specs.CurrentRecord.{stateAfterByte, extended_by}
-use Rattle.record_scanner.specs.Parts.{Found, foundOf, foundIn}
+use Rattle.record_scanner.specs.CurrentRecord.{state_after_byte, extended_by}
+use Rattle.record_scanner.specs.Parts.{Found, found_of, found_in}
 
 -- the state of scanning at i, by the record's numbers: the bytes of the current cell are those from where it was opened
-abbrev pub scanAt : (part : Bytes) → FileState → (i : ℕ) → RecordState → List RawCell → Scan
-scanAt part f i h cs =
+abbrev pub scan_at : (part : Bytes) → FileState → (i : ℕ) → RecordState → List RawCell → Scan
+scan_at part f i h cs =
     record {
       state = f;
       offset = i;
@@ -33,49 +33,49 @@ scanAt part f i h cs =
     }
 
 -- the record's complete cells after the next byte
-abbrev pub cellsNext : ByteRole → Scan → List RawCell
-cellsNext Outside s = []
-cellsNext Passed s = []
-cellsNext OfCell s = s.cells
-cellsNext (Between closes) s = closingRaw closes s
-cellsNext (Tail closes) s = closingRaw closes s
-cellsNext (Ends closes) s = closingRaw closes s
+abbrev pub cells_next : ByteRole → Scan → List RawCell
+cells_next Outside s = []
+cells_next Passed s = []
+cells_next OfCell s = s.cells
+cells_next (Between closes) s = closing_raw closes s
+cells_next (Tail closes) s = closing_raw closes s
+cells_next (Ends closes) s = closing_raw closes s
 
 -- the byte at j takes this step
-abbrev pub steppedAt : Dialect → (limit : ℕ) → (part : Bytes) → FileState → (j : ℕ) → RecordState → List RawCell → Step → Found
-steppedAt d limit part f j h cs s =
-    foundOf (scanStep (scanAt part f j h cs) (get_or part j 0) (drop (j + 1) part) (λ t. scan d limit t (drop (j + 1) part)) s)
+abbrev pub stepped_at : Dialect → (limit : ℕ) → (part : Bytes) → FileState → (j : ℕ) → RecordState → List RawCell → Step → Found
+stepped_at d limit part f j h cs s =
+    found_of (scan_step (scan_at part f j h cs) (get_or part j 0) (drop (j + 1) part) (λ t. scan d limit t (drop (j + 1) part)) s)
 
 -- the result of scanning from i, with this token next
-unfoldable pub metNext : Dialect → (limit : ℕ) → (part : Bytes) → FileState → (i : ℕ) → RecordState → List RawCell → Token → Found
-metNext d limit part f i h cs (Is s) = steppedAt d limit part f i h cs s
-metNext d limit part f i h cs (Skipped j) = foundIn d limit (scanAt part f j (stateAfterByte Outside (j - 1) h) []) (drop j part)
-metNext d limit part f i h cs (AfterCell closes j) =
-    steppedAt d limit part f j (extended_by h (j - i)) cs (afterCell d closes (get_or part j 0))
-metNext d limit part f i h cs (Refused e j) = record { answer = reached.Failed (Byte e) j; cells = cs }
-metNext d limit part f i h cs (Open c j) = foundIn d limit (scanAt part (Inside c) j (extended_by h (j - i)) cs) (drop j part)
+unfoldable pub met_next : Dialect → (limit : ℕ) → (part : Bytes) → FileState → (i : ℕ) → RecordState → List RawCell → Token → Found
+met_next d limit part f i h cs (Is s) = stepped_at d limit part f i h cs s
+met_next d limit part f i h cs (Skipped j) = found_in d limit (scan_at part f j (state_after_byte Outside (j - 1) h) []) (drop j part)
+met_next d limit part f i h cs (AfterCell closes j) =
+    stepped_at d limit part f j (extended_by h (j - i)) cs (after_cell d closes (get_or part j 0))
+met_next d limit part f i h cs (Refused e j) = record { answer = reached.Failed (Byte e) j; cells = cs }
+met_next d limit part f i h cs (Open c j) = found_in d limit (scan_at part (Inside c) j (extended_by h (j - i)) cs) (drop j part)
 
 -- the end of a comment's ordinary bytes
-abbrev pub commentEnd : FileState → (part : Bytes) → (limit i : ℕ) → ℕ
-commentEnd Top part limit i = i
-commentEnd Begin part limit i = i
-commentEnd Ended part limit i = i
-commentEnd Bom1 part limit i = i
-commentEnd Bom2 part limit i = i
-commentEnd PlainBom1 part limit i = i
-commentEnd PlainBom2 part limit i = i
-commentEnd (Comment Whole) part limit i = i + leading 0 0 (slice part i (least (length part) limit))
-commentEnd (Comment (Within n)) part limit i = i
-commentEnd Blanks part limit i = i
-commentEnd ExpectCell part limit i = i
-commentEnd (Inside c) part limit i = i
-commentEnd After part limit i = i
-commentEnd Cr part limit i = i
+abbrev pub comment_end : FileState → (part : Bytes) → (limit i : ℕ) → ℕ
+comment_end Top part limit i = i
+comment_end Begin part limit i = i
+comment_end Ended part limit i = i
+comment_end Bom1 part limit i = i
+comment_end Bom2 part limit i = i
+comment_end PlainBom1 part limit i = i
+comment_end PlainBom2 part limit i = i
+comment_end (Comment Whole) part limit i = i + leading 0 0 (slice part i (least (length part) limit))
+comment_end (Comment (Within n)) part limit i = i
+comment_end Blanks part limit i = i
+comment_end ExpectCell part limit i = i
+comment_end (Inside c) part limit i = i
+comment_end After part limit i = i
+comment_end Cr part limit i = i
 
 -- scanning from i, whose byte is not one too many, has that result
 pub record TokenCorrect (d : Dialect) (limit : ℕ) (part : Bytes) (f : FileState) (i size : ℕ) (m : Token) : Type 0 where
   pub comes : (h : RecordState) (cs : List RawCell) → h.size ≡ size → h.opened ≤ i
-      → (leb MAXRECORD h.size && counts f (get_or part i 0)) ≡ false → foundIn d limit (scanAt part f i h cs) (drop i part) ≡ metNext d limit part f i h cs m
+      → (leb MAXRECORD h.size && counts f (get_or part i 0)) ≡ false → found_in d limit (scan_at part f i h cs) (drop i part) ≡ met_next d limit part f i h cs m
 
 -- reading is between records, in the byte order mark, in a comment or in the blanks before a record: there is no current cell
 abbrev pub outer : FileState → Bool
@@ -95,7 +95,7 @@ outer Cr = false
 
 -- the token is in the part and under the limit; a byte takes its own step
 abbrev pub TokenInBounds : Dialect → (limit : ℕ) → (part : Bytes) → FileState → (i : ℕ) → Token → Type 0
-TokenInBounds d limit part f i (Is s) = s ≡ fileStep d f (get_or part i 0)
+TokenInBounds d limit part f i (Is s) = s ≡ file_step d f (get_or part i 0)
 TokenInBounds d limit part f i (Skipped j) = (outer f ≡ true) × (i < j) × (j ≤ length part) × (j ≤ limit)
 TokenInBounds d limit part f i (AfterCell closes j) = (i ≤ j) × (j < length part) × (j < limit)
 TokenInBounds d limit part f i (Refused e j) = j < length part

@@ -9,8 +9,8 @@
 ghost use Rattle.std.specs.Prelude.{◌≡◌, ◌≤◌, length, drop};
 ghost use Rattle.model.specs.rules.Report.{MAXFILE, MAXRECORD};
 ghost use Rattle.model.specs.laws.Scans.{fresh};
-ghost use Rattle.record_scanner.specs.Parts.{foundIn, rawStarts, rawEnds, rawKinds, ScanInBounds};
-ghost use Rattle.record_scanner.specs.Stored.{storedFrom};
+ghost use Rattle.record_scanner.specs.Parts.{found_in, raw_starts, raw_ends, raw_kinds, ScanInBounds};
+ghost use Rattle.record_scanner.specs.Stored.{stored_from};
 
 use crate::record_state::RecordState;
 use crate::token::{ScanOutcome, Token};
@@ -41,10 +41,10 @@ pub fn scan(
     requires from_in_bounds { (from ≤ length part.now) × (from ≤ limit) × (base ≤ from) }
     requires size_bound { (size ≤ MAXRECORD) × (limit ≤ MAXFILE) }
     requires room_in_bounds { (room ≤ length starts.old) × (room ≤ length ends.old) × (room ≤ length kinds.old) }
-    ensures value { result ≡ (foundIn d limit (fresh first size from) (drop from part.now)).answer }
-    ensures starts_after { starts.new ≡ storedFrom room base (rawStarts (foundIn d limit (fresh first size from) (drop from part.now)).cells) starts.old }
-    ensures ends_after { ends.new ≡ storedFrom room base (rawEnds (foundIn d limit (fresh first size from) (drop from part.now)).cells) ends.old }
-    ensures kinds_after { kinds.new ≡ storedFrom room base (rawKinds d (foundIn d limit (fresh first size from) (drop from part.now)).cells) kinds.old }
+    ensures value { result ≡ (found_in d limit (fresh first size from) (drop from part.now)).answer }
+    ensures starts_after { starts.new ≡ stored_from room base (raw_starts (found_in d limit (fresh first size from) (drop from part.now)).cells) starts.old }
+    ensures ends_after { ends.new ≡ stored_from room base (raw_ends (found_in d limit (fresh first size from) (drop from part.now)).cells) ends.old }
+    ensures kinds_after { kinds.new ≡ stored_from room base (raw_kinds d (found_in d limit (fresh first size from) (drop from part.now)).cells) kinds.old }
     ensures scan_in_bounds { ScanInBounds (length part.now) from limit base result }
 {
     let mut state = first;

@@ -1,7 +1,7 @@
-// The record's limit, and the end of the file. The definitions are `counts` and `fileEnd` of model's specs/rules/File.antt; a new state
+// The record's limit, and the end of the file. The definitions are `counts` and `file_end` of model's specs/rules/File.antt; a new state
 // is a new arm of `file_end`.
 ghost use Rattle.std.specs.Prelude.{◌≡◌, ◌&&◌, leb};
-ghost use Rattle.model.specs.rules.File.{counts, lastCell, fileEnd};
+ghost use Rattle.model.specs.rules.File.{counts, last_cell, file_end};
 ghost use Rattle.model.specs.rules.Report.{MAXRECORD};
 
 use model::{Cell, Dialect, Ending, FileState, Settings};
@@ -17,7 +17,7 @@ pub fn is_full(f: FileState, size: usize, b: u8) -> bool
 }
 
 fn plus_end(s: Settings, c: Cell) -> Ending
-    ensures { result ≡ lastCell (Dialect.CsvPlus s) c }
+    ensures { result ≡ last_cell (Dialect.CsvPlus s) c }
 {
     if codes::cell::is_whole(Dialect::CsvPlus(s), c) {
         return Ending::Final;
@@ -26,7 +26,7 @@ fn plus_end(s: Settings, c: Cell) -> Ending
 }
 
 fn last_cell(d: Dialect, c: Cell) -> Ending
-    ensures { result ≡ lastCell d c }
+    ensures { result ≡ last_cell d c }
 {
     match d {
         Dialect::Csvj => Ending::Cut,
@@ -37,7 +37,7 @@ fn last_cell(d: Dialect, c: Cell) -> Ending
 
 // What the end of the file means in this state.
 pub fn file_end(d: Dialect, f: FileState) -> Ending
-    ensures { result ≡ fileEnd d f }
+    ensures { result ≡ file_end d f }
 {
     match f {
         FileState::Top => Ending::Clean,

@@ -1,6 +1,6 @@
-// The current record as four numbers, and the effect of a byte on them. The definition is `stateAfterByte` of specs/CurrentRecord.antt.
+// The current record as four numbers, and the effect of a byte on them. The definition is `state_after_byte` of specs/CurrentRecord.antt.
 ghost use Rattle.std.specs.Prelude.{◌≡◌, ◌+◌, ◌^◌, ◌<◌};
-ghost use Rattle.record_scanner.specs.CurrentRecord.{closesCell, endsRecord, oneMore, stateAfterByte, extended_by};
+ghost use Rattle.record_scanner.specs.CurrentRecord.{closes_cell, ends_record, one_more, state_after_byte, extended_by};
 
 use model::ByteRole;
 
@@ -19,7 +19,7 @@ pub struct RecordState {
 
 // Whether a cell ends before this byte.
 pub fn closes_cell(p: ByteRole) -> bool
-    ensures { result ≡ closesCell p }
+    ensures { result ≡ closes_cell p }
 {
     match p {
         ByteRole::Outside => false,
@@ -33,7 +33,7 @@ pub fn closes_cell(p: ByteRole) -> bool
 
 // Whether this is a record's last byte.
 pub fn ends_record(p: ByteRole) -> bool
-    ensures { result ≡ endsRecord p }
+    ensures { result ≡ ends_record p }
 {
     match p {
         ByteRole::Outside => false,
@@ -47,7 +47,7 @@ pub fn ends_record(p: ByteRole) -> bool
 
 fn one_more(closes: bool, cells: usize) -> usize
     requires { cells + 1 < 2 ^ 64 }
-    ensures { result ≡ oneMore closes cells }
+    ensures { result ≡ one_more closes cells }
 {
     if closes {
         return cells + 1;
@@ -58,7 +58,7 @@ fn one_more(closes: bool, cells: usize) -> usize
 // The current record after the byte at i, which has this role.
 pub fn after_byte(p: ByteRole, i: usize, h: RecordState) -> RecordState
     requires { (i + 1 < 2 ^ 64) × (h.size + 1 < 2 ^ 64) × (h.cells + 1 < 2 ^ 64) }
-    ensures { result ≡ stateAfterByte p i h }
+    ensures { result ≡ state_after_byte p i h }
 {
     match p {
         ByteRole::Outside => RecordState {

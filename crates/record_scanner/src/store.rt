@@ -1,8 +1,8 @@
-// A complete cell stored in the lent lists, if there is room. The definition is `storeIf` of specs/Stored.antt.
+// A complete cell stored in the lent lists, if there is room. The definition is `store_if` of specs/Stored.antt.
 ghost use Rattle.std.specs.Prelude.{◌≡◌, ◌≤◌, length};
-ghost use Rattle.model.specs.rules.Decode.{kindNumber, kind_of};
+ghost use Rattle.model.specs.rules.Decode.{kind_number, kind_of};
 ghost use Rattle.model.specs.rules.Api.{slice};
-ghost use Rattle.record_scanner.specs.Stored.{storeAt, storeIf};
+ghost use Rattle.record_scanner.specs.Stored.{store_at, store_if};
 
 use model::Dialect;
 
@@ -21,9 +21,9 @@ pub fn store_cell(
 )
     requires opened_le_i { (opened ≤ i) × (i ≤ length part.now) }
     requires room_in_bounds { (room ≤ length starts.old) × (room ≤ length ends.old) × (room ≤ length kinds.old) }
-    ensures starts_after { starts.new ≡ storeIf closes room k opened starts.old }
-    ensures ends_after { ends.new ≡ storeIf closes room k i ends.old }
-    ensures kinds_after { kinds.new ≡ storeIf closes room k (kindNumber (kind_of d (slice part.now opened i))) kinds.old }
+    ensures starts_after { starts.new ≡ store_if closes room k opened starts.old }
+    ensures ends_after { ends.new ≡ store_if closes room k i ends.old }
+    ensures kinds_after { kinds.new ≡ store_if closes room k (kind_number (kind_of d (slice part.now opened i))) kinds.old }
 {
     if closes {
         if k < room {

@@ -3,7 +3,7 @@
 // are the limits (limits.rt), the current record after a byte (record_state.rt), and the storing of its cells (store.rt).
 ghost use Rattle.std.specs.Prelude.{◌≡◌, ◌+◌, ◌≤◌, ◌<◌, length};
 ghost use Rattle.model.specs.rules.Report.{MAXFILE};
-ghost use Rattle.record_scanner.specs.Tokens.{TokenCorrect, TokenInBounds, Free, commentEnd};
+ghost use Rattle.record_scanner.specs.Tokens.{TokenCorrect, TokenInBounds, Free, comment_end};
 
 use crate::record_state::RecordState;
 use cell_scanner::CellEnd;
@@ -62,7 +62,7 @@ fn limit_end(total: usize, i: usize, size: usize, limit: usize) -> usize
 // The end of a comment's ordinary bytes, if reading is in one.
 fn comment_end(f: FileState, part: &[u8], i: usize, limit: usize) -> usize
     requires { (i < length part.now) × (i < limit) }
-    ensures { result ≡ commentEnd f part.now limit i }
+    ensures { result ≡ comment_end f part.now limit i }
 {
     match f {
         FileState::Comment(t) => match t {

@@ -6,16 +6,16 @@ use Rattle.model.specs.declared.CheckResult.{CheckResult}
 use Rattle.model.specs.declared.CheckResult.TheVariants.{Sound}
 use Rattle.model.specs.rules.Base.{Bytes}
 use Rattle.model.specs.rules.Text.{ending}
-use Rattle.model.specs.rules.Records.{◌orElse◌, when}
+use Rattle.model.specs.rules.Records.{◌or_else◌, when}
 use Rattle.model.specs.rules.Report.{MAXFILE, MAXRECORD}
 
 -- the last two reasons of fault 9, after `written` bytes of output (§8.5 §8.6)
-abbrev pub lengthFault : Dialect → (written : ℕ) → (text : Bytes) → CheckResult
-lengthFault t written text =
+abbrev pub length_fault : Dialect → (written : ℕ) → (text : Bytes) → CheckResult
+length_fault t written text =
     when (ltb MAXRECORD (length text)) TextTooLong
     or_else when (ltb MAXFILE (written + length (text ++ ending t))) OutputTooLong
 
 -- the check result for a text's length; without a fault, `size` is the length of the text with its ending
 pub record Sized (t : Dialect) (written : ℕ) (text : Bytes) (verdict : CheckResult) (size : ℕ) : Type 0 where
-  pub says : verdict ≡ lengthFault t written text
+  pub says : verdict ≡ length_fault t written text
   pub long : verdict ≡ Sound → size ≡ length (text ++ ending t)

@@ -2,20 +2,20 @@
 // names differ by its rule, and the text is within the limits. In: the spans and kinds of the cells. Out: the first fault, or the length of
 // the record's text, which is measured and not written.
 //
-// The definition is `targetFault` of model's specs/rules/Records.antt, over the cells of the lists (cell_decoder's specs/Sources.antt). A
+// The definition is `target_fault` of model's specs/rules/Records.antt, over the cells of the lists (cell_decoder's specs/Sources.antt). A
 // reason that changes there changes its function here and its law in proofs/Reasons.antt.
 ghost use Rattle.std.specs.Prelude.{◌≡◌, not, ◌&&◌, List, ◌++◌, ℕ, ◌+◌, ◌≤◌, length, true, false};
 ghost use Rattle.model.specs.declared.CheckResult.TheVariants.{Sound, Faulty};
 ghost use Rattle.model.specs.rules.Base.{Bytes, is_empty};
-ghost use Rattle.model.specs.rules.Dialect.{isCsvj, into};
-ghost use Rattle.model.specs.rules.Text.{Value, recordText, ending};
-ghost use Rattle.model.specs.rules.Records.{◌orElse◌, uncarriedFrom, clashFault, targetFault};
+ghost use Rattle.model.specs.rules.Dialect.{is_csvj, into};
+ghost use Rattle.model.specs.rules.Text.{Value, record_text, ending};
+ghost use Rattle.model.specs.rules.Records.{◌or_else◌, uncarried_from, clash_fault, target_fault};
 ghost use Rattle.model.specs.rules.Report.{MAXFILE, MAXRECORD};
 ghost use Rattle.buffer.specs.Writes.{measure};
 ghost use Rattle.cell_decoder.specs.declared.source.Source.TheVariants.{File};
 ghost use Rattle.cell_decoder.specs.Sources.{cells_in, Cells};
 ghost use Rattle.record_check.specs.Keys.{NamesIn};
-ghost use Rattle.record_check.specs.SourceFault.{sourceFault};
+ghost use Rattle.record_check.specs.SourceFault.{source_fault};
 ghost use Rattle.record_writer.specs.CleanRecord.{CleanRecord};
 ghost use Rattle.record_target.specs.Sized.{Sized};
 
@@ -54,7 +54,7 @@ fn refused(fault: Fault) -> TargetCheck
 
 // Whether a header without cells can't be written.
 fn lacks_cells(t: Dialect, header: bool, cells: usize) -> bool
-    ensures { (vs : List Value) → length vs ≡ cells → result ≡ (header && is_empty vs && not (isCsvj t)) }
+    ensures { (vs : List Value) → length vs ≡ cells → result ≡ (header && is_empty vs && not (is_csvj t)) }
 {
     if !header {
         return false;
@@ -83,8 +83,8 @@ fn measure(
     requires cells { Cells src s.now starts.now ends.now kinds.now }
     requires clean_record { clean ≡ true → CleanRecord s.now starts.now ends.now src header }
     ensures end_value { result.end ≡ measure (length
-        (recordText (into t) header (cells_in src s.now starts.now ends.now kinds.now))) }
-    ensures carries_value { result.carries ≡ uncarriedFrom t 1 (cells_in src s.now starts.now ends.now kinds.now) }
+        (record_text (into t) header (cells_in src s.now starts.now ends.now kinds.now))) }
+    ensures carries_value { result.carries ≡ uncarried_from t 1 (cells_in src s.now starts.now ends.now kinds.now) }
 {
     let mut nothing = [0u8; 1];
     line::write_text(
@@ -113,7 +113,7 @@ fn name_clash(
 ) -> CheckResult
     requires { NamesIn src s.now starts.now ends.now }
     ensures { (kinds : List ℕ) → length kinds ≡ length starts.now
-        → result ≡ clashFault t header (cells_in src s.now starts.now ends.now kinds) }
+        → result ≡ clash_fault t header (cells_in src s.now starts.now ends.now kinds) }
 {
     if !header {
         return CheckResult::Sound;
@@ -171,9 +171,9 @@ pub fn check_target(
     requires cells { Cells src s.now starts.now ends.now kinds.now }
     requires clean_record { clean ≡ true → CleanRecord s.now starts.now ends.now src header }
     requires written_bound { written ≤ MAXFILE }
-    ensures verdict_value { result.verdict ≡ targetFault (into t) header written
+    ensures verdict_value { result.verdict ≡ target_fault (into t) header written
         (cells_in src s.now starts.now ends.now kinds.now) }
-    ensures length_value { result.verdict ≡ Sound → result.length ≡ length (recordText (into t) header
+    ensures length_value { result.verdict ≡ Sound → result.length ≡ length (record_text (into t) header
         (cells_in src s.now starts.now ends.now kinds.now) ++ ending t) }
 {
     if lacks_cells(t, header, starts.len()) {
@@ -209,10 +209,10 @@ pub fn check_record(
     requires clean_record { clean ≡ true → CleanRecord s.now starts.now ends.now (File d) header }
     requires written_bound { written ≤ MAXFILE }
     ensures verdict_value { result.verdict ≡ (
-        sourceFault d header columns (cells_in (File d) s.now starts.now ends.now kinds.now)
-        or_else targetFault (into t) header written
+        source_fault d header columns (cells_in (File d) s.now starts.now ends.now kinds.now)
+        or_else target_fault (into t) header written
         (cells_in (File d) s.now starts.now ends.now kinds.now)) }
-    ensures length_value { result.verdict ≡ Sound → result.length ≡ length (recordText (into t) header
+    ensures length_value { result.verdict ≡ Sound → result.length ≡ length (record_text (into t) header
         (cells_in (File d) s.now starts.now ends.now kinds.now) ++ ending t) }
 {
     let src = Source::File(d);

@@ -8,4 +8,4 @@ use Rattle.cell_fast.specs.Ends.{CleanIn}
 
 -- it is a data record of a file, and each of its cells a text whose content is its raw bytes, without quotation marks or between two
 pub data CleanRecord (s : Bytes) (starts ends : List ℕ) : Source → (header : Bool) → Type 0 where
-  clean-data : {d : Dialect} → CleanIn d s starts ends → CleanRecord s starts ends (File d) false
+  clean_data : {d : Dialect} → CleanIn d s starts ends → CleanRecord s starts ends (File d) false

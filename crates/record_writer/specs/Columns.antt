@@ -6,33 +6,33 @@ use Rattle.model.specs.declared.Kind.{Kind}
 use Rattle.model.specs.declared.CheckResult.{CheckResult}
 use Rattle.model.specs.declared.CheckResult.TheVariants.{Sound, Faulty}
 use Rattle.model.specs.rules.Base.{Bytes}
-use Rattle.model.specs.rules.Dialect.{isCsvj, delimiterOf}
-use Rattle.model.specs.rules.Text.{Value, isText, cellText}
-use Rattle.model.specs.rules.Utf8.{holdsLone}
-use Rattle.model.specs.rules.Records.{◌orElse◌, when, hasKind}
+use Rattle.model.specs.rules.Dialect.{is_csvj, delimiter_of}
+use Rattle.model.specs.rules.Text.{Value, is_text, cell_text}
+use Rattle.model.specs.rules.Utf8.{holds_lone}
+use Rattle.model.specs.rules.Records.{◌or_else◌, when, has_kind}
 
 -- what is written before the cell at place n: a delimiter, but nothing before the first (§14.1)
-abbrev pub beforeCell : Dialect → ℕ → Bytes
-beforeCell t zero = []
-beforeCell t (suc n) = delimiterOf t ∷ []
+abbrev pub before_cell : Dialect → ℕ → Bytes
+before_cell t zero = []
+before_cell t (suc n) = delimiter_of t ∷ []
 
 -- whether the cell at place n is the first of a header (§14.7)
-abbrev pub isFirst : ℕ → (header : Bool) → Bool
-isFirst zero header = header
-isFirst (suc n) header = false
+abbrev pub is_first : ℕ → (header : Bool) → Bool
+is_first zero header = header
+is_first (suc n) header = false
 
 -- the text of the cell at place n with the delimiter before it
-abbrev pub columnText : Dialect → (n : ℕ) → (only header : Bool) → Value → Bytes
-columnText t n only header v = beforeCell t n ++ cellText t only (isFirst n header) v
+abbrev pub column_text : Dialect → (n : ℕ) → (only header : Bool) → Value → Bytes
+column_text t n only header v = before_cell t n ++ cell_text t only (is_first n header) v
 
 -- the target's check of the cell in column n, by its kind and content (§8.3)
-abbrev pub uncarriedCell : (target : Dialect) → (n : ℕ) → Kind → Bytes → CheckResult
-uncarriedCell t n k content =
-    when (not (hasKind t k)) (LacksKind n)
-    or_else when (not (isCsvj t) && isText k && holdsLone content) (LoneSurrogate n)
+abbrev pub uncarried_cell : (target : Dialect) → (n : ℕ) → Kind → Bytes → CheckResult
+uncarried_cell t n k content =
+    when (not (has_kind t k)) (LacksKind n)
+    or_else when (not (is_csvj t) && is_text k && holds_lone content) (LoneSurrogate n)
 
 -- the check result for the cells so far, from the column of the first that the target can't represent, or 0, and the reason
-abbrev pub checkOf : (column : ℕ) → (lone : Bool) → CheckResult
-checkOf zero lone = Sound
-checkOf (suc n) true = Faulty (LoneSurrogate (suc n))
-checkOf (suc n) false = Faulty (LacksKind (suc n))
+abbrev pub check_of : (column : ℕ) → (lone : Bool) → CheckResult
+check_of zero lone = Sound
+check_of (suc n) true = Faulty (LoneSurrogate (suc n))
+check_of (suc n) false = Faulty (LacksKind (suc n))

@@ -1,16 +1,16 @@
 // A record's text in a target, by the fast path for verbatim cells (clean.rt) or else cell by cell (record.rt), and the text with its
 // ending. In: the cells as spans with their kinds, whether the record is a header, and whether its cells are verbatim (`clean`). Out: the
-// text in the buffer, or only its length. The definition is `recordText` of model's specs/rules/Text.antt; specs/CleanRecord.antt says
+// text in the buffer, or only its length. The definition is `record_text` of model's specs/rules/Text.antt; specs/CleanRecord.antt says
 // what `clean` means.
 ghost use Rattle.std.specs.Prelude.{◌≡◌, true, false, ◌++◌};
 ghost use Rattle.model.specs.rules.Dialect.{into};
-ghost use Rattle.model.specs.rules.Text.{recordText, ending};
-ghost use Rattle.model.specs.rules.Records.{uncarriedFrom};
+ghost use Rattle.model.specs.rules.Text.{record_text, ending};
+ghost use Rattle.model.specs.rules.Records.{uncarried_from};
 ghost use Rattle.buffer.specs.Writes.{Room, WrittenAt};
 ghost use Rattle.cell_decoder.specs.declared.source.Source.TheVariants.{File};
 ghost use Rattle.cell_decoder.specs.Sources.{cells_in, Cells};
 ghost use Rattle.cell_fast.specs.Ends.{CleanIn};
-ghost use Rattle.record_writer.specs.Verbatim.{quotesAll};
+ghost use Rattle.record_writer.specs.Verbatim.{quotes_all};
 ghost use Rattle.record_writer.specs.CleanRecord.{CleanRecord};
 
 use crate::clean::{plus, quoted};
@@ -21,7 +21,7 @@ use model::{CheckResult, Dialect};
 
 // Whether a target quotes every text.
 fn quotes_all(t: Dialect) -> bool
-    ensures { result ≡ quotesAll t }
+    ensures { result ≡ quotes_all t }
 {
     match t {
         Dialect::Csvj => true,
@@ -46,11 +46,11 @@ pub fn write_text(
 ) -> RecordText
     requires cells { Cells src s.now starts.now ends.now kinds.now }
     requires clean_record { clean ≡ true → CleanRecord s.now starts.now ends.now src header }
-    requires room { Room write at (recordText (into t) header (cells_in src s.now starts.now ends.now kinds.now)) out.old }
+    requires room { Room write at (record_text (into t) header (cells_in src s.now starts.now ends.now kinds.now)) out.old }
     ensures written_at { WrittenAt write out.old at
-        (recordText (into t) header (cells_in src s.now starts.now ends.now kinds.now))
+        (record_text (into t) header (cells_in src s.now starts.now ends.now kinds.now))
         out.new result.end }
-    ensures carries_value { result.carries ≡ uncarriedFrom t 1 (cells_in src s.now starts.now ends.now kinds.now) }
+    ensures carries_value { result.carries ≡ uncarried_from t 1 (cells_in src s.now starts.now ends.now kinds.now) }
 {
     if clean {
         if quotes_all(t) {
@@ -87,9 +87,9 @@ pub fn write_line(
 ) -> usize
     requires cells { Cells src s.now starts.now ends.now kinds.now }
     requires clean_record { clean ≡ true → CleanRecord s.now starts.now ends.now src header }
-    requires room { Room true at (recordText (into t) header (cells_in src s.now starts.now ends.now kinds.now) ++ ending t) out.old }
+    requires room { Room true at (record_text (into t) header (cells_in src s.now starts.now ends.now kinds.now) ++ ending t) out.old }
     ensures { WrittenAt true out.old at
-        (recordText (into t) header (cells_in src s.now starts.now ends.now kinds.now) ++ ending t)
+        (record_text (into t) header (cells_in src s.now starts.now ends.now kinds.now) ++ ending t)
         out.new result }
 {
     let text = write_text(src, t, s, starts, ends, kinds, header, clean, out, at, true);
@@ -110,8 +110,8 @@ pub fn write_data(
 ) -> usize
     requires cells { Cells (File d) s.now starts.now ends.now kinds.now }
     requires clean_in { clean ≡ true → CleanIn d s.now starts.now ends.now }
-    requires room { Room true at (recordText (into t) false (cells_in (File d) s.now starts.now ends.now kinds.now) ++ ending t) out.old }
-    ensures { WrittenAt true out.old at (recordText (into t) false (cells_in (File d) s.now starts.now ends.now kinds.now) ++ ending t) out.new result }
+    requires room { Room true at (record_text (into t) false (cells_in (File d) s.now starts.now ends.now kinds.now) ++ ending t) out.old }
+    ensures { WrittenAt true out.old at (record_text (into t) false (cells_in (File d) s.now starts.now ends.now kinds.now) ++ ending t) out.new result }
 {
     write_line(
         Source::File(d),

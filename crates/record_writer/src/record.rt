@@ -1,17 +1,17 @@
 // The text of a record cell by cell, and the first cell that the target can't represent. In: the spans of the cells in s, with their kinds.
-// Out: the text in the buffer, or only its length. The definitions are `recordText` of model's specs/rules/Text.antt and `uncarriedFrom` of
+// Out: the text in the buffer, or only its length. The definitions are `record_text` of model's specs/rules/Text.antt and `uncarried_from` of
 // its specs/rules/Records.antt.
 ghost use Rattle.std.specs.Prelude.{◌≡◌, true, false, ◌+◌, ◌<◌};
 ghost use Rattle.model.specs.rules.Base.{Bytes};
 ghost use Rattle.model.specs.declared.Dialect.TheVariants.{Tdif};
-ghost use Rattle.model.specs.rules.Dialect.{isCsvj, into};
-ghost use Rattle.model.specs.rules.Text.{isText, ending, recordText};
-ghost use Rattle.model.specs.rules.Utf8.{holdsLone};
-ghost use Rattle.model.specs.rules.Records.{◌orElse◌, hasKind, uncarriedFrom};
+ghost use Rattle.model.specs.rules.Dialect.{is_csvj, into};
+ghost use Rattle.model.specs.rules.Text.{is_text, ending, record_text};
+ghost use Rattle.model.specs.rules.Utf8.{holds_lone};
+ghost use Rattle.model.specs.rules.Records.{◌or_else◌, has_kind, uncarried_from};
 ghost use Rattle.buffer.specs.Writes.{Room, WrittenAt};
-ghost use Rattle.cell_decoder.specs.Sources.{kindFrom, contentBy, cells_in, Encoded, Cells};
+ghost use Rattle.cell_decoder.specs.Sources.{kind_from, content_by, cells_in, Encoded, Cells};
 ghost use Rattle.cell_writer.specs.Cells.{value_of};
-ghost use Rattle.record_writer.specs.Columns.{beforeCell, isFirst, columnText, uncarriedCell, checkOf};
+ghost use Rattle.record_writer.specs.Columns.{before_cell, is_first, column_text, uncarried_cell, check_of};
 ghost use Rattle.record_writer.specs.Verbatim.{Direct};
 
 use crate::verbatim;
@@ -32,7 +32,7 @@ pub struct RecordText {
 // ---- what the target can represent
 
 fn tdif_has_kind(k: Kind) -> bool
-    ensures { result ≡ hasKind Tdif k }
+    ensures { result ≡ has_kind Tdif k }
 {
     match k {
         Kind::Text => true,
@@ -45,7 +45,7 @@ fn tdif_has_kind(k: Kind) -> bool
 
 // Whether the dialect has cells of this kind.
 fn has_kind(t: Dialect, k: Kind) -> bool
-    ensures { result ≡ hasKind t k }
+    ensures { result ≡ has_kind t k }
 {
     match t {
         Dialect::Csvj => true,
@@ -65,8 +65,8 @@ struct FirstFault {
 // The same with the cell in this column, in whose content a lone surrogate was found or not.
 fn with_cell(said: FirstFault, t: Dialect, number: u8, lone: bool, column: usize) -> FirstFault
     requires { 0 < column }
-    ensures { (content : Bytes) → (isText (kindFrom number) ≡ true → isCsvj t ≡ false → lone ≡ holdsLone content)
-        → checkOf result.column result.lone ≡ (checkOf said.column said.lone or_else uncarriedCell t column (kindFrom number) content) }
+    ensures { (content : Bytes) → (is_text (kind_from number) ≡ true → is_csvj t ≡ false → lone ≡ holds_lone content)
+        → check_of result.column result.lone ≡ (check_of said.column said.lone or_else uncarried_cell t column (kind_from number) content) }
 {
     if escape::is_csvj(t) {
         return said;
@@ -91,7 +91,7 @@ fn with_cell(said: FirstFault, t: Dialect, number: u8, lone: bool, column: usize
 }
 
 fn check_result(said: FirstFault) -> CheckResult
-    ensures { result ≡ checkOf said.column said.lone }
+    ensures { result ≡ check_of said.column said.lone }
 {
     let column = said.column;
     if column == 0 {
@@ -106,8 +106,8 @@ fn check_result(said: FirstFault) -> CheckResult
 // ---- columns
 
 fn write_delimiter(t: Dialect, n: usize, out: &mut [u8], o: usize, write: bool) -> usize
-    requires { Room write o (beforeCell t n) out.old }
-    ensures { WrittenAt write out.old o (beforeCell t n) out.new result }
+    requires { Room write o (before_cell t n) out.old }
+    ensures { WrittenAt write out.old o (before_cell t n) out.new result }
 {
     if n == 0 {
         return o;
@@ -116,7 +116,7 @@ fn write_delimiter(t: Dialect, n: usize, out: &mut [u8], o: usize, write: bool) 
 }
 
 fn is_first(n: usize, header: bool) -> bool
-    ensures { result ≡ isFirst n header }
+    ensures { result ≡ is_first n header }
 {
     if n == 0 {
         return header;
@@ -139,11 +139,11 @@ fn write_column(
     at: usize,
     write: bool,
 ) -> Body
-    requires encoded { Encoded src (kindFrom number) raw.now }
+    requires encoded { Encoded src (kind_from number) raw.now }
     requires direct { direct ≡ true → Direct src t }
-    requires room { Room write at (columnText t n only header (value_of src (kindFrom number) raw.now)) out.old }
-    ensures written_at { WrittenAt write out.old at (columnText t n only header (value_of src (kindFrom number) raw.now)) out.new result.end }
-    ensures lone_value { isText (kindFrom number) ≡ true → isCsvj t ≡ false → result.lone ≡ holdsLone (contentBy src raw.now) }
+    requires room { Room write at (column_text t n only header (value_of src (kind_from number) raw.now)) out.old }
+    ensures written_at { WrittenAt write out.old at (column_text t n only header (value_of src (kind_from number) raw.now)) out.new result.end }
+    ensures lone_value { is_text (kind_from number) ≡ true → is_csvj t ≡ false → result.lone ≡ holds_lone (content_by src raw.now) }
 {
     let from = write_delimiter(t, n, out, at, write);
     verbatim::write_verbatim(
@@ -176,11 +176,11 @@ pub fn write_record(
     write: bool,
 ) -> RecordText
     requires cells { Cells src s.now starts.now ends.now kinds.now }
-    requires room { Room write at (recordText (into t) header (cells_in src s.now starts.now ends.now kinds.now)) out.old }
+    requires room { Room write at (record_text (into t) header (cells_in src s.now starts.now ends.now kinds.now)) out.old }
     ensures written_at { WrittenAt write out.old at
-        (recordText (into t) header (cells_in src s.now starts.now ends.now kinds.now))
+        (record_text (into t) header (cells_in src s.now starts.now ends.now kinds.now))
         out.new result.end }
-    ensures carries_value { result.carries ≡ uncarriedFrom t 1 (cells_in src s.now starts.now ends.now kinds.now) }
+    ensures carries_value { result.carries ≡ uncarried_from t 1 (cells_in src s.now starts.now ends.now kinds.now) }
 {
     let only = starts.len() == 1;
     let direct = verbatim::is_direct(src, t);

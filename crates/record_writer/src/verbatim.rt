@@ -3,12 +3,12 @@
 // definition of the test is `Looks` of specs/Verbatim.antt.
 ghost use Rattle.std.specs.Prelude.{◌≡◌, true, false, ◌≤◌, length, [], ◌∷◌, ◌++◌};
 ghost use Rattle.model.specs.rules.Base.{QUOTE};
-ghost use Rattle.model.specs.rules.Dialect.{isCsvj};
-ghost use Rattle.model.specs.rules.Text.{isText, cellText};
-ghost use Rattle.model.specs.rules.Utf8.{holdsLone};
-ghost use Rattle.swar.specs.Words.{plainText, AllIn};
+ghost use Rattle.model.specs.rules.Dialect.{is_csvj};
+ghost use Rattle.model.specs.rules.Text.{is_text, cell_text};
+ghost use Rattle.model.specs.rules.Utf8.{holds_lone};
+ghost use Rattle.swar.specs.Words.{plain_text, AllIn};
 ghost use Rattle.buffer.specs.Writes.{Room, WrittenAt};
-ghost use Rattle.cell_decoder.specs.Sources.{kindFrom, contentBy, Encoded};
+ghost use Rattle.cell_decoder.specs.Sources.{kind_from, content_by, Encoded};
 ghost use Rattle.cell_writer.specs.Cells.{value_of};
 ghost use Rattle.record_writer.specs.Verbatim.{Direct, Looks};
 
@@ -54,7 +54,7 @@ pub enum Verbatim {
 // Whether all bytes from `from` up to `upto` are ordinary, eight to a step.
 fn all_plain(raw: &[u8], from: usize, upto: usize) -> bool
     requires { (from ≤ upto) × (upto ≤ length raw.now) }
-    ensures { result ≡ true → AllIn plainText raw.now from upto }
+    ensures { result ≡ true → AllIn plain_text raw.now from upto }
 {
     let mut i = from;
     while 8 < upto - i {
@@ -68,7 +68,7 @@ fn all_plain(raw: &[u8], from: usize, upto: usize) -> bool
 
 // The kind's number is tested as it is: to name the kind first costs 2% of the instructions.
 fn verbatim_span(direct: bool, number: u8, raw: &[u8]) -> Verbatim
-    ensures { Looks direct (kindFrom number) raw.now result }
+    ensures { Looks direct (kind_from number) raw.now result }
 {
     if !direct {
         return Verbatim::Fallback;
@@ -108,11 +108,11 @@ pub fn write_verbatim(
     o: usize,
     write: bool,
 ) -> Body
-    requires encoded { Encoded src (kindFrom number) raw.now }
+    requires encoded { Encoded src (kind_from number) raw.now }
     requires direct { direct ≡ true → Direct src t }
-    requires room { Room write o (cellText t only first (value_of src (kindFrom number) raw.now)) out.old }
-    ensures written_at { WrittenAt write out.old o (cellText t only first (value_of src (kindFrom number) raw.now)) out.new result.end }
-    ensures lone_value { isText (kindFrom number) ≡ true → isCsvj t ≡ false → result.lone ≡ holdsLone (contentBy src raw.now) }
+    requires room { Room write o (cell_text t only first (value_of src (kind_from number) raw.now)) out.old }
+    ensures written_at { WrittenAt write out.old o (cell_text t only first (value_of src (kind_from number) raw.now)) out.new result.end }
+    ensures lone_value { is_text (kind_from number) ≡ true → is_csvj t ≡ false → result.lone ≡ holds_lone (content_by src raw.now) }
 {
     match verbatim_span(direct, number, raw) {
         Verbatim::Span(from, upto) => {

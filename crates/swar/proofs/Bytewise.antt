@@ -30,10 +30,10 @@ word_back (suc n) w h =
     let back : word_of (bytes_of n (w / 0x100)) ≡ w / 0x100 = word_back n (w / 0x100) (omega arith) in
     rw back (omega arith)
 
-pub all-bytes : (n w : ℕ) → AllBytes (bytes_of n w)
+pub all_bytes : (n w : ℕ) → AllBytes (bytes_of n w)
 unfolding bytes_of
-all-bytes zero w = no_bytes
-all-bytes (suc n) w = let h : w % 0x100 < 0x100 = omega arith in and_byte h (all-bytes n (w / 0x100))
+all_bytes zero w = no_bytes
+all_bytes (suc n) w = let h : w % 0x100 < 0x100 = omega arith in and_byte h (all_bytes n (w / 0x100))
 
 -- ---- operations on each byte
 
@@ -46,9 +46,9 @@ pub itself : (w : ℕ) → w < 0x100 ^ 8 → Bytewise (bytes_of 8 w) w (λ b. b)
 unfolding bytes_of
 itself w h = record { word = sym (word_back 8 w h); byte = λ b k. k }
 
-pub eight-times : (w c : ℕ) → c < 0x100 → Bytewise (bytes_of 8 w) (c * ONES) (λ b. c)
+pub eight_times : (w c : ℕ) → c < 0x100 → Bytewise (bytes_of 8 w) (c * ONES) (λ b. c)
 unfolding bytes_of word_of
-eight-times w c k = record { word = omega arith; byte = λ b l. k }
+eight_times w c k = record { word = omega arith; byte = λ b l. k }
 
 pub same_bytes : (f g : ℕ → ℕ) → ((b : ℕ) → b < 0x100 → f b ≡ g b) → {bs : Bytes} → AllBytes bs → map f bs ≡ map g bs
 same_bytes f g e no_bytes = refl
@@ -62,22 +62,22 @@ sums f g (b ∷ bs) = let ih = sums f g bs in omega arith
 module _ (op : ℕ → ℕ → ℕ) (at_zero : op 0 0 ≡ 0)
     (block : (k a b r s : ℕ) → r < 2 ^ k → s < 2 ^ k → op (a * 2 ^ k + r) (b * 2 ^ k + s) ≡ op a b * 2 ^ k + op r s)
     (bound : (k a b : ℕ) → a < 2 ^ k → b < 2 ^ k → op a b < 2 ^ k) where
-  on-bytes : (f g : ℕ → ℕ) → ((b : ℕ) → b < 0x100 → f b < 0x100) → ((b : ℕ) → b < 0x100 → g b < 0x100)
+  on_bytes : (f g : ℕ → ℕ) → ((b : ℕ) → b < 0x100 → f b < 0x100) → ((b : ℕ) → b < 0x100 → g b < 0x100)
       → {bs : Bytes} → AllBytes bs → op (word_of (map f bs)) (word_of (map g bs)) ≡ word_of (map (λ b. op (f b) (g b)) bs)
   unfolding word_of
-  on-bytes f g hf hg no_bytes = at_zero
-  on-bytes f g hf hg (and_byte {b} {bs} h hs) =
+  on_bytes f g hf hg no_bytes = at_zero
+  on_bytes f g hf hg (and_byte {b} {bs} h hs) =
       let F = word_of (map f bs) in
       let G = word_of (map g bs) in
       let left : f b + 0x100 * F ≡ F * 2 ^ 8 + f b = omega arith in
       let right : g b + 0x100 * G ≡ G * 2 ^ 8 + g b = omega arith in
-      let ih : op F G ≡ word_of (map (λ c. op (f c) (g c)) bs) = on-bytes f g hf hg hs in
+      let ih : op F G ≡ word_of (map (λ c. op (f c) (g c)) bs) = on_bytes f g hf hg hs in
       let both : op F G * 2 ^ 8 + op (f b) (g b) ≡ op (f b) (g b) + 0x100 * word_of (map (λ c. op (f c) (g c)) bs) = omega arith in
       ap₂ op left right ∙ block 8 F G (f b) (g b) (hf b h) (hg b h) ∙ both
 
   bytewise : {bs : Bytes} {v w : ℕ} {f g : ℕ → ℕ} → AllBytes bs → Bytewise bs v f → Bytewise bs w g → Bytewise bs (op v w) (λ b. op (f b) (g b))
   bytewise {bs} {v} {w} {f} {g} hs x y =
-      record { word = ap₂ op x.word y.word ∙ on-bytes f g x.byte y.byte hs; byte = λ b h. bound 8 (f b) (g b) (x.byte b h) (y.byte b h) }
+      record { word = ap₂ op x.word y.word ∙ on_bytes f g x.byte y.byte hs; byte = λ b h. bound 8 (f b) (g b) (x.byte b h) (y.byte b h) }
 
 pub and_bytes : {bs : Bytes} {v w : ℕ} {f g : ℕ → ℕ} → AllBytes bs → Bytewise bs v f → Bytewise bs w g → Bytewise bs (bit_and v w) (λ b. bit_and (f b) (g b))
 and_bytes = bytewise bit_and refl and_block and_lt
@@ -89,9 +89,9 @@ pub xor_bytes : {bs : Bytes} {v w : ℕ} {f g : ℕ → ℕ} → AllBytes bs →
 xor_bytes = bytewise bit_xor refl xor_block xor_lt
 
 -- no sum carries
-pub add-bytes : {bs : Bytes} {v w : ℕ} {f g : ℕ → ℕ} → Bytewise bs v f → Bytewise bs w g
+pub add_bytes : {bs : Bytes} {v w : ℕ} {f g : ℕ → ℕ} → Bytewise bs v f → Bytewise bs w g
     → ((b : ℕ) → b < 0x100 → f b + g b < 0x100) → Bytewise bs (v + w) (λ b. f b + g b)
-add-bytes {bs} {v} {w} {f} {g} x y fits = record { word = ap₂ ◌+◌ x.word y.word ∙ sums f g bs; byte = fits }
+add_bytes {bs} {v} {w} {f} {g} x y fits = record { word = ap₂ ◌+◌ x.word y.word ∙ sums f g bs; byte = fits }
 
 differences : (f g : ℕ → ℕ) → ((b : ℕ) → b < 0x100 → g b ≤ f b) → {bs : Bytes} → AllBytes bs
     → word_of (map (λ b. f b - g b) bs) + word_of (map g bs) ≡ word_of (map f bs)
@@ -103,9 +103,9 @@ differences f g le (and_byte {b} {bs} h hs) =
     omega arith
 
 -- no difference borrows
-pub sub-bytes : {bs : Bytes} {v w : ℕ} {f g : ℕ → ℕ} → AllBytes bs → Bytewise bs v f → Bytewise bs w g
+pub sub_bytes : {bs : Bytes} {v w : ℕ} {f g : ℕ → ℕ} → AllBytes bs → Bytewise bs v f → Bytewise bs w g
     → ((b : ℕ) → b < 0x100 → g b ≤ f b) → Bytewise bs (v - w) (λ b. f b - g b)
-sub-bytes {bs} {v} {w} {f} {g} hs x y le =
+sub_bytes {bs} {v} {w} {f} {g} hs x y le =
     let e : word_of (map (λ b. f b - g b) bs) + word_of (map g bs) ≡ word_of (map f bs) = differences f g le hs in
     let a : v ≡ word_of (map f bs) = x.word in
     let c : w ≡ word_of (map g bs) = y.word in

@@ -6,48 +6,48 @@ use mathlib.Core.Bool.{Bool, true, false, not, ◌&&◌, ◌||◌}
 use mathlib.Core.List.{[], ◌∷◌, map}
 use lib.Bits.{bit_and, bit_xor}
 use borrow.Author.Tests.{ne_eqb, eq-eqb, eqb-true, eqb-false}
-use Rattle.model.proofs.Tests.{split, split-on}
+use Rattle.model.proofs.Tests.{split, split_on}
 use Rattle.model.specs.rules.Base.{Bytes, if◌then◌else◌, ◌is◌}
-use Rattle.swar.specs.Words.{word_of, bytes_of, flagOf, allPass, Flags}
-use Rattle.swar.proofs.Bytewise.{all-bytes, eight-times, same_bytes, Bytewise, and_bytes, xor_bytes}
+use Rattle.swar.specs.Words.{word_of, bytes_of, flag_of, all_pass, Flags}
+use Rattle.swar.proofs.Bytewise.{all_bytes, eight_times, same_bytes, Bytewise, and_bytes, xor_bytes}
 
-none-exact : (passes : ℕ → Bool) (bs : Bytes) → (word_of (map (flagOf passes) bs) is 0) ≡ allPass passes bs
-unfolding word_of flagOf allPass if◌then◌else◌
-none-exact passes [] = refl
-none-exact passes (b ∷ bs) = go (passes b) (none-exact passes bs)
+none_exact : (passes : ℕ → Bool) (bs : Bytes) → (word_of (map (flag_of passes) bs) is 0) ≡ all_pass passes bs
+unfolding word_of flag_of all_pass if◌then◌else◌
+none_exact passes [] = refl
+none_exact passes (b ∷ bs) = go (passes b) (none_exact passes bs)
   where
     scaled : (n : ℕ) → ((0 + 0x100 * n) is 0) ≡ (n is 0)
     scaled n =
-        split-on (n is 0) (λ t. let e = eqb-true n 0 t in eq-eqb (0 + 0x100 * n) 0 (omega arith) ∙ sym t)
+        split_on (n is 0) (λ t. let e = eqb-true n 0 t in eq-eqb (0 + 0x100 * n) 0 (omega arith) ∙ sym t)
         λ t. let e = eqb-false n 0 t in ne_eqb (0 + 0x100 * n) 0 (omega arith) ∙ sym t
 
-    go : (t : Bool) → (word_of (map (flagOf passes) bs) is 0) ≡ allPass passes bs
-        → (((if t then 0 else 0x80) + 0x100 * word_of (map (flagOf passes) bs)) is 0) ≡ (t && allPass passes bs)
-    go true ih = scaled (word_of (map (flagOf passes) bs)) ∙ ih
-    go false ih = ne_eqb (0x80 + 0x100 * word_of (map (flagOf passes) bs)) 0 (omega arith)
+    go : (t : Bool) → (word_of (map (flag_of passes) bs) is 0) ≡ all_pass passes bs
+        → (((if t then 0 else 0x80) + 0x100 * word_of (map (flag_of passes) bs)) is 0) ≡ (t && all_pass passes bs)
+    go true ih = scaled (word_of (map (flag_of passes) bs)) ∙ ih
+    go false ih = ne_eqb (0x80 + 0x100 * word_of (map (flag_of passes) bs)) 0 (omega arith)
 
-pub flag-byte : (passes : ℕ → Bool) (b : ℕ) → flagOf passes b < 0x100
-unfolding flagOf
-flag-byte passes b = split (λ (n : ℕ). n < 0x100) _ (λ _. omega arith) λ _. omega arith
+pub flag_byte : (passes : ℕ → Bool) (b : ℕ) → flag_of passes b < 0x100
+unfolding flag_of
+flag_byte passes b = split (λ (n : ℕ). n < 0x100) _ (λ _. omega arith) λ _. omega arith
 
 -- from the bytes to the word, and back
-pub flags-from : {passes : ℕ → Bool} {w flags : ℕ} {f : ℕ → ℕ} → Bytewise (bytes_of 8 w) flags f
-    → ((b : ℕ) → b < 0x100 → f b ≡ flagOf passes b) → Flags passes w flags
-flags-from {passes} {w} {flags} {f} x same =
-    let bytewise : flags ≡ word_of (map (flagOf passes) (bytes_of 8 w)) = x.word ∙ rw (same_bytes f (flagOf passes) same (all-bytes 8 w)) in
-    record { bytewise = bytewise; exact = rw bytewise (none-exact passes (bytes_of 8 w)) }
+pub flags_from : {passes : ℕ → Bool} {w flags : ℕ} {f : ℕ → ℕ} → Bytewise (bytes_of 8 w) flags f
+    → ((b : ℕ) → b < 0x100 → f b ≡ flag_of passes b) → Flags passes w flags
+flags_from {passes} {w} {flags} {f} x same =
+    let bytewise : flags ≡ word_of (map (flag_of passes) (bytes_of 8 w)) = x.word ∙ rw (same_bytes f (flag_of passes) same (all_bytes 8 w)) in
+    record { bytewise = bytewise; exact = rw bytewise (none_exact passes (bytes_of 8 w)) }
 
-flags-each : {passes : ℕ → Bool} {w flags : ℕ} → Flags passes w flags → Bytewise (bytes_of 8 w) flags (flagOf passes)
-flags-each {passes} x = record { word = x.bytewise; byte = λ b h. flag-byte passes b }
+flags_each : {passes : ℕ → Bool} {w flags : ℕ} → Flags passes w flags → Bytewise (bytes_of 8 w) flags (flag_of passes)
+flags_each {passes} x = record { word = x.bytewise; byte = λ b h. flag_byte passes b }
 
-pub flags-same : {t u : ℕ → Bool} {w flags : ℕ} → Flags t w flags → ((b : ℕ) → t b ≡ u b) → Flags u w flags
-unfolding flagOf
-flags-same {t} {u} x same = flags-from (flags-each x) λ b h. rw (same b)
+pub flags_same : {t u : ℕ → Bool} {w flags : ℕ} → Flags t w flags → ((b : ℕ) → t b ≡ u b) → Flags u w flags
+unfolding flag_of
+flags_same {t} {u} x same = flags_from (flags_each x) λ b h. rw (same b)
 
 -- a byte flagged in both words passes neither test
-pub flags-both : {t u : ℕ → Bool} {w x y : ℕ} → Flags t w x → Flags u w y → Flags (λ b. t b || u b) w (bit_and x y)
-unfolding flagOf if◌then◌else◌
-flags-both {t} {u} {w} a b = flags-from (and_bytes (all-bytes 8 w) (flags-each a) (flags-each b)) λ c h. byte c
+pub flags_both : {t u : ℕ → Bool} {w x y : ℕ} → Flags t w x → Flags u w y → Flags (λ b. t b || u b) w (bit_and x y)
+unfolding flag_of if◌then◌else◌
+flags_both {t} {u} {w} a b = flags_from (and_bytes (all_bytes 8 w) (flags_each a) (flags_each b)) λ c h. byte c
   where
     bits : (p q : Bool) → bit_and (if p then 0 else 0x80) (if q then 0 else 0x80) ≡ (if p || q then 0 else 0x80)
     bits true true = refl
@@ -55,17 +55,17 @@ flags-both {t} {u} {w} a b = flags-from (and_bytes (all-bytes 8 w) (flags-each a
     bits false true = refl
     bits false false = refl
 
-    byte : (c : ℕ) → bit_and (flagOf t c) (flagOf u c) ≡ flagOf (λ b. t b || u b) c
+    byte : (c : ℕ) → bit_and (flag_of t c) (flag_of u c) ≡ flag_of (λ b. t b || u b) c
     byte c = bits (t c) (u c)
 
 -- a byte that is not flagged passes
-pub flags-other : {t : ℕ → Bool} {w x : ℕ} → Flags t w x → Flags (λ b. not (t b)) w (bit_xor x 0x8080808080808080)
-unfolding flagOf if◌then◌else◌
-flags-other {t} {w} a = flags-from (xor_bytes (all-bytes 8 w) (flags-each a) (eight-times w 0x80 (omega arith))) λ c h. byte c
+pub flags_other : {t : ℕ → Bool} {w x : ℕ} → Flags t w x → Flags (λ b. not (t b)) w (bit_xor x 0x8080808080808080)
+unfolding flag_of if◌then◌else◌
+flags_other {t} {w} a = flags_from (xor_bytes (all_bytes 8 w) (flags_each a) (eight_times w 0x80 (omega arith))) λ c h. byte c
   where
     bits : (p : Bool) → bit_xor (if p then 0 else 0x80) 0x80 ≡ (if not p then 0 else 0x80)
     bits true = refl
     bits false = refl
 
-    byte : (c : ℕ) → bit_xor (flagOf t c) 0x80 ≡ flagOf (λ b. not (t b)) c
+    byte : (c : ℕ) → bit_xor (flag_of t c) 0x80 ≡ flag_of (λ b. not (t b)) c
     byte c = bits (t c)

@@ -15,14 +15,14 @@ pub above : (p q b : ℕ) → 0x7E < b → ordinary p q b ≡ false
 unfolding ordinary
 above p q b h = rw (le-leb 0x20 b (omega arith), lt-leb b 0x7E h)
 
-pub first-stop : (p q b : ℕ) → b ≡ p → ordinary p q b ≡ false
+pub first_stop : (p q b : ℕ) → b ≡ p → ordinary p q b ≡ false
 unfolding ordinary
-first-stop p q b e = rw (eq-eqb b p e, and-false (within 0x20 0x7E b))
+first_stop p q b e = rw (eq-eqb b p e, and-false (within 0x20 0x7E b))
 
-pub second-stop : (p q b : ℕ) → b ≡ q → ordinary p q b ≡ false
+pub second_stop : (p q b : ℕ) → b ≡ q → ordinary p q b ≡ false
 unfolding ordinary
-second-stop p q b e = rw (eq-eqb b q e) (and-false (within 0x20 0x7E b && not (b is p)))
+second_stop p q b e = rw (eq-eqb b q e) (and-false (within 0x20 0x7E b && not (b is p)))
 
-pub proceeds-on : (p q b : ℕ) → 0x20 ≤ b → b ≤ 0x7E → ¬ (b ≡ p) → ¬ (b ≡ q) → ordinary p q b ≡ true
+pub proceeds_on : (p q b : ℕ) → 0x20 ≤ b → b ≤ 0x7E → ¬ (b ≡ p) → ¬ (b ≡ q) → ordinary p q b ≡ true
 unfolding ordinary
-proceeds-on p q b l h m n = rw (le-leb 0x20 b l, le-leb b 0x7E h, ne_eqb b p m, ne_eqb b q n)
+proceeds_on p q b l h m n = rw (le-leb 0x20 b l, le-leb b 0x7E h, ne_eqb b p m, ne_eqb b q n)

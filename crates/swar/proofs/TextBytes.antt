@@ -7,10 +7,10 @@ use lib.Dec.{leb}
 use lib.Bits.{bit_and, bit_or, bit_xor, mask_lt, xor_lt, and_le_r}
 use borrow.Author.Tests.{eqb-true, eqb-false}
 use Rattle.model.specs.rules.Base.{if◌then◌else◌, ◌is◌, QUOTE}
-use Rattle.model.proofs.Tests.{and-true, split-on}
-use Rattle.swar.specs.Words.{ONES, bytes_of, flagOf, isClean, plainText, Flags}
-use Rattle.swar.proofs.Bytewise.{all-bytes, itself, eight-times, Bytewise, and_bytes, or_bytes, xor_bytes, add-bytes}
-use Rattle.swar.proofs.Flags.{flags-from}
+use Rattle.model.proofs.Tests.{and_true, split_on}
+use Rattle.swar.specs.Words.{ONES, bytes_of, flag_of, is_clean, plain_text, Flags}
+use Rattle.swar.proofs.Bytewise.{all_bytes, itself, eight_times, Bytewise, and_bytes, or_bytes, xor_bytes, add_bytes}
+use Rattle.swar.proofs.Flags.{flags_from}
 
 -- ---- a rule of every number below n, computed for each
 
@@ -21,8 +21,8 @@ all_below (suc n) rule = rule n && all_below n rule
 below_at : (rule : ℕ → Bool) (n : ℕ) → all_below n rule ≡ true → (b : ℕ) → b < n → rule b ≡ true
 below_at rule zero e b h = absurd (omega arith)
 below_at rule (suc n) e b h =
-    let both = and-true (rule n) (all_below n rule) e in
-    split-on (b is n) (λ t. rw (eqb-true b n t) both.0) λ t. let k = eqb-false b n t in below_at rule n both.1 b (omega arith)
+    let both = and_true (rule n) (all_below n rule) e in
+    split_on (b is n) (λ t. rw (eqb-true b n t) both.0) λ t. let k = eqb-false b n t in below_at rule n both.1 b (omega arith)
 
 -- ---- one byte
 
@@ -30,19 +30,19 @@ below_at rule (suc n) e b h =
 abbrev sum_of : (flip k b : ℕ) → ℕ
 sum_of flip k b = bit_xor (bit_and b 0x7F) flip + k
 
-abbrev cleanOf : ℕ → ℕ
-cleanOf b = bit_xor (bit_and (bit_or (bit_and (sum_of 0x02 0x5F b) (sum_of 0x5C 0x7F b)) b) 0x80) 0x80
+abbrev clean_of : ℕ → ℕ
+clean_of b = bit_xor (bit_and (bit_or (bit_and (sum_of 0x02 0x5F b) (sum_of 0x5C 0x7F b)) b) 0x80) 0x80
 
 abbrev plain_of : ℕ → ℕ
 plain_of b = bit_xor (bit_and (bit_or (bit_and (bit_and (sum_of 0x02 0x5F b) (sum_of 0x5C 0x7F b)) (bit_xor b 0xFF)) (bit_and (sum_of 0x6D 0x7F b) b)) 0x80) 0x80
 
-clean-byte : (b : ℕ) → b < 0x100 → cleanOf b ≡ flagOf (isClean QUOTE) b
-unfolding flagOf isClean if◌then◌else◌
-clean-byte b h = eqb-true (cleanOf b) (flagOf (isClean QUOTE) b) (below_at (λ b. cleanOf b is flagOf (isClean QUOTE) b) 0x100 refl b h)
+clean_byte : (b : ℕ) → b < 0x100 → clean_of b ≡ flag_of (is_clean QUOTE) b
+unfolding flag_of is_clean if◌then◌else◌
+clean_byte b h = eqb-true (clean_of b) (flag_of (is_clean QUOTE) b) (below_at (λ b. clean_of b is flag_of (is_clean QUOTE) b) 0x100 refl b h)
 
-plain-byte : (b : ℕ) → b < 0x100 → plain_of b ≡ flagOf plainText b
-unfolding flagOf plainText isClean if◌then◌else◌
-plain-byte b h = eqb-true (plain_of b) (flagOf plainText b) (below_at (λ b. plain_of b is flagOf plainText b) 0x100 refl b h)
+plain_byte_lem : (b : ℕ) → b < 0x100 → plain_of b ≡ flag_of plain_text b
+unfolding flag_of plain_text is_clean if◌then◌else◌
+plain_byte_lem b h = eqb-true (plain_of b) (flag_of plain_text b) (below_at (λ b. plain_of b is flag_of plain_text b) 0x100 refl b h)
 
 -- ---- the eight bytes of a word
 
@@ -57,42 +57,42 @@ sum_fits w flips k f h =
     omega arith
 
 module _ (w : ℕ) (h : w < 0x100 ^ 8) where
-  sum-bytes : (flip k : ℕ) → flip < 0x80 → k ≤ 0x7F → Bytewise (bytes_of 8 w) (sum_word (flip * ONES) (k * ONES) w) (sum_of flip k)
-  sum-bytes flip k f g =
-      let hs = all-bytes 8 w in
-      add-bytes (xor_bytes hs (and_bytes hs (itself w h) (eight-times w 0x7F (omega arith))) (eight-times w flip (omega arith)))
-      (eight-times w k (omega arith)) λ b l. fits b
+  sum_bytes : (flip k : ℕ) → flip < 0x80 → k ≤ 0x7F → Bytewise (bytes_of 8 w) (sum_word (flip * ONES) (k * ONES) w) (sum_of flip k)
+  sum_bytes flip k f g =
+      let hs = all_bytes 8 w in
+      add_bytes (xor_bytes hs (and_bytes hs (itself w h) (eight_times w 0x7F (omega arith))) (eight_times w flip (omega arith)))
+      (eight_times w k (omega arith)) λ b l. fits b
     where
       fits : (b : ℕ) → sum_of flip k b < 0x100
       fits b = let x : bit_xor (bit_and b 0x7F) flip < 0x80 = xor_lt 7 (bit_and b 0x7F) flip (mask_lt b 7) f in omega arith
 
-  no-mark : Bytewise (bytes_of 8 w) (sum_word 0x0202020202020202 0x5F5F5F5F5F5F5F5F w) (sum_of 0x02 0x5F)
-  no-mark = sum-bytes 0x02 0x5F (omega arith) (omega arith)
+  no_mark : Bytewise (bytes_of 8 w) (sum_word 0x0202020202020202 0x5F5F5F5F5F5F5F5F w) (sum_of 0x02 0x5F)
+  no_mark = sum_bytes 0x02 0x5F (omega arith) (omega arith)
 
-  no-backslash : Bytewise (bytes_of 8 w) (sum_word 0x5C5C5C5C5C5C5C5C 0x7F7F7F7F7F7F7F7F w) (sum_of 0x5C 0x7F)
-  no-backslash = sum-bytes 0x5C 0x7F (omega arith) (omega arith)
+  no_backslash : Bytewise (bytes_of 8 w) (sum_word 0x5C5C5C5C5C5C5C5C 0x7F7F7F7F7F7F7F7F w) (sum_of 0x5C 0x7F)
+  no_backslash = sum_bytes 0x5C 0x7F (omega arith) (omega arith)
 
-  no-ed : Bytewise (bytes_of 8 w) (sum_word 0x6D6D6D6D6D6D6D6D 0x7F7F7F7F7F7F7F7F w) (sum_of 0x6D 0x7F)
-  no-ed = sum-bytes 0x6D 0x7F (omega arith) (omega arith)
+  no_ed : Bytewise (bytes_of 8 w) (sum_word 0x6D6D6D6D6D6D6D6D 0x7F7F7F7F7F7F7F7F w) (sum_of 0x6D 0x7F)
+  no_ed = sum_bytes 0x6D 0x7F (omega arith) (omega arith)
 
   -- the top bit alone, inverted
   turned : {v : ℕ} {f : ℕ → ℕ} → Bytewise (bytes_of 8 w) v f
       → Bytewise (bytes_of 8 w) (bit_xor (bit_and v 0x8080808080808080) 0x8080808080808080) (λ b. bit_xor (bit_and (f b) 0x80) 0x80)
-  turned x = let hs = all-bytes 8 w in xor_bytes hs (and_bytes hs x (eight-times w 0x80 (omega arith))) (eight-times w 0x80 (omega arith))
+  turned x = let hs = all_bytes 8 w in xor_bytes hs (and_bytes hs x (eight_times w 0x80 (omega arith))) (eight_times w 0x80 (omega arith))
 
-  pub clean-flags : Flags (isClean QUOTE) w
+  pub clean_flags : Flags (is_clean QUOTE) w
       (bit_xor (bit_and (bit_or (bit_and (sum_word 0x0202020202020202 0x5F5F5F5F5F5F5F5F w) (sum_word 0x5C5C5C5C5C5C5C5C 0x7F7F7F7F7F7F7F7F w)) w)
       0x8080808080808080) 0x8080808080808080)
-  clean-flags = let hs = all-bytes 8 w in flags-from (turned (or_bytes hs (and_bytes hs no-mark no-backslash) (itself w h))) clean-byte
+  clean_flags = let hs = all_bytes 8 w in flags_from (turned (or_bytes hs (and_bytes hs no_mark no_backslash) (itself w h))) clean_byte
 
-  pub plain-flags : Flags plainText w
+  pub plain_flags : Flags plain_text w
       (bit_xor
       (bit_and
       (bit_or (bit_and (bit_and (sum_word 0x0202020202020202 0x5F5F5F5F5F5F5F5F w) (sum_word 0x5C5C5C5C5C5C5C5C 0x7F7F7F7F7F7F7F7F w))
       (bit_xor w 0xFFFFFFFFFFFFFFFF)) (bit_and (sum_word 0x6D6D6D6D6D6D6D6D 0x7F7F7F7F7F7F7F7F w) w))
       0x8080808080808080)
       0x8080808080808080)
-  plain-flags =
-      let hs = all-bytes 8 w in
-      let others = xor_bytes hs (itself w h) (eight-times w 0xFF (omega arith)) in
-      flags-from (turned (or_bytes hs (and_bytes hs (and_bytes hs no-mark no-backslash) others) (and_bytes hs no-ed (itself w h)))) plain-byte
+  plain_flags =
+      let hs = all_bytes 8 w in
+      let others = xor_bytes hs (itself w h) (eight_times w 0xFF (omega arith)) in
+      flags_from (turned (or_bytes hs (and_bytes hs (and_bytes hs no_mark no_backslash) others) (and_bytes hs no_ed (itself w h)))) plain_byte_lem

@@ -11,28 +11,28 @@ use lib.Count.{count_trailing_zeros, under}
 use borrow.Author.Tests.{eqb-true, eqb-false}
 use Rattle.model.specs.rules.Base.{Bytes, if◌then◌else◌, ◌is◌}
 use Rattle.model.specs.rules.Api.{slice}
-use Rattle.model.proofs.Tests.{split-on}
-use Rattle.swar.specs.Words.{word_of, bytes_of, Word, zeroBytes}
-use Rattle.swar.proofs.Bytewise.{AllBytes, no_bytes, and_byte, bytes_back, word_back, all-bytes}
+use Rattle.model.proofs.Tests.{split_on}
+use Rattle.swar.specs.Words.{word_of, bytes_of, Word, zero_bytes}
+use Rattle.swar.proofs.Bytewise.{AllBytes, no_bytes, and_byte, bytes_back, word_back, all_bytes}
 
 -- ---- eight bytes of a slice
 
-next-byte : (s : Bytes) (i j : ℕ) → j ≡ suc i → i < length s → drop i s ≡ get_or s i 0 ∷ drop j s
-next-byte s i j e h = rw e (drop-cons s i 0 h)
+next_byte : (s : Bytes) (i j : ℕ) → j ≡ suc i → i < length s → drop i s ≡ get_or s i 0 ∷ drop j s
+next_byte s i j e h = rw e (drop-cons s i 0 h)
 
 word_bytes : (s : Bytes) (i : ℕ) → i + 8 ≤ length s
     → slice s i (i + 8) ≡ get_or s i 0 ∷ get_or s (i + 1) 0 ∷ get_or s (i + 2) 0 ∷ get_or s (i + 3) 0 ∷ get_or s (i + 4) 0 ∷ get_or s (i + 5) 0 ∷ get_or s
     (i + 6) 0 ∷ get_or s (i + 7) 0 ∷ []
 word_bytes s i h =
     let n : i + 8 - i ≡ 8 = omega arith in
-    let e0 = next-byte s i (i + 1) (omega arith) (omega arith) in
-    let e1 = next-byte s (i + 1) (i + 2) (omega arith) (omega arith) in
-    let e2 = next-byte s (i + 2) (i + 3) (omega arith) (omega arith) in
-    let e3 = next-byte s (i + 3) (i + 4) (omega arith) (omega arith) in
-    let e4 = next-byte s (i + 4) (i + 5) (omega arith) (omega arith) in
-    let e5 = next-byte s (i + 5) (i + 6) (omega arith) (omega arith) in
-    let e6 = next-byte s (i + 6) (i + 7) (omega arith) (omega arith) in
-    let e7 = next-byte s (i + 7) (i + 8) (omega arith) (omega arith) in
+    let e0 = next_byte s i (i + 1) (omega arith) (omega arith) in
+    let e1 = next_byte s (i + 1) (i + 2) (omega arith) (omega arith) in
+    let e2 = next_byte s (i + 2) (i + 3) (omega arith) (omega arith) in
+    let e3 = next_byte s (i + 3) (i + 4) (omega arith) (omega arith) in
+    let e4 = next_byte s (i + 4) (i + 5) (omega arith) (omega arith) in
+    let e5 = next_byte s (i + 5) (i + 6) (omega arith) (omega arith) in
+    let e6 = next_byte s (i + 6) (i + 7) (omega arith) (omega arith) in
+    let e7 = next_byte s (i + 7) (i + 8) (omega arith) (omega arith) in
     rw (n, e0, e1, e2, e3, e4, e5, e6, e7)
 
 pub word_read : (s : Bytes) (i w : ℕ) → i + 8 ≤ length s → ((j : ℕ) → get_or s j 0 < 0x100)
@@ -72,17 +72,17 @@ joined_word b0 b1 b2 b3 b4 b5 b6 b7 h0 h1 h2 h3 h4 h5 h6 =
 pub four_bytes : (s : Bytes) (i : ℕ) → i + 4 ≤ length s → slice s i (i + 4) ≡ get_or s i 0 ∷ get_or s (i + 1) 0 ∷ get_or s (i + 2) 0 ∷ get_or s (i + 3) 0 ∷ []
 four_bytes s i h =
     let n : i + 4 - i ≡ 4 = omega arith in
-    let e0 = next-byte s i (i + 1) (omega arith) (omega arith) in
-    let e1 = next-byte s (i + 1) (i + 2) (omega arith) (omega arith) in
-    let e2 = next-byte s (i + 2) (i + 3) (omega arith) (omega arith) in
-    let e3 = next-byte s (i + 3) (i + 4) (omega arith) (omega arith) in
+    let e0 = next_byte s i (i + 1) (omega arith) (omega arith) in
+    let e1 = next_byte s (i + 1) (i + 2) (omega arith) (omega arith) in
+    let e2 = next_byte s (i + 2) (i + 3) (omega arith) (omega arith) in
+    let e3 = next_byte s (i + 3) (i + 4) (omega arith) (omega arith) in
     rw (n, e0, e1, e2, e3)
 
-pub joined-four : (b0 b1 b2 b3 : ℕ) → b0 < 0x100 → b1 < 0x100 → b2 < 0x100 → b3 < 0x100
+pub joined_four : (b0 b1 b2 b3 : ℕ) → b0 < 0x100 → b1 < 0x100 → b2 < 0x100 → b3 < 0x100
     → let w = bit_or (bit_or (bit_or b0 (b1 * 0x100)) (b2 * 0x10000)) (b3 * 0x1000000) in
     (bytes_of 4 w ≡ b0 ∷ b1 ∷ b2 ∷ b3 ∷ []) × (w < 0x100000000)
 unfolding word_of
-joined-four b0 b1 b2 b3 h0 h1 h2 h3 =
+joined_four b0 b1 b2 b3 h0 h1 h2 h3 =
     let e1 = or_shifted_r b1 8 b0 h0 in
     let e2 = or_shifted_r b2 16 (bit_or b0 (b1 * 0x100)) (omega arith) in
     let e3 = or_shifted_r b3 24 (bit_or (bit_or b0 (b1 * 0x100)) (b2 * 0x10000)) (omega arith) in
@@ -94,19 +94,19 @@ both_bytes : {xs ys : Bytes} → AllBytes xs → AllBytes ys → AllBytes (xs ++
 both_bytes no_bytes k = k
 both_bytes (and_byte h hs) k = and_byte h (both_bytes hs k)
 
-pub fours-joined : (a b : ℕ) → a < 0x100000000 → b < 0x100000000 → bytes_of 8 (bit_or a (b * 0x100000000)) ≡ bytes_of 4 a ++ bytes_of 4 b
+pub fours_joined : (a b : ℕ) → a < 0x100000000 → b < 0x100000000 → bytes_of 8 (bit_or a (b * 0x100000000)) ≡ bytes_of 4 a ++ bytes_of 4 b
 unfolding word_of bytes_of
-fours-joined a b h k =
+fours_joined a b h k =
     let e = or_shifted_r b 32 a h in
     let first : word_of (bytes_of 4 a) ≡ a = word_back 4 a h in
     let second : word_of (bytes_of 4 b) ≡ b = word_back 4 b k in
     let whole : bit_or a (b * 0x100000000) ≡ word_of (bytes_of 4 a ++ bytes_of 4 b) = omega arith in
-    ap (bytes_of 8) whole ∙ bytes_back (both_bytes (all-bytes 4 a) (all-bytes 4 b))
+    ap (bytes_of 8) whole ∙ bytes_back (both_bytes (all_bytes 4 a) (all_bytes 4 b))
 
 -- three bytes and five spaces
-pub three-bytes : (w b0 b1 b2 : ℕ) → b0 < 0x100 → b1 < 0x100 → b2 < 0x100 → w ≡ word_of (b0 ∷ b1 ∷ b2 ∷ 0x20 ∷ 0x20 ∷ 0x20 ∷ 0x20 ∷ 0x20 ∷ [])
+pub three_bytes : (w b0 b1 b2 : ℕ) → b0 < 0x100 → b1 < 0x100 → b2 < 0x100 → w ≡ word_of (b0 ∷ b1 ∷ b2 ∷ 0x20 ∷ 0x20 ∷ 0x20 ∷ 0x20 ∷ 0x20 ∷ [])
     → bytes_of 8 w ≡ b0 ∷ b1 ∷ b2 ∷ 0x20 ∷ 0x20 ∷ 0x20 ∷ 0x20 ∷ 0x20 ∷ []
-three-bytes w b0 b1 b2 h0 h1 h2 e =
+three_bytes w b0 b1 b2 h0 h1 h2 e =
     let k : 0x20 < 0x100 = omega arith in
     ap (bytes_of 8) e ∙ bytes_back (and_byte h0 (and_byte h1 (and_byte h2 (and_byte k (and_byte k (and_byte k (and_byte k (and_byte k no_bytes))))))))
 
@@ -117,18 +117,18 @@ plus zero k = k
 plus (suc j) k = suc (plus j k)
 
 -- the digits of a shift are zeros
-shifted-zeros : (j k a : ℕ) → count_trailing_zeros (plus j k) (a * 2 ^ j) ≡ plus j (count_trailing_zeros k a)
+shifted_zeros : (j k a : ℕ) → count_trailing_zeros (plus j k) (a * 2 ^ j) ≡ plus j (count_trailing_zeros k a)
 unfolding count_trailing_zeros
-shifted-zeros zero k a = ap (count_trailing_zeros k) (mul-one a)
-shifted-zeros (suc j) k a = rw (shifted_even a j, shifted_half a j) (ap suc (shifted-zeros j k a))
+shifted_zeros zero k a = ap (count_trailing_zeros k) (mul-one a)
+shifted_zeros (suc j) k a = rw (shifted_even a j, shifted_half a j) (ap suc (shifted_zeros j k a))
 
 -- a zero byte is eight zeros before those of the next bytes
-zero-byte : (k w : ℕ) → w % 0x100 ≡ 0 → count_trailing_zeros (plus 8 k) w ≡ plus 8 (count_trailing_zeros k (w / 0x100))
-zero-byte k w h = let e : w ≡ w / 0x100 * 2 ^ 8 = omega arith in ap (count_trailing_zeros (plus 8 k)) e ∙ shifted-zeros 8 k (w / 0x100)
+zero_byte : (k w : ℕ) → w % 0x100 ≡ 0 → count_trailing_zeros (plus 8 k) w ≡ plus 8 (count_trailing_zeros k (w / 0x100))
+zero_byte k w h = let e : w ≡ w / 0x100 * 2 ^ 8 = omega arith in ap (count_trailing_zeros (plus 8 k)) e ∙ shifted_zeros 8 k (w / 0x100)
 
-next-digit : (n k w : ℕ) → (w % 2 ≡ 0 → count_trailing_zeros k (w / 2) < n) → count_trailing_zeros (suc k) w < suc n
+next_digit : (n k w : ℕ) → (w % 2 ≡ 0 → count_trailing_zeros k (w / 2) < n) → count_trailing_zeros (suc k) w < suc n
 unfolding count_trailing_zeros
-next-digit n k w h = go (w % 2) h
+next_digit n k w h = go (w % 2) h
   where
     go : (d : ℕ) → (d ≡ 0 → count_trailing_zeros k (w / 2) < n) → under d (count_trailing_zeros k (w / 2)) < suc n
     go zero f = let l = f refl in omega arith
@@ -137,28 +137,28 @@ next-digit n k w h = go (w % 2) h
 -- fewer than eight zeros
 other_byte : (k w : ℕ) → ¬ (w % 0x100 ≡ 0) → count_trailing_zeros (plus 8 k) w < 8
 other_byte k w h =
-    next-digit 7 _ w λ e0.
-    next-digit 6 _ (w / 2) λ e1.
-    next-digit 5 _ (w / 2 / 2) λ e2.
-    next-digit 4 _ (w / 2 / 2 / 2) λ e3.
-    next-digit 3 _ (w / 2 / 2 / 2 / 2) λ e4.
-    next-digit 2 _ (w / 2 / 2 / 2 / 2 / 2) λ e5.
-    next-digit 1 _ (w / 2 / 2 / 2 / 2 / 2 / 2) λ e6.
-    next-digit 0 k (w / 2 / 2 / 2 / 2 / 2 / 2 / 2) λ e7.
+    next_digit 7 _ w λ e0.
+    next_digit 6 _ (w / 2) λ e1.
+    next_digit 5 _ (w / 2 / 2) λ e2.
+    next_digit 4 _ (w / 2 / 2 / 2) λ e3.
+    next_digit 3 _ (w / 2 / 2 / 2 / 2) λ e4.
+    next_digit 2 _ (w / 2 / 2 / 2 / 2 / 2) λ e5.
+    next_digit 1 _ (w / 2 / 2 / 2 / 2 / 2 / 2) λ e6.
+    next_digit 0 k (w / 2 / 2 / 2 / 2 / 2 / 2 / 2) λ e7.
     absurd (h (omega arith))
 
 -- the digits of n bytes
-abbrev digitsOf : ℕ → ℕ
-digitsOf zero = 0
-digitsOf (suc n) = plus 8 (digitsOf n)
+abbrev digits_of : ℕ → ℕ
+digits_of zero = 0
+digits_of (suc n) = plus 8 (digits_of n)
 
-zeros-bytes : (n w : ℕ) → count_trailing_zeros (digitsOf n) w / 8 ≡ zeroBytes (bytes_of n w)
-unfolding count_trailing_zeros zeroBytes bytes_of if◌then◌else◌
-zeros-bytes zero w = refl
-zeros-bytes (suc n) w =
-    split-on ((w % 0x100) is 0)
-    (λ t. let e = zero-byte (digitsOf n) w (eqb-true (w % 0x100) 0 t) in let ih = zeros-bytes n (w / 0x100) in rw t (omega arith))
-    λ t. let l = other_byte (digitsOf n) w (eqb-false (w % 0x100) 0 t) in rw t (omega arith)
+zeros_bytes : (n w : ℕ) → count_trailing_zeros (digits_of n) w / 8 ≡ zero_bytes (bytes_of n w)
+unfolding count_trailing_zeros zero_bytes bytes_of if◌then◌else◌
+zeros_bytes zero w = refl
+zeros_bytes (suc n) w =
+    split_on ((w % 0x100) is 0)
+    (λ t. let e = zero_byte (digits_of n) w (eqb-true (w % 0x100) 0 t) in let ih = zeros_bytes n (w / 0x100) in rw t (omega arith))
+    λ t. let l = other_byte (digits_of n) w (eqb-false (w % 0x100) 0 t) in rw t (omega arith)
 
-pub zeros-word : (w : ℕ) → count_trailing_zeros 64 w / 8 ≡ zeroBytes (bytes_of 8 w)
-zeros-word w = zeros-bytes 8 w
+pub zeros_word : (w : ℕ) → count_trailing_zeros 64 w / 8 ≡ zero_bytes (bytes_of 8 w)
+zeros_word w = zeros_bytes 8 w

@@ -28,47 +28,47 @@ unfoldable pub ordinary : (p q b : ℕ) → Bool
 ordinary p q b = within 0x20 0x7E b && not (b is p) && not (b is q)
 
 -- a clean ASCII byte: 20 to 7F hex, no backslash, and neither of the two stops
-unfoldable pub cleanAscii : (p q b : ℕ) → Bool
-cleanAscii p q b = within 0x20 0x7F b && not (b is p) && not (b is q) && not (b is BACKSLASH)
+unfoldable pub clean_ascii : (p q b : ℕ) → Bool
+clean_ascii p q b = within 0x20 0x7F b && not (b is p) && not (b is q) && not (b is BACKSLASH)
 
 -- a clean byte, one that every dialect with this quote writes verbatim inside quotes and mostly outside: at least 20 hex, neither the
 -- quote nor a backslash
-unfoldable pub isClean : (quote b : ℕ) → Bool
-isClean quote b = leb 0x20 b && not (b is quote) && not (b is BACKSLASH)
+unfoldable pub is_clean : (quote b : ℕ) → Bool
+is_clean quote b = leb 0x20 b && not (b is quote) && not (b is BACKSLASH)
 
 -- the same with the quotation mark, and not ED hex, which may begin a lone surrogate
-unfoldable pub plainText : ℕ → Bool
-plainText b = isClean QUOTE b && not (b is 0xED)
+unfoldable pub plain_text : ℕ → Bool
+plain_text b = is_clean QUOTE b && not (b is 0xED)
 
 -- the stop as it is compared: no byte from 80 hex on is ordinary or clean anyway, so such a stop is replaced by 0, which is neither
-unfoldable pub asciiStop : ℕ → ℕ
-asciiStop p = if ltb p 0x80 then p else 0
+unfoldable pub ascii_stop : ℕ → ℕ
+ascii_stop p = if ltb p 0x80 then p else 0
 
 abbrev pub is_byte : (c b : ℕ) → Bool
 is_byte c b = b is c
 
-abbrev pub isBelow : (n b : ℕ) → Bool
-isBelow n b = ltb b n
+abbrev pub is_below : (n b : ℕ) → Bool
+is_below n b = ltb b n
 
 -- ---- a test of each byte of a word
 
 -- the flag of a byte, its top bit: set if the byte does not pass
-unfoldable pub flagOf : (passes : ℕ → Bool) (b : ℕ) → ℕ
-flagOf passes b = if passes b then 0 else 0x80
+unfoldable pub flag_of : (passes : ℕ → Bool) (b : ℕ) → ℕ
+flag_of passes b = if passes b then 0 else 0x80
 
-unfoldable pub allPass : (passes : ℕ → Bool) → Bytes → Bool
-allPass passes [] = true
-allPass passes (b ∷ bs) = passes b && allPass passes bs
+unfoldable pub all_pass : (passes : ℕ → Bool) → Bytes → Bool
+all_pass passes [] = true
+all_pass passes (b ∷ bs) = passes b && all_pass passes bs
 
 -- each byte's flag; so the word is 0 exactly if all eight pass
 pub record Flags (passes : ℕ → Bool) (w flags : ℕ) : Type 0 where
-  pub bytewise : flags ≡ word_of (map (flagOf passes) (bytes_of 8 w))
-  pub exact : (flags is 0) ≡ allPass passes (bytes_of 8 w)
+  pub bytewise : flags ≡ word_of (map (flag_of passes) (bytes_of 8 w))
+  pub exact : (flags is 0) ≡ all_pass passes (bytes_of 8 w)
 
 -- how many bytes of 0 come first
-unfoldable pub zeroBytes : Bytes → ℕ
-zeroBytes [] = 0
-zeroBytes (b ∷ bs) = if b is 0 then suc (zeroBytes bs) else 0
+unfoldable pub zero_bytes : Bytes → ℕ
+zero_bytes [] = 0
+zero_bytes (b ∷ bs) = if b is 0 then suc (zero_bytes bs) else 0
 
 -- the length of the longest prefix whose bytes all pass
 unfoldable pub passing : (passes : ℕ → Bool) → Bytes → ℕ
@@ -83,4 +83,4 @@ pub record AllIn (passes : ℕ → Bool) (s : Bytes) (from upto : ℕ) : Type 0 
 
 -- a word that covers the last bytes of a span, eight of them or all that it has: a test that all bytes of the word pass, these pass
 pub record LastBytes (s : Bytes) (from upto w : ℕ) : Type 0 where
-  pub each : (passes : ℕ → Bool) → allPass passes (bytes_of 8 w) ≡ true → (k : ℕ) → from ≤ k → k < upto → upto ≤ k + 8 → passes (get_or s k 0) ≡ true
+  pub each : (passes : ℕ → Bool) → all_pass passes (bytes_of 8 w) ≡ true → (k : ℕ) → from ≤ k → k < upto → upto ≤ k + 8 → passes (get_or s k 0) ≡ true

@@ -6,9 +6,9 @@
 // difference subtracts no more than it has. A new test needs the values on one byte and the laws of proofs/Bytewise.antt.
 ghost use Rattle.std.specs.Prelude.{◌≡◌, ◌+◌, ◌*◌, ◌≤◌, ◌<◌, [], ◌∷◌, ◌++◌, length, get_or};
 ghost use Rattle.model.specs.rules.Base.{QUOTE};
-ghost use Rattle.model.specs.rules.Cell.{isDigit};
+ghost use Rattle.model.specs.rules.Cell.{is_digit};
 ghost use Rattle.model.specs.rules.Api.{slice};
-ghost use Rattle.swar.specs.Words.{word_of, Word, ONES, bytes_of, asciiStop, ordinary, cleanAscii, isClean, plainText, is_byte, isBelow, Flags, zeroBytes, LastBytes};
+ghost use Rattle.swar.specs.Words.{word_of, Word, ONES, bytes_of, ascii_stop, ordinary, clean_ascii, is_clean, plain_text, is_byte, is_below, Flags, zero_bytes, LastBytes};
 
 // Eight bytes as one number, the first lowest. They are joined by |, which the compiler turns into one load at once; a sum it recognizes
 // only after it has refused to inline the caller's loop, and tables of short cells took a tenth more time.
@@ -98,7 +98,7 @@ pub fn last_word(s: &[u8], from: usize, upto: usize) -> u64
 // A stop, repeated eight times. Bytes from 80 hex on are not ordinary or clean anyway, so a stop among them is replaced by 0, which is
 // neither.
 fn eight_stops(p: u8) -> u64
-    ensures { result ≡ asciiStop p * ONES }
+    ensures { result ≡ ascii_stop p * ONES }
 {
     if p < 0x80 {
         (p as u64) * 0x0101010101010101
@@ -122,7 +122,7 @@ pub fn unordinary(w: u64, p: u8, q: u8) -> u64
 
 // The top bit of each byte that is not clean ASCII, computed as in `unordinary`; 7F hex is clean.
 pub fn unclean(w: u64, p: u8, q: u8) -> u64
-    ensures { Flags (cleanAscii p q) w result }
+    ensures { Flags (clean_ascii p q) w result }
 {
     let ascii = w & 0x7F7F7F7F7F7F7F7F;
     let is_first = 0x8080808080808080 - (ascii ^ eight_stops(p));
@@ -135,7 +135,7 @@ pub fn unclean(w: u64, p: u8, q: u8) -> u64
 // The top bit of each byte that is no digit, computed as in `unordinary`: the byte plus 46 hex has it from 3A hex on, AF minus the byte
 // below 30.
 pub fn no_digit(w: u64) -> u64
-    ensures { Flags isDigit w result }
+    ensures { Flags is_digit w result }
 {
     let ascii = w & 0x7F7F7F7F7F7F7F7F;
     let above = ascii + 0x4646464646464646;
@@ -146,7 +146,7 @@ pub fn no_digit(w: u64) -> u64
 // The top bit of each byte that is not clean in a text. Flipping 02 hex keeps ASCII below 20 there and moves only the quotation mark to
 // 20, so that one sum separates both from all above. A byte from 80 hex on is clean.
 pub fn unclean_text(w: u64) -> u64
-    ensures { Flags (isClean QUOTE) w result }
+    ensures { Flags (is_clean QUOTE) w result }
 {
     let low = w & 0x7F7F7F7F7F7F7F7F;
     let no_mark = (low ^ 0x0202020202020202) + 0x5F5F5F5F5F5F5F5F;
@@ -156,7 +156,7 @@ pub fn unclean_text(w: u64) -> u64
 
 // The top bit of each byte that is not plain in a text: ASCII as in `unclean_text`, and of the other bytes ED hex alone.
 pub fn unplain_text(w: u64) -> u64
-    ensures { Flags plainText w result }
+    ensures { Flags plain_text w result }
 {
     let low = w & 0x7F7F7F7F7F7F7F7F;
     let no_mark = (low ^ 0x0202020202020202) + 0x5F5F5F5F5F5F5F5F;
@@ -176,14 +176,14 @@ pub fn other_than(w: u64, c: u8) -> u64
 
 // The top bit of each byte from 20 hex on.
 pub fn from_20(w: u64) -> u64
-    ensures { Flags (isBelow 0x20) w result }
+    ensures { Flags (is_below 0x20) w result }
 {
     (((w & 0x7F7F7F7F7F7F7F7F) + 0x6060606060606060) | w) & 0x8080808080808080
 }
 
 // The number of bytes before the first flag.
 pub fn before_flag(flags: u64) -> usize
-    ensures { result ≡ zeroBytes (bytes_of 8 flags) }
+    ensures { result ≡ zero_bytes (bytes_of 8 flags) }
 {
     (u64::trailing_zeros(flags) as usize) / 8
 }

@@ -11,29 +11,29 @@ use Rattle.model.specs.declared.Dialect.{Dialect}
 use Rattle.model.specs.declared.Report.{Report}
 use Rattle.model.specs.declared.Target.{Target}
 use Rattle.model.specs.rules.Base.{Bytes, if◌then◌else◌, over}
-use Rattle.model.specs.rules.Dialect.{dialectOf, into}
-use Rattle.model.specs.rules.Text.{Value, tableText}
+use Rattle.model.specs.rules.Dialect.{dialect_of, into}
+use Rattle.model.specs.rules.Text.{Value, table_text}
 use Rattle.model.specs.rules.Report.{accepted, refusal}
-use Rattle.model.specs.rules.Api.{Table, Written, unwritten, fitted, rowsIn, rowsFault, writtenRows, writer}
+use Rattle.model.specs.rules.Api.{Table, Written, unwritten, fitted, rows_in, rows_fault, written_rows, writer}
 use Rattle.model.proofs.Tests.{impossible}
 use Rattle.codes.specs.declared.TextAnswer.{TextAnswer}
-use Rattle.codes.specs.Named.{textAnswer}
-use Rattle.table_writer.specs.TableParts.{isThere}
+use Rattle.codes.specs.Named.{text_answer}
+use Rattle.table_writer.specs.TableParts.{is_there}
 use Rattle.record_target.specs.declared.Measurement.TheVariants.{Accepted, Refused}
-use Rattle.table_writer.specs.Rows.{sumBy, measuredAs}
-use Rattle.table_writer.specs.Answered.{tableWritten, writtenIn, writerIn}
+use Rattle.table_writer.specs.Rows.{sum_by, measured_as}
+use Rattle.table_writer.specs.Answered.{table_written, written_in, writer_in}
 
 -- ---- answers
 
 -- an answer and a room are those of w
 abbrev pub Answers : (w : Written) (r : TextAnswer) (old new : Bytes) → Type 0
-Answers w r old new = (r ≡ textAnswer w) × (new ≡ over w.text old)
+Answers w r old new = (r ≡ text_answer w) × (new ≡ over w.text old)
 
-pub refuses : {w : Written} {e f : Report} {r : TextAnswer} {room : Bytes} → r ≡ textAnswer (unwritten e) → e ≡ f → w ≡ unwritten f → Answers w r room room
-refuses p q e = (p ∙ ap (λ (x : Report). textAnswer (unwritten x)) q ∙ ap textAnswer (sym e), rw e refl)
+pub refuses : {w : Written} {e f : Report} {r : TextAnswer} {room : Bytes} → r ≡ text_answer (unwritten e) → e ≡ f → w ≡ unwritten f → Answers w r room room
+refuses p q e = (p ∙ ap (λ (x : Report). text_answer (unwritten x)) q ∙ ap text_answer (sym e), rw e refl)
 
-pub answers-as : {w v : Written} {r : TextAnswer} (old : Bytes) {new : Bytes} → w ≡ v → Answers v r old new → Answers w r old new
-answers-as old e p = rw e p
+pub answers_as : {w v : Written} {r : TextAnswer} (old : Bytes) {new : Bytes} → w ≡ v → Answers v r old new → Answers w r old new
+answers_as old e p = rw e p
 
 pub writes :
     {w : Written} {e : Report} {n : ℕ} {text : Bytes} (old : Bytes) {new : Bytes} → w ≡ record { report = accepted; text = text } →
@@ -47,55 +47,55 @@ pub too_short : (room : ℕ) (text : Bytes) → room < length text → fitted ro
 unfolding if◌then◌else◌
 too_short room text h = rw (lt-ltb room (length text) h)
 
-pub long-enough : (room : ℕ) (text : Bytes) → length text ≤ room → fitted room text ≡ record { report = accepted; text = text }
+pub long_enough : (room : ℕ) (text : Bytes) → length text ≤ room → fitted room text ≡ record { report = accepted; text = text }
 unfolding if◌then◌else◌
-long-enough room text h = rw (le-ltb room (length text) h)
+long_enough room text h = rw (le-ltb room (length text) h)
 
 -- ---- all records
 
 -- the records have no fault, and the length of their text is known
 record NoFault (t : Target) (rs : List (List Value)) (k : ℕ) (o : Option Report) : Type 0 where
   pub faultless : o ≡ none
-  pub size : k ≡ length (tableText t rs)
+  pub size : k ≡ length (table_text t rs)
 
-accepted-by : (t : Target) (rs : List (List Value)) (k : ℕ) (o : Option Report) → sumBy t rs o ≡ Accepted k → NoFault t rs k o
-accepted-by t rs k none e = record { faultless = refl; size = cc }
-accepted-by t rs k (some x) e = let z : ◌≡◌ {A = ℕ} 0 1 = cc in absurd (omega arith)
+accepted_by : (t : Target) (rs : List (List Value)) (k : ℕ) (o : Option Report) → sum_by t rs o ≡ Accepted k → NoFault t rs k o
+accepted_by t rs k none e = record { faultless = refl; size = cc }
+accepted_by t rs k (some x) e = let z : ◌≡◌ {A = ℕ} 0 1 = cc in absurd (omega arith)
 
-refused-by : (t : Target) (rs : List (List Value)) (x : Report) (o : Option Report) → sumBy t rs o ≡ Refused x → o ≡ some x
-refused-by t rs x none e = let z : ◌≡◌ {A = ℕ} 0 1 = cc in absurd (omega arith)
-refused-by t rs x (some y) e = cc
+refused_by : (t : Target) (rs : List (List Value)) (x : Report) (o : Option Report) → sum_by t rs o ≡ Refused x → o ≡ some x
+refused_by t rs x none e = let z : ◌≡◌ {A = ℕ} 0 1 = cc in absurd (omega arith)
+refused_by t rs x (some y) e = cc
 
 module _ (t : Dialect) (rs : List (List Value)) where
-  pub accepted-size : (k : ℕ) → measuredAs (into t) rs ≡ Accepted k → k ≡ length (tableText (into t) rs)
-  accepted-size k e = (accepted-by (into t) rs k (rowsFault (into t) rs) e).size
+  pub accepted_size : (k : ℕ) → measured_as (into t) rs ≡ Accepted k → k ≡ length (table_text (into t) rs)
+  accepted_size k e = (accepted_by (into t) rs k (rows_fault (into t) rs) e).size
 
-  pub accepted-written : (k room : ℕ) → measuredAs (into t) rs ≡ Accepted k → tableWritten t rs room ≡ fitted room (tableText (into t) rs)
-  accepted-written k room e = ap (writtenRows (into t) room rs) (accepted-by (into t) rs k (rowsFault (into t) rs) e).faultless
+  pub accepted_written : (k room : ℕ) → measured_as (into t) rs ≡ Accepted k → table_written t rs room ≡ fitted room (table_text (into t) rs)
+  accepted_written k room e = ap (written_rows (into t) room rs) (accepted_by (into t) rs k (rows_fault (into t) rs) e).faultless
 
-  pub refused-written : (x : Report) (room : ℕ) → measuredAs (into t) rs ≡ Refused x → tableWritten t rs room ≡ unwritten x
-  refused-written x room e = ap (writtenRows (into t) room rs) (refused-by (into t) rs x (rowsFault (into t) rs) e)
+  pub refused_written : (x : Report) (room : ℕ) → measured_as (into t) rs ≡ Refused x → table_written t rs room ≡ unwritten x
+  refused_written x room e = ap (written_rows (into t) room rs) (refused_by (into t) rs x (rows_fault (into t) rs) e)
 
 -- ---- the writer
 
-none-there : {A : Type 0} (o : Option A) → isThere o ≡ false → o ≡ none
-none-there none e = refl
-none-there (some x) e = impossible (sym e)
+none_there : {A : Type 0} (o : Option A) → is_there o ≡ false → o ≡ none
+none_there none e = refl
+none_there (some x) e = impossible (sym e)
 
-pub no_table : (t : Dialect) (table : Table) (room : ℕ) → isThere (rowsIn table) ≡ false → writerIn t table room ≡ unwritten (refusal 12)
-no_table t table room e = ap (writtenIn t room) (none-there (rowsIn table) e)
+pub no_table : (t : Dialect) (table : Table) (room : ℕ) → is_there (rows_in table) ≡ false → writer_in t table room ≡ unwritten (refusal 12)
+no_table t table room e = ap (written_in t room) (none_there (rows_in table) e)
 
-pub in-dialect : (n : ℕ) (t : Dialect) (table : Table) (room : ℕ) → dialectOf n ≡ some t → writer n table room ≡ writerIn t table room
+pub in_dialect : (n : ℕ) (t : Dialect) (table : Table) (room : ℕ) → dialect_of n ≡ some t → writer n table room ≡ writer_in t table room
 unfolding writer
-in-dialect n t table room e = rw (writer, e) (go (rowsIn table))
+in_dialect n t table room e = rw (writer, e) (go (rows_in table))
   where
     go :
         (o : Option (List (List Value))) →
-        (elim o as (λ _. Written) [ none ↦ unwritten (refusal 12) | some rs ↦ writtenRows (into t) room rs (rowsFault (into t) rs) ])
-        ≡ writtenIn t room o
+        (elim o as (λ _. Written) [ none ↦ unwritten (refusal 12) | some rs ↦ written_rows (into t) room rs (rows_fault (into t) rs) ])
+        ≡ written_in t room o
     go none = refl
     go (some rs) = refl
 
-pub no-dialect : (n : ℕ) (table : Table) (room : ℕ) → dialectOf n ≡ none → writer n table room ≡ unwritten (refusal 11)
+pub no_dialect : (n : ℕ) (table : Table) (room : ℕ) → dialect_of n ≡ none → writer n table room ≡ unwritten (refusal 11)
 unfolding writer
-no-dialect n table room e = rw (writer, e)
+no_dialect n table room e = rw (writer, e)

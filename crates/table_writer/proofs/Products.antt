@@ -5,18 +5,18 @@ use mathlib.Core.Path.{◌≡◌, sym, ap, ◌∙◌}
 use mathlib.Core.Bool.{false}
 use lib.Dec.{eqb}
 use borrow.Author.Tests.{eq-eqb, ne_eqb, eqb-true, eqb-false}
-use Rattle.model.proofs.Tests.{split-on}
+use Rattle.model.proofs.Tests.{split_on}
 
-pub no-columns : (cells columns records : ℕ) → columns ≡ 0 → eqb cells 0 ≡ eqb cells (columns * records)
-no-columns cells columns records e = ap (eqb cells) (sym (ap (λ (n : ℕ). n * records) e ∙ zero-mul records))
+pub no_columns : (cells columns records : ℕ) → columns ≡ 0 → eqb cells 0 ≡ eqb cells (columns * records)
+no_columns cells columns records e = ap (eqb cells) (sym (ap (λ (n : ℕ). n * records) e ∙ zero-mul records))
 
-pub not-whole : (cells columns records : ℕ) → (cells % columns ≡ 0 → ⊥) → eqb cells (columns * records) ≡ false
-not-whole cells columns records f = ne_eqb cells (columns * records) λ e. f (ap (λ (n : ℕ). n % columns) e ∙ mul-mod_right columns records)
+pub not_whole : (cells columns records : ℕ) → (cells % columns ≡ 0 → ⊥) → eqb cells (columns * records) ≡ false
+not_whole cells columns records f = ne_eqb cells (columns * records) λ e. f (ap (λ (n : ℕ). n % columns) e ∙ mul-mod_right columns records)
 
-pub by-quotient : (cells columns records : ℕ) → 0 < columns → cells % columns ≡ 0 → eqb (cells / columns) records ≡ eqb cells (columns * records)
-by-quotient cells columns records p e =
+pub by_quotient : (cells columns records : ℕ) → 0 < columns → cells % columns ≡ 0 → eqb (cells / columns) records ≡ eqb cells (columns * records)
+by_quotient cells columns records p e =
     let whole : columns * (cells / columns) ≡ cells =
     sym (add-zero (columns * (cells / columns))) ∙ ap (λ (n : ℕ). columns * (cells / columns) + n) (sym e) ∙ div-add-mod cells columns in
-    split-on (eqb (cells / columns) records)
+    split_on (eqb (cells / columns) records)
     (λ t. t ∙ sym (eq-eqb cells (columns * records) (sym whole ∙ ap (λ (n : ℕ). columns * n) (eqb-true (cells / columns) records t))))
     λ f. f ∙ sym (ne_eqb cells (columns * records) λ k. eqb-false (cells / columns) records f (div-eq_of_eq-mul_right p k))

@@ -19,16 +19,16 @@ use Rattle.model.specs.declared.CheckResult.{CheckResult}
 use Rattle.model.specs.declared.CheckResult.TheVariants.{Sound, Faulty}
 use Rattle.model.specs.rules.Base.{Bytes, if◌then◌else◌, is_empty, over}
 use Rattle.model.specs.rules.Dialect.{into}
-use Rattle.model.specs.rules.Text.{Value, recordText, dataText, tableText, ending}
-use Rattle.model.specs.rules.Report.{MAXFILE, report, number_of, columnOf}
-use Rattle.model.specs.rules.Records.{◌orElse◌, targetFault}
-use Rattle.model.specs.rules.Api.{rows_of, rowFault, orNext, rows_from, rowsFault}
-use Rattle.model.proofs.round_trip.TableText.{row-length}
-use Rattle.model.proofs.file_laws.CheckResults.{else-sound, target_sound}
+use Rattle.model.specs.rules.Text.{Value, record_text, data_text, table_text, ending}
+use Rattle.model.specs.rules.Report.{MAXFILE, report, number_of, column_of}
+use Rattle.model.specs.rules.Records.{◌or_else◌, target_fault}
+use Rattle.model.specs.rules.Api.{rows_of, row_fault, or_next, rows_from, rows_fault}
+use Rattle.model.proofs.round_trip.TableText.{row_length}
+use Rattle.model.proofs.file_laws.CheckResults.{else_sound, target_sound}
 use Rattle.buffer.specs.Writes.{Room, WrittenAt}
-use Rattle.buffer.proofs.WriteProgress.{Emitting, emitting, room_next, put_next, put_whole, same-long, written-first}
+use Rattle.buffer.proofs.WriteProgress.{Emitting, emitting, room_next, put_next, put_whole, same_long, written_first}
 use Rattle.record_target.specs.declared.Measurement.TheVariants.{Accepted, Refused}
-use Rattle.table_writer.specs.Rows.{headerIf, rowCheck, sumBy, measuredAs}
+use Rattle.table_writer.specs.Rows.{header_if, row_check, sum_by, measured_as}
 
 -- ---- the records that are left
 
@@ -37,21 +37,21 @@ abbrev pub row_at : List Value → (columns at : ℕ) → List Value
 row_at vs columns at = take columns (drop at vs)
 
 -- the records from a place on, after n of them
-abbrev pub rowsLeft : List Value → (columns records n at : ℕ) → List (List Value)
-rowsLeft vs columns records n at = rows_of (records - n) columns (drop at vs)
+abbrev pub rows_left : List Value → (columns records n at : ℕ) → List (List Value)
+rows_left vs columns records n at = rows_of (records - n) columns (drop at vs)
 
 module _ (vs : List Value) (columns records : ℕ) where
-  rows_all : rowsLeft vs columns records 0 0 ≡ rows_of records columns vs
+  rows_all : rows_left vs columns records 0 0 ≡ rows_of records columns vs
   rows_all = let e : records - 0 ≡ records = omega arith in ap (λ (k : ℕ). rows_of k columns vs) e
 
-  rows_next : (n at : ℕ) → n < records → rowsLeft vs columns records n at ≡ row_at vs columns at ∷ rowsLeft vs columns records (n + 1) (at + columns)
+  rows_next : (n at : ℕ) → n < records → rows_left vs columns records n at ≡ row_at vs columns at ∷ rows_left vs columns records (n + 1) (at + columns)
   unfolding rows_of
   rows_next n at h =
       let e : records - n ≡ suc (records - (n + 1)) = omega arith in
       ap (λ (k : ℕ). rows_of k columns (drop at vs)) e
       ∙ ap (λ (l : List Value). row_at vs columns at ∷ rows_of (records - (n + 1)) columns l) (drop-drop columns at vs)
 
-  rows_end : (n at : ℕ) → records ≤ n → rowsLeft vs columns records n at ≡ []
+  rows_end : (n at : ℕ) → records ≤ n → rows_left vs columns records n at ≡ []
   unfolding rows_of
   rows_end n at h = let e : records - n ≡ 0 = omega arith in ap (λ (k : ℕ). rows_of k columns (drop at vs)) e
 
@@ -75,21 +75,21 @@ module _ {vs : List Value} {columns records n at : ℕ} (s : Lies vs columns rec
   pub row_inside : at + columns ≤ length vs
   row_inside = omega (arith, one_left columns records n h, s.place)
 
-  stands-next : Lies vs columns records (n + 1) (at + columns)
-  stands-next = record { few = omega arith; place = omega (arith, one_left columns records n h, s.place) }
+  stands_next : Lies vs columns records (n + 1) (at + columns)
+  stands_next = record { few = omega arith; place = omega (arith, one_left columns records n h, s.place) }
 
 -- ---- measuring
 
-empty-count : (done : List (List Value)) (n : ℕ) → length done ≡ n → is_empty done ≡ eqb n 0
-empty-count [] n e = rw (← e)
-empty-count (r ∷ rs) n e = sym (ne_eqb n 0 λ z. omega (arith, e, z))
+empty_count : (done : List (List Value)) (n : ℕ) → length done ≡ n → is_empty done ≡ eqb n 0
+empty_count [] n e = rw (← e)
+empty_count (r ∷ rs) n e = sym (ne_eqb n 0 λ z. omega (arith, e, z))
 
-row-check :
+row_check_lem :
     (t : Dialect) (done : List (List Value)) (r : List Value) →
-    rowFault (into t) done r ≡ rowCheck t (is_empty done) (length (tableText (into t) done)) r
-unfolding ◌orElse◌
-row-check t [] r = refl
-row-check t (h ∷ rs) r = refl
+    row_fault (into t) done r ≡ row_check t (is_empty done) (length (table_text (into t) done)) r
+unfolding ◌or_else◌
+row_check_lem t [] r = refl
+row_check_lem t (h ∷ rs) r = refl
 
 -- n records are checked without a fault, and `size` is the length of their text
 pub record Measuring (t : Dialect) (vs : List Value) (columns records n at size : ℕ) : Type 0 where
@@ -97,12 +97,12 @@ pub record Measuring (t : Dialect) (vs : List Value) (columns records n at size 
   pub within : size ≤ MAXFILE
   pub done : List (List Value)
   pub count : length done ≡ n
-  pub text : size ≡ length (tableText (into t) done)
-  pub all-rows : rows_of records columns vs ≡ done ++ rowsLeft vs columns records n at
-  pub faults : rowsFault (into t) (rows_of records columns vs) ≡ rows_from (into t) done (rowsLeft vs columns records n at)
+  pub text : size ≡ length (table_text (into t) done)
+  pub all_rows : rows_of records columns vs ≡ done ++ rows_left vs columns records n at
+  pub faults : rows_fault (into t) (rows_of records columns vs) ≡ rows_from (into t) done (rows_left vs columns records n at)
 
 pub measuring : {t : Dialect} {vs : List Value} {columns records : ℕ} → length vs ≡ columns * records → Measuring t vs columns records 0 0 0
-unfolding rowsFault tableText
+unfolding rows_fault table_text
 measuring {t} {vs} {columns} {records} e =
     record {
       stands_at = stands e;
@@ -110,86 +110,86 @@ measuring {t} {vs} {columns} {records} e =
       done = [];
       count = refl;
       text = refl;
-      all-rows = sym (rows_all vs columns records);
+      all_rows = sym (rows_all vs columns records);
       faults = ap (rows_from (into t) []) (sym (rows_all vs columns records));
     }
 
 module _ {t : Dialect} {vs : List Value} {columns records n at size : ℕ} (m : Measuring t vs columns records n at size) where
   module _ (h : n < records) where
     -- the check of the next record, and of those after it
-    next-fault :
-        rowsFault (into t) (rows_of records columns vs)
-        ≡ orNext (suc n) (rowCheck t (eqb n 0) size (row_at vs columns at))
-        (rows_from (into t) (m.done ++ (row_at vs columns at ∷ [])) (rowsLeft vs columns records (n + 1) (at + columns)))
+    next_fault :
+        rows_fault (into t) (rows_of records columns vs)
+        ≡ or_next (suc n) (row_check t (eqb n 0) size (row_at vs columns at))
+        (rows_from (into t) (m.done ++ (row_at vs columns at ∷ [])) (rows_left vs columns records (n + 1) (at + columns)))
     unfolding rows_from
-    next-fault =
+    next_fault =
         let r : List Value = row_at vs columns at in
-        let rs : List (List Value) = rowsLeft vs columns records (n + 1) (at + columns) in
+        let rs : List (List Value) = rows_left vs columns records (n + 1) (at + columns) in
         let next : Option Report = rows_from (into t) (m.done ++ (r ∷ [])) rs in
         m.faults
         ∙ ap (rows_from (into t) m.done) (rows_next vs columns records n at h)
-        ∙ ap (λ (v : CheckResult). orNext (suc (length m.done)) v next) (row-check t m.done r)
-        ∙ ap (λ (k : ℕ). orNext (suc k) (rowCheck t (is_empty m.done) (length (tableText (into t) m.done)) r) next) m.count
-        ∙ ap (λ (b : Bool). orNext (suc n) (rowCheck t b (length (tableText (into t) m.done)) r) next) (empty-count m.done n m.count)
-        ∙ ap (λ (k : ℕ). orNext (suc n) (rowCheck t (eqb n 0) k r) next) (sym m.text)
+        ∙ ap (λ (v : CheckResult). or_next (suc (length m.done)) v next) (row_check_lem t m.done r)
+        ∙ ap (λ (k : ℕ). or_next (suc k) (row_check t (is_empty m.done) (length (table_text (into t) m.done)) r) next) m.count
+        ∙ ap (λ (b : Bool). or_next (suc n) (row_check t b (length (table_text (into t) m.done)) r) next) (empty_count m.done n m.count)
+        ∙ ap (λ (k : ℕ). or_next (suc n) (row_check t (eqb n 0) k r) next) (sym m.text)
 
-    pub measured-fault : (e : Fault) → rowCheck t (eqb n 0) size (row_at vs columns at) ≡ Faulty e
-        → measuredAs (into t) (rows_of records columns vs) ≡ Refused (report (number_of e) (n + 1) (columnOf e) 0)
-    measured-fault e v =
-        let f : rowsFault (into t) (rows_of records columns vs) ≡ some (report (number_of e) (suc n) (columnOf e) 0) = next-fault ∙ rw v in
-        ap (sumBy (into t) (rows_of records columns vs)) f ∙ ap (λ (k : ℕ). Refused (report (number_of e) k (columnOf e) 0)) (sym (add-one n))
+    pub measured_fault : (e : Fault) → row_check t (eqb n 0) size (row_at vs columns at) ≡ Faulty e
+        → measured_as (into t) (rows_of records columns vs) ≡ Refused (report (number_of e) (n + 1) (column_of e) 0)
+    measured_fault e v =
+        let f : rows_fault (into t) (rows_of records columns vs) ≡ some (report (number_of e) (suc n) (column_of e) 0) = next_fault ∙ rw v in
+        ap (sum_by (into t) (rows_of records columns vs)) f ∙ ap (λ (k : ℕ). Refused (report (number_of e) k (column_of e) 0)) (sym (add-one n))
 
     row_fits :
-        rowCheck t (eqb n 0) size (row_at vs columns at) ≡ Sound →
-        size + length (recordText (into t) (eqb n 0) (row_at vs columns at) ++ ending t) ≤ MAXFILE
+        row_check t (eqb n 0) size (row_at vs columns at) ≡ Sound →
+        size + length (record_text (into t) (eqb n 0) (row_at vs columns at) ++ ending t) ≤ MAXFILE
     row_fits v =
         let r : List Value = row_at vs columns at in
-        (target_sound (into t) (eqb n 0) size r (else-sound (headerIf t (eqb n 0) r) (targetFault (into t) (eqb n 0) size r) v).1).fits
+        (target_sound (into t) (eqb n 0) size r (else_sound (header_if t (eqb n 0) r) (target_fault (into t) (eqb n 0) size r) v).1).fits
 
-    pub measured-next : (k : ℕ) → rowCheck t (eqb n 0) size (row_at vs columns at) ≡ Sound
-        → k ≡ length (recordText (into t) (eqb n 0) (row_at vs columns at) ++ ending t)
+    pub measured_next : (k : ℕ) → row_check t (eqb n 0) size (row_at vs columns at) ≡ Sound
+        → k ≡ length (record_text (into t) (eqb n 0) (row_at vs columns at) ++ ending t)
         → Measuring t vs columns records (n + 1) (at + columns) (size + k)
-    measured-next k v l =
+    measured_next k v l =
         let r : List Value = row_at vs columns at in
-        let rs : List (List Value) = rowsLeft vs columns records (n + 1) (at + columns) in
-        let first : is_empty m.done ≡ eqb n 0 = empty-count m.done n m.count in
+        let rs : List (List Value) = rows_left vs columns records (n + 1) (at + columns) in
+        let first : is_empty m.done ≡ eqb n 0 = empty_count m.done n m.count in
         record {
-          stands_at = stands-next m.stands_at h;
+          stands_at = stands_next m.stands_at h;
           within = omega (arith, l, row_fits v);
           done = m.done ++ (r ∷ []);
           count = length-append m.done (r ∷ []) ∙ ap (λ (j : ℕ). j + 1) m.count;
-          text = sym (row-length (into t) m.done r ∙ rw (first, ← l, ← m.text));
-          all-rows =
-              m.all-rows ∙ ap (λ (l : List (List Value)). m.done ++ l) (rows_next vs columns records n at h)
+          text = sym (row_length (into t) m.done r ∙ rw (first, ← l, ← m.text));
+          all_rows =
+              m.all_rows ∙ ap (λ (l : List (List Value)). m.done ++ l) (rows_next vs columns records n at h)
               ∙ sym (append_assoc m.done (r ∷ []) rs);
-          faults = next-fault ∙ rw v;
+          faults = next_fault ∙ rw v;
         }
 
-  pub measured-all : records ≤ n → measuredAs (into t) (rows_of records columns vs) ≡ Accepted size
+  pub measured_all : records ≤ n → measured_as (into t) (rows_of records columns vs) ≡ Accepted size
   unfolding rows_from
-  measured-all h =
-      let e : rowsLeft vs columns records n at ≡ [] = rows_end vs columns records n at h in
-      let f : rowsFault (into t) (rows_of records columns vs) ≡ none = m.faults ∙ ap (rows_from (into t) m.done) e in
-      let g : rows_of records columns vs ≡ m.done = m.all-rows ∙ ap (λ (l : List (List Value)). m.done ++ l) e ∙ append-nil m.done in
-      ap (sumBy (into t) (rows_of records columns vs)) f ∙ ap (λ (l : List (List Value)). Accepted (length (tableText (into t) l))) g
+  measured_all h =
+      let e : rows_left vs columns records n at ≡ [] = rows_end vs columns records n at h in
+      let f : rows_fault (into t) (rows_of records columns vs) ≡ none = m.faults ∙ ap (rows_from (into t) m.done) e in
+      let g : rows_of records columns vs ≡ m.done = m.all_rows ∙ ap (λ (l : List (List Value)). m.done ++ l) e ∙ append-nil m.done in
+      ap (sum_by (into t) (rows_of records columns vs)) f ∙ ap (λ (l : List (List Value)). Accepted (length (table_text (into t) l))) g
       ∙ ap Accepted (sym m.text)
 
 -- ---- writing
 
 -- the text of the records that are left, the header's among them or not
-abbrev restText : Target → (header : Bool) → List (List Value) → Bytes
-restText t true rs = tableText t rs
-restText t false rs = dataText t rs
+abbrev rest_text : Target → (header : Bool) → List (List Value) → Bytes
+rest_text t true rs = table_text t rs
+rest_text t false rs = data_text t rs
 
-rest-next :
+rest_next :
     (t : Target) (header : Bool) (r : List Value) (rs : List (List Value)) →
-    restText t header (r ∷ rs) ≡ (recordText t header r ++ ending t.dialect) ++ dataText t rs
-unfolding tableText dataText
-rest-next t true r rs = refl
-rest-next t false r rs = refl
+    rest_text t header (r ∷ rs) ≡ (record_text t header r ++ ending t.dialect) ++ data_text t rs
+unfolding table_text data_text
+rest_next t true r rs = refl
+rest_next t false r rs = refl
 
-rest_end : (t : Target) (header : Bool) → restText t header [] ≡ []
-unfolding tableText dataText
+rest_end : (t : Target) (header : Bool) → rest_text t header [] ≡ []
+unfolding table_text data_text
 rest_end t true = refl
 rest_end t false = refl
 
@@ -199,59 +199,59 @@ after_first n = ne_eqb (n + 1) 0 λ z. omega (arith, z)
 -- n records are written over old, and their text ends at o
 pub record WritingRows (t : Dialect) (vs : List Value) (columns records : ℕ) (old room : Bytes) (n at o : ℕ) : Type 0 where
   pub stands_at : Lies vs columns records n at
-  pub going : Emitting true old 0 (tableText (into t) (rows_of records columns vs)) room o (restText (into t) (eqb n 0) (rowsLeft vs columns records n at))
+  pub going : Emitting true old 0 (table_text (into t) (rows_of records columns vs)) room o (rest_text (into t) (eqb n 0) (rows_left vs columns records n at))
 
-pub writing-rows :
+pub writing_rows :
     {t : Dialect} {vs : List Value} {columns records : ℕ} {old : Bytes} → length vs ≡ columns * records →
-    length (tableText (into t) (rows_of records columns vs)) ≤ length old → WritingRows t vs columns records old old 0 0 0
-writing-rows {t} {vs} {columns} {records} {old} e l =
-    let start : Emitting true old 0 (tableText (into t) (rows_of records columns vs)) old 0 (tableText (into t) (rows_of records columns vs)) =
+    length (table_text (into t) (rows_of records columns vs)) ≤ length old → WritingRows t vs columns records old old 0 0 0
+writing_rows {t} {vs} {columns} {records} {old} e l =
+    let start : Emitting true old 0 (table_text (into t) (rows_of records columns vs)) old 0 (table_text (into t) (rows_of records columns vs)) =
     emitting true (record { measured = λ x. omega arith; inside = λ x. omega arith }) in
     record { stands_at = stands e; going = rw (rows_all vs columns records) start }
 
 module _ {t : Dialect} {vs : List Value} {columns records : ℕ} {old room : Bytes} {n at o : ℕ} (w : WritingRows t vs columns records old room n at o) where
   module _ (h : n < records) where
     -- the text of the next record, and what follows it
-    abbrev rowText : Bytes
-    rowText = recordText (into t) (eqb n 0) (row_at vs columns at) ++ ending t
+    abbrev row_text : Bytes
+    row_text = record_text (into t) (eqb n 0) (row_at vs columns at) ++ ending t
 
     abbrev later : Bytes
-    later = restText (into t) (eqb (n + 1) 0) (rowsLeft vs columns records (n + 1) (at + columns))
+    later = rest_text (into t) (eqb (n + 1) 0) (rows_left vs columns records (n + 1) (at + columns))
 
-    next-text : restText (into t) (eqb n 0) (rowsLeft vs columns records n at) ≡ rowText ++ later
-    next-text =
-        ap (restText (into t) (eqb n 0)) (rows_next vs columns records n at h)
-        ∙ rest-next (into t) (eqb n 0) (row_at vs columns at) (rowsLeft vs columns records (n + 1) (at + columns))
+    next_text : rest_text (into t) (eqb n 0) (rows_left vs columns records n at) ≡ row_text ++ later
+    next_text =
+        ap (rest_text (into t) (eqb n 0)) (rows_next vs columns records n at h)
+        ∙ rest_next (into t) (eqb n 0) (row_at vs columns at) (rows_left vs columns records (n + 1) (at + columns))
         ∙ rw (after_first n)
 
-    going_next : Emitting true old 0 (tableText (into t) (rows_of records columns vs)) room o (rowText ++ later)
-    going_next = rw next-text at w.going
+    going_next : Emitting true old 0 (table_text (into t) (rows_of records columns vs)) room o (row_text ++ later)
+    going_next = rw next_text at w.going
 
-    pub row_room : Room true o (recordText (into t) (eqb n 0) (row_at vs columns at) ++ ending t) room
-    row_room = room_next rowText later going_next
+    pub row_room : Room true o (record_text (into t) (eqb n 0) (row_at vs columns at) ++ ending t) room
+    row_room = room_next row_text later going_next
 
     pub row_written :
-        {new : Bytes} {r : ℕ} → WrittenAt true room o (recordText (into t) (eqb n 0) (row_at vs columns at) ++ ending t) new r →
+        {new : Bytes} {r : ℕ} → WrittenAt true room o (record_text (into t) (eqb n 0) (row_at vs columns at) ++ ending t) new r →
         WritingRows t vs columns records old new (n + 1) (at + columns) r
-    row_written p = record { stands_at = stands-next w.stands_at h; going = put_next rowText going_next p }
+    row_written p = record { stands_at = stands_next w.stands_at h; going = put_next row_text going_next p }
 
-  pub rows_written : records ≤ n → room ≡ over (tableText (into t) (rows_of records columns vs)) old
+  pub rows_written : records ≤ n → room ≡ over (table_text (into t) (rows_of records columns vs)) old
   unfolding if◌then◌else◌
   rows_written h =
-      let e : restText (into t) (eqb n 0) (rowsLeft vs columns records n at) ≡ []
-      = ap (restText (into t) (eqb n 0)) (rows_end vs columns records n at h) ∙ rest_end (into t) (eqb n 0) in
-      (put_whole (rw e at w.going)).text ∙ written-first old (tableText (into t) (rows_of records columns vs))
+      let e : rest_text (into t) (eqb n 0) (rows_left vs columns records n at) ≡ []
+      = ap (rest_text (into t) (eqb n 0)) (rows_end vs columns records n at h) ∙ rest_end (into t) (eqb n 0) in
+      (put_whole (rw e at w.going)).text ∙ written_first old (table_text (into t) (rows_of records columns vs))
 
   pub rows_long : length room ≡ length old
-  rows_long = same-long w.going
+  rows_long = same_long w.going
 
 -- ---- one record
 
 module _ (t : Dialect) (header : Bool) (written : ℕ) (r : List Value) where
-  pub header-faulty : (e : Fault) → headerIf t header r ≡ Faulty e → Faulty e ≡ rowCheck t header written r
-  unfolding ◌orElse◌
-  header-faulty e h = rw h
+  pub header_faulty : (e : Fault) → header_if t header r ≡ Faulty e → Faulty e ≡ row_check t header written r
+  unfolding ◌or_else◌
+  header_faulty e h = rw h
 
-  pub header-sound : headerIf t header r ≡ Sound → targetFault (into t) header written r ≡ rowCheck t header written r
-  unfolding ◌orElse◌
-  header-sound h = rw h
+  pub header_sound : header_if t header r ≡ Sound → target_fault (into t) header written r ≡ row_check t header written r
+  unfolding ◌or_else◌
+  header_sound h = rw h

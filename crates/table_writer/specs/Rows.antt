@@ -8,31 +8,31 @@ use Rattle.model.specs.declared.CheckResult.{CheckResult}
 use Rattle.model.specs.declared.CheckResult.TheVariants.{Sound}
 use Rattle.model.specs.rules.Base.{Bytes}
 use Rattle.model.specs.rules.Dialect.{into}
-use Rattle.model.specs.rules.Text.{Value, tableText}
-use Rattle.model.specs.rules.Records.{◌orElse◌, headerFault, targetFault}
-use Rattle.model.specs.rules.Api.{rows_of, rowsFault}
+use Rattle.model.specs.rules.Text.{Value, table_text}
+use Rattle.model.specs.rules.Records.{◌or_else◌, header_fault, target_fault}
+use Rattle.model.specs.rules.Api.{rows_of, rows_fault}
 use Rattle.cell_decoder.specs.declared.source.Source.TheVariants.{Contents}
 use Rattle.cell_decoder.specs.Sources.{cells_in}
 use Rattle.record_target.specs.declared.Measurement.{Measurement}
 use Rattle.record_target.specs.declared.Measurement.TheVariants as sums
 
 -- the records of a table: the cells of its lists, `columns` at a time (§13.1)
-abbrev pub rowsGiven : (content : Bytes) (starts ends kinds : List ℕ) (columns records : ℕ) → List (List Value)
-rowsGiven content starts ends kinds columns records = rows_of records columns (cells_in Contents content starts ends kinds)
+abbrev pub rows_given : (content : Bytes) (starts ends kinds : List ℕ) (columns records : ℕ) → List (List Value)
+rows_given content starts ends kinds columns records = rows_of records columns (cells_in Contents content starts ends kinds)
 
 -- the fault of a header, where the record is one (§13.12)
-abbrev pub headerIf : Dialect → (header : Bool) → List Value → CheckResult
-headerIf t true vs = headerFault t vs
-headerIf t false vs = Sound
+abbrev pub header_if : Dialect → (header : Bool) → List Value → CheckResult
+header_if t true vs = header_fault t vs
+header_if t false vs = Sound
 
 -- the fault of a record after `written` bytes of text: a header's own, and then the target's (§13.11 §13.12)
-abbrev pub rowCheck : Dialect → (header : Bool) → (written : ℕ) → List Value → CheckResult
-rowCheck t header written vs = headerIf t header vs or_else targetFault (into t) header written vs
+abbrev pub row_check : Dialect → (header : Bool) → (written : ℕ) → List Value → CheckResult
+row_check t header written vs = header_if t header vs or_else target_fault (into t) header written vs
 
 -- the first fault of these records if there is one, or the length of their text
-abbrev pub sumBy : Target → List (List Value) → Option Report → Measurement
-sumBy t rs none = sums.Accepted (length (tableText t rs))
-sumBy t rs (some e) = sums.Refused e
+abbrev pub sum_by : Target → List (List Value) → Option Report → Measurement
+sum_by t rs none = sums.Accepted (length (table_text t rs))
+sum_by t rs (some e) = sums.Refused e
 
-abbrev pub measuredAs : Target → List (List Value) → Measurement
-measuredAs t rs = sumBy t rs (rowsFault t rs)
+abbrev pub measured_as : Target → List (List Value) → Measurement
+measured_as t rs = sum_by t rs (rows_fault t rs)

@@ -9,6 +9,6 @@ abbrev pub given : (content : Bytes) (starts ends kinds : List ℕ) (columns rec
 given content starts ends kinds columns records =
     record { content = content; starts = starts; ends = ends; kinds = kinds; columns = columns; records = records }
 
-abbrev pub isThere : {A : Type 0} → Option A → Bool
-isThere none = false
-isThere (some x) = true
+abbrev pub is_there : {A : Type 0} → Option A → Bool
+is_there none = false
+is_there (some x) = true

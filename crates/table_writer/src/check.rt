@@ -1,15 +1,15 @@
 // Whether the lists that the writer is given are a table (error 12 otherwise): all of one length, which is columns times records, and in
 // each cell's span bytes that a cell of its kind can have. content.rt decides which bytes are content.
 //
-// The definition is `rowsIn` of model's specs/rules/Api.antt. Where it has records, they are the cells of the lists (cell_decoder's
+// The definition is `rows_in` of model's specs/rules/Api.antt. Where it has records, they are the cells of the lists (cell_decoder's
 // specs/Sources.antt), record by record: proofs/Tables.antt.
 ghost use Rattle.std.specs.Prelude.{◌≡◌, ◌*◌, eqb, length};
 ghost use Rattle.model.specs.declared.CellCheck.TheVariants.{WholeCell};
 ghost use Rattle.model.specs.declared.Dialect.TheVariants.{Csvj};
 ghost use Rattle.model.specs.rules.Base.{is_empty};
-ghost use Rattle.model.specs.rules.Decode.{kind_of, validateCell};
-ghost use Rattle.model.specs.rules.Api.{is_number, is_value, tableCell, tableCells, rowsIn};
-ghost use Rattle.table_writer.specs.TableParts.{given, isThere};
+ghost use Rattle.model.specs.rules.Decode.{kind_of, validate_cell};
+ghost use Rattle.model.specs.rules.Api.{is_number, is_value, table_cell, table_cells, rows_in};
+ghost use Rattle.table_writer.specs.TableParts.{given, is_there};
 
 use cell_decoder::validate;
 use codes::{NamedKind, cell};
@@ -31,7 +31,7 @@ fn is_number_kind(k: Kind) -> bool
 
 // Whether bytes are a number as spelt.
 fn is_number(s: &[u8]) -> bool
-    ensures { result ≡ is_number (kind_of Csvj s.now) (validateCell Csvj s.now) }
+    ensures { result ≡ is_number (kind_of Csvj s.now) (validate_cell Csvj s.now) }
 {
     if !is_number_kind(cell::kind_of(Dialect::Csvj, s)) {
         return false;
@@ -66,7 +66,7 @@ fn is_value(k: Kind, s: &[u8]) -> bool
 
 // Whether the cell in this span, of the kind with this number, is valid.
 fn is_cell(content: &[u8], from: usize, upto: usize, kind: u8) -> bool
-    ensures { result ≡ isThere (tableCell content.now from upto kind) }
+    ensures { result ≡ is_there (table_cell content.now from upto kind) }
 {
     let NamedKind::Known(k) = codes::kind_named(kind) else {
         return false;
@@ -85,7 +85,7 @@ fn is_cell(content: &[u8], from: usize, upto: usize, kind: u8) -> bool
 // Whether each cell of these lists is valid.
 fn are_cells(content: &[u8], starts: &[usize], ends: &[usize], kinds: &[u8]) -> bool
     requires { (length starts.now ≡ length ends.now) × (length starts.now ≡ length kinds.now) }
-    ensures { result ≡ isThere (tableCells content.now starts.now ends.now kinds.now) }
+    ensures { result ≡ is_there (table_cells content.now starts.now ends.now kinds.now) }
 {
     let mut n = 0;
     while n < starts.len() {
@@ -119,7 +119,7 @@ pub fn is_table(
     columns: usize,
     records: usize,
 ) -> bool
-    ensures { result ≡ isThere (rowsIn (given content.now starts.now ends.now kinds.now columns records)) }
+    ensures { result ≡ is_there (rows_in (given content.now starts.now ends.now kinds.now columns records)) }
 {
     if starts.len() != ends.len() {
         return false;

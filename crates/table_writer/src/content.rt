@@ -2,8 +2,8 @@
 // runs of ASCII passed over at once. The definition is `Content` of specs/Content.antt; the laws of a step are in proofs/Contents.antt.
 ghost use Rattle.std.specs.Prelude.{◌≡◌, false, [], ◌≤◌, length};
 ghost use Rattle.std.proofs.Math.Option.{some};
-ghost use Rattle.model.specs.rules.Utf8.{gap, ed, lone, inner, settle, wideStep, isContent};
-ghost use Rattle.table_writer.specs.Content.{wideIn, stepIn, contentFrom, SameContentState};
+ghost use Rattle.model.specs.rules.Utf8.{gap, ed, lone, inner, settle, wide_step, is_content};
+ghost use Rattle.table_writer.specs.Content.{wide_in, step_in, content_from, SameContentState};
 
 use model::{Advance, Char, Inner};
 
@@ -19,7 +19,7 @@ pub enum ContentState {
 
 // After a byte of a text.
 fn after_advance(a: Advance) -> ContentState
-    ensures { wideIn result ≡ settle a }
+    ensures { wide_in result ≡ settle a }
 {
     match a {
         Advance::On(c) => match c {
@@ -31,7 +31,7 @@ fn after_advance(a: Advance) -> ContentState
 }
 
 fn at_gap(high: bool, b: u8) -> ContentState
-    ensures { wideIn result ≡ wideStep (gap high) b }
+    ensures { wide_in result ≡ wide_step (gap high) b }
 {
     if b == 0xED {
         return ContentState::AfterEd { high };
@@ -41,7 +41,7 @@ fn at_gap(high: bool, b: u8) -> ContentState
 
 // Below A0 a character, A0 to AF a high surrogate, B0 to BF a low one, which may not follow a high one directly.
 fn after_ed(high: bool, b: u8) -> ContentState
-    ensures { wideIn result ≡ wideStep (ed high) b }
+    ensures { wide_in result ≡ wide_step (ed high) b }
 {
     if b < 0x80 {
         return ContentState::NoContent;
@@ -62,7 +62,7 @@ fn after_ed(high: bool, b: u8) -> ContentState
 }
 
 fn in_lone(high: bool, b: u8) -> ContentState
-    ensures { wideIn result ≡ wideStep (lone high) b }
+    ensures { wide_in result ≡ wide_step (lone high) b }
 {
     if b < 0x80 {
         return ContentState::NoContent;
@@ -74,13 +74,13 @@ fn in_lone(high: bool, b: u8) -> ContentState
 }
 
 fn in_character(i: Inner, b: u8) -> ContentState
-    ensures { wideIn result ≡ wideStep (inner i) b }
+    ensures { wide_in result ≡ wide_step (inner i) b }
 {
     after_advance(utf8::char_step(Char::Within(i), b))
 }
 
 fn step(p: ContentState, b: u8) -> ContentState
-    ensures { wideIn result ≡ stepIn (wideIn p) b }
+    ensures { wide_in result ≡ step_in (wide_in p) b }
 {
     match p {
         ContentState::Gap { high } => at_gap(high, b),
@@ -93,7 +93,7 @@ fn step(p: ContentState, b: u8) -> ContentState
 
 // Whether content may end here.
 fn may_end(p: ContentState) -> bool
-    ensures { result ≡ contentFrom (wideIn p) [] }
+    ensures { result ≡ content_from (wide_in p) [] }
 {
     match p {
         ContentState::Gap { high: _ } => true,
@@ -124,7 +124,7 @@ fn ascii_end(s: &[u8], at: usize) -> usize
 // The same in any state. Directly after a high surrogate the next byte is taken by a step.
 fn run_on(p: ContentState, s: &[u8], at: usize) -> usize
     requires { at ≤ length s.now }
-    ensures { SameContentState (wideIn p) s.now at result }
+    ensures { SameContentState (wide_in p) s.now at result }
 {
     let ContentState::Gap { high } = p else {
         return at;
@@ -137,7 +137,7 @@ fn run_on(p: ContentState, s: &[u8], at: usize) -> usize
 
 // By runs, and by steps between them: ASCII is thirty times as fast as by steps alone.
 pub fn is_content(s: &[u8]) -> bool
-    ensures { result ≡ isContent s.now }
+    ensures { result ≡ is_content s.now }
 {
     let mut p = ContentState::Gap { high: false };
     let mut i = ascii_end(s, 0);

@@ -6,14 +6,14 @@
 ghost use Rattle.std.specs.Prelude.{◌≡◌, ◌*◌, length};
 ghost use Rattle.model.specs.rules.Base.{over};
 ghost use Rattle.model.specs.rules.Dialect.{into};
-ghost use Rattle.model.specs.rules.Text.{tableText};
-ghost use Rattle.model.specs.rules.Api.{fitted, writer, writerLeaves};
-ghost use Rattle.codes.specs.Named.{textAnswer};
+ghost use Rattle.model.specs.rules.Text.{table_text};
+ghost use Rattle.model.specs.rules.Api.{fitted, writer, writer_leaves};
+ghost use Rattle.codes.specs.Named.{text_answer};
 ghost use Rattle.cell_decoder.specs.declared.source.Source.TheVariants.{Contents};
 ghost use Rattle.cell_decoder.specs.Sources.{Cells};
 ghost use Rattle.table_writer.specs.TableParts.{given};
-ghost use Rattle.table_writer.specs.Rows.{rowsGiven};
-ghost use Rattle.table_writer.specs.Answered.{tableWritten, writerIn};
+ghost use Rattle.table_writer.specs.Rows.{rows_given};
+ghost use Rattle.table_writer.specs.Answered.{table_written, writer_in};
 
 use codes::{NamedDialect, TextAnswer};
 use model::Dialect;
@@ -37,11 +37,11 @@ fn write_if_fits(
 ) -> TextAnswer
     requires cells { Cells Contents content.now starts.now ends.now kinds.now }
     requires starts_len { length starts.now ≡ columns * records }
-    requires size_value { size ≡ length (tableText (into t) (rowsGiven content.now starts.now ends.now kinds.now columns records)) }
-    ensures value { result ≡ textAnswer (fitted (length room.old)
-        (tableText (into t) (rowsGiven content.now starts.now ends.now kinds.now columns records))) }
+    requires size_value { size ≡ length (table_text (into t) (rows_given content.now starts.now ends.now kinds.now columns records)) }
+    ensures value { result ≡ text_answer (fitted (length room.old)
+        (table_text (into t) (rows_given content.now starts.now ends.now kinds.now columns records))) }
     ensures room_after { room.new ≡ over (fitted (length room.old)
-        (tableText (into t) (rowsGiven content.now starts.now ends.now kinds.now columns records))).text
+        (table_text (into t) (rows_given content.now starts.now ends.now kinds.now columns records))).text
         room.old }
 {
     if room.len() < size {
@@ -67,11 +67,11 @@ fn write_table(
 ) -> TextAnswer
     requires cells { Cells Contents content.now starts.now ends.now kinds.now }
     requires starts_len { length starts.now ≡ columns * records }
-    ensures value { result ≡ textAnswer (tableWritten t
-        (rowsGiven content.now starts.now ends.now kinds.now columns records)
+    ensures value { result ≡ text_answer (table_written t
+        (rows_given content.now starts.now ends.now kinds.now columns records)
         (length room.old)) }
-    ensures room_after { room.new ≡ over (tableWritten t
-        (rowsGiven content.now starts.now ends.now kinds.now columns records)
+    ensures room_after { room.new ≡ over (table_written t
+        (rows_given content.now starts.now ends.now kinds.now columns records)
         (length room.old)).text room.old }
 {
     match crate::records::measure(t, content, starts, ends, kinds, columns, records) {
@@ -93,10 +93,10 @@ fn write_in(
     records: usize,
     room: &mut [u8],
 ) -> TextAnswer
-    ensures value { result ≡ textAnswer (writerIn t
+    ensures value { result ≡ text_answer (writer_in t
         (given content.now starts.now ends.now kinds.now columns records)
         (length room.old)) }
-    ensures room_after { room.new ≡ over (writerIn t
+    ensures room_after { room.new ≡ over (writer_in t
         (given content.now starts.now ends.now kinds.now columns records)
         (length room.old)).text room.old }
 {
@@ -118,10 +118,10 @@ pub fn write(
     records: usize,
     room: &mut [u8],
 ) -> TextAnswer
-    ensures answer { result ≡ textAnswer (writer dialect
+    ensures answer { result ≡ text_answer (writer dialect
         (given content.now starts.now ends.now kinds.now columns records)
         (length room.old)) }
-    ensures leaves { room.new ≡ writerLeaves dialect
+    ensures leaves { room.new ≡ writer_leaves dialect
         (given content.now starts.now ends.now kinds.now columns records)
         room.old }
 {

@@ -1,16 +1,16 @@
 // The records of a table, in two loops: checked and measured, then written. In: the lists of a table's cells. Out: the length of its text
-// or the first fault, then the text in the room. The definitions are `rowsFault` and `tableText` of model's specs/rules. A rule that
+// or the first fault, then the text in the room. The definitions are `rows_fault` and `table_text` of model's specs/rules. A rule that
 // changes for a record changes a law of proofs/Rows.antt, and no loop.
 ghost use Rattle.std.specs.Prelude.{◌≡◌, true, ◌++◌, ◌*◌, ◌≤◌, length};
 ghost use Rattle.model.specs.declared.CheckResult.TheVariants.{Sound};
 ghost use Rattle.model.specs.rules.Base.{over};
 ghost use Rattle.model.specs.rules.Dialect.{into};
-ghost use Rattle.model.specs.rules.Text.{recordText, tableText, ending};
+ghost use Rattle.model.specs.rules.Text.{record_text, table_text, ending};
 ghost use Rattle.model.specs.rules.Report.{MAXFILE};
 ghost use Rattle.buffer.specs.Writes.{Room, WrittenAt};
 ghost use Rattle.cell_decoder.specs.declared.source.Source.TheVariants.{Contents};
 ghost use Rattle.cell_decoder.specs.Sources.{cells_in, Cells};
-ghost use Rattle.table_writer.specs.Rows.{rowsGiven, headerIf, rowCheck, measuredAs};
+ghost use Rattle.table_writer.specs.Rows.{rows_given, header_if, row_check, measured_as};
 
 use cell_decoder::source::Source;
 use model::{CheckResult, Dialect};
@@ -29,7 +29,7 @@ fn header_fault(
     header: bool,
 ) -> CheckResult
     requires { Cells Contents content.now starts.now ends.now kinds.now }
-    ensures { result ≡ headerIf t header
+    ensures { result ≡ header_if t header
         (cells_in Contents content.now starts.now ends.now kinds.now) }
 {
     if !header {
@@ -50,9 +50,9 @@ fn check_record(
 ) -> TargetCheck
     requires cells { Cells Contents content.now starts.now ends.now kinds.now }
     requires written_bound { written ≤ MAXFILE }
-    ensures verdict_value { result.verdict ≡ rowCheck t header written
+    ensures verdict_value { result.verdict ≡ row_check t header written
         (cells_in Contents content.now starts.now ends.now kinds.now) }
-    ensures length_value { result.verdict ≡ Sound → result.length ≡ length (recordText (into t) header
+    ensures length_value { result.verdict ≡ Sound → result.length ≡ length (record_text (into t) header
         (cells_in Contents content.now starts.now ends.now kinds.now) ++ ending t) }
 {
     if let CheckResult::Faulty(e) = header_fault(t, content, starts, ends, kinds, header) {
@@ -86,8 +86,8 @@ pub fn measure(
 ) -> Measurement
     requires cells { Cells Contents content.now starts.now ends.now kinds.now }
     requires starts_len { length starts.now ≡ columns * records }
-    ensures { result ≡ measuredAs (into t)
-        (rowsGiven content.now starts.now ends.now kinds.now columns records) }
+    ensures { result ≡ measured_as (into t)
+        (rows_given content.now starts.now ends.now kinds.now columns records) }
 {
     let mut n = 0;
     let mut at = 0;
@@ -129,9 +129,9 @@ pub fn write_records(
 )
     requires cells { Cells Contents content.now starts.now ends.now kinds.now }
     requires starts_len { length starts.now ≡ columns * records }
-    requires records_in_bounds { length (tableText (into t) (rowsGiven content.now starts.now ends.now kinds.now columns records)) ≤ length room.old }
-    ensures { room.new ≡ over (tableText (into t)
-        (rowsGiven content.now starts.now ends.now kinds.now columns records))
+    requires records_in_bounds { length (table_text (into t) (rows_given content.now starts.now ends.now kinds.now columns records)) ≤ length room.old }
+    ensures { room.new ≡ over (table_text (into t)
+        (rows_given content.now starts.now ends.now kinds.now columns records))
         room.old }
 {
     let mut n = 0;

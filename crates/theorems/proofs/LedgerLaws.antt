@@ -14,25 +14,25 @@ use Rattle.model.specs.declared.Dialect.{Dialect}
 use Rattle.model.specs.declared.Fault.{Fault}
 use Rattle.model.specs.declared.Target.{Target}
 use Rattle.model.specs.rules.Base.{if◌then◌else◌, within, Bytes}
-use Rattle.model.specs.rules.Dialect.{dialectOf, into}
-use Rattle.model.specs.rules.Text.{tableText}
+use Rattle.model.specs.rules.Dialect.{dialect_of, into}
+use Rattle.model.specs.rules.Text.{table_text}
 use Rattle.model.specs.rules.Report.{accepted, refusal, number_of, MAXFILE}
-use Rattle.model.specs.rules.Records.{rows, Read, Progress, going, stopped, readBytes, readFile, recordsOf, reportOf, faultReport}
-use Rattle.model.specs.rules.Api.{Written, unwritten, convertedAs, converter}
-use Rattle.model.specs.rules.Ledger.{Call, piece, Entry, bytes_of, isFinish, isAccepted, isFileFault, faultIn, endedIn, consumedIn, closed_in}
-use Rattle.model.specs.rules.Ledger.{writtenIn, tooSmall, taken, seenBy, answerNow, checked, historyFrom, history}
-use Rattle.model.specs.laws.Demands.{seenIn}
-use Rattle.model.specs.laws.Machine.{ConverterStage, taking, faulted, ended, LiesAt, stood-taking, stood-faulted, stood-ended}
-use Rattle.model.proofs.Tests.{split-on, impossible, within-true}
-use Rattle.model.proofs.piece_laws.CallsMade.{after, answer-known, answer-source, answer-target}
-use Rattle.model.proofs.piece_laws.Histories.{fault-number, fault-none, fault-some, ended-append, answer-failed, answer-ended, answer-small, answer-taken}
-use Rattle.model.proofs.piece_laws.MachineLaws.{history-stood}
-use Rattle.model.proofs.round_trip.ConvertBack.{converter-known}
-use Rattle.model.proofs.file_laws.ReadAppend.{fault-stays-file}
-use Rattle.model.proofs.piece_laws.Room.{file-output}
+use Rattle.model.specs.rules.Records.{rows, Read, Progress, going, stopped, read_bytes, read_file, records_of, report_of, fault_report}
+use Rattle.model.specs.rules.Api.{Written, unwritten, converted_as, converter}
+use Rattle.model.specs.rules.Ledger.{Call, piece, Entry, bytes_of, is_finish, is_accepted, is_file_fault, fault_in, ended_in, consumed_in, closed_in}
+use Rattle.model.specs.rules.Ledger.{written_in, too_small, taken, seen_by, answer_now, checked, history_from, history}
+use Rattle.model.specs.laws.Demands.{seen_in}
+use Rattle.model.specs.laws.Machine.{ConverterStage, taking, faulted, ended, LiesAt, stood_taking, stood_faulted, stood_ended}
+use Rattle.model.proofs.Tests.{split_on, impossible, within_true}
+use Rattle.model.proofs.piece_laws.CallsMade.{after, answer_known, answer_source, answer_target}
+use Rattle.model.proofs.piece_laws.Histories.{fault_number, fault_none, fault_some, ended_append, answer_failed, answer_ended, answer_small, answer_taken}
+use Rattle.model.proofs.piece_laws.MachineLaws.{history_stood}
+use Rattle.model.proofs.round_trip.ConvertBack.{converter_known}
+use Rattle.model.proofs.file_laws.ReadAppend.{fault_stays_file}
+use Rattle.model.proofs.piece_laws.Room.{file_output}
 
-none-some : {A B : Type 0} {x : A} → none ≡ some x → B
-none-some e = let z : ◌≡◌ {A = ℕ} 0 1 = cc in absurd (omega arith)
+none_some : {A B : Type 0} {x : A} → none ≡ some x → B
+none_some e = let z : ◌≡◌ {A = ℕ} 0 1 = cc in absurd (omega arith)
 
 some_same : {A : Type 0} {x y : A} → some x ≡ some y → x ≡ y
 some_same e = cc
@@ -45,151 +45,151 @@ and_none false = refl
 
 -- the four cases of its answer to a call: 11; the fault found before; 10; or the call is taken
 data AnsweredBy (m n : ℕ) (past : List Entry) (c : Call) : Type 0 where
-  by-eleven : answerNow m n past c ≡ unwritten (refusal 11) → AnsweredBy m n past c
-  by-fault : (e : Report) → faultIn past ≡ some e → answerNow m n past c ≡ unwritten e → AnsweredBy m n past c
-  by-sizes : tooSmall c ≡ true → answerNow m n past c ≡ unwritten (refusal 10) → AnsweredBy m n past c
-  by-reading :
-      (d t : Dialect) → dialectOf m ≡ some d → dialectOf n ≡ some t → faultIn past ≡ none → endedIn past ≡ false → checked m n past c ≡ false →
-      answerNow m n past c ≡ taken (into t) (writtenIn past) (seenBy d (into t) c (consumedIn past ++ bytes_of c)) → AnsweredBy m n past c
+  by_eleven : answer_now m n past c ≡ unwritten (refusal 11) → AnsweredBy m n past c
+  by_fault : (e : Report) → fault_in past ≡ some e → answer_now m n past c ≡ unwritten e → AnsweredBy m n past c
+  by_sizes : too_small c ≡ true → answer_now m n past c ≡ unwritten (refusal 10) → AnsweredBy m n past c
+  by_reading :
+      (d t : Dialect) → dialect_of m ≡ some d → dialect_of n ≡ some t → fault_in past ≡ none → ended_in past ≡ false → checked m n past c ≡ false →
+      answer_now m n past c ≡ taken (into t) (written_in past) (seen_by d (into t) c (consumed_in past ++ bytes_of c)) → AnsweredBy m n past c
 
 -- a fault found before is a file fault
-met-fault : (e : Report) (xs : List Entry) → faultIn xs ≡ some e → isFileFault e ≡ true
-unfolding faultIn if◌then◌else◌
-met-fault e [] k = none-some k
-met-fault e (x ∷ xs) k =
-    split-on (isFileFault x.answer.report)
+met_fault : (e : Report) (xs : List Entry) → fault_in xs ≡ some e → is_file_fault e ≡ true
+unfolding fault_in if◌then◌else◌
+met_fault e [] k = none_some k
+met_fault e (x ∷ xs) k =
+    split_on (is_file_fault x.answer.report)
     (λ h. let same : x.answer.report ≡ e = some_same (rw h at k) in rw same at h) λ h.
-    met-fault e xs (rw h at k)
+    met_fault e xs (rw h at k)
 
 module _ (m n : ℕ) where
-  answered-by : (past : List Entry) (c : Call) → AnsweredBy m n past c
+  answered_by : (past : List Entry) (c : Call) → AnsweredBy m n past c
   unfolding checked
-  answered-by past c = go (dialectOf m) (dialectOf n) refl refl
+  answered_by past c = go (dialect_of m) (dialect_of n) refl refl
     where
-      known : (d t : Dialect) → dialectOf m ≡ some d → dialectOf n ≡ some t → (f : Option Report) → faultIn past ≡ f → AnsweredBy m n past c
-      known d t p q (some e) k = by-fault e k (answer-known m n d t past c p q ∙ answer-failed d (into t) past c e k)
+      known : (d t : Dialect) → dialect_of m ≡ some d → dialect_of n ≡ some t → (f : Option Report) → fault_in past ≡ f → AnsweredBy m n past c
+      known d t p q (some e) k = by_fault e k (answer_known m n d t past c p q ∙ answer_failed d (into t) past c e k)
       known d t p q none k =
-          split-on (endedIn past) (λ z. by-eleven (answer-known m n d t past c p q ∙ answer-ended d (into t) past c k z)) λ z.
-          split-on (tooSmall c) (λ s. by-sizes s (answer-known m n d t past c p q ∙ answer-small d (into t) past c k z s)) λ s.
-          by-reading d t p q k z (rw (p, checked, q, k, z, s)) (answer-known m n d t past c p q ∙ answer-taken d (into t) past c k z s)
+          split_on (ended_in past) (λ z. by_eleven (answer_known m n d t past c p q ∙ answer_ended d (into t) past c k z)) λ z.
+          split_on (too_small c) (λ s. by_sizes s (answer_known m n d t past c p q ∙ answer_small d (into t) past c k z s)) λ s.
+          by_reading d t p q k z (rw (p, checked, q, k, z, s)) (answer_known m n d t past c p q ∙ answer_taken d (into t) past c k z s)
 
-      go : (x y : Option Dialect) → dialectOf m ≡ x → dialectOf n ≡ y → AnsweredBy m n past c
-      go none y p q = by-eleven (answer-source m n past c p)
-      go (some d) none p q = by-eleven (answer-target m n d past c p q)
-      go (some d) (some t) p q = known d t p q (faultIn past) refl
+      go : (x y : Option Dialect) → dialect_of m ≡ x → dialect_of n ≡ y → AnsweredBy m n past c
+      go none y p q = by_eleven (answer_source m n past c p)
+      go (some d) none p q = by_eleven (answer_target m n d past c p q)
+      go (some d) (some t) p q = known d t p q (fault_in past) refl
 
   module _ (past : List Entry) (c : Call) where
     abbrev now : Written
-    now = answerNow m n past c
+    now = answer_now m n past c
 
     -- a call that a check refuses writes nothing
     pub silent : checked m n past c ≡ true → now.text ≡ []
-    silent h = go (answered-by past c)
+    silent h = go (answered_by past c)
       where
         go : AnsweredBy m n past c → now.text ≡ []
-        go (by-eleven a) = ap (λ (u : Written). u.text) a
-        go (by-fault e k a) = ap (λ (u : Written). u.text) a
-        go (by-sizes s a) = ap (λ (u : Written). u.text) a
-        go (by-reading d t p q k z free a) = impossible (sym free ∙ h)
+        go (by_eleven a) = ap (λ (u : Written). u.text) a
+        go (by_fault e k a) = ap (λ (u : Written). u.text) a
+        go (by_sizes s a) = ap (λ (u : Written). u.text) a
+        go (by_reading d t p q k z free a) = impossible (sym free ∙ h)
 
     -- 10 is for the sizes
-    pub only-sizes : now.report.number ≡ 10 → tooSmall c ≡ true
-    only-sizes h = go (answered-by past c)
+    pub only_sizes : now.report.number ≡ 10 → too_small c ≡ true
+    only_sizes h = go (answered_by past c)
       where
-        number-of : (w : Written) → now ≡ w → w.report.number ≡ 10
-        number-of w a = sym (ap (λ (u : Written). u.report.number) a) ∙ h
+        number_of_lem : (w : Written) → now ≡ w → w.report.number ≡ 10
+        number_of_lem w a = sym (ap (λ (u : Written). u.report.number) a) ∙ h
 
-        no-fault : (x : ℕ) → x ≡ 10 → within 1 9 x ≡ true → tooSmall c ≡ true
-        no-fault x e f = impossible (rw e at f)
+        no_fault : (x : ℕ) → x ≡ 10 → within 1 9 x ≡ true → too_small c ≡ true
+        no_fault x e f = impossible (rw e at f)
 
-        by-progress : (p : Progress) → (reportOf p).number ≡ 10 → tooSmall c ≡ true
-        by-progress (going r) e = let z : ◌≡◌ {A = ℕ} 0 10 = e in absurd (omega arith)
-        by-progress (stopped f r) e = no-fault (number_of f) e (fault-number f)
+        by_progress : (p : Progress) → (report_of p).number ≡ 10 → too_small c ≡ true
+        by_progress (going r) e = let z : ◌≡◌ {A = ℕ} 0 10 = e in absurd (omega arith)
+        by_progress (stopped f r) e = no_fault (number_of f) e (fault_number f)
 
-        go : AnsweredBy m n past c → tooSmall c ≡ true
-        go (by-eleven a) = let z : ◌≡◌ {A = ℕ} 11 10 = number-of (unwritten (refusal 11)) a in absurd (omega arith)
-        go (by-fault e k a) = no-fault e.number (number-of (unwritten e) a) (met-fault e past k)
-        go (by-sizes s a) = s
-        go (by-reading d t p q k z free a) =
-            by-progress (seenBy d (into t) c (consumedIn past ++ bytes_of c))
-            (number-of (taken (into t) (writtenIn past) (seenBy d (into t) c (consumedIn past ++ bytes_of c))) a)
+        go : AnsweredBy m n past c → too_small c ≡ true
+        go (by_eleven a) = let z : ◌≡◌ {A = ℕ} 11 10 = number_of_lem (unwritten (refusal 11)) a in absurd (omega arith)
+        go (by_fault e k a) = no_fault e.number (number_of_lem (unwritten e) a) (met_fault e past k)
+        go (by_sizes s a) = s
+        go (by_reading d t p q k z free a) =
+            by_progress (seen_by d (into t) c (consumed_in past ++ bytes_of c))
+            (number_of_lem (taken (into t) (written_in past) (seen_by d (into t) c (consumed_in past ++ bytes_of c))) a)
 
     -- a file fault that any call reports is the one found first
-    pub reports-first : isFileFault now.report ≡ true → faultIn (after m n past c) ≡ some now.report
-    unfolding faultIn if◌then◌else◌
-    reports-first h = go (answered-by past c)
+    pub reports_first : is_file_fault now.report ≡ true → fault_in (after m n past c) ≡ some now.report
+    unfolding fault_in if◌then◌else◌
+    reports_first h = go (answered_by past c)
       where
         entry : List Entry
         entry = record { call = c; answer = now } ∷ []
 
-        refuses : (x : ℕ) → now ≡ unwritten (refusal x) → within 1 9 x ≡ false → faultIn (after m n past c) ≡ some now.report
+        refuses : (x : ℕ) → now ≡ unwritten (refusal x) → within 1 9 x ≡ false → fault_in (after m n past c) ≡ some now.report
         refuses x a e = let z : within 1 9 x ≡ true = rw a at h in impossible (sym e ∙ z)
 
-        go : AnsweredBy m n past c → faultIn (after m n past c) ≡ some now.report
-        go (by-eleven a) = refuses 11 a refl
-        go (by-fault e k a) = fault-some entry e past k ∙ ap (λ (u : Written). some u.report) (sym a)
-        go (by-sizes s a) = refuses 10 a refl
-        go (by-reading d t p q k z free a) = let met : faultIn entry ≡ some now.report = rw h in fault-none entry past k ∙ met
+        go : AnsweredBy m n past c → fault_in (after m n past c) ≡ some now.report
+        go (by_eleven a) = refuses 11 a refl
+        go (by_fault e k a) = fault_some entry e past k ∙ ap (λ (u : Written). some u.report) (sym a)
+        go (by_sizes s a) = refuses 10 a refl
+        go (by_reading d t p q k z free a) = let met : fault_in entry ≡ some now.report = rw h in fault_none entry past k ∙ met
 
 -- ---- the ledger and the whole converter
 
 module _ (m n : ℕ) where
   -- with a number that is no dialect no fault is found and no end accepted
   idle :
-      ((past : List Entry) (c : Call) → answerNow m n past c ≡ unwritten (refusal 11)) → (past : List Entry) (cs : List Call) →
-      faultIn past ≡ none → endedIn past ≡ false →
-      (faultIn (historyFrom m n past cs) ≡ none) × (endedIn (historyFrom m n past cs) ≡ false)
-  unfolding historyFrom faultIn endedIn if◌then◌else◌
+      ((past : List Entry) (c : Call) → answer_now m n past c ≡ unwritten (refusal 11)) → (past : List Entry) (cs : List Call) →
+      fault_in past ≡ none → ended_in past ≡ false →
+      (fault_in (history_from m n past cs) ≡ none) × (ended_in (history_from m n past cs) ≡ false)
+  unfolding history_from fault_in ended_in if◌then◌else◌
   idle a past [] k z = (k, z)
   idle a past (c ∷ cs) k z =
-      let new : List Entry = record { call = c; answer = answerNow m n past c } ∷ [] in
-      idle a (after m n past c) cs (fault-none new past k ∙ rw (a past c)) (ended-append new past ∙ rw (z, a past c, and_none (isFinish c)))
+      let new : List Entry = record { call = c; answer = answer_now m n past c } ∷ [] in
+      idle a (after m n past c) cs (fault_none new past k ∙ rw (a past c)) (ended_append new past ∙ rw (z, a past c, and_none (is_finish c)))
 
   -- no end call is accepted where a fault was found
   data NotBoth (past : List Entry) : Type 0 where
-    no-fault : faultIn past ≡ none → NotBoth past
-    no_end : endedIn past ≡ false → NotBoth past
+    no_fault : fault_in past ≡ none → NotBoth past
+    no_end : ended_in past ≡ false → NotBoth past
 
-  not-both : (past : List Entry) (c : Call) → NotBoth past → NotBoth (after m n past c)
-  unfolding faultIn endedIn if◌then◌else◌
-  not-both past c h = go h (answered-by m n past c)
+  not_both : (past : List Entry) (c : Call) → NotBoth past → NotBoth (after m n past c)
+  unfolding fault_in ended_in if◌then◌else◌
+  not_both past c h = go h (answered_by m n past c)
     where
       new : Written → List Entry
       new w = record { call = c; answer = w } ∷ []
 
-      not-accepted : (w : Written) → isAccepted w.report ≡ false → endedIn past ≡ false → endedIn (past ++ new w) ≡ false
-      not-accepted w e z = ended-append (new w) past ∙ rw (e, z, and_none (isFinish c))
+      not_accepted : (w : Written) → is_accepted w.report ≡ false → ended_in past ≡ false → ended_in (past ++ new w) ≡ false
+      not_accepted w e z = ended_append (new w) past ∙ rw (e, z, and_none (is_finish c))
 
       -- a refusal of the call is neither
-      refusing : (x : ℕ) → isFileFault (refusal x) ≡ false → isAccepted (refusal x) ≡ false → NotBoth past → NotBoth (past ++ new (unwritten (refusal x)))
-      refusing x e f (no-fault k) = no-fault (fault-none (new (unwritten (refusal x))) past k ∙ rw e)
-      refusing x e f (no_end z) = no_end (not-accepted (unwritten (refusal x)) f z)
+      refusing : (x : ℕ) → is_file_fault (refusal x) ≡ false → is_accepted (refusal x) ≡ false → NotBoth past → NotBoth (past ++ new (unwritten (refusal x)))
+      refusing x e f (no_fault k) = no_fault (fault_none (new (unwritten (refusal x))) past k ∙ rw e)
+      refusing x e f (no_end z) = no_end (not_accepted (unwritten (refusal x)) f z)
 
-      no-acceptance : (x : ℕ) → within 1 9 x ≡ true → eqb x 0 ≡ false
-      no-acceptance x e = let z = within-true 1 9 x e in ne_eqb x 0 (λ (q : x ≡ 0). let low : 1 ≤ x = z.0 in absurd (omega arith))
+      no_acceptance : (x : ℕ) → within 1 9 x ≡ true → eqb x 0 ≡ false
+      no_acceptance x e = let z = within_true 1 9 x e in ne_eqb x 0 (λ (q : x ≡ 0). let low : 1 ≤ x = z.0 in absurd (omega arith))
 
-      reading : (t : Target) (p : Progress) → faultIn past ≡ none → endedIn past ≡ false → NotBoth (past ++ new (taken t (writtenIn past) p))
-      reading t (going r) k z = no-fault (fault-none (new (taken t (writtenIn past) (going r))) past k)
-      reading t (stopped e r) k z = no_end (not-accepted (taken t (writtenIn past) (stopped e r)) (no-acceptance (number_of e) (fault-number e)) z)
+      reading : (t : Target) (p : Progress) → fault_in past ≡ none → ended_in past ≡ false → NotBoth (past ++ new (taken t (written_in past) p))
+      reading t (going r) k z = no_fault (fault_none (new (taken t (written_in past) (going r))) past k)
+      reading t (stopped e r) k z = no_end (not_accepted (taken t (written_in past) (stopped e r)) (no_acceptance (number_of e) (fault_number e)) z)
 
       go : NotBoth past → AnsweredBy m n past c → NotBoth (after m n past c)
-      go h (by-eleven a) = rw a (refusing 11 refl refl h)
-      go (no-fault k) (by-fault e f a) = none-some (sym k ∙ f)
-      go (no_end z) (by-fault e f a) = rw a (no_end (not-accepted (unwritten e) (no-acceptance e.number (met-fault e past f)) z))
-      go h (by-sizes s a) = rw a (refusing 10 refl refl h)
-      go h (by-reading d t p q k z free a) = rw a (reading (into t) (seenBy d (into t) c (consumedIn past ++ bytes_of c)) k z)
+      go h (by_eleven a) = rw a (refusing 11 refl refl h)
+      go (no_fault k) (by_fault e f a) = none_some (sym k ∙ f)
+      go (no_end z) (by_fault e f a) = rw a (no_end (not_accepted (unwritten e) (no_acceptance e.number (met_fault e past f)) z))
+      go h (by_sizes s a) = rw a (refusing 10 refl refl h)
+      go h (by_reading d t p q k z free a) = rw a (reading (into t) (seen_by d (into t) c (consumed_in past ++ bytes_of c)) k z)
 
-  never_both : (past : List Entry) (cs : List Call) → NotBoth past → NotBoth (historyFrom m n past cs)
-  unfolding historyFrom
+  never_both : (past : List Entry) (cs : List Call) → NotBoth past → NotBoth (history_from m n past cs)
+  unfolding history_from
   never_both past [] h = h
-  never_both past (c ∷ cs) h = never_both (after m n past c) cs (not-both past c h)
+  never_both past (c ∷ cs) h = never_both (after m n past c) cs (not_both past c h)
 
   -- once an end call was accepted, all that was written is the whole converter's text
-  pub ended-whole :
-      (cs : List Call) → endedIn (history m n cs) ≡ true →
-      converter m n (consumedIn (history m n cs)) MAXFILE ≡ record { report = accepted; text = writtenIn (history m n cs) }
-  unfolding faultIn endedIn if◌then◌else◌
-  ended-whole cs h = go (dialectOf m) (dialectOf n) refl refl
+  pub ended_whole :
+      (cs : List Call) → ended_in (history m n cs) ≡ true →
+      converter m n (consumed_in (history m n cs)) MAXFILE ≡ record { report = accepted; text = written_in (history m n cs) }
+  unfolding fault_in ended_in if◌then◌else◌
+  ended_whole cs h = go (dialect_of m) (dialect_of n) refl refl
     where
       past : List Entry
       past = history m n cs
@@ -198,100 +198,100 @@ module _ (m n : ℕ) where
       written bs = record { report = accepted; text = bs }
 
       at_stage :
-          (d t : Dialect) (w : ConverterStage) → dialectOf m ≡ some d → dialectOf n ≡ some t → LiesAt d (into t) past w →
-          converter m n (consumedIn past) MAXFILE ≡ record { report = accepted; text = writtenIn past }
-      at_stage d t (taking r) p q (stood-taking k e b w) = impossible (sym e ∙ h)
-      at_stage d t (faulted x) p q (stood-faulted f r z k s w) = go-fault (never_both [] cs (no_end refl))
+          (d t : Dialect) (w : ConverterStage) → dialect_of m ≡ some d → dialect_of n ≡ some t → LiesAt d (into t) past w →
+          converter m n (consumed_in past) MAXFILE ≡ record { report = accepted; text = written_in past }
+      at_stage d t (taking r) p q (stood_taking k e b w) = impossible (sym e ∙ h)
+      at_stage d t (faulted x) p q (stood_faulted f r z k s w) = go_fault (never_both [] cs (no_end refl))
         where
-          go-fault : NotBoth past → converter m n (consumedIn past) MAXFILE ≡ record { report = accepted; text = writtenIn past }
-          go-fault (no-fault e) = none-some (sym e ∙ k)
-          go-fault (no_end e) = impossible (sym e ∙ h)
-      at_stage d t ended p q (stood-ended r k e b w) =
-          let l : length (tableText (into t) (rows (recordsOf (readFile d (some (into t)) (consumedIn past))))) ≤ MAXFILE
-          = file-output d (into t) (consumedIn past) in
-          let l' : length (tableText (into t) (rows r.done)) ≤ MAXFILE = rw b at l in
-          converter-known m n d t (consumedIn past) MAXFILE p q
-          ∙ ap (convertedAs (into t) MAXFILE) b
-          ∙ rw (le-ltb MAXFILE (length (tableText (into t) (rows r.done))) l') (ap (λ (bs : Bytes). written bs) (sym w))
+          go_fault : NotBoth past → converter m n (consumed_in past) MAXFILE ≡ record { report = accepted; text = written_in past }
+          go_fault (no_fault e) = none_some (sym e ∙ k)
+          go_fault (no_end e) = impossible (sym e ∙ h)
+      at_stage d t ended p q (stood_ended r k e b w) =
+          let l : length (table_text (into t) (rows (records_of (read_file d (some (into t)) (consumed_in past))))) ≤ MAXFILE
+          = file_output d (into t) (consumed_in past) in
+          let l' : length (table_text (into t) (rows r.done)) ≤ MAXFILE = rw b at l in
+          converter_known m n d t (consumed_in past) MAXFILE p q
+          ∙ ap (converted_as (into t) MAXFILE) b
+          ∙ rw (le-ltb MAXFILE (length (table_text (into t) (rows r.done))) l') (ap (λ (bs : Bytes). written bs) (sym w))
 
       go :
-          (x y : Option Dialect) → dialectOf m ≡ x → dialectOf n ≡ y →
-          converter m n (consumedIn past) MAXFILE ≡ record { report = accepted; text = writtenIn past }
-      go none y p q = impossible (sym (idle (λ l c. answer-source m n l c p) [] cs refl refl).1 ∙ h)
-      go (some d) none p q = impossible (sym (idle (λ l c. answer-target m n d l c p q) [] cs refl refl).1 ∙ h)
-      go (some d) (some t) p q = let s = history-stood m n d t p q cs in at_stage d t s.0 p q s.1
+          (x y : Option Dialect) → dialect_of m ≡ x → dialect_of n ≡ y →
+          converter m n (consumed_in past) MAXFILE ≡ record { report = accepted; text = written_in past }
+      go none y p q = impossible (sym (idle (λ l c. answer_source m n l c p) [] cs refl refl).1 ∙ h)
+      go (some d) none p q = impossible (sym (idle (λ l c. answer_target m n d l c p q) [] cs refl refl).1 ∙ h)
+      go (some d) (some t) p q = let s = history_stood m n d t p q cs in at_stage d t s.0 p q s.1
 
   -- a fault found is the whole converter's
-  pub met-whole : (cs : List Call) (e : Report) → faultIn (history m n cs) ≡ some e → e ≡ (converter m n (consumedIn (history m n cs)) MAXFILE).report
-  unfolding faultIn endedIn if◌then◌else◌
-  met-whole cs e h = go (dialectOf m) (dialectOf n) refl refl
+  pub met_whole : (cs : List Call) (e : Report) → fault_in (history m n cs) ≡ some e → e ≡ (converter m n (consumed_in (history m n cs)) MAXFILE).report
+  unfolding fault_in ended_in if◌then◌else◌
+  met_whole cs e h = go (dialect_of m) (dialect_of n) refl refl
     where
       past : List Entry
       past = history m n cs
 
-      shown : (d : Dialect) (t : Target) (f : Fault) (r : Read) → seenIn d t past ≡ stopped f r → readFile d (some t) (consumedIn past) ≡ stopped f r
+      shown : (d : Dialect) (t : Target) (f : Fault) (r : Read) → seen_in d t past ≡ stopped f r → read_file d (some t) (consumed_in past) ≡ stopped f r
       shown d t f r s =
-          split-on (closed_in past) (λ z. rw z at s) λ z.
-          let unended : readBytes d (some t) (consumedIn past) ≡ stopped f r = rw z at s in
-          rw append-nil at (fault-stays-file d (some t) f r (consumedIn past) [] unended)
+          split_on (closed_in past) (λ z. rw z at s) λ z.
+          let unended : read_bytes d (some t) (consumed_in past) ≡ stopped f r = rw z at s in
+          rw append-nil at (fault_stays_file d (some t) f r (consumed_in past) [] unended)
 
       at_stage :
-          (d t : Dialect) (w : ConverterStage) → dialectOf m ≡ some d → dialectOf n ≡ some t → LiesAt d (into t) past w →
-          e ≡ (converter m n (consumedIn past) MAXFILE).report
-      at_stage d t (taking r) p q (stood-taking k z b w) = none-some (sym k ∙ h)
-      at_stage d t ended p q (stood-ended r k z b w) = none-some (sym k ∙ h)
-      at_stage d t (faulted x) p q (stood-faulted f r z k s w) =
-          let conv : converter m n (consumedIn past) MAXFILE ≡ unwritten (faultReport f r)
-          = converter-known m n d t (consumedIn past) MAXFILE p q ∙ ap (convertedAs (into t) MAXFILE) (shown d (into t) f r s) in
+          (d t : Dialect) (w : ConverterStage) → dialect_of m ≡ some d → dialect_of n ≡ some t → LiesAt d (into t) past w →
+          e ≡ (converter m n (consumed_in past) MAXFILE).report
+      at_stage d t (taking r) p q (stood_taking k z b w) = none_some (sym k ∙ h)
+      at_stage d t ended p q (stood_ended r k z b w) = none_some (sym k ∙ h)
+      at_stage d t (faulted x) p q (stood_faulted f r z k s w) =
+          let conv : converter m n (consumed_in past) MAXFILE ≡ unwritten (fault_report f r)
+          = converter_known m n d t (consumed_in past) MAXFILE p q ∙ ap (converted_as (into t) MAXFILE) (shown d (into t) f r s) in
           some_same (sym h ∙ k) ∙ z ∙ ap (λ (u : Written). u.report) (sym conv)
 
-      go : (x y : Option Dialect) → dialectOf m ≡ x → dialectOf n ≡ y → e ≡ (converter m n (consumedIn past) MAXFILE).report
-      go none y p q = none-some (sym (idle (λ l c. answer-source m n l c p) [] cs refl refl).0 ∙ h)
-      go (some d) none p q = none-some (sym (idle (λ l c. answer-target m n d l c p q) [] cs refl refl).0 ∙ h)
-      go (some d) (some t) p q = let s = history-stood m n d t p q cs in at_stage d t s.0 p q s.1
+      go : (x y : Option Dialect) → dialect_of m ≡ x → dialect_of n ≡ y → e ≡ (converter m n (consumed_in past) MAXFILE).report
+      go none y p q = none_some (sym (idle (λ l c. answer_source m n l c p) [] cs refl refl).0 ∙ h)
+      go (some d) none p q = none_some (sym (idle (λ l c. answer_target m n d l c p q) [] cs refl refl).0 ∙ h)
+      go (some d) (some t) p q = let s = history_stood m n d t p q cs in at_stage d t s.0 p q s.1
 
 -- a fault, and the records before it, of every file that begins with these bytes
 abbrev pub OfEveryFile : (m n : ℕ) (d : Dialect) (t : Target) → Bytes → Report → Type 0
 OfEveryFile m n d t bs told =
-    (e : Fault) × (r : Read) × (told ≡ faultReport e r)
-    × ((rest : Bytes) → (readFile d (some t) (bs ++ rest) ≡ stopped e r) × ((converter m n (bs ++ rest) MAXFILE).report ≡ told))
+    (e : Fault) × (r : Read) × (told ≡ fault_report e r)
+    × ((rest : Bytes) → (read_file d (some t) (bs ++ rest) ≡ stopped e r) × ((converter m n (bs ++ rest) MAXFILE).report ≡ told))
 
-module _ (m n : ℕ) (d t : Dialect) (p : dialectOf m ≡ some d) (q : dialectOf n ≡ some t) (past : List Entry) (bs : Bytes) (room : ℕ)
-    (k : faultIn past ≡ none) where
+module _ (m n : ℕ) (d t : Dialect) (p : dialect_of m ≡ some d) (q : dialect_of n ≡ some t) (past : List Entry) (bs : Bytes) (room : ℕ)
+    (k : fault_in past ≡ none) where
   -- a piece call that reports a fault where none was found before
-  pub piece-fault :
-      isFileFault (answerNow m n past (piece bs room)).report ≡ true →
-      OfEveryFile m n d (into t) (consumedIn past ++ bs) (answerNow m n past (piece bs room)).report
-  piece-fault h = go (answered-by m n past (piece bs room))
+  pub piece_fault :
+      is_file_fault (answer_now m n past (piece bs room)).report ≡ true →
+      OfEveryFile m n d (into t) (consumed_in past ++ bs) (answer_now m n past (piece bs room)).report
+  piece_fault h = go (answered_by m n past (piece bs room))
     where
       told : Report
-      told = (answerNow m n past (piece bs room)).report
+      told = (answer_now m n past (piece bs room)).report
 
       all : Bytes
-      all = consumedIn past ++ bs
+      all = consumed_in past ++ bs
 
       refuses : (x : ℕ) → told ≡ refusal x → within 1 9 x ≡ false → OfEveryFile m n d (into t) all told
       refuses x a e = let z : within 1 9 x ≡ true = rw a at h in impossible (sym e ∙ z)
 
-      by-progress : (x : Progress) → readBytes d (some (into t)) all ≡ x → told ≡ reportOf x → OfEveryFile m n d (into t) all told
-      by-progress (going r) b a = refuses 0 a refl
-      by-progress (stopped e r) b a = (
+      by_progress : (x : Progress) → read_bytes d (some (into t)) all ≡ x → told ≡ report_of x → OfEveryFile m n d (into t) all told
+      by_progress (going r) b a = refuses 0 a refl
+      by_progress (stopped e r) b a = (
         e,
         r,
         a,
         λ rest.
-            let stays : readFile d (some (into t)) (all ++ rest) ≡ stopped e r = fault-stays-file d (some (into t)) e r all rest b in
-            let conv : converter m n (all ++ rest) MAXFILE ≡ unwritten (faultReport e r)
-            = converter-known m n d t (all ++ rest) MAXFILE p q ∙ ap (convertedAs (into t) MAXFILE) stays in
+            let stays : read_file d (some (into t)) (all ++ rest) ≡ stopped e r = fault_stays_file d (some (into t)) e r all rest b in
+            let conv : converter m n (all ++ rest) MAXFILE ≡ unwritten (fault_report e r)
+            = converter_known m n d t (all ++ rest) MAXFILE p q ∙ ap (converted_as (into t) MAXFILE) stays in
             (stays, ap (λ (u : Written). u.report) conv ∙ sym a),
       )
 
       go : AnsweredBy m n past (piece bs room) → OfEveryFile m n d (into t) all told
-      go (by-eleven a) = refuses 11 (ap (λ (u : Written). u.report) a) refl
-      go (by-fault e f a) = none-some (sym k ∙ f)
-      go (by-sizes s a) = refuses 10 (ap (λ (u : Written). u.report) a) refl
-      go (by-reading d' t' p' q' k z free a) =
+      go (by_eleven a) = refuses 11 (ap (λ (u : Written). u.report) a) refl
+      go (by_fault e f a) = none_some (sym k ∙ f)
+      go (by_sizes s a) = refuses 10 (ap (λ (u : Written). u.report) a) refl
+      go (by_reading d' t' p' q' k z free a) =
           let same : d' ≡ d = some_same (sym p' ∙ p) in
           let same' : t' ≡ t = some_same (sym q' ∙ q) in
-          by-progress (readBytes d (some (into t)) all) refl
-          (ap (λ (u : Written). u.report) a ∙ ap₂ (λ (x y : Dialect). reportOf (readBytes x (some (into y)) all)) same same')
+          by_progress (read_bytes d (some (into t)) all) refl
+          (ap (λ (u : Written). u.report) a ∙ ap₂ (λ (x y : Dialect). report_of (read_bytes x (some (into y)) all)) same same')

@@ -7,7 +7,7 @@ use Prim.Native.Nat.{ℕ, zero, suc, ◌<◌}
 use native.Mathlib.Nat.{le_of_suc-le-suc, not-suc-le-zero}
 use lib.ListN.{length, get_or, drop}
 use Rattle.model.specs.rules.Base.{if◌then◌else◌, within}
-use Rattle.model.specs.rules.Utf8.{Row, rowOf, leads, leadByte, afterSecond, innerStep}
+use Rattle.model.specs.rules.Utf8.{Row, row_of, leads, lead_byte, after_second, inner_step}
 use Rattle.model.specs.declared.Lead.{Lead}
 use Rattle.model.specs.declared.Lead.TheVariants.{C2ToDf}
 use Rattle.model.specs.declared.Inner.TheVariants.{Second}
@@ -16,10 +16,10 @@ use Rattle.model.specs.declared.Advance.TheVariants.{On, Broken}
 
 -- one field of each row
 abbrev pub column : (Row → ℕ) → List Lead → List ℕ
-column slice ls = map (λ l. slice (rowOf l)) ls
+column slice ls = map (λ l. slice (row_of l)) ls
 
 -- an entry is that field of the row at its index
-pub entry : (slice : Row → ℕ) (ls : List Lead) (i : ℕ) → i < length ls → get_or (column slice ls) i 0 ≡ slice (rowOf (get_or ls i C2ToDf))
+pub entry : (slice : Row → ℕ) (ls : List Lead) (i : ℕ) → i < length ls → get_or (column slice ls) i 0 ≡ slice (row_of (get_or ls i C2ToDf))
 entry slice [] i h = absurd (not-suc-le-zero h)
 entry slice (l ∷ ls) zero h = refl
 entry slice (l ∷ ls) (suc i) h = entry slice ls i (le_of_suc-le-suc h)
@@ -40,23 +40,23 @@ abbrev pub highs : List ℕ
 highs = column (λ r. r.hi2) leads
 
 -- the search of the table from index i on
-lead-from : (ls : List Lead) (i b : ℕ) → i < length ls
-    → leadByte (drop i ls) b
+lead_from : (ls : List Lead) (i b : ℕ) → i < length ls
+    → lead_byte (drop i ls) b
     ≡ (if within (get_or (column (λ r. r.lo) ls) i 0) (get_or (column (λ r. r.hi) ls) i 0) b
-    then On (Within (Second (get_or ls i C2ToDf))) else leadByte (drop (suc i) ls) b)
-unfolding leadByte
-lead-from [] i b h = absurd (not-suc-le-zero h)
-lead-from (l ∷ ls) zero b h = refl
-lead-from (l ∷ ls) (suc i) b h = lead-from ls i b (le_of_suc-le-suc h)
+    then On (Within (Second (get_or ls i C2ToDf))) else lead_byte (drop (suc i) ls) b)
+unfolding lead_byte
+lead_from [] i b h = absurd (not-suc-le-zero h)
+lead_from (l ∷ ls) zero b h = refl
+lead_from (l ∷ ls) (suc i) b h = lead_from ls i b (le_of_suc-le-suc h)
 
 module _ (i b : ℕ) (h : i < 8) where
-  pub lead-at : leadByte (drop i leads) b
-      ≡ (if within (get_or firsts i 0) (get_or lasts i 0) b then On (Within (Second (get_or leads i C2ToDf))) else leadByte (drop (suc i) leads) b)
+  pub lead_at : lead_byte (drop i leads) b
+      ≡ (if within (get_or firsts i 0) (get_or lasts i 0) b then On (Within (Second (get_or leads i C2ToDf))) else lead_byte (drop (suc i) leads) b)
   unfolding leads
-  lead-at = lead-from leads i b h
+  lead_at = lead_from leads i b h
 
   -- the second byte of a character whose row has index i
   pub second_at : {l : Lead} → get_or leads i C2ToDf ≡ l
-      → innerStep (Second l) b ≡ (if within (get_or lows i 0) (get_or highs i 0) b then On (afterSecond (get_or sizes i 0)) else Broken)
-  unfolding leads innerStep
+      → inner_step (Second l) b ≡ (if within (get_or lows i 0) (get_or highs i 0) b then On (after_second (get_or sizes i 0)) else Broken)
+  unfolding leads inner_step
   second_at e = rw (← e, entry (λ r. r.lo2) leads i h, entry (λ r. r.hi2) leads i h, entry (λ r. r.size) leads i h)

@@ -1,7 +1,7 @@
 -- What the functions on code points return, also for numbers that are not code points.
 use Rattle.std.specs.Prelude.{ℕ, ◌+◌, ◌*◌, ◌%◌, ◌≡◌, true, [], ◌∷◌, ◌++◌, leb, length, take}
 use Rattle.model.specs.rules.Base.{if◌then◌else◌, Bytes}
-use Rattle.model.specs.rules.Utf8.{pack, isHigh, isLow, joined}
+use Rattle.model.specs.rules.Utf8.{pack, is_high, is_low, joined}
 
 -- the bytes of a code point; a number above the last code point has none (§2.10)
 unfoldable pub packed : ℕ → Bytes
@@ -17,10 +17,10 @@ pub record Packs (u : ℕ) (bytes : Bytes) (size : ℕ) : Type 0 where
   pub padded : bytes ≡ take 4 (packed u ++ zeros)
 
 -- ten bits of each number, plus 0x10000
-abbrev pub tenBits : ℕ → ℕ → ℕ
-tenBits high low = 0x10000 + high % 0x400 * 0x400 + low % 0x400
+abbrev pub ten_bits : ℕ → ℕ → ℕ
+ten_bits high low = 0x10000 + high % 0x400 * 0x400 + low % 0x400
 
 -- the code point of a surrogate pair; for any other numbers, ten bits of each (§2.8)
 pub record Joins (high low r : ℕ) : Type 0 where
-  pub bits : r ≡ tenBits high low
-  pub joins : isHigh high ≡ true → isLow low ≡ true → r ≡ joined high low
+  pub bits : r ≡ ten_bits high low
+  pub joins : is_high high ≡ true → is_low low ≡ true → r ≡ joined high low

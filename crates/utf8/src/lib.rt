@@ -1,12 +1,12 @@
 // UTF-8: a text validated a byte at a time, and code points packed into bytes. A state and the next byte go in, and the next state comes
 // out, or that the text is broken; a code point goes in, and its bytes come out. The definitions are those of model's
-// specs/rules/Utf8.antt (charStep, pack, joined); specs/Codes.antt says what is returned for a number that is no code point.
+// specs/rules/Utf8.antt (char_step, pack, joined); specs/Codes.antt says what is returned for a number that is no code point.
 //
 // The prover compares the table with the definition's rows entry by entry (proofs/Table.antt): a row that changes in both needs no new
 // proof. A return is proved from the tests before it, so a changed test needs the proof of its function again.
 ghost use Rattle.std.specs.Prelude.{◌≡◌, ◌+◌, ◌%◌, ◌<◌, get_or};
 ghost use Rattle.model.specs.rules.Base.{if◌then◌else◌, within};
-ghost use Rattle.model.specs.rules.Utf8.{leads, leadByte, innerStep, charStep};
+ghost use Rattle.model.specs.rules.Utf8.{leads, lead_byte, inner_step, char_step};
 ghost use Rattle.model.specs.declared.Lead.TheVariants.{C2ToDf};
 ghost use Rattle.model.specs.declared.Inner.TheVariants.{Second};
 ghost use Rattle.model.specs.declared.Advance.TheVariants.{On, Broken};
@@ -68,7 +68,7 @@ fn row_of(l: Lead) -> usize
 
 // The first byte of a multibyte character.
 fn lead_byte(b: u8) -> Advance
-    ensures { result ≡ leadByte leads b }
+    ensures { result ≡ lead_byte leads b }
 {
     let first = FIRST;
     let last = LAST;
@@ -87,7 +87,7 @@ fn lead_byte(b: u8) -> Advance
 
 // The second byte of a character of this row.
 fn second_byte(l: Lead, b: u8) -> Advance
-    ensures { result ≡ innerStep (Second l) b }
+    ensures { result ≡ inner_step (Second l) b }
 {
     let row = row_of(l);
     if b < LOW[row] {
@@ -121,7 +121,7 @@ fn later_byte(b: u8, after: Char) -> Advance
 
 // The next byte of a text. ASCII is tested before the table is searched.
 pub fn char_step(c: Char, b: u8) -> Advance
-    ensures { result ≡ charStep c b }
+    ensures { result ≡ char_step c b }
 {
     match c {
         Char::Whole => {

@@ -1,7 +1,7 @@
 -- `buffer::emit` meets its contract: a copy, or a sum alone.
 use mathlib.Core.Path.{refl}
 use borrow.Author.Rules.{rules}
-use Rattle.buffer.proofs.WriteProgress.{put_written, put-measured}
+use Rattle.buffer.proofs.WriteProgress.{put_written, put_measured}
 use Rattle.buffer.proofs.emit.Statement.{statement}
 use Rattle.buffer.proofs.emit.Tie as tie
 
@@ -12,7 +12,7 @@ returns : tie.Need-returns
 returns c = put_written c.before.before.before.before.if1.true c.before.before.copy.ensures
 
 returns-2 : tie.Need-returns-2
-returns-2 c = put-measured c.before.if1.false c.measured.ensures refl
+returns-2 c = put_measured c.before.if1.false c.measured.ensures refl
 
 measured-requires : tie.Need-measured-requires
 measured-requires c κs = c.before.before.before.requires.measured c.if1.false

@@ -2,7 +2,7 @@
 use mathlib.Core.Path.{refl}
 use native.Mathlib.Omega.{arith}
 use borrow.Author.Rules.{rules}
-use Rattle.buffer.proofs.WriteProgress.{set-written, put_written, put-measured}
+use Rattle.buffer.proofs.WriteProgress.{set_written, put_written, put_measured}
 use Rattle.buffer.proofs.emit_byte.Statement.{statement}
 use Rattle.buffer.proofs.emit_byte.Tie as tie
 
@@ -12,10 +12,10 @@ slice-write-out c = omega (arith, c.before.before.requires.inside c.if1.true)
 returns : tie.Need-returns
 returns c =
     let a = c.before.before.args in
-    put_written c.if1.true (refl, set-written a.out.now a.o a.b (omega (arith, c.before.before.requires.inside c.if1.true)))
+    put_written c.if1.true (refl, set_written a.out.now a.o a.b (omega (arith, c.before.before.requires.inside c.if1.true)))
 
 returns-2 : tie.Need-returns-2
-returns-2 c = put-measured c.before.if1.false c.measured.ensures refl
+returns-2 c = put_measured c.before.if1.false c.measured.ensures refl
 
 measured-requires : tie.Need-measured-requires
 measured-requires c κs = c.before.before.requires.measured c.if1.false

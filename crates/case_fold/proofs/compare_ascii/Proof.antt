@@ -5,14 +5,14 @@ use Prim.Native.Nat.{◌-◌, ◌≤◌}
 use native.Mathlib.Omega.{arith}
 use lib.ListN.{length}
 use borrow.Author.Rules.{rules}
-use Rattle.case_fold.specs.AsciiNames.{same-in-ascii, different-in-ascii, falls-back}
-use Rattle.case_fold.proofs.Letters.{ascii-at}
-use Rattle.case_fold.proofs.FoldedNames.{sameFrom, same_end, same_differs, same_next}
+use Rattle.case_fold.specs.AsciiNames.{same_in_ascii, different_in_ascii, falls_back}
+use Rattle.case_fold.proofs.Letters.{ascii_at}
+use Rattle.case_fold.proofs.FoldedNames.{same_from, same_end, same_differs, same_next}
 use Rattle.case_fold.proofs.compare_ascii.Statement.{statement}
 use Rattle.case_fold.proofs.compare_ascii.Tie as tie
 
 abbrev invariant-loop : tie.invariant-loop
-invariant-loop a b i₀ i = (i ≤ length a) × (sameFrom a b 0 ≡ sameFrom a b i)
+invariant-loop a b i₀ i = (i ≤ length a) × (same_from a b 0 ≡ same_from a b i)
 
 abbrev decreases-loop : tie.decreases-loop
 decreases-loop a b i₀ i = length a - i
@@ -24,10 +24,10 @@ returns-3 c =
     let u = reads.before.before in
     let s = u.before.before.before.args in
     let i = u.loop.i in
-    different-in-ascii
+    different_in_ascii
     (u.loop.invariant.1 ∙ same_differs s.a.now s.b.now i (omega arith) (omega arith)
     (λ e. c.if3.true
-    (compared.lower-case.ensures ∙ sym (ascii-at s.a.now i (omega arith)) ∙ e ∙ ascii-at s.b.now i (omega arith)
+    (compared.lower-case.ensures ∙ sym (ascii_at s.a.now i (omega arith)) ∙ e ∙ ascii_at s.b.now i (omega arith)
     ∙ sym c.before.lower-case2.ensures)))
 
 loop-again : tie.Need-loop-preserved invariant-loop decreases-loop
@@ -39,15 +39,15 @@ loop-again c =
     let i = u.loop.i in (
       omega arith,
       u.loop.invariant.1 ∙ same_next s.a.now s.b.now i (omega arith) (omega arith)
-          (ascii-at s.a.now i (omega arith) ∙ sym compared.lower-case.ensures ∙ c.if3.false ∙ c.before.lower-case2.ensures
-          ∙ sym (ascii-at s.b.now i (omega arith))),
+          (ascii_at s.a.now i (omega arith) ∙ sym compared.lower-case.ensures ∙ c.if3.false ∙ c.before.lower-case2.ensures
+          ∙ sym (ascii_at s.b.now i (omega arith))),
     )
 
 returns-4 : tie.Need-returns-4 invariant-loop decreases-loop
 returns-4 c =
     let u = c.before in
     let s = u.before.before.before.args in
-    same-in-ascii (u.loop.invariant.1 ∙ same_end s.a.now s.b.now u.loop.i (omega arith) (omega arith))
+    same_in_ascii (u.loop.invariant.1 ∙ same_end s.a.now s.b.now u.loop.i (omega arith) (omega arith))
 
 pub compare-ascii-spec : {M : Type 1} → statement M
 compare-ascii-spec =
@@ -58,8 +58,8 @@ compare-ascii-spec =
     (λ c. (omega arith, refl))
     (λ c. omega arith)
     (λ c. omega arith)
-    (λ c. falls-back)
-    (λ c. falls-back)
+    (λ c. falls_back)
+    (λ c. falls_back)
     (λ c κs. search rules)
     (λ c κs. search rules)
     returns-3

@@ -4,12 +4,12 @@ use Prim.Native.Nat.{◌-◌, ◌≤◌}
 use native.Mathlib.Omega.{arith}
 use lib.ListN.{length}
 use borrow.Author.Tests.{eqb-true, eqb-false, not-true, not-false}
-use Rattle.case_fold.proofs.FoldedNames.{sameFrom, same_end, same_differs, same_next}
+use Rattle.case_fold.proofs.FoldedNames.{same_from, same_end, same_differs, same_next}
 use Rattle.case_fold.proofs.same_by_table.Statement.{statement}
 use Rattle.case_fold.proofs.same_by_table.Tie as tie
 
 abbrev invariant-loop : tie.invariant-loop
-invariant-loop table a b i₀ i = (i ≤ length a) × (sameFrom a b 0 ≡ sameFrom a b i)
+invariant-loop table a b i₀ i = (i ≤ length a) × (same_from a b 0 ≡ same_from a b i)
 
 abbrev decreases-loop : tie.decreases-loop
 decreases-loop table a b i₀ i = length a - i

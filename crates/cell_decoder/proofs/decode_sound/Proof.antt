@@ -9,15 +9,15 @@ returns : tie.Need-returns
 returns c =
     let measured = c.before.before in
     let a = measured.before.before.before.args in
-    too_long a.d a.raw.now a.room.now _ (omega (arith, measured.content-length.ensures, c.before.if1.true)) c.call-report.ensures
+    too_long a.d a.raw.now a.room.now _ (omega (arith, measured.content_length.ensures, c.before.if1.true)) c.call-report.ensures
 
 returns-2 : tie.Need-returns-2
 returns-2 c =
     let tested = c.before.before.before.before.before in
     let measured = tested.before in
     let a = measured.before.before.before.args in
-    fits a.d a.raw.now a.room.now _ _ _ (omega (arith, measured.content-length.ensures, tested.if1.false))
-    measured.content-length.ensures c.kind-of.ensures c.before.before.before.write-content.ensures
+    fits a.d a.raw.now a.room.now _ _ _ (omega (arith, measured.content_length.ensures, tested.if1.false))
+    measured.content_length.ensures c.kind-of.ensures c.before.before.before.write-content.ensures
 
 pub decode-sound-spec : {M : Type 1} → statement M
 decode-sound-spec =
@@ -26,7 +26,7 @@ decode-sound-spec =
     (λ c κs. search rules)
     (λ c κs. search rules)
     returns
-    (λ c κs. omega (arith, c.before.before.content-length.ensures, c.before.if1.false))
+    (λ c κs. omega (arith, c.before.before.content_length.ensures, c.before.if1.false))
     (λ c κs. search rules)
     (λ c. search rules)
     returns-2)

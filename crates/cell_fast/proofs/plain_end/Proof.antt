@@ -6,12 +6,12 @@ use mathlib.Core.Bool.{true}
 use lib.ListN.{get_or}
 use borrow.Author.Rules.{rules}
 use borrow.Author.Tests.{eq-eqb}
-use Rattle.model.specs.rules.Dialect.{delimiterOf, quoteOf}
-use Rattle.cell_fast.specs.TextRuns.{TextRun, isOpen}
-use Rattle.cell_fast.specs.CellOutcome.{isEnd}
-use Rattle.cell_fast.proofs.PassRuns.{pass-none, pass-zeros}
-use Rattle.cell_fast.proofs.TextRuns.{ascii-text}
-use Rattle.cell_fast.proofs.PlainCells.{plain-found}
+use Rattle.model.specs.rules.Dialect.{delimiter_of, quote_of}
+use Rattle.cell_fast.specs.TextRuns.{TextRun, is_open}
+use Rattle.cell_fast.specs.CellOutcome.{is_end}
+use Rattle.cell_fast.proofs.PassRuns.{pass_none, pass_zeros}
+use Rattle.cell_fast.proofs.TextRuns.{ascii_text}
+use Rattle.cell_fast.proofs.PlainCells.{plain_found}
 use Rattle.cell_fast.proofs.plain_end.Statement.{statement}
 use Rattle.cell_fast.proofs.plain_end.Tie as tie
 
@@ -22,12 +22,12 @@ returns c d m ep eq =
     let a = u.args in
     let n = g.guess.result in
     let passed =
-    (pass-zeros (pass-none a.s.now a.at a.stop (omega arith)) (omega arith) g.before.word.ensures
+    (pass_zeros (pass_none a.s.now a.at a.stop (omega arith)) (omega arith) g.before.word.ensures
     c.before.before.unclean.ensures n (c.if4.true ∙ c.before.before-flag.ensures)).1 in
-    let run : TextRun (isOpen (delimiterOf d) (quoteOf d)) a.s.now a.at a.stop (a.at + n) = rw (ep, eq) at (ascii-text a.p a.q passed) in
-    let end : isEnd (delimiterOf d) (get_or a.s.now (a.at + n) 0) ≡ true =
-    rw (c.before.before.before.if3.true, ep, eq-eqb (delimiterOf d) (delimiterOf d) refl) in
-    plain-found d m u.requires.0 u.requires.1 (λ e. u.requires.4 (e ∙ sym eq)) run (omega arith) end
+    let run : TextRun (is_open (delimiter_of d) (quote_of d)) a.s.now a.at a.stop (a.at + n) = rw (ep, eq) at (ascii_text a.p a.q passed) in
+    let end : is_end (delimiter_of d) (get_or a.s.now (a.at + n) 0) ≡ true =
+    rw (c.before.before.before.if3.true, ep, eq-eqb (delimiter_of d) (delimiter_of d) refl) in
+    plain_found d m u.requires.0 u.requires.1 (λ e. u.requires.4 (e ∙ sym eq)) run (omega arith) end
 
 pub plain-end-spec : {M : Type 1} → statement M
 plain-end-spec =

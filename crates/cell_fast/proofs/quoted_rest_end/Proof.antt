@@ -3,15 +3,15 @@ use mathlib.Core.Path.{◌∙◌}
 use mathlib.Core.Bool.{false}
 use borrow.Author.Rules.{rules}
 use Rattle.cell_fast.proofs.CellOutcomes.{untold}
-use Rattle.cell_fast.proofs.TextRuns.{quoted-run, quoted-join}
-use Rattle.cell_fast.proofs.QuotedCells.{quoted-found}
+use Rattle.cell_fast.proofs.TextRuns.{quoted_run, quoted_join}
+use Rattle.cell_fast.proofs.QuotedCells.{quoted_found}
 use Rattle.cell_fast.proofs.quoted_rest_end.Statement.{statement}
 use Rattle.cell_fast.proofs.quoted_rest_end.Tie as tie
 
 returns : tie.Need-returns
 returns c at h e run =
     let u = c.before.before.before.before.before in
-    quoted-found h u.requires.1 (e ∙ u.requires.2) (quoted-join (quoted-run u.args.d u.args.q u.requires.2 u.requires.1 run)
+    quoted_found h u.requires.1 (e ∙ u.requires.2) (quoted_join (quoted_run u.args.d u.args.q u.requires.2 u.requires.1 run)
     c.before.before.before.quoted-text.ensures) (c.before.closes.ensures c.if2.true)
 
 pub quoted-rest-end-spec : {M : Type 1} → statement M

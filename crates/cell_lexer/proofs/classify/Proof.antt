@@ -1,12 +1,12 @@
 -- `cell_lexer::classify` meets its contract: each arm is the definition's step of its state.
-use Rattle.model.specs.rules.Cell.{cellStep}
+use Rattle.model.specs.rules.Cell.{cell_step}
 use Rattle.model.proofs.Tests.{tests}
 use borrow.Author.Rules.{rules}
 use Rattle.cell_lexer.proofs.classify.Statement.{statement}
 use Rattle.cell_lexer.proofs.classify.Tie as tie
 
 pub classify-spec : {M : Type 1} → statement M
-unfolding cellStep
+unfolding cell_step
 classify-spec =
     tie.close
     (tie.spec

@@ -1,13 +1,13 @@
 -- `cell_lexer::classify_closed` meets its contract, by its test.
 use Rattle.model.specs.rules.Base.{if◌then◌else◌}
-use Rattle.model.specs.rules.Cell.{cellStep}
+use Rattle.model.specs.rules.Cell.{cell_step}
 use Rattle.model.proofs.Tests.{tests}
 use borrow.Author.Rules.{rules}
 use Rattle.cell_lexer.proofs.classify_closed.Statement.{statement}
 use Rattle.cell_lexer.proofs.classify_closed.Tie as tie
 
 pub classify-closed-spec : {M : Type 1} → statement M
-unfolding cellStep if◌then◌else◌
+unfolding cell_step if◌then◌else◌
 classify-closed-spec =
     tie.close
     (tie.spec

@@ -3,7 +3,7 @@ use native.Mathlib.Omega.{arith}
 use Rattle.model.specs.rules.Base.{if◌then◌else◌}
 use Rattle.model.specs.rules.Cell.{plain_byte}
 use Rattle.model.proofs.Tests.{tests}
-use Rattle.model.proofs.cell_laws.Utf8.{ascii-whole}
+use Rattle.model.proofs.cell_laws.Utf8.{ascii_whole}
 use borrow.Author.Rules.{rules}
 use Rattle.cell_lexer.proofs.classify_plain.Statement.{statement}
 use Rattle.cell_lexer.proofs.classify_plain.Tie as tie
@@ -19,7 +19,7 @@ classify-plain-spec =
     (λ c. search (tests, ← c.before.is-separator.ensures, c.if2.true, ← c.before.before.before.quote-of.ensures, c.before.before.if1.false))
     (λ c. let start = c.before.before.before.before.before in search (
       tests,
-      ascii-whole start.args.b (omega arith),
+      ascii_whole start.args.b (omega arith),
       ← c.before.before.is-separator.ensures,
       c.before.if2.false,
       ← c.before.before.before.before.quote-of.ensures,

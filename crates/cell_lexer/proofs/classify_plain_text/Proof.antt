@@ -1,12 +1,12 @@
 -- `cell_lexer::classify_plain_text` meets its contract: within a character the UTF-8 step decides.
-use Rattle.model.specs.rules.Cell.{cellStep}
+use Rattle.model.specs.rules.Cell.{cell_step}
 use Rattle.model.proofs.Tests.{tests}
 use borrow.Author.Rules.{rules}
 use Rattle.cell_lexer.proofs.classify_plain_text.Statement.{statement}
 use Rattle.cell_lexer.proofs.classify_plain_text.Tie as tie
 
 pub classify-plain-text-spec : {M : Type 1} → statement M
-unfolding cellStep
+unfolding cell_step
 classify-plain-text-spec =
     tie.close (tie.spec
     (λ c. search rules)

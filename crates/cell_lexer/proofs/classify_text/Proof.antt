@@ -1,12 +1,12 @@
 -- `cell_lexer::classify_text` meets its contract: within a character the UTF-8 step decides.
-use Rattle.model.specs.rules.Cell.{cellStep}
+use Rattle.model.specs.rules.Cell.{cell_step}
 use Rattle.model.proofs.Tests.{tests}
 use borrow.Author.Rules.{rules}
 use Rattle.cell_lexer.proofs.classify_text.Statement.{statement}
 use Rattle.cell_lexer.proofs.classify_text.Tie as tie
 
 pub classify-text-spec : {M : Type 1} → statement M
-unfolding cellStep
+unfolding cell_step
 classify-text-spec =
     tie.close
     (tie.spec

@@ -1,13 +1,13 @@
 -- `cell_lexer::plus_quoted` meets its contract, by its test.
 use Rattle.model.specs.rules.Base.{if◌then◌else◌}
-use Rattle.model.specs.rules.Cell.{quotedByte}
+use Rattle.model.specs.rules.Cell.{quoted_byte}
 use Rattle.model.proofs.Tests.{tests}
 use borrow.Author.Rules.{rules}
 use Rattle.cell_lexer.proofs.plus_quoted.Statement.{statement}
 use Rattle.cell_lexer.proofs.plus_quoted.Tie as tie
 
 pub plus-quoted-spec : {M : Type 1} → statement M
-unfolding quotedByte if◌then◌else◌
+unfolding quoted_byte if◌then◌else◌
 plus-quoted-spec =
     tie.close
     (tie.spec

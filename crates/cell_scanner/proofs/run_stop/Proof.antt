@@ -10,7 +10,7 @@ use Rattle.model.specs.declared.Cell.TheVariants.{Fresh, Quoted, Closed, Escape,
 use Rattle.model.specs.contracts.Cell.{the_type}
 use Rattle.model.proofs.Tests.{tests}
 use Rattle.cell_scanner.specs.declared.RunStop.TheVariants.{Fallback}
-use Rattle.cell_scanner.specs.Run.{runStop}
+use Rattle.cell_scanner.specs.Run.{run_stop}
 use borrow.Author.Rules.{rules}
 use Rattle.cell_scanner.proofs.run_stop.Statement.{statement}
 use Rattle.cell_scanner.proofs.run_stop.Tie as tie
@@ -19,7 +19,7 @@ use Rattle.cell_scanner.proofs.run_stop.Tie as tie
 abbrev others : List ℕ
 others = 0 ∷ 2 ∷ 3 ∷ 4 ∷ 5 ∷ 6 ∷ 8 ∷ []
 
-no_run : (d : Dialect) (c : Cell) → OneOf others (declared.tag_of the_type c) → Fallback ≡ runStop d c
+no_run : (d : Dialect) (c : Cell) → OneOf others (declared.tag_of the_type c) → Fallback ≡ run_stop d c
 no_run d Fresh h = refl
 no_run d (Quoted t) h = absurd (miss others 1 tt h)
 no_run d Closed h = refl

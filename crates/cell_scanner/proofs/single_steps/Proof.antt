@@ -5,8 +5,8 @@ use mathlib.Core.Path.{◌≡◌, refl, sym, ◌∙◌}
 use lib.ListN.{length, get_or}
 use Rattle.model.specs.rules.Api.{slice}
 use Rattle.cell_scanner.specs.Run.{leading}
-use Rattle.swar.proofs.Ordinary.{below, above, first-stop, second-stop, proceeds-on}
-use Rattle.cell_scanner.proofs.Runs.{leading-on, leading-ends, leading-none}
+use Rattle.swar.proofs.Ordinary.{below, above, first_stop, second_stop, proceeds_on}
+use Rattle.cell_scanner.proofs.Runs.{leading_on, leading_ends, leading_none}
 use Rattle.cell_scanner.proofs.single_steps.Statement.{statement}
 use Rattle.cell_scanner.proofs.single_steps.Tie as tie
 
@@ -24,21 +24,21 @@ returns c =
     let u = c.before.before.before in
     let a = u.before.args in
     let end = below a.p a.q (get_or a.s.now u.loop.i 0) (omega arith) in
-    sym (u.loop.invariant.2 ∙ leading-ends a.s.now u.loop.i a.stop a.p a.q c.before.before.loop-test.true u.loop.invariant.1 end)
+    sym (u.loop.invariant.2 ∙ leading_ends a.s.now u.loop.i a.stop a.p a.q c.before.before.loop-test.true u.loop.invariant.1 end)
 
 returns-2 : tie.Need-returns-2 invariant-loop decreases-loop
 returns-2 c =
     let u = c.before.before.before.before in
     let a = u.before.args in
     let end = above a.p a.q (get_or a.s.now u.loop.i 0) (omega arith) in
-    sym (u.loop.invariant.2 ∙ leading-ends a.s.now u.loop.i a.stop a.p a.q c.before.before.before.loop-test.true u.loop.invariant.1 end)
+    sym (u.loop.invariant.2 ∙ leading_ends a.s.now u.loop.i a.stop a.p a.q c.before.before.before.loop-test.true u.loop.invariant.1 end)
 
 returns-3 : tie.Need-returns-3 invariant-loop decreases-loop
 returns-3 c =
     let u = c.before.before.before.before.before in
     let a = u.before.args in
-    let end = first-stop a.p a.q (get_or a.s.now u.loop.i 0) c.if3.true in
-    sym (u.loop.invariant.2 ∙ leading-ends a.s.now u.loop.i a.stop a.p a.q
+    let end = first_stop a.p a.q (get_or a.s.now u.loop.i 0) c.if3.true in
+    sym (u.loop.invariant.2 ∙ leading_ends a.s.now u.loop.i a.stop a.p a.q
     c.before.before.before.before.loop-test.true u.loop.invariant.1 end)
 
 returns-4 : tie.Need-returns-4 invariant-loop decreases-loop
@@ -46,18 +46,18 @@ returns-4 c =
     let at_test = c.before.before.before.before.before in
     let u = at_test.before in
     let a = u.before.args in
-    let end = second-stop a.p a.q (get_or a.s.now u.loop.i 0) c.if4.true in
-    sym (u.loop.invariant.2 ∙ leading-ends a.s.now u.loop.i a.stop a.p a.q at_test.loop-test.true u.loop.invariant.1 end)
+    let end = second_stop a.p a.q (get_or a.s.now u.loop.i 0) c.if4.true in
+    sym (u.loop.invariant.2 ∙ leading_ends a.s.now u.loop.i a.stop a.p a.q at_test.loop-test.true u.loop.invariant.1 end)
 
 loop-again : tie.Need-loop-preserved invariant-loop decreases-loop
 loop-again c =
     let at_test = c.before.before.before.before.before in
     let u = at_test.before in
     let a = u.before.args in
-    let on = proceeds-on a.p a.q (get_or a.s.now u.loop.i 0) (omega arith) (omega arith) c.before.if3.false c.if4.false in (
+    let on = proceeds_on a.p a.q (get_or a.s.now u.loop.i 0) (omega arith) (omega arith) c.before.if3.false c.if4.false in (
       omega arith,
       u.loop.invariant.1,
-      u.loop.invariant.2 ∙ leading-on a.s.now u.loop.i a.stop a.p a.q at_test.loop-test.true u.loop.invariant.1 on,
+      u.loop.invariant.2 ∙ leading_on a.s.now u.loop.i a.stop a.p a.q at_test.loop-test.true u.loop.invariant.1 on,
     )
 
 returns-5 : tie.Need-returns-5 invariant-loop decreases-loop
@@ -65,7 +65,7 @@ returns-5 c =
     let u = c.before in
     let a = u.before.args in
     let e : u.loop.i ≡ a.stop = omega arith in
-    sym (u.loop.invariant.2 ∙ rw e (leading-none a.s.now a.stop a.p a.q))
+    sym (u.loop.invariant.2 ∙ rw e (leading_none a.s.now a.stop a.p a.q))
 
 pub single-steps-spec : {M : Type 1} → statement M
 single-steps-spec =

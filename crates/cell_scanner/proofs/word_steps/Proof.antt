@@ -7,8 +7,8 @@ use lib.ListN.{length}
 use borrow.Author.Rules.{rules}
 use Rattle.model.specs.rules.Api.{slice}
 use Rattle.cell_scanner.specs.Run.{leading}
-use Rattle.cell_scanner.proofs.Runs.{part-short}
-use Rattle.cell_scanner.proofs.WordSteps.{run-goes-on, run_ends}
+use Rattle.cell_scanner.proofs.Runs.{part_short}
+use Rattle.cell_scanner.proofs.WordSteps.{run_goes_on, run_ends}
 use Rattle.cell_scanner.proofs.word_steps.Statement.{statement}
 use Rattle.cell_scanner.proofs.word_steps.Tie as tie
 
@@ -40,7 +40,7 @@ loop-again c =
     let a = u.before.before.args in
     let i = u.loop.i in
     let on =
-    run-goes-on a.s.now i a.stop a.p a.q _ _ (omega arith) c.before.before.word.ensures
+    run_goes_on a.s.now i a.stop a.p a.q _ _ (omega arith) c.before.before.word.ensures
     c.before.unordinary.ensures c.if1.false in
     (omega arith, u.loop.invariant.1, omega arith, omega arith)
 
@@ -48,7 +48,7 @@ returns-2 : tie.Need-returns-2 invariant-loop decreases-loop
 returns-2 c =
     let u = c.before.before in
     let a = u.before.before.args in
-    let short = part-short a.p a.q a.s.now u.loop.i a.stop u.loop.invariant.0 u.loop.invariant.1 in
+    let short = part_short a.p a.q a.s.now u.loop.i a.stop u.loop.invariant.0 u.loop.invariant.1 in
     (omega arith, omega arith)
 
 pub word-steps-spec : {M : Type 1} → statement M

@@ -5,7 +5,7 @@ use Prim.Native.Nat.{◌+◌, ◌≤◌}
 use lib.ListN.{length}
 use lib.Seq.{length-take-le}
 use borrow.Author.Rules.{rules}
-use Rattle.file_cursor.proofs.RecordChecks.{too_many, ruled-faulty, ruled-sound}
+use Rattle.file_cursor.proofs.RecordChecks.{too_many, ruled_faulty, ruled_sound}
 use Rattle.file_cursor.proofs.finish_record.Statement.{statement}
 use Rattle.file_cursor.proofs.finish_record.Tie as tie
 
@@ -23,7 +23,7 @@ slice-aggregate-check-record c =
     let start = c4.before.before in
     let a = start.args in
     let m : a.cells ≤ 64 = c.before.if1.false in
-    let k : 64 ≤ length a.starts.now = start.requires.0.at-starts in
+    let k : 64 ≤ length a.starts.now = start.requires.0.at_starts in
     sym (length-take-le a.cells a.starts.now (omega arith))
 
 slice-aggregate-check-record-2 : tie.Need-slice-aggregate-check-record-2
@@ -32,7 +32,7 @@ slice-aggregate-check-record-2 c =
     let start = c4.before.before.before in
     let a = start.args in
     let m : a.cells ≤ 64 = c.before.before.if1.false in
-    let k : 64 ≤ length a.ends.now = start.requires.0.at-ends in
+    let k : 64 ≤ length a.ends.now = start.requires.0.at_ends in
     sym (length-take-le a.cells a.ends.now (omega arith))
 
 slice-aggregate-check-record-3 : tie.Need-slice-aggregate-check-record-3
@@ -42,7 +42,7 @@ slice-aggregate-check-record-3 c =
     let start = c8 in
     let a = start.args in
     let m : a.cells ≤ 64 = c.before.before.before.if1.false in
-    let k : 64 ≤ length a.kinds.now = start.requires.0.at-kinds in
+    let k : 64 ≤ length a.kinds.now = start.requires.0.at_kinds in
     sym (length-take-le a.cells a.kinds.now (omega arith))
 
 check-record-requires : tie.Need-check-record-requires
@@ -93,7 +93,7 @@ returns-2 c =
     let a = u.before.before.before.before.before.before.before.before.before.args in
     let sound = c.before.before.before.enum_told.given.1 in
     λ rs vs y z.
-    ruled-sound a.d a.aim a.file.now a.starts.now a.ends.now a.kinds.now a.cursor a.start a.cells a.state a.next rs vs y z
+    ruled_sound a.d a.aim a.file.now a.starts.now a.ends.now a.kinds.now a.cursor a.start a.cells a.state a.next rs vs y z
     _ z.values u.before.before.before.before.if1.false _ u.check-record.ensures sound
 
 returns-3 : tie.Need-returns-3
@@ -102,7 +102,7 @@ returns-3 c =
     let u = c4.before in
     let a = u.before.before.before.before.before.before.before.before.before.args in
     λ rs vs y z.
-    ruled-faulty a.d a.aim a.file.now a.starts.now a.ends.now a.kinds.now a.cursor a.start a.cells a.state a.next rs vs y z
+    ruled_faulty a.d a.aim a.file.now a.starts.now a.ends.now a.kinds.now a.cursor a.start a.cells a.state a.next rs vs y z
     _ z.values u.before.before.before.before.if1.false _ u.check-record.ensures _ _
     c.before.before.before.v.given.1 c.record-report2.ensures
 

@@ -1,13 +1,13 @@
 -- `file_lexer::begin_record` meets its contract, dialect by dialect, by its tests in the definition's order.
 use Rattle.model.specs.rules.Base.{if◌then◌else◌}
-use Rattle.model.specs.rules.File.{beginRecord}
+use Rattle.model.specs.rules.File.{begin_record}
 use Rattle.model.proofs.Tests.{tests}
 use borrow.Author.Rules.{rules}
 use Rattle.file_lexer.proofs.begin_record.Statement.{statement}
 use Rattle.file_lexer.proofs.begin_record.Tie as tie
 
 pub begin-record-spec : {M : Type 1} → statement M
-unfolding beginRecord if◌then◌else◌
+unfolding begin_record if◌then◌else◌
 begin-record-spec =
     tie.close
     (tie.spec

@@ -1,13 +1,13 @@
 -- `file_lexer::expect_cell` meets its contract, by its test.
 use Rattle.model.specs.rules.Base.{if◌then◌else◌}
-use Rattle.model.specs.rules.File.{fileStep}
+use Rattle.model.specs.rules.File.{file_step}
 use Rattle.model.proofs.Tests.{tests}
 use borrow.Author.Rules.{rules}
 use Rattle.file_lexer.proofs.expect_cell.Statement.{statement}
 use Rattle.file_lexer.proofs.expect_cell.Tie as tie
 
 pub expect-cell-spec : {M : Type 1} → statement M
-unfolding fileStep if◌then◌else◌
+unfolding file_step if◌then◌else◌
 expect-cell-spec =
     tie.close
     (tie.spec

@@ -3,8 +3,8 @@ use mathlib.Core.Path.{refl}
 use lib.ListN.{length}
 use borrow.Author.Rules.{rules}
 use Rattle.file_cursor.specs.declared.Aim.TheVariants.{Reading}
-use Rattle.file_cursor.proofs.Traversal.{sets-out, walk-bounds, full-long}
-use Rattle.file_reader.proofs.ReaderAnswers.{from_start, begins, no_header, no-records, shortest}
+use Rattle.file_cursor.proofs.Traversal.{sets_out, walk_bounds, full_long}
+use Rattle.file_reader.proofs.ReaderAnswers.{from_start, begins, no_header, no_records, shortest}
 use Rattle.file_reader.proofs.read_in.Statement.{statement}
 use Rattle.file_reader.proofs.read_in.Tie as tie
 
@@ -13,8 +13,8 @@ next-record-requires c κs =
     let c4 = c.before.before.before.before in
     let c8 = c4.before.before.before.before in
     let a = c8.before.before.args in
-    let b = walk-bounds (sets-out a.d Reading a.file.now _ c.before.before.before.at-start.ensures) in
-    (b.0, (b.1, full-long (record { at-starts = refl; at-ends = refl; at-kinds = refl })))
+    let b = walk_bounds (sets_out a.d Reading a.file.now _ c.before.before.before.at-start.ensures) in
+    (b.0, (b.1, full_long (record { at_starts = refl; at_ends = refl; at_kinds = refl })))
 
 read-records-requires : tie.Need-read-records-requires
 read-records-requires c κs =
@@ -51,9 +51,9 @@ returns-2 c =
     let a = u.before.before.before.before.before.before.before.before.before.before.before.args in
     let n = from_start q u.next-record.ensures.0 in
     let o
-    = no-records n _ a.starts.now a.ends.now a.kinds.now _ _ c.refused.ensures
+    = no_records n _ a.starts.now a.ends.now a.kinds.now _ _ c.refused.ensures
     c.before.before.enum_told.given.1 c.before.call-report.ensures in
-    (o.answer, (o.at-starts, (o.at-ends, o.at-kinds)))
+    (o.answer, (o.at_starts, (o.at_ends, o.at_kinds)))
 
 returns-3 : tie.Need-returns-3
 returns-3 c =
@@ -63,7 +63,7 @@ returns-3 c =
     let a = u.before.before.before.before.before.before.before.before.before.before.before.args in
     let n = from_start q u.next-record.ensures.0 in
     let o = no_header n _ a.starts.now a.ends.now a.kinds.now _ _ c.refused2.ensures c.before.before.e.given.1 in
-    (o.answer, (o.at-starts, (o.at-ends, o.at-kinds)))
+    (o.answer, (o.at_starts, (o.at_ends, o.at_kinds)))
 
 pub read-in-spec : {M : Type 1} → statement M
 read-in-spec =

@@ -5,9 +5,9 @@ use Prim.Native.Nat.{◌≤◌}
 use mathlib.Core.Path.{◌≡◌, ap, ◌∙◌}
 use lib.ListN.{length}
 use borrow.Author.Rules.{rules}
-use Rattle.record_scanner.proofs.StoreLaws.{length-stored-from}
-use Rattle.file_reader.proofs.PassInvariant.{held-lengths}
-use Rattle.file_reader.proofs.ReaderAnswers.{unchanged, few-cells, WithPart, part_room, part-long, data-refused, data-crowded, data-roomy}
+use Rattle.record_scanner.proofs.StoreLaws.{length_stored_from}
+use Rattle.file_reader.proofs.PassInvariant.{held_lengths}
+use Rattle.file_reader.proofs.ReaderAnswers.{unchanged, few_cells, WithPart, part_room, part_long, data_refused, data_crowded, data_roomy}
 use Rattle.file_reader.proofs.read_records.Statement.{statement}
 use Rattle.file_reader.proofs.read_records.Tie as tie
 
@@ -31,7 +31,7 @@ add-if1 c =
     let c8 = c4.before.before.before.before in
     let c12 = c8.before.before.before.before in
     let c16 = c12.before.before.before.before in
-    let few = few-cells c8.before.data-records.ensures c.before.records.given.1 in
+    let few = few_cells c8.before.data-records.ensures c.before.records.given.1 in
     let columns
     = c16.before.requires.0.few in
     record { fits = omega arith }
@@ -44,10 +44,10 @@ returns c =
     let u = c12 in
     let s = u.before.before.before.before.before.before.before.before in
     let o
-    = data-crowded s.args.room s.requires.0 u.data-records.ensures (kept u)
+    = data_crowded s.args.room s.requires.0 u.data-records.ensures (kept u)
     c.before.before.before.before.records.given.1 c.before.before.if1.true _ c.before.call-report.ensures _
     c.refused2.ensures in
-    (o.answer, (o.at-starts, (o.at-ends, o.at-kinds)))
+    (o.answer, (o.at_starts, (o.at_ends, o.at_kinds)))
 
 -- the header read again leaves the lists as long as they were
 long : (u : tie.After-scan-next)
@@ -64,9 +64,9 @@ long u =
     let u12 = u8.before.before.before.before in
     let n = u.scan-next.ensures in
     let k = kept u12.before.before in (
-      ap length n.1.0 ∙ length-stored-from _ 0 _ _ ∙ ap length k.0,
-      ap length n.1.1.0 ∙ length-stored-from _ 0 _ _ ∙ ap length k.1,
-      ap length n.1.1.1.0 ∙ length-stored-from _ 0 _ _ ∙ ap length k.2,
+      ap length n.1.0 ∙ length_stored_from _ 0 _ _ ∙ ap length k.0,
+      ap length n.1.1.0 ∙ length_stored_from _ 0 _ _ ∙ ap length k.1,
+      ap length n.1.1.1.0 ∙ length_stored_from _ 0 _ _ ∙ ap length k.2,
     )
 
 -- the header's places lie in each list
@@ -156,7 +156,7 @@ add-t21 c =
     let c32 = c28.before.before.before.before in
     let c36 = c32.before.before.before.before in
     let few
-    = few-cells
+    = few_cells
     c28.before.before.before.data-records.ensures
     c20.before.before.before.records.given.1 in
     let columns
@@ -169,11 +169,11 @@ returns-2 c =
     let c8 = c4.before.before.before.before in
     let u = c8.before.before in
     let s = u.before.before.before.before.before.before.before.before in
-    let o = data-refused s.args.room s.requires.0 u.data-records.ensures (kept u) _ c.before.before.e.given.1 _ c.refused.ensures in
-    (o.answer, (o.at-starts, (o.at-ends, o.at-kinds)))
+    let o = data_refused s.args.room s.requires.0 u.data-records.ensures (kept u) _ c.before.before.e.given.1 _ c.refused.ensures in
+    (o.answer, (o.at_starts, (o.at_ends, o.at_kinds)))
 
 -- the second pass leaves the lists as long as they were
-still-long : (w : tie.After-data-records2)
+still_long : (w : tie.After-data-records2)
     → let u = w.before.before.before.before.before.before.before.before.before.before in
     let a
     = u.before.before.before.before.before.before.before.before.before.before.before.before.before.before.before.before.before.before.before.before.before.before.args
@@ -183,7 +183,7 @@ still-long : (w : tie.After-data-records2)
     (length (WithPart a.columns mid.1.1.1.1.1.1.0 after.1.1.1.1.1.1.0) ≡ length a.starts.now)
     × (length (WithPart a.columns mid.1.1.1.1.1.1.1.0 after.1.1.1.1.1.1.1.0) ≡ length a.ends.now)
     × (length (WithPart a.columns mid.1.1.1.1.1.1.1.1.0 after.1.1.1.1.1.1.1.1.0) ≡ length a.kinds.now)
-still-long w =
+still_long w =
     let w4 = w.before.before.before.before in
     let w8 = w4.before.before.before.before in
     let u = w8.before.before in
@@ -192,10 +192,10 @@ still-long w =
     in
     let mid = u.scan-next.new in
     let after = w.data-records2.new in
-    let h = held-lengths w.data-records2.ensures.lists in (
-      part-long n mid.1.1.1.1.1.1.0 after.1.1.1.1.1.1.0 h.0 ∙ (long u).0,
-      part-long n mid.1.1.1.1.1.1.1.0 after.1.1.1.1.1.1.1.0 h.1 ∙ (long u).1,
-      part-long n mid.1.1.1.1.1.1.1.1.0 after.1.1.1.1.1.1.1.1.0 h.2 ∙ (long u).2,
+    let h = held_lengths w.data-records2.ensures.lists in (
+      part_long n mid.1.1.1.1.1.1.0 after.1.1.1.1.1.1.0 h.0 ∙ (long u).0,
+      part_long n mid.1.1.1.1.1.1.1.0 after.1.1.1.1.1.1.1.0 h.1 ∙ (long u).1,
+      part_long n mid.1.1.1.1.1.1.1.1.0 after.1.1.1.1.1.1.1.1.0 h.2 ∙ (long u).2,
     )
 
 returns-3 : tie.Need-returns-3
@@ -209,11 +209,11 @@ returns-3 c =
     let s = u.before.before.before.before.before.before.before.before in
     let n = v.scan-next.ensures in
     let o
-    = data-roomy s.args.room s.requires.0 u.data-records.ensures (kept u)
+    = data_roomy s.args.room s.requires.0 u.data-records.ensures (kept u)
     v.before.before.before.before.before.before.records.given.1 s.requires.1
     v.before.before.before.before.if1.false n.1.0 n.1.1.0 n.1.1.1.0
     c4.before.before.before.data-records2.ensures _ c.call-report2.ensures in
-    (o.answer, (o.at-starts, (o.at-ends, o.at-kinds)))
+    (o.answer, (o.at_starts, (o.at_ends, o.at_kinds)))
 
 pub read-records-spec : {M : Type 1} → statement M
 read-records-spec =
@@ -266,11 +266,11 @@ read-records-spec =
     returns-2
     (λ c.
     let c4 = c.before.before.before.before in
-    (still-long c4.before.before.before).0)
+    (still_long c4.before.before.before).0)
     (λ c.
     let c4 = c.before.before.before.before in
-    (still-long c4.before.before.before).1)
+    (still_long c4.before.before.before).1)
     (λ c.
     let c4 = c.before.before.before.before in
-    (still-long c4.before.before.before).2)
+    (still_long c4.before.before.before).2)
     returns-3)

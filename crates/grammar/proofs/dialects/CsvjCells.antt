@@ -5,58 +5,58 @@ use mathlib.Core.List.{◌∷◌}
 use Rattle.grammar.specs.rfc.Types.{Csvj, Zero, Integer, T, Tr, Tru, F, Fa, Fal, Fals, N, Nu, Nul, Cell, Fresh, InWord, CellStep, More}
 use Rattle.grammar.specs.rfc.Types as types
 use Rattle.model.specs.rules.Base.{Bytes, QUOTE, ◌is◌, if◌then◌else◌}
-use Rattle.model.specs.rules.Cell.{isDigit, firstByte, cellStep, is_whole}
-use Rattle.model.specs.rules.Decode.{kind_of, contentOf}
+use Rattle.model.specs.rules.Cell.{is_digit, first_byte, cell_step, is_whole}
+use Rattle.model.specs.rules.Decode.{kind_of, content_of}
 use Rattle.model.proofs.Tests.{split, impossible, is→eq}
 use Rattle.model.proofs.cell_laws.CellContent.{no_more, same_more}
-use Rattle.grammar.specs.rfc.Rfc8259.{encoded-false, encoded-null, encoded-true, string, a-quotation-mark}
-use Rattle.grammar.specs.rfc.Derived.{Derived, rawOf}
+use Rattle.grammar.specs.rfc.Rfc8259.{encoded_false, encoded_null, encoded_true, string, a_quotation_mark}
+use Rattle.grammar.specs.rfc.Derived.{Derived, raw_of}
 use Rattle.grammar.specs.dialects.FormReads.{decoded}
-use Rattle.grammar.specs.dialects.Csvj.{Value, a-false, a-null, a-true, a-number, a-string}
-use Rattle.grammar.proofs.rfc.WholeCells.{Spells, whole, byte, DerivedFrom, derived-from, spelled, last_letter}
-use Rattle.grammar.proofs.rfc.Numbers.{number-spells, spells-number, rest-negative, rest-nought, rest-positive, digit-nonzero, first-of-number}
-use Rattle.grammar.proofs.rfc.Numbers.{number-content}
-use Rattle.grammar.proofs.rfc.Strings.{chars-spell, spells-chars}
-use Rattle.grammar.proofs.rfc.StringContent.{string-content, string-kind, StringOf, string-of, closing-string}
+use Rattle.grammar.specs.dialects.Csvj.{Value, a_false, a_null, a_true, a_number, a_string}
+use Rattle.grammar.proofs.rfc.WholeCells.{Spells, whole, byte, DerivedFrom, derived_from, spelled, last_letter}
+use Rattle.grammar.proofs.rfc.Numbers.{number_spells, spells_number, rest_negative, rest_nought, rest_positive, digit_nonzero, first_of_number}
+use Rattle.grammar.proofs.rfc.Numbers.{number_content}
+use Rattle.grammar.proofs.rfc.Strings.{chars_spell, spells_chars}
+use Rattle.grammar.proofs.rfc.StringContent.{string_content, string_kind, StringOf, string_of, closing_string}
 
-pub value-spells : {c : Derived} → Value c → Spells Csvj Fresh (rawOf c)
-unfolding cellStep firstByte is_whole if◌then◌else◌
-value-spells (a-false encoded-false) = byte refl (byte refl (byte refl (byte refl (byte refl (whole refl)))))
-value-spells (a-null encoded-null) = byte refl (byte refl (byte refl (byte refl (whole refl))))
-value-spells (a-true encoded-true) = byte refl (byte refl (byte refl (byte refl (whole refl))))
-value-spells (a-number n) = number-spells n
-value-spells (a-string (string a-quotation-mark c a-quotation-mark k)) = byte refl (chars-spell c)
+pub value_spells : {c : Derived} → Value c → Spells Csvj Fresh (raw_of c)
+unfolding cell_step first_byte is_whole if◌then◌else◌
+value_spells (a_false encoded_false) = byte refl (byte refl (byte refl (byte refl (byte refl (whole refl)))))
+value_spells (a_null encoded_null) = byte refl (byte refl (byte refl (byte refl (whole refl))))
+value_spells (a_true encoded_true) = byte refl (byte refl (byte refl (byte refl (whole refl))))
+value_spells (a_number n) = number_spells n
+value_spells (a_string (string a_quotation_mark c a_quotation_mark k)) = byte refl (chars_spell c)
 
-pub value-content : {c : Derived} → Value c → c ≡ decoded Csvj (rawOf c)
-unfolding kind_of contentOf if◌then◌else◌
-value-content (a-false encoded-false) = refl
-value-content (a-null encoded-null) = refl
-value-content (a-true encoded-true) = refl
-value-content (a-number {bs} n) = let e = number-content (first-of-number n) in rw (e.0, e.1)
-value-content (a-string {bs} {ts} s) = rw (string-kind s, string-content s)
+pub value_content : {c : Derived} → Value c → c ≡ decoded Csvj (raw_of c)
+unfolding kind_of content_of if◌then◌else◌
+value_content (a_false encoded_false) = refl
+value_content (a_null encoded_null) = refl
+value_content (a_true encoded_true) = refl
+value_content (a_number {bs} n) = let e = number_content (first_of_number n) in rw (e.0, e.1)
+value_content (a_string {bs} {ts} s) = rw (string_kind s, string_content s)
 
-true-value : {bs : Bytes} → Spells Csvj (InWord T) bs → DerivedFrom Value (0x74 ∷ bs)
-true-value k = rw (spelled T _ k (λ _ m. spelled Tr _ m (λ _ n. last_letter Tru refl n))) (derived-from (a-true encoded-true))
+true_value : {bs : Bytes} → Spells Csvj (InWord T) bs → DerivedFrom Value (0x74 ∷ bs)
+true_value k = rw (spelled T _ k (λ _ m. spelled Tr _ m (λ _ n. last_letter Tru refl n))) (derived_from (a_true encoded_true))
 
-false-value : {bs : Bytes} → Spells Csvj (InWord F) bs → DerivedFrom Value (0x66 ∷ bs)
-false-value k = rw (spelled F _ k (λ _ l. spelled Fa _ l (λ _ m. spelled Fal _ m (λ _ n. last_letter Fals refl n)))) (derived-from (a-false encoded-false))
+false_value : {bs : Bytes} → Spells Csvj (InWord F) bs → DerivedFrom Value (0x66 ∷ bs)
+false_value k = rw (spelled F _ k (λ _ l. spelled Fa _ l (λ _ m. spelled Fal _ m (λ _ n. last_letter Fals refl n)))) (derived_from (a_false encoded_false))
 
-null-value : {bs : Bytes} → Spells Csvj (InWord N) bs → DerivedFrom Value (0x6E ∷ bs)
-null-value k = rw (spelled N _ k (λ _ m. spelled Nu _ m (λ _ n. last_letter Nul refl n))) (derived-from (a-null encoded-null))
+null_value : {bs : Bytes} → Spells Csvj (InWord N) bs → DerivedFrom Value (0x6E ∷ bs)
+null_value k = rw (spelled N _ k (λ _ m. spelled Nu _ m (λ _ n. last_letter Nul refl n))) (derived_from (a_null encoded_null))
 
-string-value : {bs : Bytes} → StringOf (QUOTE ∷ bs) → DerivedFrom Value (QUOTE ∷ bs)
-string-value (string-of s) = derived-from (a-string s)
+string_value : {bs : Bytes} → StringOf (QUOTE ∷ bs) → DerivedFrom Value (QUOTE ∷ bs)
+string_value (string_of s) = derived_from (a_string s)
 
-first-value : (b : ℕ) (bs : Bytes) (e : Cell) → Spells Csvj e bs → cellStep Csvj Fresh b ≡ More e → DerivedFrom Value (b ∷ bs)
-unfolding cellStep firstByte
-first-value b bs e k =
-    split P (b is QUOTE) (λ p q. rw (is→eq b QUOTE p) (string-value (closing-string (spells-chars (from q))))) λ _.
-    split P (b is 0x2D) (λ p q. rw (is→eq b 0x2D p) (derived-from (a-number (rest-negative (spells-number k types.Minus (same_more q)))))) λ _.
-    split P (b is 0x30) (λ p q. rw (is→eq b 0x30 p) (derived-from (a-number (rest-nought (spells-number k Zero (same_more q)))))) λ n.
-    split P (isDigit b) (λ p q. derived-from (a-number (rest-positive (digit-nonzero b n p) (spells-number k Integer (same_more q))))) λ _.
-    split P (b is 0x74) (λ p q. rw (is→eq b 0x74 p) (true-value (from q))) λ _.
-    split P (b is 0x66) (λ p q. rw (is→eq b 0x66 p) (false-value (from q))) λ _.
-    split P (b is 0x6E) (λ p q. rw (is→eq b 0x6E p) (null-value (from q))) λ _ q. no_more q
+first_value : (b : ℕ) (bs : Bytes) (e : Cell) → Spells Csvj e bs → cell_step Csvj Fresh b ≡ More e → DerivedFrom Value (b ∷ bs)
+unfolding cell_step first_byte
+first_value b bs e k =
+    split P (b is QUOTE) (λ p q. rw (is→eq b QUOTE p) (string_value (closing_string (spells_chars (from q))))) λ _.
+    split P (b is 0x2D) (λ p q. rw (is→eq b 0x2D p) (derived_from (a_number (rest_negative (spells_number k types.Minus (same_more q)))))) λ _.
+    split P (b is 0x30) (λ p q. rw (is→eq b 0x30 p) (derived_from (a_number (rest_nought (spells_number k Zero (same_more q)))))) λ n.
+    split P (is_digit b) (λ p q. derived_from (a_number (rest_positive (digit_nonzero b n p) (spells_number k Integer (same_more q))))) λ _.
+    split P (b is 0x74) (λ p q. rw (is→eq b 0x74 p) (true_value (from q))) λ _.
+    split P (b is 0x66) (λ p q. rw (is→eq b 0x66 p) (false_value (from q))) λ _.
+    split P (b is 0x6E) (λ p q. rw (is→eq b 0x6E p) (null_value (from q))) λ _ q. no_more q
   where
     P : CellStep → Type 0
     P a = a ≡ More e → DerivedFrom Value (b ∷ bs)
@@ -64,7 +64,7 @@ first-value b bs e k =
     from : {c : Cell} → More c ≡ More e → Spells Csvj c bs
     from q = let z = same_more q in rw (← z) at k
 
-pub spells-value : {raw : Bytes} → Spells Csvj Fresh raw → DerivedFrom Value raw
+pub spells_value : {raw : Bytes} → Spells Csvj Fresh raw → DerivedFrom Value raw
 unfolding is_whole
-spells-value (whole w) = impossible w
-spells-value (byte {e} {b} {bs} s k) = first-value b bs e k s
+spells_value (whole w) = impossible w
+spells_value (byte {e} {b} {bs} s k) = first_value b bs e k s

@@ -5,7 +5,7 @@ use Rattle.std.specs.Prelude.{ℕ, ◌≢◌, List, [], ◌∷◌, ◌++◌}
 use Rattle.grammar.specs.rfc.Types.{Settings}
 use Rattle.grammar.specs.rfc.Types as types
 use Rattle.model.specs.rules.Base.{Bytes}
-use Rattle.model.specs.rules.Dialect.{delimiterByte, quoteByte}
+use Rattle.model.specs.rules.Dialect.{delimiter_byte, quote_byte}
 use Rattle.grammar.specs.rfc.Rfc5234.{◌from◌to◌, CR, LF}
 use Rattle.grammar.specs.rfc.Rfc5234 as core
 use Rattle.grammar.specs.rfc.Rfc3629.{UTF8-data}
@@ -27,9 +27,9 @@ module _ (s : Settings) where
     -- directly after an ending starts no record (§5.1 §5.2), and a file of no bytes has none (§6.1). So a record with no ending is not
     -- empty
     pub data Table : Bytes → List (Line Derived) → Type 0 where
-      header-unended : {b : ℕ} {text : Bytes} {cells : List Derived} → Header (b ∷ text) cells → Table (b ∷ text) (line (b ∷ text) cells ∷ [])
-      header-alone : {text es : Bytes} {cells : List Derived} → Header text cells → CRLF es → Table (text ++ es) (line text cells ∷ [])
-      header-then :
+      header_unended : {b : ℕ} {text : Bytes} {cells : List Derived} → Header (b ∷ text) cells → Table (b ∷ text) (line (b ∷ text) cells ∷ [])
+      header_alone : {text es : Bytes} {cells : List Derived} → Header text cells → CRLF es → Table (text ++ es) (line text cells ∷ [])
+      header_then :
           {text es xs : Bytes} {cells : List Derived} {ls : List (Line Derived)} → Header text cells → CRLF es → Records xs ls →
           Table (text ++ (es ++ xs)) (line text cells ∷ ls)
 
@@ -43,7 +43,7 @@ module _ (s : Settings) where
 
     -- header = name *(COMMA name)
     pub data Header : Bytes → List Derived → Type 0 where
-      a-name : {raw content : Bytes} {kind : types.Kind} → Name (cell raw kind content) → Header raw (cell raw kind content ∷ [])
+      a_name : {raw content : Bytes} {kind : types.Kind} → Name (cell raw kind content) → Header raw (cell raw kind content ∷ [])
       names :
           {raw content text : Bytes} {kind : types.Kind} {b : ℕ} {cells : List Derived} → Name (cell raw kind content) → COMMA b →
           Header text cells → Header (raw ++ (b ∷ text)) (cell raw kind content ∷ cells)
@@ -61,8 +61,8 @@ module _ (s : Settings) where
 
     -- field = (escaped / non-escaped). Spaces belong to the field, and none is beside an escaped one (§5.8)
     pub data Field : Derived → Type 0 where
-      an-escaped : {bs ts : Bytes} → Escaped bs ts → Field (cell bs types.Text ts)
-      a-non-escaped : {bs : Bytes} → Non-escaped bs → Field (cell bs types.Text bs)
+      an_escaped : {bs ts : Bytes} → Escaped bs ts → Field (cell bs types.Text ts)
+      a_non_escaped : {bs : Bytes} → Non-escaped bs → Field (cell bs types.Text bs)
 
     -- escaped = DQUOTE *(TEXTDATA / COMMA / CR / LF / 2DQUOTE) DQUOTE
     pub data Escaped : (raw content : Bytes) → Type 0 where
@@ -71,26 +71,26 @@ module _ (s : Settings) where
     -- *(TEXTDATA / COMMA / CR / LF / 2DQUOTE), and the content that it denotes: two quotes are one (§5.4)
     pub data Inner : (raw content : Bytes) → Type 0 where
       nothing : Inner [] []
-      inner-textdata : {cs bs ts : Bytes} → TEXTDATA cs → Inner bs ts → Inner (cs ++ bs) (cs ++ ts)
-      inner-comma : {b : ℕ} {bs ts : Bytes} → COMMA b → Inner bs ts → Inner (b ∷ bs) (b ∷ ts)
-      inner-cr : {bs ts : Bytes} → Inner bs ts → Inner (CR ∷ bs) (CR ∷ ts)
-      inner-lf : {bs ts : Bytes} → Inner bs ts → Inner (LF ∷ bs) (LF ∷ ts)
-      two-quotes : {q r : ℕ} {bs ts : Bytes} → DQUOTE q → DQUOTE r → Inner bs ts → Inner (q ∷ r ∷ bs) (q ∷ ts)
+      inner_textdata : {cs bs ts : Bytes} → TEXTDATA cs → Inner bs ts → Inner (cs ++ bs) (cs ++ ts)
+      inner_comma : {b : ℕ} {bs ts : Bytes} → COMMA b → Inner bs ts → Inner (b ∷ bs) (b ∷ ts)
+      inner_cr : {bs ts : Bytes} → Inner bs ts → Inner (CR ∷ bs) (CR ∷ ts)
+      inner_lf : {bs ts : Bytes} → Inner bs ts → Inner (LF ∷ bs) (LF ∷ ts)
+      two_quotes : {q r : ℕ} {bs ts : Bytes} → DQUOTE q → DQUOTE r → Inner bs ts → Inner (q ∷ r ∷ bs) (q ∷ ts)
 
     -- non-escaped = *TEXTDATA
     pub data Non-escaped : Bytes → Type 0 where
-      no-textdata : Non-escaped []
+      no_textdata : Non-escaped []
       textdata : {cs bs : Bytes} → TEXTDATA cs → Non-escaped bs → Non-escaped (cs ++ bs)
 
     -- COMMA = %x2C, in dialect 3. Source document 003 lets it be set: "The separator between cells. The default is ,"
     pub data COMMA : ℕ → Type 0 where
-      comma : COMMA (delimiterByte s.delimiter)
+      comma : COMMA (delimiter_byte s.delimiter)
 
     -- CR = %x0D
 
     -- DQUOTE = %x22, in dialect 3. Source document 003 lets it be set: "The character that is used around escaped cells"
     pub data DQUOTE : ℕ → Type 0 where
-      dquote : DQUOTE (quoteByte s.quote)
+      dquote : DQUOTE (quote_byte s.quote)
 
     -- LF = %x0A
 
@@ -103,12 +103,12 @@ module _ (s : Settings) where
     -- (§5.5)
     pub data TEXTDATA : Bytes → Type 0 where
       ascii :
-          {b : ℕ} → b from 0x00 to 0x7F → b ≢ quoteByte s.quote → b ≢ delimiterByte s.delimiter → b ≢ CR → b ≢ LF →
+          {b : ℕ} → b from 0x00 to 0x7F → b ≢ quote_byte s.quote → b ≢ delimiter_byte s.delimiter → b ≢ CR → b ≢ LF →
           TEXTDATA (b ∷ [])
-      utf8-data : {cs : Bytes} → UTF8-data cs → TEXTDATA cs
+      utf8_data : {cs : Bytes} → UTF8-data cs → TEXTDATA cs
 
 -- TEXTDATA as RFC 4180 has it
 pub data NarrowTEXTDATA : Bytes → Type 0 where
-  below-quote : {b : ℕ} → b from 0x20 to 0x21 → NarrowTEXTDATA (b ∷ [])
-  below-comma : {b : ℕ} → b from 0x23 to 0x2B → NarrowTEXTDATA (b ∷ [])
-  above-comma : {b : ℕ} → b from 0x2D to 0x7E → NarrowTEXTDATA (b ∷ [])
+  below_quote : {b : ℕ} → b from 0x20 to 0x21 → NarrowTEXTDATA (b ∷ [])
+  below_comma : {b : ℕ} → b from 0x23 to 0x2B → NarrowTEXTDATA (b ∷ [])
+  above_comma : {b : ℕ} → b from 0x2D to 0x7E → NarrowTEXTDATA (b ∷ [])

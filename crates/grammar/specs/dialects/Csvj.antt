@@ -18,24 +18,24 @@ mutual
 
   -- csvj-file = header-line *data-line
   pub data Csvj-file : Bytes → List (derived.Line Derived) → Type 0 where
-    csvj-file :
+    csvj_file_lem :
         {bs xs : Bytes} {l : derived.Line Derived} {ls : List (derived.Line Derived)} → Header-line bs l → Data-lines xs ls →
         Csvj-file (bs ++ xs) (l ∷ ls)
 
   -- *data-line
   pub data Data-lines : Bytes → List (derived.Line Derived) → Type 0 where
     no_line : Data-lines [] []
-    a-line :
+    a_line :
         {bs xs : Bytes} {l : derived.Line Derived} {ls : List (derived.Line Derived)} → Data-line bs l → Data-lines xs ls →
         Data-lines (bs ++ xs) (l ∷ ls)
 
   -- header-line = line
   pub data Header-line : Bytes → derived.Line Derived → Type 0 where
-    header-line : {bs : Bytes} {l : derived.Line Derived} → Line bs l → Header-line bs l
+    header_line : {bs : Bytes} {l : derived.Line Derived} → Line bs l → Header-line bs l
 
   -- data-line = line
   pub data Data-line : Bytes → derived.Line Derived → Type 0 where
-    data-line : {bs : Bytes} {l : derived.Line Derived} → Line bs l → Data-line bs l
+    data_line : {bs : Bytes} {l : derived.Line Derived} → Line bs l → Data-line bs l
 
   -- line = ws [ value *( comma value ) ] ws line-terminator
   pub data Line : Bytes → derived.Line Derived → Type 0 where
@@ -69,14 +69,14 @@ mutual
 
   -- value = false / null / true / number / string; a number's content is its spelling (§2.4)
   pub data Value : Derived → Type 0 where
-    a-false : {bs : Bytes} → json.False bs → Value (cell bs types.False [])
-    a-null : {bs : Bytes} → json.Null bs → Value (cell bs types.Null [])
-    a-true : {bs : Bytes} → json.True bs → Value (cell bs types.True [])
-    a-number : {bs : Bytes} → json.Number bs → Value (cell bs types.Number bs)
-    a-string : {bs ts : Bytes} → json.String bs ts → Value (cell bs types.Text ts)
+    a_false : {bs : Bytes} → json.False bs → Value (cell bs types.False [])
+    a_null : {bs : Bytes} → json.Null bs → Value (cell bs types.Null [])
+    a_true : {bs : Bytes} → json.True bs → Value (cell bs types.True [])
+    a_number : {bs : Bytes} → json.Number bs → Value (cell bs types.Number bs)
+    a_string : {bs ts : Bytes} → json.String bs ts → Value (cell bs types.Text ts)
 
   -- ws = *( %x20 / %x09 )
   pub data Ws : Bytes → Type 0 where
-    no-ws : Ws []
+    no_ws : Ws []
     space : {bs : Bytes} → Ws bs → Ws (0x20 ∷ bs)
     tab : {bs : Bytes} → Ws bs → Ws (0x09 ∷ bs)

@@ -2,47 +2,47 @@
 use Rattle.std.specs.Prelude.{ℕ, ◌≡◌, true, false, List, [], ◌∷◌, map}
 use Rattle.grammar.specs.rfc.Types.{Dialect, FileState, Top, Outside, Passed, OfCell, Between, Tail, Ends, To, Clean, Final}
 use Rattle.model.specs.rules.Base.{Bytes}
-use Rattle.model.specs.rules.File.{fileStep, fileEnd}
-use Rattle.model.specs.rules.Decode.{kind_of, contentOf}
+use Rattle.model.specs.rules.File.{file_step, file_end}
+use Rattle.model.specs.rules.Decode.{kind_of, content_of}
 use Rattle.grammar.specs.rfc.Derived.{Derived, cell, Line, line}
 
 -- Read on from this state of the file, the bytes give these records up to the file's end. The first line is the rest of the current
 -- record, if there is one, and its first cell the rest of the current cell.
 pub data Reads (d : Dialect) : FileState → Bytes → List (Line Bytes) → Type 0 where
-  ends-clean : {f : FileState} → fileEnd d f ≡ Clean → Reads d f [] []
-  ends-final : {f : FileState} → fileEnd d f ≡ Final → Reads d f [] (line [] ([] ∷ []) ∷ [])
-  outside : {f g : FileState} {b : ℕ} {bs : Bytes} {ls : List (Line Bytes)} → fileStep d f b ≡ To g Outside → Reads d g bs ls → Reads d f (b ∷ bs) ls
-  passed : {f g : FileState} {b : ℕ} {bs : Bytes} {ls : List (Line Bytes)} → fileStep d f b ≡ To g Passed → Reads d g bs ls → Reads d f (b ∷ bs) ls
-  of-cell :
-      {f g : FileState} {b : ℕ} {bs text raw : Bytes} {cells : List Bytes} {ls : List (Line Bytes)} → fileStep d f b ≡ To g OfCell →
+  ends_clean : {f : FileState} → file_end d f ≡ Clean → Reads d f [] []
+  ends_final : {f : FileState} → file_end d f ≡ Final → Reads d f [] (line [] ([] ∷ []) ∷ [])
+  outside : {f g : FileState} {b : ℕ} {bs : Bytes} {ls : List (Line Bytes)} → file_step d f b ≡ To g Outside → Reads d g bs ls → Reads d f (b ∷ bs) ls
+  passed : {f g : FileState} {b : ℕ} {bs : Bytes} {ls : List (Line Bytes)} → file_step d f b ≡ To g Passed → Reads d g bs ls → Reads d f (b ∷ bs) ls
+  of_cell :
+      {f g : FileState} {b : ℕ} {bs text raw : Bytes} {cells : List Bytes} {ls : List (Line Bytes)} → file_step d f b ≡ To g OfCell →
       Reads d g bs (line text (raw ∷ cells) ∷ ls) → Reads d f (b ∷ bs) (line (b ∷ text) ((b ∷ raw) ∷ cells) ∷ ls)
   between :
-      {f g : FileState} {b : ℕ} {bs text : Bytes} {cells : List Bytes} {ls : List (Line Bytes)} → fileStep d f b ≡ To g (Between false) →
+      {f g : FileState} {b : ℕ} {bs text : Bytes} {cells : List Bytes} {ls : List (Line Bytes)} → file_step d f b ≡ To g (Between false) →
       Reads d g bs (line text cells ∷ ls) → Reads d f (b ∷ bs) (line (b ∷ text) cells ∷ ls)
-  between-closing :
-      {f g : FileState} {b : ℕ} {bs text : Bytes} {cells : List Bytes} {ls : List (Line Bytes)} → fileStep d f b ≡ To g (Between true) →
+  between_closing :
+      {f g : FileState} {b : ℕ} {bs text : Bytes} {cells : List Bytes} {ls : List (Line Bytes)} → file_step d f b ≡ To g (Between true) →
       Reads d g bs (line text cells ∷ ls) → Reads d f (b ∷ bs) (line (b ∷ text) ([] ∷ cells) ∷ ls)
   tail :
-      {f g : FileState} {b : ℕ} {bs text : Bytes} {cells : List Bytes} {ls : List (Line Bytes)} → fileStep d f b ≡ To g (Tail false) →
+      {f g : FileState} {b : ℕ} {bs text : Bytes} {cells : List Bytes} {ls : List (Line Bytes)} → file_step d f b ≡ To g (Tail false) →
       Reads d g bs (line text cells ∷ ls) → Reads d f (b ∷ bs) (line text cells ∷ ls)
-  tail-closing :
-      {f g : FileState} {b : ℕ} {bs text : Bytes} {cells : List Bytes} {ls : List (Line Bytes)} → fileStep d f b ≡ To g (Tail true) →
+  tail_closing :
+      {f g : FileState} {b : ℕ} {bs text : Bytes} {cells : List Bytes} {ls : List (Line Bytes)} → file_step d f b ≡ To g (Tail true) →
       Reads d g bs (line text cells ∷ ls) → Reads d f (b ∷ bs) (line text ([] ∷ cells) ∷ ls)
   ends :
-      {f g : FileState} {b : ℕ} {bs : Bytes} {ls : List (Line Bytes)} → fileStep d f b ≡ To g (Ends false) → Reads d g bs ls →
+      {f g : FileState} {b : ℕ} {bs : Bytes} {ls : List (Line Bytes)} → file_step d f b ≡ To g (Ends false) → Reads d g bs ls →
       Reads d f (b ∷ bs) (line [] [] ∷ ls)
-  ends-closing :
-      {f g : FileState} {b : ℕ} {bs : Bytes} {ls : List (Line Bytes)} → fileStep d f b ≡ To g (Ends true) → Reads d g bs ls →
+  ends_closing :
+      {f g : FileState} {b : ℕ} {bs : Bytes} {ls : List (Line Bytes)} → file_step d f b ≡ To g (Ends true) → Reads d g bs ls →
       Reads d f (b ∷ bs) (line [] ([] ∷ []) ∷ ls)
 
 -- a raw cell as the decoder of model has it
 abbrev pub decoded : Dialect → Bytes → Derived
-decoded d raw = cell raw (kind_of d raw) (contentOf d raw)
+decoded d raw = cell raw (kind_of d raw) (content_of d raw)
 
-unfoldable pub decodedLine : Dialect → Line Bytes → Line Derived
-decodedLine d (line text cells) = line text (map (decoded d) cells)
+unfoldable pub decoded_line : Dialect → Line Bytes → Line Derived
+decoded_line d (line text cells) = line text (map (decoded d) cells)
 
 -- by form the file has these records, at least one
 pub data ReadByForm (d : Dialect) (xs : Bytes) : List (Line Derived) → Type 0 where
-  read-by-form :
-      (l : Line Bytes) (ls : List (Line Bytes)) → Reads d Top xs (l ∷ ls) → ReadByForm d xs (map (decodedLine d) (l ∷ ls))
+  read_by_form :
+      (l : Line Bytes) (ls : List (Line Bytes)) → Reads d Top xs (l ∷ ls) → ReadByForm d xs (map (decoded_line d) (l ∷ ls))

@@ -30,79 +30,79 @@ cell_at o raw = span o (past raw o)
 
 -- ---- CSVJ
 
-abbrev pub csvjValues : ℕ → {text : Bytes} {cells : List Derived} → csvj.Values text cells → List Span
-csvjValues o (csvj.value {raw} v) = cell_at o raw ∷ []
-csvjValues o (csvj.values {raw} {cs} v c vs) = cell_at o raw ∷ csvjValues (past cs (past raw o)) vs
+abbrev pub csvj_values : ℕ → {text : Bytes} {cells : List Derived} → csvj.Values text cells → List Span
+csvj_values o (csvj.value {raw} v) = cell_at o raw ∷ []
+csvj_values o (csvj.values {raw} {cs} v c vs) = cell_at o raw ∷ csvj_values (past cs (past raw o)) vs
 
-abbrev pub csvjText : ℕ → {text : Bytes} {cells : List Derived} → csvj.Line-text text cells → List Span
-csvjText o (csvj.empty w v) = []
-csvjText o (csvj.filled {ws} w vs v) = csvjValues (past ws o) vs
+abbrev pub csvj_text : ℕ → {text : Bytes} {cells : List Derived} → csvj.Line-text text cells → List Span
+csvj_text o (csvj.empty w v) = []
+csvj_text o (csvj.filled {ws} w vs v) = csvj_values (past ws o) vs
 
-abbrev pub csvjLine : ℕ → {bs : Bytes} {l : Line Derived} → csvj.Line bs l → List Span
-csvjLine o (csvj.ended t e) = csvjText o t
+abbrev pub csvj_line : ℕ → {bs : Bytes} {l : Line Derived} → csvj.Line bs l → List Span
+csvj_line o (csvj.ended t e) = csvj_text o t
 
-abbrev pub csvjLines : ℕ → {xs : Bytes} {ls : List (Line Derived)} → csvj.Data-lines xs ls → List (List Span)
-csvjLines o csvj.no_line = []
-csvjLines o (csvj.a-line {bs} (csvj.data-line l) ls) = csvjLine o l ∷ csvjLines (past bs o) ls
+abbrev pub csvj_lines : ℕ → {xs : Bytes} {ls : List (Line Derived)} → csvj.Data-lines xs ls → List (List Span)
+csvj_lines o csvj.no_line = []
+csvj_lines o (csvj.a_line {bs} (csvj.data_line l) ls) = csvj_line o l ∷ csvj_lines (past bs o) ls
 
-abbrev pub csvjTable : ℕ → {xs : Bytes} {ls : List (Line Derived)} → csvj.Csvj-file xs ls → List (List Span)
-csvjTable o (csvj.csvj-file {bs} (csvj.header-line l) ls) = csvjLine o l ∷ csvjLines (past bs o) ls
+abbrev pub csvj_table : ℕ → {xs : Bytes} {ls : List (Line Derived)} → csvj.Csvj-file xs ls → List (List Span)
+csvj_table o (csvj.csvj_file_lem {bs} (csvj.header_line l) ls) = csvj_line o l ∷ csvj_lines (past bs o) ls
 
 -- the byte order mark has three bytes
-abbrev pub csvjFile : {xs : Bytes} {ls : List (Line Derived)} → csvj.File xs ls → List (List Span)
-csvjFile (csvj.unmarked t) = csvjTable 0 t
-csvjFile (csvj.marked t) = csvjTable 3 t
+abbrev pub csvj_file : {xs : Bytes} {ls : List (Line Derived)} → csvj.File xs ls → List (List Span)
+csvj_file (csvj.unmarked t) = csvj_table 0 t
+csvj_file (csvj.marked t) = csvj_table 3 t
 
 -- ---- TDIF
 
-abbrev pub tdifFields : ℕ → {text : Bytes} {cells : List Derived} → tdif.Fields text cells → List Span
-tdifFields o (tdif.field {raw} f) = cell_at o raw ∷ []
-tdifFields o (tdif.fields {raw} f c fs) = cell_at o raw ∷ tdifFields (suc (past raw o)) fs
+abbrev pub tdif_fields : ℕ → {text : Bytes} {cells : List Derived} → tdif.Fields text cells → List Span
+tdif_fields o (tdif.field {raw} f) = cell_at o raw ∷ []
+tdif_fields o (tdif.fields {raw} f c fs) = cell_at o raw ∷ tdif_fields (suc (past raw o)) fs
 
-abbrev pub tdifRecord : ℕ → {bs : Bytes} {l : Line Derived} → tdif.Record bs l → List Span
-tdifRecord o (tdif.ended fs e) = tdifFields o fs
+abbrev pub tdif_record : ℕ → {bs : Bytes} {l : Line Derived} → tdif.Record bs l → List Span
+tdif_record o (tdif.ended fs e) = tdif_fields o fs
 
-abbrev pub tdifLines : ℕ → {xs : Bytes} {ls : List (Line Derived)} → tdif.Lines xs ls → List (List Span)
-tdifLines o tdif.no_line = []
-tdifLines o (tdif.a-comment {cs} c ls) = tdifLines (past cs o) ls
-tdifLines o (tdif.a-record {bs} r ls) = tdifRecord o r ∷ tdifLines (past bs o) ls
+abbrev pub tdif_lines : ℕ → {xs : Bytes} {ls : List (Line Derived)} → tdif.Lines xs ls → List (List Span)
+tdif_lines o tdif.no_line = []
+tdif_lines o (tdif.a_comment {cs} c ls) = tdif_lines (past cs o) ls
+tdif_lines o (tdif.a_record {bs} r ls) = tdif_record o r ∷ tdif_lines (past bs o) ls
 
 -- comments before the header are no records
-abbrev pub tdifFile : ℕ → {xs : Bytes} {ls : List (Line Derived)} → tdif.File xs ls → List (List Span)
-tdifFile o (tdif.comment-first {cs} c f) = tdifFile (past cs o) f
-tdifFile o (tdif.header-first {bs} (tdif.header r) ls) = tdifRecord o r ∷ tdifLines (past bs o) ls
+abbrev pub tdif_file : ℕ → {xs : Bytes} {ls : List (Line Derived)} → tdif.File xs ls → List (List Span)
+tdif_file o (tdif.comment_first {cs} c f) = tdif_file (past cs o) f
+tdif_file o (tdif.header_first {bs} (tdif.header r) ls) = tdif_record o r ∷ tdif_lines (past bs o) ls
 
 -- ---- CSV+
 
 module _ (s : Settings) where
-  abbrev pub plusHeader : ℕ → {text : Bytes} {cells : List Derived} → plus.Header s text cells → List Span
-  plusHeader o (plus.a-name {raw} n) = cell_at o raw ∷ []
-  plusHeader o (plus.names {raw} n c ns) = cell_at o raw ∷ plusHeader (suc (past raw o)) ns
+  abbrev pub plus_header : ℕ → {text : Bytes} {cells : List Derived} → plus.Header s text cells → List Span
+  plus_header o (plus.a_name {raw} n) = cell_at o raw ∷ []
+  plus_header o (plus.names {raw} n c ns) = cell_at o raw ∷ plus_header (suc (past raw o)) ns
 
-  abbrev pub plusRecord : ℕ → {text : Bytes} {cells : List Derived} → plus.Record s text cells → List Span
-  plusRecord o (plus.field {raw} f) = cell_at o raw ∷ []
-  plusRecord o (plus.fields {raw} f c fs) = cell_at o raw ∷ plusRecord (suc (past raw o)) fs
+  abbrev pub plus_record : ℕ → {text : Bytes} {cells : List Derived} → plus.Record s text cells → List Span
+  plus_record o (plus.field {raw} f) = cell_at o raw ∷ []
+  plus_record o (plus.fields {raw} f c fs) = cell_at o raw ∷ plus_record (suc (past raw o)) fs
 
-  abbrev pub plusRecords : ℕ → {xs : Bytes} {ls : List (Line Derived)} → plus.Records s xs ls → List (List Span)
-  plusRecords o (plus.unended r) = plusRecord o r ∷ []
-  plusRecords o (plus.last r e) = plusRecord o r ∷ []
-  plusRecords o (plus.next {text} {es} r e rs) = plusRecord o r ∷ plusRecords (past es (past text o)) rs
+  abbrev pub plus_records : ℕ → {xs : Bytes} {ls : List (Line Derived)} → plus.Records s xs ls → List (List Span)
+  plus_records o (plus.unended r) = plus_record o r ∷ []
+  plus_records o (plus.last r e) = plus_record o r ∷ []
+  plus_records o (plus.next {text} {es} r e rs) = plus_record o r ∷ plus_records (past es (past text o)) rs
 
-  abbrev pub plusTable : ℕ → {xs : Bytes} {ls : List (Line Derived)} → plus.Table s xs ls → List (List Span)
-  plusTable o (plus.header-unended h) = plusHeader o h ∷ []
-  plusTable o (plus.header-alone h e) = plusHeader o h ∷ []
-  plusTable o (plus.header-then {text} {es} h e rs) = plusHeader o h ∷ plusRecords (past es (past text o)) rs
+  abbrev pub plus_table : ℕ → {xs : Bytes} {ls : List (Line Derived)} → plus.Table s xs ls → List (List Span)
+  plus_table o (plus.header_unended h) = plus_header o h ∷ []
+  plus_table o (plus.header_alone h e) = plus_header o h ∷ []
+  plus_table o (plus.header_then {text} {es} h e rs) = plus_header o h ∷ plus_records (past es (past text o)) rs
 
-  abbrev pub plusFile : {xs : Bytes} {ls : List (Line Derived)} → plus.File s xs ls → List (List Span)
-  plusFile (plus.file n t) = plusTable 0 t
+  abbrev pub plus_file : {xs : Bytes} {ls : List (Line Derived)} → plus.File s xs ls → List (List Span)
+  plus_file (plus.file n t) = plus_table 0 t
 
 -- ---- over the dialect
 
 -- the spans of a derivation's cells, record by record
 abbrev pub stretches : (d : Dialect) (xs : Bytes) (ls : List (Line Derived)) → Derives d xs ls → List (List Span)
-stretches Csvj xs ls k = csvjFile k
-stretches Tdif xs ls k = tdifFile 0 k
-stretches (CsvPlus s) xs ls k = plusFile s k
+stretches Csvj xs ls k = csvj_file k
+stretches Tdif xs ls k = tdif_file 0 k
+stretches (CsvPlus s) xs ls k = plus_file s k
 
 -- the spans of the cells that were read, record by record
 abbrev pub span_of : Value → Span

@@ -10,14 +10,14 @@ use Rattle.grammar.specs.rfc.Derived.{Derived, cell, Line, line}
 mutual
   -- file = *comment header *(comment / record)
   pub data File : Bytes → List (Line Derived) → Type 0 where
-    comment-first : {cs xs : Bytes} {ls : List (Line Derived)} → Comment cs → File xs ls → File (cs ++ xs) ls
-    header-first : {bs xs : Bytes} {l : Line Derived} {ls : List (Line Derived)} → Header bs l → Lines xs ls → File (bs ++ xs) (l ∷ ls)
+    comment_first : {cs xs : Bytes} {ls : List (Line Derived)} → Comment cs → File xs ls → File (cs ++ xs) ls
+    header_first : {bs xs : Bytes} {l : Line Derived} {ls : List (Line Derived)} → Header bs l → Lines xs ls → File (bs ++ xs) (l ∷ ls)
 
   -- *(comment / record)
   pub data Lines : Bytes → List (Line Derived) → Type 0 where
     no_line : Lines [] []
-    a-comment : {cs xs : Bytes} {ls : List (Line Derived)} → Comment cs → Lines xs ls → Lines (cs ++ xs) ls
-    a-record : {bs xs : Bytes} {l : Line Derived} {ls : List (Line Derived)} → Record bs l → Lines xs ls → Lines (bs ++ xs) (l ∷ ls)
+    a_comment : {cs xs : Bytes} {ls : List (Line Derived)} → Comment cs → Lines xs ls → Lines (cs ++ xs) ls
+    a_record : {bs xs : Bytes} {l : Line Derived} {ls : List (Line Derived)} → Record bs l → Lines xs ls → Lines (bs ++ xs) (l ∷ ls)
 
   -- header = value *(comma value) linebreak
   -- The rules depart: a header is a record by form, and `\N` in it is left to fault 7 (§4.8 §6.3)
@@ -37,8 +37,8 @@ mutual
 
   -- field = null / value
   pub data Field : Derived → Type 0 where
-    a-null : {bs : Bytes} → Null bs → Field (cell bs types.Null [])
-    a-value : {bs ts : Bytes} → Value bs ts → Field (cell bs types.Text ts)
+    a_null : {bs : Bytes} → Null bs → Field (cell bs types.Null [])
+    a_value : {bs ts : Bytes} → Value bs ts → Field (cell bs types.Text ts)
 
   -- value = DQUOTE *(textdata / 2DQUOTE) DQUOTE
   pub data Value : (raw content : Bytes) → Type 0 where
@@ -48,13 +48,13 @@ mutual
   pub data Inner : (raw content : Bytes) → Type 0 where
     nothing : Inner [] []
     textdata : {cs bs ts : Bytes} → Textdata cs → Inner bs ts → Inner (cs ++ bs) (cs ++ ts)
-    two-quotes : {bs ts : Bytes} → Inner bs ts → Inner (DQUOTE ∷ DQUOTE ∷ bs) (DQUOTE ∷ ts)
+    two_quotes : {bs ts : Bytes} → Inner bs ts → Inner (DQUOTE ∷ DQUOTE ∷ bs) (DQUOTE ∷ ts)
 
   -- textdata = %x00-21 / %x23-7F / UTF8-data
   pub data Textdata : Bytes → Type 0 where
-    below-quote : {b : ℕ} → b from 0x00 to 0x21 → Textdata (b ∷ [])
-    above-quote : {b : ℕ} → b from 0x23 to 0x7F → Textdata (b ∷ [])
-    text-beyond : {cs : Bytes} → UTF8-data cs → Textdata cs
+    below_quote : {b : ℕ} → b from 0x00 to 0x21 → Textdata (b ∷ [])
+    above_quote : {b : ℕ} → b from 0x23 to 0x7F → Textdata (b ∷ [])
+    text_beyond : {cs : Bytes} → UTF8-data cs → Textdata cs
 
   -- comment = hash *commentdata linebreak
   pub data Comment : Bytes → Type 0 where
@@ -62,15 +62,15 @@ mutual
 
   -- *commentdata
   pub data Remark : Bytes → Type 0 where
-    no-remark : Remark []
+    no_remark : Remark []
     commentdata : {cs bs : Bytes} → Commentdata cs → Remark bs → Remark (cs ++ bs)
 
   -- commentdata = %x00-09 / %x0B-0C / %x0E-7F / UTF8-data
   pub data Commentdata : Bytes → Type 0 where
-    below-lf : {b : ℕ} → b from 0x00 to 0x09 → Commentdata (b ∷ [])
-    below-cr : {b : ℕ} → b from 0x0B to 0x0C → Commentdata (b ∷ [])
-    above-cr : {b : ℕ} → b from 0x0E to 0x7F → Commentdata (b ∷ [])
-    comment-beyond : {cs : Bytes} → UTF8-data cs → Commentdata cs
+    below_lf : {b : ℕ} → b from 0x00 to 0x09 → Commentdata (b ∷ [])
+    below_cr : {b : ℕ} → b from 0x0B to 0x0C → Commentdata (b ∷ [])
+    above_cr : {b : ℕ} → b from 0x0E to 0x7F → Commentdata (b ∷ [])
+    comment_beyond : {cs : Bytes} → UTF8-data cs → Commentdata cs
 
   -- null = %x5C.4E
   pub data Null : Bytes → Type 0 where

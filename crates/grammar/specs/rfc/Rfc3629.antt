@@ -6,15 +6,15 @@ use Rattle.grammar.specs.rfc.Rfc5234.{◌from◌to◌}
 mutual
   -- UTF8-octets = *( UTF8-char )
   pub data UTF8-octets : Bytes → Type 0 where
-    no-octets : UTF8-octets []
+    no_octets : UTF8-octets []
     octets : {cs bs : Bytes} → UTF8-char cs → UTF8-octets bs → UTF8-octets (cs ++ bs)
 
   -- UTF8-char = UTF8-1 / UTF8-2 / UTF8-3 / UTF8-4
   pub data UTF8-char : Bytes → Type 0 where
-    char-1 : {cs : Bytes} → UTF8-1 cs → UTF8-char cs
-    char-2 : {cs : Bytes} → UTF8-2 cs → UTF8-char cs
-    char-3 : {cs : Bytes} → UTF8-3 cs → UTF8-char cs
-    char-4 : {cs : Bytes} → UTF8-4 cs → UTF8-char cs
+    char_1 : {cs : Bytes} → UTF8-1 cs → UTF8-char cs
+    char_2 : {cs : Bytes} → UTF8-2 cs → UTF8-char cs
+    char_3 : {cs : Bytes} → UTF8-3 cs → UTF8-char cs
+    char_4 : {cs : Bytes} → UTF8-4 cs → UTF8-char cs
 
   -- UTF8-1 = %x00-7F
   pub data UTF8-1 : Bytes → Type 0 where
@@ -22,19 +22,19 @@ mutual
 
   -- UTF8-2 = %xC2-DF UTF8-tail
   pub data UTF8-2 : Bytes → Type 0 where
-    c2-df : {a b : ℕ} → a from 0xC2 to 0xDF → UTF8-tail b → UTF8-2 (a ∷ b ∷ [])
+    c2_df : {a b : ℕ} → a from 0xC2 to 0xDF → UTF8-tail b → UTF8-2 (a ∷ b ∷ [])
 
   -- UTF8-3 = %xE0 %xA0-BF UTF8-tail / %xE1-EC 2( UTF8-tail ) / %xED %x80-9F UTF8-tail / %xEE-EF 2( UTF8-tail )
   pub data UTF8-3 : Bytes → Type 0 where
     e0 : {b c : ℕ} → b from 0xA0 to 0xBF → UTF8-tail c → UTF8-3 (0xE0 ∷ b ∷ c ∷ [])
-    e1-ec : {a b c : ℕ} → a from 0xE1 to 0xEC → UTF8-tail b → UTF8-tail c → UTF8-3 (a ∷ b ∷ c ∷ [])
+    e1_ec : {a b c : ℕ} → a from 0xE1 to 0xEC → UTF8-tail b → UTF8-tail c → UTF8-3 (a ∷ b ∷ c ∷ [])
     ed : {b c : ℕ} → b from 0x80 to 0x9F → UTF8-tail c → UTF8-3 (0xED ∷ b ∷ c ∷ [])
-    ee-ef : {a b c : ℕ} → a from 0xEE to 0xEF → UTF8-tail b → UTF8-tail c → UTF8-3 (a ∷ b ∷ c ∷ [])
+    ee_ef : {a b c : ℕ} → a from 0xEE to 0xEF → UTF8-tail b → UTF8-tail c → UTF8-3 (a ∷ b ∷ c ∷ [])
 
   -- UTF8-4 = %xF0 %x90-BF 2( UTF8-tail ) / %xF1-F3 3( UTF8-tail ) / %xF4 %x80-8F 2( UTF8-tail )
   pub data UTF8-4 : Bytes → Type 0 where
     f0 : {b c d : ℕ} → b from 0x90 to 0xBF → UTF8-tail c → UTF8-tail d → UTF8-4 (0xF0 ∷ b ∷ c ∷ d ∷ [])
-    f1-f3 : {a b c d : ℕ} → a from 0xF1 to 0xF3 → UTF8-tail b → UTF8-tail c → UTF8-tail d → UTF8-4 (a ∷ b ∷ c ∷ d ∷ [])
+    f1_f3 : {a b c d : ℕ} → a from 0xF1 to 0xF3 → UTF8-tail b → UTF8-tail c → UTF8-tail d → UTF8-4 (a ∷ b ∷ c ∷ d ∷ [])
     f4 : {b c d : ℕ} → b from 0x80 to 0x8F → UTF8-tail c → UTF8-tail d → UTF8-4 (0xF4 ∷ b ∷ c ∷ d ∷ [])
 
   -- UTF8-tail = %x80-BF
@@ -54,11 +54,11 @@ pub data UTF8-data : Bytes → Type 0 where
 -- 0001 0000-0010 FFFF | 11110xxx 10xxxxxx 10xxxxxx 10xxxxxx
 -- The third row departs from RFC 3629 in holding D800-DFFF too, for lone surrogates (§2.6 §2.10)
 pub data Octets (u : ℕ) : Bytes → Type 0 where
-  one-octet : u from 0x0000 to 0x007F → Octets u (u ∷ [])
-  two-octets : (w x : ℕ) → u from 0x0080 to 0x07FF → u ≡ w * 0x40 + x → x ≤ 0x3F → Octets u ((0xC0 + w) ∷ (0x80 + x) ∷ [])
-  three-octets :
+  one_octet : u from 0x0000 to 0x007F → Octets u (u ∷ [])
+  two_octets : (w x : ℕ) → u from 0x0080 to 0x07FF → u ≡ w * 0x40 + x → x ≤ 0x3F → Octets u ((0xC0 + w) ∷ (0x80 + x) ∷ [])
+  three_octets :
       (w x y : ℕ) → u from 0x0800 to 0xFFFF → u ≡ w * 0x1000 + x * 0x40 + y → x ≤ 0x3F → y ≤ 0x3F →
       Octets u ((0xE0 + w) ∷ (0x80 + x) ∷ (0x80 + y) ∷ [])
-  four-octets :
+  four_octets :
       (w x y z : ℕ) → u from 0x10000 to 0x10FFFF → u ≡ w * 0x40000 + x * 0x1000 + y * 0x40 + z → x ≤ 0x3F → y ≤ 0x3F → z ≤ 0x3F →
       Octets u ((0xF0 + w) ∷ (0x80 + x) ∷ (0x80 + y) ∷ (0x80 + z) ∷ [])

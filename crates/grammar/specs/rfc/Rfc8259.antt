@@ -20,7 +20,7 @@ pub data Pair : ℕ → List Item → Type 0 where
 -- a 12-character sequence, encoding the UTF-16 surrogate pair". A surrogate that is not so paired is a lone one (§2.7 §2.8)
 pub data Content : List Item → Bytes → Type 0 where
   nothing : Content [] []
-  as-they-lie : {cs ts : Bytes} {us : List Item} → Content us ts → Content (octets cs ∷ us) (cs ++ ts)
+  as_they_lie : {cs ts : Bytes} {us : List Item} → Content us ts → Content (octets cs ∷ us) (cs ++ ts)
   paired :
       {h l : ℕ} {cs ts : Bytes} {us : List Item} → Pair h (unit l ∷ us) → Octets (0x10000 + (h - 0xD800) * 0x400 + (l - 0xDC00)) cs →
       Content us ts → Content (unit h ∷ unit l ∷ us) (cs ++ ts)
@@ -31,15 +31,15 @@ pub data Content : List Item → Bytes → Type 0 where
 
 -- false = %x66.61.6c.73.65
 pub data False : Bytes → Type 0 where
-  encoded-false : False (0x66 ∷ 0x61 ∷ 0x6C ∷ 0x73 ∷ 0x65 ∷ [])
+  encoded_false : False (0x66 ∷ 0x61 ∷ 0x6C ∷ 0x73 ∷ 0x65 ∷ [])
 
 -- null = %x6e.75.6c.6c
 pub data Null : Bytes → Type 0 where
-  encoded-null : Null (0x6E ∷ 0x75 ∷ 0x6C ∷ 0x6C ∷ [])
+  encoded_null : Null (0x6E ∷ 0x75 ∷ 0x6C ∷ 0x6C ∷ [])
 
 -- true = %x74.72.75.65
 pub data True : Bytes → Type 0 where
-  encoded-true : True (0x74 ∷ 0x72 ∷ 0x75 ∷ 0x65 ∷ [])
+  encoded_true : True (0x74 ∷ 0x72 ∷ 0x75 ∷ 0x65 ∷ [])
 
 -- ---- section 6
 
@@ -52,30 +52,30 @@ mutual
   -- [ minus ]
   pub data Optional-minus : Bytes → Type 0 where
     no_minus : Optional-minus []
-    a-minus : {b : ℕ} → Minus b → Optional-minus (b ∷ [])
+    a_minus : {b : ℕ} → Minus b → Optional-minus (b ∷ [])
 
   -- [ frac ]
   pub data Optional-frac : Bytes → Type 0 where
-    no-frac : Optional-frac []
-    a-frac : {bs : Bytes} → Frac bs → Optional-frac bs
+    no_frac : Optional-frac []
+    a_frac : {bs : Bytes} → Frac bs → Optional-frac bs
 
   -- [ exp ]
   pub data Optional-exp : Bytes → Type 0 where
-    no-exp : Optional-exp []
-    an-exp : {bs : Bytes} → Exp bs → Optional-exp bs
+    no_exp : Optional-exp []
+    an_exp : {bs : Bytes} → Exp bs → Optional-exp bs
 
   -- decimal-point = %x2E
   pub data Decimal-point : ℕ → Type 0 where
-    decimal-point : Decimal-point 0x2E
+    decimal_point : Decimal-point 0x2E
 
   -- digit1-9 = %x31-39
   pub data Digit1-9 : ℕ → Type 0 where
-    digit1-9 : {b : ℕ} → b from 0x31 to 0x39 → Digit1-9 b
+    digit1_9 : {b : ℕ} → b from 0x31 to 0x39 → Digit1-9 b
 
   -- e = %x65 / %x45
   pub data E : ℕ → Type 0 where
-    small-e : E 0x65
-    large-e : E 0x45
+    small_e : E 0x65
+    large_e : E 0x45
 
   -- exp = e [ minus / plus ] 1*DIGIT
   pub data Exp : Bytes → Type 0 where
@@ -93,7 +93,7 @@ mutual
 
   -- int = zero / ( digit1-9 *DIGIT )
   pub data Int : Bytes → Type 0 where
-    a-zero : {b : ℕ} → Zero b → Int (b ∷ [])
+    a_zero : {b : ℕ} → Zero b → Int (b ∷ [])
     nonzero : {b : ℕ} {bs : Bytes} → Digit1-9 b → Digits bs → Int (b ∷ bs)
 
   -- minus = %x2D
@@ -125,13 +125,13 @@ mutual
   -- char = unescaped / escape ( %x22 / %x5C / %x2F / %x62 / %x66 / %x6E / %x72 / %x74 / %x75 4HEXDIG )
   pub data Char : Bytes → Item → Type 0 where
     unescaped : {cs : Bytes} → Unescaped cs → Char cs (octets cs)
-    quotation-mark : {e : ℕ} → Escape e → Char (e ∷ 0x22 ∷ []) (octets (0x22 ∷ []))
-    reverse-solidus : {e : ℕ} → Escape e → Char (e ∷ 0x5C ∷ []) (octets (0x5C ∷ []))
+    quotation_mark : {e : ℕ} → Escape e → Char (e ∷ 0x22 ∷ []) (octets (0x22 ∷ []))
+    reverse_solidus : {e : ℕ} → Escape e → Char (e ∷ 0x5C ∷ []) (octets (0x5C ∷ []))
     solidus : {e : ℕ} → Escape e → Char (e ∷ 0x2F ∷ []) (octets (0x2F ∷ []))
     backspace : {e : ℕ} → Escape e → Char (e ∷ 0x62 ∷ []) (octets (0x08 ∷ []))
-    form-feed : {e : ℕ} → Escape e → Char (e ∷ 0x66 ∷ []) (octets (0x0C ∷ []))
-    line-feed : {e : ℕ} → Escape e → Char (e ∷ 0x6E ∷ []) (octets (0x0A ∷ []))
-    carriage-return : {e : ℕ} → Escape e → Char (e ∷ 0x72 ∷ []) (octets (0x0D ∷ []))
+    form_feed : {e : ℕ} → Escape e → Char (e ∷ 0x66 ∷ []) (octets (0x0C ∷ []))
+    line_feed : {e : ℕ} → Escape e → Char (e ∷ 0x6E ∷ []) (octets (0x0A ∷ []))
+    carriage_return : {e : ℕ} → Escape e → Char (e ∷ 0x72 ∷ []) (octets (0x0D ∷ []))
     tab : {e : ℕ} → Escape e → Char (e ∷ 0x74 ∷ []) (octets (0x09 ∷ []))
     uXXXX :
         {e a b c d w x y z : ℕ} → Escape e → HEXDIG a w → HEXDIG b x → HEXDIG c y → HEXDIG d z →
@@ -143,12 +143,12 @@ mutual
 
   -- quotation-mark = %x22
   pub data Quotation-mark : ℕ → Type 0 where
-    a-quotation-mark : Quotation-mark 0x22
+    a_quotation_mark : Quotation-mark 0x22
 
   -- unescaped = %x20-21 / %x23-5B / %x5D-10FFFF
   pub data Unescaped : Bytes → Type 0 where
-    below-quote : {b : ℕ} → b from 0x20 to 0x21 → Unescaped (b ∷ [])
-    below-backslash : {b : ℕ} → b from 0x23 to 0x5B → Unescaped (b ∷ [])
-    above-backslash : {b : ℕ} → b from 0x5D to 0x7F → Unescaped (b ∷ [])
+    below_quote : {b : ℕ} → b from 0x20 to 0x21 → Unescaped (b ∷ [])
+    below_backslash : {b : ℕ} → b from 0x23 to 0x5B → Unescaped (b ∷ [])
+    above_backslash : {b : ℕ} → b from 0x5D to 0x7F → Unescaped (b ∷ [])
     -- %x80-10FFFF, in UTF-8, which has no octets for D800-DFFF (§1.5 §2.11)
-    above-ascii : {cs : Bytes} → UTF8-data cs → Unescaped cs
+    above_ascii : {cs : Bytes} → UTF8-data cs → Unescaped cs

@@ -1,4 +1,4 @@
--- Runs of a cell's bytes: the decoder accepts exactly the runs to a whole cell (`runs-sound`, `sound-runs`).
+-- Runs of a cell's bytes: the decoder accepts exactly the runs to a whole cell (`runs_sound`, `sound_runs`).
 use Prim.Native.Nat.{ℕ, suc}
 use native.Mathlib.Omega.{arith}
 use mathlib.Core.Path.{◌≡◌, refl}
@@ -10,20 +10,20 @@ use Rattle.model.specs.rules.Types.{Cell, Fresh, Plain, CellStep, More, Stop, Re
 use Rattle.model.specs.rules.Types.{Fault, CellCheck, WholeCell, Unsound}
 use Rattle.model.specs.rules.Types as types
 use Rattle.model.specs.rules.Base.{Bytes, if◌then◌else◌}
-use Rattle.model.specs.rules.Utf8.{rowOf, leads, leadByte, innerStep, charStep}
-use Rattle.model.specs.rules.Cell.{firstByte, cellStep, is_whole}
+use Rattle.model.specs.rules.Utf8.{row_of, leads, lead_byte, inner_step, char_step}
+use Rattle.model.specs.rules.Cell.{first_byte, cell_step, is_whole}
 pub use Rattle.model.specs.rules.Cell.{Runs, here, there}
-use Rattle.model.specs.rules.Decode.{validateFrom}
+use Rattle.model.specs.rules.Decode.{validate_from}
 use Rattle.model.specs.laws.Laws.{All, all_none, all_cons}
 
 -- ---- a cell that begins like the byte order mark
 
 -- EF is no delimiter and no quote
-pub bom-cell : (s : Settings) → cellStep (CsvPlus s) Fresh 0xEF ≡ More (Plain (Within (Second EeToEf)))
-unfolding cellStep firstByte charStep leadByte leads rowOf if◌then◌else◌
-bom-cell s = go s.delimiter s.quote
+pub bom_cell : (s : Settings) → cell_step (CsvPlus s) Fresh 0xEF ≡ More (Plain (Within (Second EeToEf)))
+unfolding cell_step first_byte char_step lead_byte leads row_of if◌then◌else◌
+bom_cell s = go s.delimiter s.quote
   where
-    go : (x : Delimiter) (q : Quote) → cellStep (CsvPlus (record { delimiter = x; quote = q })) Fresh 0xEF ≡ More (Plain (Within (Second EeToEf)))
+    go : (x : Delimiter) (q : Quote) → cell_step (CsvPlus (record { delimiter = x; quote = q })) Fresh 0xEF ≡ More (Plain (Within (Second EeToEf)))
     go Comma Double = refl
     go Comma Single = refl
     go Semicolon Double = refl
@@ -33,20 +33,20 @@ bom-cell s = go s.delimiter s.quote
     go Bar Double = refl
     go Bar Single = refl
 
-pub bom-rest : (d : Dialect) → cellStep d (Plain (Within (Second EeToEf))) 0xBB ≡ More (Plain (Within Last))
-unfolding cellStep charStep innerStep rowOf if◌then◌else◌
-bom-rest d = refl
+pub bom_rest : (d : Dialect) → cell_step d (Plain (Within (Second EeToEf))) 0xBB ≡ More (Plain (Within Last))
+unfolding cell_step char_step inner_step row_of if◌then◌else◌
+bom_rest d = refl
 
 -- ---- runs of a cell
 
-pub snoc : {d : Dialect} {c c' c'' : Cell} {bs : Bytes} (b : ℕ) → Runs d c bs c' → cellStep d c' b ≡ More c'' → Runs d c (bs ++ (b ∷ [])) c''
+pub snoc : {d : Dialect} {c c' c'' : Cell} {bs : Bytes} (b : ℕ) → Runs d c bs c' → cell_step d c' b ≡ More c'' → Runs d c (bs ++ (b ∷ [])) c''
 snoc b here e = there e here
 snoc b (there f r) e = there f (snoc b r e)
 
-pub runs-sound : {d : Dialect} {c c' : Cell} {bs : Bytes} (i : ℕ) → Runs d c bs c' → is_whole d c' ≡ true → validateFrom d c i bs ≡ WholeCell
-unfolding validateFrom if◌then◌else◌
-runs-sound i here w = rw (w, validateFrom)
-runs-sound i (there e r) w = rw (e, validateFrom) (runs-sound (suc i) r w)
+pub runs_sound : {d : Dialect} {c c' : Cell} {bs : Bytes} (i : ℕ) → Runs d c bs c' → is_whole d c' ≡ true → validate_from d c i bs ≡ WholeCell
+unfolding validate_from if◌then◌else◌
+runs_sound i here w = rw (w, validate_from)
+runs_sound i (there e r) w = rw (e, validate_from) (runs_sound (suc i) r w)
 
 -- a run to a whole cell
 pub record WholeRun (d : Dialect) (c : Cell) (bs : Bytes) : Type 0 where
@@ -54,26 +54,26 @@ pub record WholeRun (d : Dialect) (c : Cell) (bs : Bytes) : Type 0 where
   pub runs : Runs d c bs end
   pub whole : is_whole d end ≡ true
 
-unsound-sound : {A : Type 0} {e : Fault} {i : ℕ} → Unsound e i ≡ WholeCell → A
-unsound-sound x = let z : ◌≡◌ {A = ℕ} 0 1 = cc in absurd (omega arith)
+unsound_sound : {A : Type 0} {e : Fault} {i : ℕ} → Unsound e i ≡ WholeCell → A
+unsound_sound x = let z : ◌≡◌ {A = ℕ} 0 1 = cc in absurd (omega arith)
 
-pub sound-runs : (d : Dialect) (c : Cell) (i : ℕ) (bs : Bytes) → validateFrom d c i bs ≡ WholeCell → WholeRun d c bs
-unfolding validateFrom if◌then◌else◌
-sound-runs d c i [] h = go (is_whole d c) refl h
+pub sound_runs : (d : Dialect) (c : Cell) (i : ℕ) (bs : Bytes) → validate_from d c i bs ≡ WholeCell → WholeRun d c bs
+unfolding validate_from if◌then◌else◌
+sound_runs d c i [] h = go (is_whole d c) refl h
   where
     go : (t : Bool) → is_whole d c ≡ t → (if t then WholeCell else Unsound types.CutShort i) ≡ WholeCell → WholeRun d c []
     go true e k = record { end = c; runs = here; whole = e }
-    go false e k = unsound-sound k
-sound-runs d c i (b ∷ bs) h = go (cellStep d c b) refl h (λ c'. sound-runs d c' (suc i) bs)
+    go false e k = unsound_sound k
+sound_runs d c i (b ∷ bs) h = go (cell_step d c b) refl h (λ c'. sound_runs d c' (suc i) bs)
   where
     go :
-        (a : CellStep) → cellStep d c b ≡ a →
+        (a : CellStep) → cell_step d c b ≡ a →
         (elim a as (λ _. CellCheck)
-        [ More c' ↦ validateFrom d c' (suc i) bs | Stop ↦ Unsound (types.Byte types.Syntax) i | Refuse x ↦ Unsound (types.Byte x) i ])
-        ≡ WholeCell → ((c' : Cell) → validateFrom d c' (suc i) bs ≡ WholeCell → WholeRun d c' bs) → WholeRun d c (b ∷ bs)
+        [ More c' ↦ validate_from d c' (suc i) bs | Stop ↦ Unsound (types.Byte types.Syntax) i | Refuse x ↦ Unsound (types.Byte x) i ])
+        ≡ WholeCell → ((c' : Cell) → validate_from d c' (suc i) bs ≡ WholeCell → WholeRun d c' bs) → WholeRun d c (b ∷ bs)
     go (More c') e k ih = let w = ih c' k in record { end = w.end; runs = there e w.runs; whole = w.whole }
-    go Stop e k ih = unsound-sound k
-    go (Refuse x) e k ih = unsound-sound k
+    go Stop e k ih = unsound_sound k
+    go (Refuse x) e k ih = unsound_sound k
 
 -- ---- lists
 

@@ -11,32 +11,32 @@ use Rattle.model.specs.rules.Types.{Delimiter, Comma, Semicolon, Tab, Bar, Quote
 use Rattle.model.specs.rules.Types.{E0, E1ToEc, Ed, EeToEf, F0, F1ToF3, F4, Inner, Second, LastTwo, Last, Char, Whole, Within, Advance, On}
 use Rattle.model.specs.rules.Types.{Broken}
 use Rattle.model.specs.rules.Base.{Bytes, CR, LF, ◌is◌, within, if◌then◌else◌}
-use Rattle.model.specs.rules.Dialect.{quoteOf, delimiterOf, delimiterByte, quoteByte}
-use Rattle.model.specs.rules.Utf8.{rowOf, leads, leadByte, innerStep, charStep, textFrom, Wide, gap, ed, lone, inner, settled, wideStep}
-use Rattle.model.specs.rules.Utf8.{wideFrom, isContent}
-use Rattle.model.proofs.Tests.{split-on, impossible, is→eq, within-true}
+use Rattle.model.specs.rules.Dialect.{quote_of, delimiter_of, delimiter_byte, quote_byte}
+use Rattle.model.specs.rules.Utf8.{row_of, leads, lead_byte, inner_step, char_step, text_from, Wide, gap, ed, lone, inner, settled, wide_step}
+use Rattle.model.specs.rules.Utf8.{wide_from, is_content}
+use Rattle.model.proofs.Tests.{split_on, impossible, is→eq, within_true}
 
 -- ---- ASCII
 
-pub ascii-whole : (b : ℕ) → b ≤ 0x7F → charStep Whole b ≡ On Whole
-unfolding charStep if◌then◌else◌
-ascii-whole b h = rw (le-leb 0 b (omega arith), le-leb b 0x7F h)
+pub ascii_whole : (b : ℕ) → b ≤ 0x7F → char_step Whole b ≡ On Whole
+unfolding char_step if◌then◌else◌
+ascii_whole b h = rw (le-leb 0 b (omega arith), le-leb b 0x7F h)
 
-pub quote-ascii : (d : Dialect) → quoteOf d ≤ 0x7F
-quote-ascii Csvj = omega arith
-quote-ascii Tdif = omega arith
-quote-ascii (CsvPlus s) = go s.quote
+pub quote_ascii : (d : Dialect) → quote_of d ≤ 0x7F
+quote_ascii Csvj = omega arith
+quote_ascii Tdif = omega arith
+quote_ascii (CsvPlus s) = go s.quote
   where
-    go : (q : Quote) → quoteByte q ≤ 0x7F
+    go : (q : Quote) → quote_byte q ≤ 0x7F
     go Double = omega arith
     go Single = omega arith
 
-pub delimiter-ascii : (d : Dialect) → delimiterOf d ≤ 0x7F
-delimiter-ascii Csvj = omega arith
-delimiter-ascii Tdif = omega arith
-delimiter-ascii (CsvPlus s) = go s.delimiter
+pub delimiter_ascii : (d : Dialect) → delimiter_of d ≤ 0x7F
+delimiter_ascii Csvj = omega arith
+delimiter_ascii Tdif = omega arith
+delimiter_ascii (CsvPlus s) = go s.delimiter
   where
-    go : (x : Delimiter) → delimiterByte x ≤ 0x7F
+    go : (x : Delimiter) → delimiter_byte x ≤ 0x7F
     go Comma = omega arith
     go Semicolon = omega arith
     go Tab = omega arith
@@ -45,71 +45,71 @@ delimiter-ascii (CsvPlus s) = go s.delimiter
 pub is_ascii : (b c : ℕ) → c ≤ 0x7F → (b is c) ≡ true → b ≤ 0x7F
 is_ascii b c h e = let q : b ≡ c = is→eq b c e in omega arith
 
-pub separator-ascii : (d : Dialect) (b : ℕ) → (b is delimiterOf d || b is CR || b is LF) ≡ true → b ≤ 0x7F
-separator-ascii d b e =
-    split-on (b is delimiterOf d) (λ p. is_ascii b (delimiterOf d) (delimiter-ascii d) p) λ p.
-    split-on (b is CR) (λ q. is_ascii b CR (omega arith) q) λ q. is_ascii b LF (omega arith) (rw (p, q) at e)
+pub separator_ascii : (d : Dialect) (b : ℕ) → (b is delimiter_of d || b is CR || b is LF) ≡ true → b ≤ 0x7F
+separator_ascii d b e =
+    split_on (b is delimiter_of d) (λ p. is_ascii b (delimiter_of d) (delimiter_ascii d) p) λ p.
+    split_on (b is CR) (λ q. is_ascii b CR (omega arith) q) λ q. is_ascii b LF (omega arith) (rw (p, q) at e)
 
 -- ---- later bytes
 
-pub broken-on : {A : Type 0} {c : Char} → Broken ≡ On c → A
-broken-on e = let z : ◌≡◌ {A = ℕ} 0 1 = cc in absurd (omega arith)
+pub broken_on : {A : Type 0} {c : Char} → Broken ≡ On c → A
+broken_on e = let z : ◌≡◌ {A = ℕ} 0 1 = cc in absurd (omega arith)
 
-second-low : (l : Lead) → 0x80 ≤ (rowOf l).lo2
-unfolding rowOf
-second-low C2ToDf = omega arith
-second-low E0 = omega arith
-second-low E1ToEc = omega arith
-second-low Ed = omega arith
-second-low EeToEf = omega arith
-second-low F0 = omega arith
-second-low F1ToF3 = omega arith
-second-low F4 = omega arith
+second_low : (l : Lead) → 0x80 ≤ (row_of l).lo2
+unfolding row_of
+second_low C2ToDf = omega arith
+second_low E0 = omega arith
+second_low E1ToEc = omega arith
+second_low Ed = omega arith
+second_low EeToEf = omega arith
+second_low F0 = omega arith
+second_low F1ToF3 = omega arith
+second_low F4 = omega arith
 
 -- a byte inside a character is from 80 on
-pub inner-high : (i : Inner) (b : ℕ) (c : Char) → charStep (Within i) b ≡ On c → 0x80 ≤ b
-unfolding charStep innerStep if◌then◌else◌
-inner-high (Second l) b c e =
-    split-on (within (rowOf l).lo2 (rowOf l).hi2 b)
+pub inner_high : (i : Inner) (b : ℕ) (c : Char) → char_step (Within i) b ≡ On c → 0x80 ≤ b
+unfolding char_step inner_step if◌then◌else◌
+inner_high (Second l) b c e =
+    split_on (within (row_of l).lo2 (row_of l).hi2 b)
     (λ p.
-    let w = within-true (rowOf l).lo2 (rowOf l).hi2 b p in
-    let h : (rowOf l).lo2 ≤ b = w.0 in let k : 0x80 ≤ (rowOf l).lo2 = second-low l in omega arith) λ p.
-    broken-on (rw p at e)
-inner-high LastTwo b c e = split-on (within 0x80 0xBF b) (λ p. (within-true 0x80 0xBF b p).0) λ p. broken-on (rw p at e)
-inner-high Last b c e = split-on (within 0x80 0xBF b) (λ p. (within-true 0x80 0xBF b p).0) λ p. broken-on (rw p at e)
+    let w = within_true (row_of l).lo2 (row_of l).hi2 b p in
+    let h : (row_of l).lo2 ≤ b = w.0 in let k : 0x80 ≤ (row_of l).lo2 = second_low l in omega arith) λ p.
+    broken_on (rw p at e)
+inner_high LastTwo b c e = split_on (within 0x80 0xBF b) (λ p. (within_true 0x80 0xBF b p).0) λ p. broken_on (rw p at e)
+inner_high Last b c e = split_on (within 0x80 0xBF b) (λ p. (within_true 0x80 0xBF b p).0) λ p. broken_on (rw p at e)
 
-pub inner-no-quote : (d : Dialect) (i : Inner) (b : ℕ) (c : Char) → charStep (Within i) b ≡ On c → (b is quoteOf d) ≡ false
-inner-no-quote d i b c e =
-    let h : 0x80 ≤ b = inner-high i b c e in
-    let q : quoteOf d ≤ 0x7F = quote-ascii d in
-    ne_eqb b (quoteOf d) (omega arith)
+pub inner_no_quote : (d : Dialect) (i : Inner) (b : ℕ) (c : Char) → char_step (Within i) b ≡ On c → (b is quote_of d) ≡ false
+inner_no_quote d i b c e =
+    let h : 0x80 ≤ b = inner_high i b c e in
+    let q : quote_of d ≤ 0x7F = quote_ascii d in
+    ne_eqb b (quote_of d) (omega arith)
 
 -- ---- texts
 
 -- what the first byte of a text shows
 pub data TextStep (c : Char) (b : ℕ) (bs : Bytes) : Type 0 where
-  text-step : (c' : Char) → charStep c b ≡ On c' → textFrom c' bs ≡ true → TextStep c b bs
+  text_step : (c' : Char) → char_step c b ≡ On c' → text_from c' bs ≡ true → TextStep c b bs
 
-pub text-on : (c : Char) (b : ℕ) (bs : Bytes) → textFrom c (b ∷ bs) ≡ true → TextStep c b bs
-unfolding textFrom
-text-on c b bs e = go (charStep c b) refl e
+pub text_on : (c : Char) (b : ℕ) (bs : Bytes) → text_from c (b ∷ bs) ≡ true → TextStep c b bs
+unfolding text_from
+text_on c b bs e = go (char_step c b) refl e
   where
-    go : (o : Advance) → charStep c b ≡ o → (elim o as (λ _. Bool) [ Broken ↦ false | On c' ↦ textFrom c' bs ]) ≡ true → TextStep c b bs
+    go : (o : Advance) → char_step c b ≡ o → (elim o as (λ _. Bool) [ Broken ↦ false | On c' ↦ text_from c' bs ]) ≡ true → TextStep c b bs
     go Broken p k = impossible k
-    go (On c') p k = text-step c' p k
+    go (On c') p k = text_step c' p k
 
-pub text-more : (c c' : Char) (b : ℕ) (bs : Bytes) → charStep c b ≡ On c' → textFrom c (b ∷ bs) ≡ textFrom c' bs
-unfolding textFrom
-text-more Whole c' b bs e = rw (e, textFrom)
-text-more (Within i) c' b bs e = rw (e, textFrom)
+pub text_more : (c c' : Char) (b : ℕ) (bs : Bytes) → char_step c b ≡ On c' → text_from c (b ∷ bs) ≡ text_from c' bs
+unfolding text_from
+text_more Whole c' b bs e = rw (e, text_from)
+text_more (Within i) c' b bs e = rw (e, text_from)
 
 -- ---- a text is content
 
 -- the state of content next to the state of its text; ED alone is distinguished
 pub data Near : Char → Wide → Type 0 where
-  near-gap : {h : Bool} → Near Whole (gap h)
-  near-ed : {h : Bool} → Near (Within (Second Ed)) (ed h)
-  near-inner : {i : Inner} → Near (Within i) (inner i)
+  near_gap : {h : Bool} → Near Whole (gap h)
+  near_ed : {h : Bool} → Near (Within (Second Ed)) (ed h)
+  near_inner : {i : Inner} → Near (Within i) (inner i)
 
 -- not directly after a high surrogate
 abbrev pub Calm : Wide → Type 0
@@ -119,68 +119,68 @@ Calm (ed h) = Unit {0}
 Calm (lone h) = Unit {0}
 Calm (inner i) = Unit {0}
 
-calm-settled : (c : Char) → Calm (settled c)
-calm-settled Whole = tt
-calm-settled (Within i) = tt
+calm_settled : (c : Char) → Calm (settled c)
+calm_settled Whole = tt
+calm_settled (Within i) = tt
 
-near-settled : (c : Char) → Near c (settled c)
-near-settled Whole = near-gap
-near-settled (Within i) = near-inner
+near_settled : (c : Char) → Near c (settled c)
+near_settled Whole = near_gap
+near_settled (Within i) = near_inner
 
 -- a byte of UTF-8 takes near states to near ones
 pub record NearStep (c : Char) (w : Wide) (b : ℕ) : Type 0 where
   pub wide : Wide
-  pub step : wideStep w b ≡ some wide
+  pub step : wide_step w b ≡ some wide
   pub near : Near c wide
   pub calm : Calm wide
 
-pub same-on : {x y : Char} {o : Advance} → o ≡ On x → o ≡ On y → x ≡ y
-same-on p q = cc
+pub same_on : {x y : Char} {o : Advance} → o ≡ On x → o ≡ On y → x ≡ y
+same_on p q = cc
 
-ed-char : charStep Whole 0xED ≡ On (Within (Second Ed))
-unfolding charStep leadByte leads rowOf if◌then◌else◌
-ed-char = refl
+ed_char : char_step Whole 0xED ≡ On (Within (Second Ed))
+unfolding char_step lead_byte leads row_of if◌then◌else◌
+ed_char = refl
 
-gap_step : (h : Bool) (b : ℕ) (c : Char) → charStep Whole b ≡ On c → NearStep c (gap h) b
-unfolding wideStep if◌then◌else◌
+gap_step : (h : Bool) (b : ℕ) (c : Char) → char_step Whole b ≡ On c → NearStep c (gap h) b
+unfolding wide_step if◌then◌else◌
 gap_step h b c e = go (b is 0xED) refl
   where
     go : (t : Bool) → (b is 0xED) ≡ t → NearStep c (gap h) b
     go true p =
-        let q : Within (Second Ed) ≡ c = same-on ed-char (rw (is→eq b 0xED p) at e) in
-        record { wide = ed h; step = rw p; near = rw (← q) near-ed; calm = tt }
-    go false p = record { wide = settled c; step = rw (p, e); near = near-settled c; calm = calm-settled c }
+        let q : Within (Second Ed) ≡ c = same_on ed_char (rw (is→eq b 0xED p) at e) in
+        record { wide = ed h; step = rw p; near = rw (← q) near_ed; calm = tt }
+    go false p = record { wide = settled c; step = rw (p, e); near = near_settled c; calm = calm_settled c }
 
-ed-step : (h : Bool) (b : ℕ) (c : Char) → charStep (Within (Second Ed)) b ≡ On c → NearStep c (ed h) b
-unfolding wideStep charStep innerStep rowOf if◌then◌else◌
-ed-step h b c e =
-    split-on (within 0x80 0x9F b)
-    (λ p. let z : Within Last ≡ c = same-on refl (rw p at e) in record { wide = inner Last; step = rw p; near = rw (← z) near-inner; calm = tt }) λ p.
-    broken-on (rw p at e)
+ed_step : (h : Bool) (b : ℕ) (c : Char) → char_step (Within (Second Ed)) b ≡ On c → NearStep c (ed h) b
+unfolding wide_step char_step inner_step row_of if◌then◌else◌
+ed_step h b c e =
+    split_on (within 0x80 0x9F b)
+    (λ p. let z : Within Last ≡ c = same_on refl (rw p at e) in record { wide = inner Last; step = rw p; near = rw (← z) near_inner; calm = tt }) λ p.
+    broken_on (rw p at e)
 
-pub near_step : {c : Char} {w : Wide} (b : ℕ) (c' : Char) → Near c w → charStep c b ≡ On c' → NearStep c' w b
-unfolding wideStep
-near_step b c' (near-gap {h}) e = gap_step h b c' e
-near_step b c' (near-ed {h}) e = ed-step h b c' e
-near_step b c' near-inner e = record { wide = settled c'; step = rw e; near = near-settled c'; calm = calm-settled c' }
+pub near_step : {c : Char} {w : Wide} (b : ℕ) (c' : Char) → Near c w → char_step c b ≡ On c' → NearStep c' w b
+unfolding wide_step
+near_step b c' (near_gap {h}) e = gap_step h b c' e
+near_step b c' (near_ed {h}) e = ed_step h b c' e
+near_step b c' near_inner e = record { wide = settled c'; step = rw e; near = near_settled c'; calm = calm_settled c' }
 
-pub wide-on : (w w' : Wide) (b : ℕ) (bs : Bytes) → wideStep w b ≡ some w' → wideFrom w (b ∷ bs) ≡ wideFrom w' bs
-unfolding wideFrom
-wide-on (gap h) w' b bs e = rw (e, wideFrom)
-wide-on (ed h) w' b bs e = rw (e, wideFrom)
-wide-on (lone h) w' b bs e = rw (e, wideFrom)
-wide-on (inner i) w' b bs e = rw (e, wideFrom)
+pub wide_on : (w w' : Wide) (b : ℕ) (bs : Bytes) → wide_step w b ≡ some w' → wide_from w (b ∷ bs) ≡ wide_from w' bs
+unfolding wide_from
+wide_on (gap h) w' b bs e = rw (e, wide_from)
+wide_on (ed h) w' b bs e = rw (e, wide_from)
+wide_on (lone h) w' b bs e = rw (e, wide_from)
+wide_on (inner i) w' b bs e = rw (e, wide_from)
 
-text-wide : {c : Char} {w : Wide} (bs : Bytes) → Near c w → textFrom c bs ≡ true → wideFrom w bs ≡ true
-unfolding textFrom wideFrom
-text-wide [] near-gap h = refl
-text-wide [] near-ed h = impossible h
-text-wide [] near-inner h = impossible h
-text-wide {c} {w} (b ∷ bs) n h = go (text-on c b bs h) (λ w' c'. text-wide {c = c'} {w = w'} bs)
+text_wide : {c : Char} {w : Wide} (bs : Bytes) → Near c w → text_from c bs ≡ true → wide_from w bs ≡ true
+unfolding text_from wide_from
+text_wide [] near_gap h = refl
+text_wide [] near_ed h = impossible h
+text_wide [] near_inner h = impossible h
+text_wide {c} {w} (b ∷ bs) n h = go (text_on c b bs h) (λ w' c'. text_wide {c = c'} {w = w'} bs)
   where
-    go : TextStep c b bs → ((w' : Wide) (c' : Char) → Near c' w' → textFrom c' bs ≡ true → wideFrom w' bs ≡ true) → wideFrom w (b ∷ bs) ≡ true
-    go (text-step c' p k) ih = let s = near_step b c' n p in wide-on w s.wide b bs s.step ∙ ih s.wide c' s.near k
+    go : TextStep c b bs → ((w' : Wide) (c' : Char) → Near c' w' → text_from c' bs ≡ true → wide_from w' bs ≡ true) → wide_from w (b ∷ bs) ≡ true
+    go (text_step c' p k) ih = let s = near_step b c' n p in wide_on w s.wide b bs s.step ∙ ih s.wide c' s.near k
 
-pub text-content : (bs : Bytes) → textFrom Whole bs ≡ true → isContent bs ≡ true
-unfolding isContent
-text-content bs h = text-wide bs near-gap h
+pub text_content : (bs : Bytes) → text_from Whole bs ≡ true → is_content bs ≡ true
+unfolding is_content
+text_content bs h = text_wide bs near_gap h

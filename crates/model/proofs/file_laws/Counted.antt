@@ -10,175 +10,175 @@ use Rattle.model.specs.rules.Types.{Numeral, Minus, Zero, Integer, Point, Fracti
 use Rattle.model.specs.rules.Types.{Nu, Nul, Backslash}
 use Rattle.model.specs.rules.Types.{Cell, Fresh, Quoted, Closed, Escape, Hex, InNumber, InWord, Plain, Complete, More, FileState}
 use Rattle.model.specs.rules.Base.{LF, CR, ◌is◌, if◌then◌else◌}
-use Rattle.model.specs.rules.Dialect.{quoteOf, delimiterOf, delimiterByte, quoteByte}
-use Rattle.model.specs.rules.Cell.{letterOf, numeralStep, firstByte, plain_byte, cellStep, inQuotes}
-use Rattle.model.specs.rules.File.{isBlank, quotesOpen, counts}
-use Rattle.model.proofs.Tests.{split-on, impossible, is→eq}
-use Rattle.model.proofs.cell_laws.Utf8.{inner-high}
-use Rattle.model.proofs.cell_laws.CellContent.{no_more, no_stop, char-on}
+use Rattle.model.specs.rules.Dialect.{quote_of, delimiter_of, delimiter_byte, quote_byte}
+use Rattle.model.specs.rules.Cell.{letter_of, numeral_step, first_byte, plain_byte, cell_step, in_quotes}
+use Rattle.model.specs.rules.File.{is_blank, quotes_open, counts}
+use Rattle.model.proofs.Tests.{split_on, impossible, is→eq}
+use Rattle.model.proofs.cell_laws.Utf8.{inner_high}
+use Rattle.model.proofs.cell_laws.CellContent.{no_more, no_stop, char_on}
 
 -- ---- a CR or LF among quotes and delimiters
 
-no-break : (b : ℕ) (q : Quote) → (b is 0x22) ≡ false → (b is 0x27) ≡ false → (b is quoteByte q) ≡ false
-no-break b Double h k = h
-no-break b Single h k = k
+no_break : (b : ℕ) (q : Quote) → (b is 0x22) ≡ false → (b is 0x27) ≡ false → (b is quote_byte q) ≡ false
+no_break b Double h k = h
+no_break b Single h k = k
 
-pub break-quote : (d : Dialect) (b : ℕ) → (b is 0x22) ≡ false → (b is 0x27) ≡ false → (b is quoteOf d) ≡ false
-break-quote Csvj b h k = h
-break-quote Tdif b h k = h
-break-quote (CsvPlus s) b h k = no-break b s.quote h k
+pub break_quote : (d : Dialect) (b : ℕ) → (b is 0x22) ≡ false → (b is 0x27) ≡ false → (b is quote_of d) ≡ false
+break_quote Csvj b h k = h
+break_quote Tdif b h k = h
+break_quote (CsvPlus s) b h k = no_break b s.quote h k
 
-or-true : (t : Bool) → (t || true) ≡ true
-or-true true = refl
-or-true false = refl
+or_true : (t : Bool) → (t || true) ≡ true
+or_true true = refl
+or_true false = refl
 
-pub cr-separates : (d : Dialect) → (CR is delimiterOf d || CR is CR || CR is LF) ≡ true
-cr-separates d = rw (or-true (CR is delimiterOf d))
+pub cr_separates : (d : Dialect) → (CR is delimiter_of d || CR is CR || CR is LF) ≡ true
+cr_separates d = rw (or_true (CR is delimiter_of d))
 
-pub lf-separates : (d : Dialect) → (LF is delimiterOf d || LF is CR || LF is LF) ≡ true
-lf-separates d = or-true (LF is delimiterOf d || LF is CR)
+pub lf_separates : (d : Dialect) → (LF is delimiter_of d || LF is CR || LF is LF) ≡ true
+lf_separates d = or_true (LF is delimiter_of d || LF is CR)
 
 -- ---- a CR or LF outside quotes is not of a cell
 
 data IsBreak : ℕ → Type 0 where
-  is-lf : IsBreak LF
-  is-cr : IsBreak CR
+  is_lf : IsBreak LF
+  is_cr : IsBreak CR
 
-numeral-break : {A : Type 0} {b : ℕ} {e : Cell} (n : Numeral) → IsBreak b → numeralStep n b ≡ More e → A
-unfolding numeralStep if◌then◌else◌
-numeral-break Minus is-lf k = no_more k
-numeral-break Minus is-cr k = no_more k
-numeral-break Zero is-lf k = no_stop k
-numeral-break Zero is-cr k = no_stop k
-numeral-break Integer is-lf k = no_stop k
-numeral-break Integer is-cr k = no_stop k
-numeral-break Point is-lf k = no_more k
-numeral-break Point is-cr k = no_more k
-numeral-break Fraction is-lf k = no_stop k
-numeral-break Fraction is-cr k = no_stop k
-numeral-break E is-lf k = no_more k
-numeral-break E is-cr k = no_more k
-numeral-break ESign is-lf k = no_more k
-numeral-break ESign is-cr k = no_more k
-numeral-break Exponent is-lf k = no_stop k
-numeral-break Exponent is-cr k = no_stop k
+numeral_break : {A : Type 0} {b : ℕ} {e : Cell} (n : Numeral) → IsBreak b → numeral_step n b ≡ More e → A
+unfolding numeral_step if◌then◌else◌
+numeral_break Minus is_lf k = no_more k
+numeral_break Minus is_cr k = no_more k
+numeral_break Zero is_lf k = no_stop k
+numeral_break Zero is_cr k = no_stop k
+numeral_break Integer is_lf k = no_stop k
+numeral_break Integer is_cr k = no_stop k
+numeral_break Point is_lf k = no_more k
+numeral_break Point is_cr k = no_more k
+numeral_break Fraction is_lf k = no_stop k
+numeral_break Fraction is_cr k = no_stop k
+numeral_break E is_lf k = no_more k
+numeral_break E is_cr k = no_more k
+numeral_break ESign is_lf k = no_more k
+numeral_break ESign is_cr k = no_more k
+numeral_break Exponent is_lf k = no_stop k
+numeral_break Exponent is_cr k = no_stop k
 
-letter-high : (w : Word) → 0x41 ≤ letterOf w
-letter-high T = omega arith
-letter-high Tr = omega arith
-letter-high Tru = omega arith
-letter-high F = omega arith
-letter-high Fa = omega arith
-letter-high Fal = omega arith
-letter-high Fals = omega arith
-letter-high N = omega arith
-letter-high Nu = omega arith
-letter-high Nul = omega arith
-letter-high Backslash = omega arith
+letter_high : (w : Word) → 0x41 ≤ letter_of w
+letter_high T = omega arith
+letter_high Tr = omega arith
+letter_high Tru = omega arith
+letter_high F = omega arith
+letter_high Fa = omega arith
+letter_high Fal = omega arith
+letter_high Fals = omega arith
+letter_high N = omega arith
+letter_high Nu = omega arith
+letter_high Nul = omega arith
+letter_high Backslash = omega arith
 
-break-low : {b : ℕ} → IsBreak b → b ≤ 0x0D
-break-low is-lf = omega arith
-break-low is-cr = omega arith
+break_low : {b : ℕ} → IsBreak b → b ≤ 0x0D
+break_low is_lf = omega arith
+break_low is_cr = omega arith
 
-break-letter : {b : ℕ} (w : Word) → IsBreak b → (b is letterOf w) ≡ false
-break-letter {b} w x = let h : b ≤ 0x0D = break-low x in let k : 0x41 ≤ letterOf w = letter-high w in ne_eqb b (letterOf w) (λ e. omega arith)
+break_letter : {b : ℕ} (w : Word) → IsBreak b → (b is letter_of w) ≡ false
+break_letter {b} w x = let h : b ≤ 0x0D = break_low x in let k : 0x41 ≤ letter_of w = letter_high w in ne_eqb b (letter_of w) (λ e. omega arith)
 
-break-no-quote : {b : ℕ} (d : Dialect) → IsBreak b → (b is quoteOf d) ≡ false
-break-no-quote d is-lf = break-quote d LF refl refl
-break-no-quote d is-cr = break-quote d CR refl refl
+break_no_quote : {b : ℕ} (d : Dialect) → IsBreak b → (b is quote_of d) ≡ false
+break_no_quote d is_lf = break_quote d LF refl refl
+break_no_quote d is_cr = break_quote d CR refl refl
 
-break-separates : {b : ℕ} (d : Dialect) → IsBreak b → (b is delimiterOf d || b is CR || b is LF) ≡ true
-break-separates d is-lf = lf-separates d
-break-separates d is-cr = cr-separates d
+break_separates : {b : ℕ} (d : Dialect) → IsBreak b → (b is delimiter_of d || b is CR || b is LF) ≡ true
+break_separates d is_lf = lf_separates d
+break_separates d is_cr = cr_separates d
 
-fresh-break : {A : Type 0} {b : ℕ} {e : Cell} (d : Dialect) → IsBreak b → firstByte d b ≡ More e → A
-unfolding firstByte if◌then◌else◌
-fresh-break Csvj is-lf k = no_more k
-fresh-break Csvj is-cr k = no_more k
-fresh-break Tdif is-lf k = no_more k
-fresh-break Tdif is-cr k = no_more k
-fresh-break (CsvPlus s) x k = no_stop (rw (break-no-quote (CsvPlus s) x, break-separates (CsvPlus s) x) at k)
+fresh_break : {A : Type 0} {b : ℕ} {e : Cell} (d : Dialect) → IsBreak b → first_byte d b ≡ More e → A
+unfolding first_byte if◌then◌else◌
+fresh_break Csvj is_lf k = no_more k
+fresh_break Csvj is_cr k = no_more k
+fresh_break Tdif is_lf k = no_more k
+fresh_break Tdif is_cr k = no_more k
+fresh_break (CsvPlus s) x k = no_stop (rw (break_no_quote (CsvPlus s) x, break_separates (CsvPlus s) x) at k)
 
-plain-break : {A : Type 0} {b : ℕ} {e : Cell} (d : Dialect) → IsBreak b → plain_byte d b ≡ More e → A
+plain_break : {A : Type 0} {b : ℕ} {e : Cell} (d : Dialect) → IsBreak b → plain_byte d b ≡ More e → A
 unfolding plain_byte if◌then◌else◌
-plain-break d x k = no_stop (rw (break-no-quote d x, break-separates d x) at k)
+plain_break d x k = no_stop (rw (break_no_quote d x, break_separates d x) at k)
 
-closed-break : {A : Type 0} {b : ℕ} {e : Cell} (d : Dialect) → IsBreak b → cellStep d Closed b ≡ More e → A
-unfolding cellStep if◌then◌else◌
-closed-break d x k = no_stop (rw (break-no-quote d x) at k)
+closed_break : {A : Type 0} {b : ℕ} {e : Cell} (d : Dialect) → IsBreak b → cell_step d Closed b ≡ More e → A
+unfolding cell_step if◌then◌else◌
+closed_break d x k = no_stop (rw (break_no_quote d x) at k)
 
-word-break : {A : Type 0} {b : ℕ} {e : Cell} (d : Dialect) (w : Word) → IsBreak b → cellStep d (InWord w) b ≡ More e → A
-unfolding cellStep if◌then◌else◌
-word-break d w x k = no_more (rw (break-letter w x) at k)
+word_break : {A : Type 0} {b : ℕ} {e : Cell} (d : Dialect) (w : Word) → IsBreak b → cell_step d (InWord w) b ≡ More e → A
+unfolding cell_step if◌then◌else◌
+word_break d w x k = no_more (rw (break_letter w x) at k)
 
-cell-break : {A : Type 0} {b : ℕ} {e : Cell} (d : Dialect) (c : Cell) → inQuotes c ≡ false → IsBreak b → cellStep d c b ≡ More e → A
-unfolding cellStep
-cell-break d Fresh q x k = fresh-break d x k
-cell-break d (Quoted c) q x k = impossible (sym q)
-cell-break d Closed q x k = closed-break d x k
-cell-break d Escape q x k = impossible (sym q)
-cell-break d (Hex n) q x k = impossible (sym q)
-cell-break d (InNumber n) q x k = numeral-break n x k
-cell-break d (InWord w) q x k = word-break d w x k
-cell-break d (Plain Whole) q x k = plain-break d x k
-cell-break {b} {e} d (Plain (Within i)) q x k =
-    let y = char-on Plain (Within i) b e k in
-    let h : 0x80 ≤ b = inner-high i b y.char y.step in
-    let l : b ≤ 0x0D = break-low x in
+cell_break : {A : Type 0} {b : ℕ} {e : Cell} (d : Dialect) (c : Cell) → in_quotes c ≡ false → IsBreak b → cell_step d c b ≡ More e → A
+unfolding cell_step
+cell_break d Fresh q x k = fresh_break d x k
+cell_break d (Quoted c) q x k = impossible (sym q)
+cell_break d Closed q x k = closed_break d x k
+cell_break d Escape q x k = impossible (sym q)
+cell_break d (Hex n) q x k = impossible (sym q)
+cell_break d (InNumber n) q x k = numeral_break n x k
+cell_break d (InWord w) q x k = word_break d w x k
+cell_break d (Plain Whole) q x k = plain_break d x k
+cell_break {b} {e} d (Plain (Within i)) q x k =
+    let y = char_on Plain (Within i) b e k in
+    let h : 0x80 ≤ b = inner_high i b y.char y.step in
+    let l : b ≤ 0x0D = break_low x in
     absurd (omega arith)
-cell-break d Complete q x k = no_stop k
+cell_break d Complete q x k = no_stop k
 
 -- ---- the bytes counted
 
 pub counted : (f : FileState) (b : ℕ) → b ≢ LF → b ≢ CR → counts f b ≡ true
 unfolding counts
-counted f b n m = go (quotesOpen f)
+counted f b n m = go (quotes_open f)
   where
     go : (t : Bool) → (t || not (b is LF || b is CR)) ≡ true
     go true = refl
     go false = rw (ne_eqb b LF n, ne_eqb b CR m)
 
-pub open-counted : (f : FileState) (b : ℕ) → quotesOpen f ≡ true → counts f b ≡ true
+pub open_counted : (f : FileState) (b : ℕ) → quotes_open f ≡ true → counts f b ≡ true
 unfolding counts
-open-counted f b q = rw q
+open_counted f b q = rw q
 
-pub lf-uncounted : (f : FileState) → quotesOpen f ≡ false → counts f LF ≡ false
+pub lf_uncounted : (f : FileState) → quotes_open f ≡ false → counts f LF ≡ false
 unfolding counts
-lf-uncounted f q = rw q
+lf_uncounted f q = rw q
 
-pub cr-uncounted : (f : FileState) → quotesOpen f ≡ false → counts f CR ≡ false
+pub cr_uncounted : (f : FileState) → quotes_open f ≡ false → counts f CR ≡ false
 unfolding counts
-cr-uncounted f q = rw q
+cr_uncounted f q = rw q
 
-pub more-counted : (d : Dialect) (f : FileState) (c e : Cell) (b : ℕ) → quotesOpen f ≡ inQuotes c → cellStep d c b ≡ More e → counts f b ≡ true
-more-counted d f c e b q s = go (inQuotes c) refl
+pub more_counted : (d : Dialect) (f : FileState) (c e : Cell) (b : ℕ) → quotes_open f ≡ in_quotes c → cell_step d c b ≡ More e → counts f b ≡ true
+more_counted d f c e b q s = go (in_quotes c) refl
   where
-    other : inQuotes c ≡ false → (n : ℕ) → IsBreak n → b ≢ n
-    other p n x z = cell-break d c p x (rw z at s)
+    other : in_quotes c ≡ false → (n : ℕ) → IsBreak n → b ≢ n
+    other p n x z = cell_break d c p x (rw z at s)
 
-    go : (t : Bool) → inQuotes c ≡ t → counts f b ≡ true
-    go true p = open-counted f b (q ∙ p)
-    go false p = counted f b (other p LF is-lf) (other p CR is-cr)
+    go : (t : Bool) → in_quotes c ≡ t → counts f b ≡ true
+    go true p = open_counted f b (q ∙ p)
+    go false p = counted f b (other p LF is_lf) (other p CR is_cr)
 
-delimiter-break : (d : Dialect) → (delimiterOf d ≢ LF) × (delimiterOf d ≢ CR)
-delimiter-break Csvj = omega arith
-delimiter-break Tdif = omega arith
-delimiter-break (CsvPlus s) = go s.delimiter
+delimiter_break : (d : Dialect) → (delimiter_of d ≢ LF) × (delimiter_of d ≢ CR)
+delimiter_break Csvj = omega arith
+delimiter_break Tdif = omega arith
+delimiter_break (CsvPlus s) = go s.delimiter
   where
-    go : (x : Delimiter) → (delimiterByte x ≢ LF) × (delimiterByte x ≢ CR)
+    go : (x : Delimiter) → (delimiter_byte x ≢ LF) × (delimiter_byte x ≢ CR)
     go Comma = omega arith
     go Semicolon = omega arith
     go Tab = omega arith
     go Bar = omega arith
 
-blank-break : (b : ℕ) → isBlank b ≡ true → (b ≢ LF) × (b ≢ CR)
-blank-break b p =
-    split-on (b is 0x20) (λ q. let e : b ≡ 0x20 = is→eq b 0x20 q in omega arith) λ q.
+blank_break : (b : ℕ) → is_blank b ≡ true → (b ≢ LF) × (b ≢ CR)
+blank_break b p =
+    split_on (b is 0x20) (λ q. let e : b ≡ 0x20 = is→eq b 0x20 q in omega arith) λ q.
     let e : b ≡ 0x09 = is→eq b 0x09 (rw q at p) in omega arith
 
-pub blank-counted : (f : FileState) (b : ℕ) → isBlank b ≡ true → counts f b ≡ true
-blank-counted f b p = let n = blank-break b p in counted f b n.0 n.1
+pub blank_counted : (f : FileState) (b : ℕ) → is_blank b ≡ true → counts f b ≡ true
+blank_counted f b p = let n = blank_break b p in counted f b n.0 n.1
 
-pub delimiter-counted : (d : Dialect) (f : FileState) (b : ℕ) → (b is delimiterOf d) ≡ true → counts f b ≡ true
-delimiter-counted d f b p =
-    let e = is→eq b (delimiterOf d) p in let n = delimiter-break d in counted f b (λ z. n.0 (sym e ∙ z)) (λ z. n.1 (sym e ∙ z))
+pub delimiter_counted : (d : Dialect) (f : FileState) (b : ℕ) → (b is delimiter_of d) ≡ true → counts f b ≡ true
+delimiter_counted d f b p =
+    let e = is→eq b (delimiter_of d) p in let n = delimiter_break d in counted f b (λ z. n.0 (sym e ∙ z)) (λ z. n.1 (sym e ∙ z))

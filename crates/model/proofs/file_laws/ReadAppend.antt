@@ -7,95 +7,95 @@ use mathlib.Core.List.{List, [], ◌∷◌, ◌++◌, append_assoc, append-nil}
 use Rattle.model.specs.rules.Types.{Dialect, Target, Fault, FileState, Begin, Outside, Passed, OfCell, Between, Tail, Ends, Step, To, Reject}
 use Rattle.model.specs.rules.Types.{CheckResult, Sound, Faulty, Ending, Clean, Final, Cut}
 use Rattle.model.specs.rules.Base.{Bytes}
-use Rattle.model.specs.rules.File.{fileStep, fileEnd}
+use Rattle.model.specs.rules.File.{file_step, file_end}
 use Rattle.model.specs.rules.Text.{Value}
-use Rattle.model.specs.rules.Records.{Rec, Read, Progress, going, stopped, nothingRead, readByte, readFrom, readBytes, readEnd, readFile}
-use Rattle.model.specs.rules.Records.{recordsOf, recordFault, move, complete, validated, closing, endBetween, end_at}
+use Rattle.model.specs.rules.Records.{Rec, Read, Progress, going, stopped, nothing_read, read_byte, read_from, read_bytes, read_end, read_file}
+use Rattle.model.specs.rules.Records.{records_of, record_fault, move, complete, validated, closing, end_between, end_at}
 use Rattle.model.specs.laws.Laws.{Grows}
 use Rattle.model.proofs.Tests.{split}
 
 module _ (d : Dialect) (target : Option Target) where
   -- reading xs and then ys is reading xs ++ ys
-  pub read-append : (p : Progress) (xs ys : Bytes) → readFrom d target p (xs ++ ys) ≡ readFrom d target (readFrom d target p xs) ys
-  unfolding readFrom
-  read-append p [] ys = refl
-  read-append (stopped e r) (x ∷ xs) [] = refl
-  read-append (stopped e r) (x ∷ xs) (y ∷ ys) = refl
-  read-append (going r) (x ∷ xs) ys = read-append (readByte d target r x) xs ys
+  pub read_append : (p : Progress) (xs ys : Bytes) → read_from d target p (xs ++ ys) ≡ read_from d target (read_from d target p xs) ys
+  unfolding read_from
+  read_append p [] ys = refl
+  read_append (stopped e r) (x ∷ xs) [] = refl
+  read_append (stopped e r) (x ∷ xs) (y ∷ ys) = refl
+  read_append (going r) (x ∷ xs) ys = read_append (read_byte d target r x) xs ys
 
   -- nothing is read after a fault
-  pub read-stopped : (e : Fault) (r : Read) (ys : Bytes) → readFrom d target (stopped e r) ys ≡ stopped e r
-  unfolding readFrom
-  read-stopped e r [] = refl
-  read-stopped e r (y ∷ ys) = refl
+  pub read_stopped : (e : Fault) (r : Read) (ys : Bytes) → read_from d target (stopped e r) ys ≡ stopped e r
+  unfolding read_from
+  read_stopped e r [] = refl
+  read_stopped e r (y ∷ ys) = refl
 
   -- a fault found in xs, with the records before it, is that of every file that begins with xs, cut or whole
-  pub fault-stays : (e : Fault) (r : Read) (xs ys : Bytes) → readBytes d target xs ≡ stopped e r → readBytes d target (xs ++ ys) ≡ stopped e r
-  unfolding readBytes
-  fault-stays e r xs ys h = rw (read-append, h, read-stopped)
+  pub fault_stays : (e : Fault) (r : Read) (xs ys : Bytes) → read_bytes d target xs ≡ stopped e r → read_bytes d target (xs ++ ys) ≡ stopped e r
+  unfolding read_bytes
+  fault_stays e r xs ys h = rw (read_append, h, read_stopped)
 
-  pub fault-stays-file : (e : Fault) (r : Read) (xs ys : Bytes) → readBytes d target xs ≡ stopped e r → readFile d target (xs ++ ys) ≡ stopped e r
-  unfolding readFile readEnd
-  fault-stays-file e r xs ys h = rw (fault-stays e r xs ys h)
+  pub fault_stays_file : (e : Fault) (r : Read) (xs ys : Bytes) → read_bytes d target xs ≡ stopped e r → read_file d target (xs ++ ys) ≡ stopped e r
+  unfolding read_file read_end
+  fault_stays_file e r xs ys h = rw (fault_stays e r xs ys h)
 
 -- ---- complete records stay
 
-pub grows-refl {ℓ} : {A : Type ℓ} (a : List A) → Grows a a
-grows-refl a = record { added = []; sum = sym (append-nil a) }
+pub grows_refl {ℓ} : {A : Type ℓ} (a : List A) → Grows a a
+grows_refl a = record { added = []; sum = sym (append-nil a) }
 
-pub grows-trans {ℓ} : {A : Type ℓ} {a b c : List A} → Grows a b → Grows b c → Grows a c
-grows-trans {a} g h =
+pub grows_trans {ℓ} : {A : Type ℓ} {a b c : List A} → Grows a b → Grows b c → Grows a c
+grows_trans {a} g h =
     record {
       added = g.added ++ h.added;
       sum = h.sum ∙ ap (λ l. l ++ h.added) g.sum ∙ append_assoc a g.added h.added;
     }
 
 module _ (d : Dialect) (target : Option Target) where
-  validated-grows : (r next : Read) (v : CheckResult) → Grows r.done next.done → Grows r.done (recordsOf (validated r next v))
-  validated-grows r next Sound g = g
-  validated-grows r next (Faulty e) g = grows-refl r.done
+  validated_grows : (r next : Read) (v : CheckResult) → Grows r.done next.done → Grows r.done (records_of (validated r next v))
+  validated_grows r next Sound g = g
+  validated_grows r next (Faulty e) g = grows_refl r.done
 
-  complete-grows : (r : Read) (vs : List Value) (f : FileState) (o : ℕ) → Grows r.done (recordsOf (complete d target r vs f o))
+  complete_grows : (r : Read) (vs : List Value) (f : FileState) (o : ℕ) → Grows r.done (records_of (complete d target r vs f o))
   unfolding complete
-  complete-grows r vs f o = validated-grows r _ (recordFault d target r.done vs) (record { added = _; sum = refl })
+  complete_grows r vs f o = validated_grows r _ (record_fault d target r.done vs) (record { added = _; sum = refl })
 
-  move-grows : (r : Read) (b : ℕ) (s : Step) → Grows r.done (recordsOf (move d target r b s))
+  move_grows : (r : Read) (b : ℕ) (s : Step) → Grows r.done (records_of (move d target r b s))
   unfolding move
-  move-grows r b (Reject e) = grows-refl r.done
-  move-grows r b (To f Outside) = grows-refl r.done
-  move-grows r b (To f Passed) = grows-refl r.done
-  move-grows r b (To f OfCell) = grows-refl r.done
-  move-grows r b (To f (Between c)) = grows-refl r.done
-  move-grows r b (To f (Tail c)) = grows-refl r.done
-  move-grows r b (To f (Ends c)) = complete-grows r (closing d c r) f (suc r.offset)
+  move_grows r b (Reject e) = grows_refl r.done
+  move_grows r b (To f Outside) = grows_refl r.done
+  move_grows r b (To f Passed) = grows_refl r.done
+  move_grows r b (To f OfCell) = grows_refl r.done
+  move_grows r b (To f (Between c)) = grows_refl r.done
+  move_grows r b (To f (Tail c)) = grows_refl r.done
+  move_grows r b (To f (Ends c)) = complete_grows r (closing d c r) f (suc r.offset)
 
-  byte-grows : (r : Read) (b : ℕ) → Grows r.done (recordsOf (readByte d target r b))
-  unfolding readByte
-  byte-grows r b =
-      let P : Progress → Type 0 = λ p. Grows r.done (recordsOf p) in
-      split P _ (λ _. grows-refl r.done) λ _. split P _ (λ _. grows-refl r.done) λ _. move-grows r b (fileStep d r.state b)
+  byte_grows : (r : Read) (b : ℕ) → Grows r.done (records_of (read_byte d target r b))
+  unfolding read_byte
+  byte_grows r b =
+      let P : Progress → Type 0 = λ p. Grows r.done (records_of p) in
+      split P _ (λ _. grows_refl r.done) λ _. split P _ (λ _. grows_refl r.done) λ _. move_grows r b (file_step d r.state b)
 
   -- a record once complete stays, with all before it
-  pub read-grows : (p : Progress) (xs : Bytes) → Grows (recordsOf p) (recordsOf (readFrom d target p xs))
-  unfolding readFrom
-  read-grows p [] = grows-refl (recordsOf p)
-  read-grows (stopped e r) (x ∷ xs) = grows-refl r.done
-  read-grows (going r) (x ∷ xs) = grows-trans (byte-grows r x) (read-grows (readByte d target r x) xs)
+  pub read_grows : (p : Progress) (xs : Bytes) → Grows (records_of p) (records_of (read_from d target p xs))
+  unfolding read_from
+  read_grows p [] = grows_refl (records_of p)
+  read_grows (stopped e r) (x ∷ xs) = grows_refl r.done
+  read_grows (going r) (x ∷ xs) = grows_trans (byte_grows r x) (read_grows (read_byte d target r x) xs)
 
-  pub records-stay : (xs ys : Bytes) → Grows (recordsOf (readBytes d target xs)) (recordsOf (readBytes d target (xs ++ ys)))
-  unfolding readBytes
-  records-stay xs ys = rw (read-append d target (going nothingRead) xs ys) (read-grows (readFrom d target (going nothingRead) xs) ys)
+  pub records_stay : (xs ys : Bytes) → Grows (records_of (read_bytes d target xs)) (records_of (read_bytes d target (xs ++ ys)))
+  unfolding read_bytes
+  records_stay xs ys = rw (read_append d target (going nothing_read) xs ys) (read_grows (read_from d target (going nothing_read) xs) ys)
 
-  between-grows : (r : Read) (rs : List Rec) → Grows r.done (recordsOf (endBetween r rs))
-  between-grows r [] = grows-refl r.done
-  between-grows r (h ∷ rs) = grows-refl r.done
+  between_grows : (r : Read) (rs : List Rec) → Grows r.done (records_of (end_between r rs))
+  between_grows r [] = grows_refl r.done
+  between_grows r (h ∷ rs) = grows_refl r.done
 
-  at-end-grows : (r : Read) (x : Ending) → Grows r.done (recordsOf (end_at d target r x))
-  at-end-grows r Clean = between-grows r r.done
-  at-end-grows r Final = complete-grows r (closing d true r) Begin r.offset
-  at-end-grows r Cut = grows-refl r.done
+  at_end_grows : (r : Read) (x : Ending) → Grows r.done (records_of (end_at d target r x))
+  at_end_grows r Clean = between_grows r r.done
+  at_end_grows r Final = complete_grows r (closing d true r) Begin r.offset
+  at_end_grows r Cut = grows_refl r.done
 
-  pub end-grows : (p : Progress) → Grows (recordsOf p) (recordsOf (readEnd d target p))
-  unfolding readEnd
-  end-grows (stopped e r) = grows-refl r.done
-  end-grows (going r) = at-end-grows r (fileEnd d r.state)
+  pub end_grows : (p : Progress) → Grows (records_of p) (records_of (read_end d target p))
+  unfolding read_end
+  end_grows (stopped e r) = grows_refl r.done
+  end_grows (going r) = at_end_grows r (file_end d r.state)

@@ -14,10 +14,10 @@ use Rattle.model.specs.rules.Types.{Cell, Fresh, Quoted, Closed, Escape, Hex, In
 use Rattle.model.specs.rules.Types.{FileState, Top, Begin, Ended, Bom1, Bom2, PlainBom1, PlainBom2, Comment, Blanks, ExpectCell, Inside, After}
 use Rattle.model.specs.rules.Types.{Cr, ByteRole, Outside, Passed, OfCell, Ends, Step, To, Reject}
 use Rattle.model.specs.rules.Base.{Bytes, LF, QUOTE, ◌is◌, if◌then◌else◌}
-use Rattle.model.specs.rules.Dialect.{quoteOf, delimiterOf, delimiterByte, quoteByte}
-use Rattle.model.specs.rules.Utf8.{rowOf, innerStep, charStep}
-use Rattle.model.specs.rules.Cell.{numeralStep, letterOf, afterLetter, firstByte, quotedByte, plain_byte, cellStep}
-use Rattle.model.specs.rules.File.{afterCell, inCell, beginRecord, beginFile, isBlank, fileStep}
+use Rattle.model.specs.rules.Dialect.{quote_of, delimiter_of, delimiter_byte, quote_byte}
+use Rattle.model.specs.rules.Utf8.{row_of, inner_step, char_step}
+use Rattle.model.specs.rules.Cell.{numeral_step, letter_of, after_letter, first_byte, quoted_byte, plain_byte, cell_step}
+use Rattle.model.specs.rules.File.{after_cell, in_cell, begin_record, begin_file, is_blank, file_step}
 use Rattle.model.specs.laws.Viable.{Completes, completed, onward}
 use Rattle.model.proofs.Tests.{same_byte}
 
@@ -26,313 +26,313 @@ use Rattle.model.proofs.Tests.{same_byte}
 abbrev line : Bytes
 line = LF ∷ []
 
-abbrev innerEnd : Inner → Bytes
-innerEnd (Second C2ToDf) = 0x80 ∷ []
-innerEnd (Second E0) = 0xA0 ∷ 0x80 ∷ []
-innerEnd (Second E1ToEc) = 0x80 ∷ 0x80 ∷ []
-innerEnd (Second Ed) = 0x80 ∷ 0x80 ∷ []
-innerEnd (Second EeToEf) = 0x80 ∷ 0x80 ∷ []
-innerEnd (Second F0) = 0x90 ∷ 0x80 ∷ 0x80 ∷ []
-innerEnd (Second F1ToF3) = 0x80 ∷ 0x80 ∷ 0x80 ∷ []
-innerEnd (Second F4) = 0x80 ∷ 0x80 ∷ 0x80 ∷ []
-innerEnd LastTwo = 0x80 ∷ 0x80 ∷ []
-innerEnd Last = 0x80 ∷ []
+abbrev inner_end : Inner → Bytes
+inner_end (Second C2ToDf) = 0x80 ∷ []
+inner_end (Second E0) = 0xA0 ∷ 0x80 ∷ []
+inner_end (Second E1ToEc) = 0x80 ∷ 0x80 ∷ []
+inner_end (Second Ed) = 0x80 ∷ 0x80 ∷ []
+inner_end (Second EeToEf) = 0x80 ∷ 0x80 ∷ []
+inner_end (Second F0) = 0x90 ∷ 0x80 ∷ 0x80 ∷ []
+inner_end (Second F1ToF3) = 0x80 ∷ 0x80 ∷ 0x80 ∷ []
+inner_end (Second F4) = 0x80 ∷ 0x80 ∷ 0x80 ∷ []
+inner_end LastTwo = 0x80 ∷ 0x80 ∷ []
+inner_end Last = 0x80 ∷ []
 
-abbrev charEnd : Char → Bytes
-charEnd Whole = []
-charEnd (Within i) = innerEnd i
+abbrev char_end : Char → Bytes
+char_end Whole = []
+char_end (Within i) = inner_end i
 
-abbrev emptyCell : Dialect → Bytes
-emptyCell d = quoteOf d ∷ quoteOf d ∷ line
+abbrev empty_cell : Dialect → Bytes
+empty_cell d = quote_of d ∷ quote_of d ∷ line
 
-abbrev freshEnd : Dialect → Bytes
-freshEnd Csvj = emptyCell Csvj
-freshEnd Tdif = emptyCell Tdif
-freshEnd (CsvPlus s) = line
+abbrev fresh_end : Dialect → Bytes
+fresh_end Csvj = empty_cell Csvj
+fresh_end Tdif = empty_cell Tdif
+fresh_end (CsvPlus s) = line
 
-abbrev hexEnd : Dialect → HexLeft → Bytes
-hexEnd d Four = 0x30 ∷ 0x30 ∷ 0x30 ∷ 0x30 ∷ quoteOf d ∷ line
-hexEnd d Three = 0x30 ∷ 0x30 ∷ 0x30 ∷ quoteOf d ∷ line
-hexEnd d Two = 0x30 ∷ 0x30 ∷ quoteOf d ∷ line
-hexEnd d One = 0x30 ∷ quoteOf d ∷ line
+abbrev hex_end : Dialect → HexLeft → Bytes
+hex_end d Four = 0x30 ∷ 0x30 ∷ 0x30 ∷ 0x30 ∷ quote_of d ∷ line
+hex_end d Three = 0x30 ∷ 0x30 ∷ 0x30 ∷ quote_of d ∷ line
+hex_end d Two = 0x30 ∷ 0x30 ∷ quote_of d ∷ line
+hex_end d One = 0x30 ∷ quote_of d ∷ line
 
-abbrev numeralEnd : Numeral → Bytes
-numeralEnd Minus = 0x30 ∷ line
-numeralEnd Zero = line
-numeralEnd Integer = line
-numeralEnd Point = 0x30 ∷ line
-numeralEnd Fraction = line
-numeralEnd E = 0x30 ∷ line
-numeralEnd ESign = 0x30 ∷ line
-numeralEnd Exponent = line
+abbrev numeral_end : Numeral → Bytes
+numeral_end Minus = 0x30 ∷ line
+numeral_end Zero = line
+numeral_end Integer = line
+numeral_end Point = 0x30 ∷ line
+numeral_end Fraction = line
+numeral_end E = 0x30 ∷ line
+numeral_end ESign = 0x30 ∷ line
+numeral_end Exponent = line
 
-abbrev wordEnd : Word → Bytes
-wordEnd T = 0x72 ∷ 0x75 ∷ 0x65 ∷ line
-wordEnd Tr = 0x75 ∷ 0x65 ∷ line
-wordEnd Tru = 0x65 ∷ line
-wordEnd F = 0x61 ∷ 0x6C ∷ 0x73 ∷ 0x65 ∷ line
-wordEnd Fa = 0x6C ∷ 0x73 ∷ 0x65 ∷ line
-wordEnd Fal = 0x73 ∷ 0x65 ∷ line
-wordEnd Fals = 0x65 ∷ line
-wordEnd N = 0x75 ∷ 0x6C ∷ 0x6C ∷ line
-wordEnd Nu = 0x6C ∷ 0x6C ∷ line
-wordEnd Nul = 0x6C ∷ line
-wordEnd Backslash = 0x4E ∷ line
+abbrev word_end : Word → Bytes
+word_end T = 0x72 ∷ 0x75 ∷ 0x65 ∷ line
+word_end Tr = 0x75 ∷ 0x65 ∷ line
+word_end Tru = 0x65 ∷ line
+word_end F = 0x61 ∷ 0x6C ∷ 0x73 ∷ 0x65 ∷ line
+word_end Fa = 0x6C ∷ 0x73 ∷ 0x65 ∷ line
+word_end Fal = 0x73 ∷ 0x65 ∷ line
+word_end Fals = 0x65 ∷ line
+word_end N = 0x75 ∷ 0x6C ∷ 0x6C ∷ line
+word_end Nu = 0x6C ∷ 0x6C ∷ line
+word_end Nul = 0x6C ∷ line
+word_end Backslash = 0x4E ∷ line
 
-abbrev cellEnd : Dialect → Cell → Bytes
-cellEnd d Fresh = freshEnd d
-cellEnd d (Quoted c) = charEnd c ++ (quoteOf d ∷ line)
-cellEnd d Closed = line
-cellEnd d Escape = 0x22 ∷ quoteOf d ∷ line
-cellEnd d (Hex n) = hexEnd d n
-cellEnd d (InNumber n) = numeralEnd n
-cellEnd d (InWord w) = wordEnd w
-cellEnd d (Plain c) = charEnd c ++ line
-cellEnd d Complete = line
+abbrev cell_end : Dialect → Cell → Bytes
+cell_end d Fresh = fresh_end d
+cell_end d (Quoted c) = char_end c ++ (quote_of d ∷ line)
+cell_end d Closed = line
+cell_end d Escape = 0x22 ∷ quote_of d ∷ line
+cell_end d (Hex n) = hex_end d n
+cell_end d (InNumber n) = numeral_end n
+cell_end d (InWord w) = word_end w
+cell_end d (Plain c) = char_end c ++ line
+cell_end d Complete = line
 
-abbrev beginEnd : Dialect → Bytes
-beginEnd Csvj = line
-beginEnd Tdif = emptyCell Tdif
-beginEnd (CsvPlus s) = line
+abbrev begin_end : Dialect → Bytes
+begin_end Csvj = line
+begin_end Tdif = empty_cell Tdif
+begin_end (CsvPlus s) = line
 
 unfoldable pub completion : Dialect → FileState → Bytes
-completion d Top = beginEnd d
-completion d Begin = beginEnd d
-completion d Ended = LF ∷ beginEnd d
-completion d Bom1 = 0xBB ∷ 0xBF ∷ beginEnd d
-completion d Bom2 = 0xBF ∷ beginEnd d
+completion d Top = begin_end d
+completion d Begin = begin_end d
+completion d Ended = LF ∷ begin_end d
+completion d Bom1 = 0xBB ∷ 0xBF ∷ begin_end d
+completion d Bom2 = 0xBF ∷ begin_end d
 completion d PlainBom1 = 0x80 ∷ 0x80 ∷ line
 completion d PlainBom2 = 0x80 ∷ line
-completion d (Comment c) = charEnd c ++ (LF ∷ beginEnd d)
-completion d Blanks = beginEnd d
-completion d ExpectCell = emptyCell d
-completion d (Inside c) = cellEnd d c
+completion d (Comment c) = char_end c ++ (LF ∷ begin_end d)
+completion d Blanks = begin_end d
+completion d ExpectCell = empty_cell d
+completion d (Inside c) = cell_end d c
 completion d After = line
 completion d Cr = line
 
 -- ---- it completes
 
-on : (d : Dialect) (f : FileState) (b : ℕ) (f' : FileState) (p : ByteRole) {bs : Bytes} → fileStep d f b ≡ To f' p → Completes d f' bs → Completes d f (b ∷ bs)
+on : (d : Dialect) (f : FileState) (b : ℕ) (f' : FileState) (p : ByteRole) {bs : Bytes} → file_step d f b ≡ To f' p → Completes d f' bs → Completes d f (b ∷ bs)
 on d f b f' p e k = onward e k
 
-over : (d : Dialect) (f : FileState) (b : ℕ) (f' : FileState) (k : Bool) → fileStep d f b ≡ To f' (Ends k) → Completes d f (b ∷ [])
+over : (d : Dialect) (f : FileState) (b : ℕ) (f' : FileState) (k : Bool) → file_step d f b ≡ To f' (Ends k) → Completes d f (b ∷ [])
 over d f b f' k e = completed e
 
-lf-no-delimiter : (s : Settings) → (LF is delimiterOf (CsvPlus s)) ≡ false
-lf-no-delimiter s = go s.delimiter
+lf_no_delimiter : (s : Settings) → (LF is delimiter_of (CsvPlus s)) ≡ false
+lf_no_delimiter s = go s.delimiter
   where
-    go : (x : Delimiter) → (LF is delimiterByte x) ≡ false
+    go : (x : Delimiter) → (LF is delimiter_byte x) ≡ false
     go Comma = refl
     go Semicolon = refl
     go Tab = refl
     go Bar = refl
 
-lf-no-quote : (d : Dialect) → (LF is quoteOf d) ≡ false
-lf-no-quote Csvj = refl
-lf-no-quote Tdif = refl
-lf-no-quote (CsvPlus s) = go s.quote
+lf_no_quote : (d : Dialect) → (LF is quote_of d) ≡ false
+lf_no_quote Csvj = refl
+lf_no_quote Tdif = refl
+lf_no_quote (CsvPlus s) = go s.quote
   where
-    go : (x : Quote) → (LF is quoteByte x) ≡ false
+    go : (x : Quote) → (LF is quote_byte x) ≡ false
     go Double = refl
     go Single = refl
 
 -- LF ends a record after a cell
-after_line : (d : Dialect) (k : Bool) → afterCell d k LF ≡ To Begin (Ends k)
-unfolding afterCell if◌then◌else◌
+after_line : (d : Dialect) (k : Bool) → after_cell d k LF ≡ To Begin (Ends k)
+unfolding after_cell if◌then◌else◌
 after_line Csvj k = refl
 after_line Tdif k = refl
-after_line (CsvPlus s) k = rw (lf-no-delimiter s)
+after_line (CsvPlus s) k = rw (lf_no_delimiter s)
 
 -- a byte of a cell
-cell-on : (d : Dialect) {c : Cell} (c' : Cell) {b : ℕ} {bs : Bytes} → cellStep d c b ≡ More c' → Completes d (Inside c') bs → Completes d (Inside c) (b ∷ bs)
-unfolding fileStep inCell
-cell-on d {c} c' {b} e k = on d (Inside c) b (Inside c') OfCell (rw e) k
+cell_on : (d : Dialect) {c : Cell} (c' : Cell) {b : ℕ} {bs : Bytes} → cell_step d c b ≡ More c' → Completes d (Inside c') bs → Completes d (Inside c) (b ∷ bs)
+unfolding file_step in_cell
+cell_on d {c} c' {b} e k = on d (Inside c) b (Inside c') OfCell (rw e) k
 
 -- a whole cell
-cell-over : (d : Dialect) {c : Cell} → cellStep d c LF ≡ Stop → Completes d (Inside c) line
-unfolding fileStep inCell
-cell-over d {c} e = over d (Inside c) LF Begin true (rw e (after_line d true))
+cell_over : (d : Dialect) {c : Cell} → cell_step d c LF ≡ Stop → Completes d (Inside c) line
+unfolding file_step in_cell
+cell_over d {c} e = over d (Inside c) LF Begin true (rw e (after_line d true))
 
 -- the end of a character, in a cell or a comment
 module _ (d : Dialect) (g : Char → FileState) (bs : Bytes)
-    (next : (i : Inner) (b : ℕ) (c : Char) (xs : Bytes) → charStep (Within i) b ≡ On c → Completes d (g c) xs → Completes d (g (Within i)) (b ∷ xs))
+    (next : (i : Inner) (b : ℕ) (c : Char) (xs : Bytes) → char_step (Within i) b ≡ On c → Completes d (g c) xs → Completes d (g (Within i)) (b ∷ xs))
     (end : Completes d (g Whole) bs) where
   last_on : Completes d (g (Within Last)) (0x80 ∷ bs)
-  unfolding charStep innerStep if◌then◌else◌
+  unfolding char_step inner_step if◌then◌else◌
   last_on = next Last 0x80 Whole bs refl end
 
-  last-two-on : Completes d (g (Within LastTwo)) (0x80 ∷ 0x80 ∷ bs)
-  unfolding charStep innerStep if◌then◌else◌
-  last-two-on = next LastTwo 0x80 (Within Last) (0x80 ∷ bs) refl last_on
+  last_two_on : Completes d (g (Within LastTwo)) (0x80 ∷ 0x80 ∷ bs)
+  unfolding char_step inner_step if◌then◌else◌
+  last_two_on = next LastTwo 0x80 (Within Last) (0x80 ∷ bs) refl last_on
 
-  char-on : (c : Char) → Completes d (g c) (charEnd c ++ bs)
-  unfolding charStep innerStep rowOf if◌then◌else◌
-  char-on Whole = end
-  char-on (Within (Second C2ToDf)) = next (Second C2ToDf) 0x80 Whole bs refl end
-  char-on (Within (Second E0)) = next (Second E0) 0xA0 (Within Last) (0x80 ∷ bs) refl last_on
-  char-on (Within (Second E1ToEc)) = next (Second E1ToEc) 0x80 (Within Last) (0x80 ∷ bs) refl last_on
-  char-on (Within (Second Ed)) = next (Second Ed) 0x80 (Within Last) (0x80 ∷ bs) refl last_on
-  char-on (Within (Second EeToEf)) = next (Second EeToEf) 0x80 (Within Last) (0x80 ∷ bs) refl last_on
-  char-on (Within (Second F0)) = next (Second F0) 0x90 (Within LastTwo) (0x80 ∷ 0x80 ∷ bs) refl last-two-on
-  char-on (Within (Second F1ToF3)) = next (Second F1ToF3) 0x80 (Within LastTwo) (0x80 ∷ 0x80 ∷ bs) refl last-two-on
-  char-on (Within (Second F4)) = next (Second F4) 0x80 (Within LastTwo) (0x80 ∷ 0x80 ∷ bs) refl last-two-on
-  char-on (Within LastTwo) = last-two-on
-  char-on (Within Last) = last_on
+  char_on : (c : Char) → Completes d (g c) (char_end c ++ bs)
+  unfolding char_step inner_step row_of if◌then◌else◌
+  char_on Whole = end
+  char_on (Within (Second C2ToDf)) = next (Second C2ToDf) 0x80 Whole bs refl end
+  char_on (Within (Second E0)) = next (Second E0) 0xA0 (Within Last) (0x80 ∷ bs) refl last_on
+  char_on (Within (Second E1ToEc)) = next (Second E1ToEc) 0x80 (Within Last) (0x80 ∷ bs) refl last_on
+  char_on (Within (Second Ed)) = next (Second Ed) 0x80 (Within Last) (0x80 ∷ bs) refl last_on
+  char_on (Within (Second EeToEf)) = next (Second EeToEf) 0x80 (Within Last) (0x80 ∷ bs) refl last_on
+  char_on (Within (Second F0)) = next (Second F0) 0x90 (Within LastTwo) (0x80 ∷ 0x80 ∷ bs) refl last_two_on
+  char_on (Within (Second F1ToF3)) = next (Second F1ToF3) 0x80 (Within LastTwo) (0x80 ∷ 0x80 ∷ bs) refl last_two_on
+  char_on (Within (Second F4)) = next (Second F4) 0x80 (Within LastTwo) (0x80 ∷ 0x80 ∷ bs) refl last_two_on
+  char_on (Within LastTwo) = last_two_on
+  char_on (Within Last) = last_on
 
 closed_on : (d : Dialect) → Completes d (Inside Closed) line
-unfolding cellStep if◌then◌else◌
-closed_on d = cell-over d (rw (lf-no-quote d))
+unfolding cell_step if◌then◌else◌
+closed_on d = cell_over d (rw (lf_no_quote d))
 
-complete-on : (d : Dialect) → Completes d (Inside Complete) line
-unfolding cellStep
-complete-on d = cell-over d refl
+complete_on : (d : Dialect) → Completes d (Inside Complete) line
+unfolding cell_step
+complete_on d = cell_over d refl
 
-quote-on : (d : Dialect) → Completes d (Inside (Quoted Whole)) (quoteOf d ∷ line)
-unfolding cellStep quotedByte if◌then◌else◌
-quote-on Csvj = cell-on Csvj Complete refl (complete-on Csvj)
-quote-on Tdif = cell-on Tdif Closed refl (closed_on Tdif)
-quote-on (CsvPlus s) = cell-on (CsvPlus s) Closed (rw (same_byte (quoteOf (CsvPlus s)))) (closed_on (CsvPlus s))
+quote_on : (d : Dialect) → Completes d (Inside (Quoted Whole)) (quote_of d ∷ line)
+unfolding cell_step quoted_byte if◌then◌else◌
+quote_on Csvj = cell_on Csvj Complete refl (complete_on Csvj)
+quote_on Tdif = cell_on Tdif Closed refl (closed_on Tdif)
+quote_on (CsvPlus s) = cell_on (CsvPlus s) Closed (rw (same_byte (quote_of (CsvPlus s)))) (closed_on (CsvPlus s))
 
-plain-on : (d : Dialect) → Completes d (Inside (Plain Whole)) line
-unfolding cellStep plain_byte if◌then◌else◌
-plain-on Csvj = cell-over Csvj refl
-plain-on Tdif = cell-over Tdif refl
-plain-on (CsvPlus s) = cell-over (CsvPlus s) (rw (lf-no-quote (CsvPlus s), lf-no-delimiter s))
+plain_on : (d : Dialect) → Completes d (Inside (Plain Whole)) line
+unfolding cell_step plain_byte if◌then◌else◌
+plain_on Csvj = cell_over Csvj refl
+plain_on Tdif = cell_over Tdif refl
+plain_on (CsvPlus s) = cell_over (CsvPlus s) (rw (lf_no_quote (CsvPlus s), lf_no_delimiter s))
 
-hex-on : (d : Dialect) (n : HexLeft) → Completes d (Inside (Hex n)) (hexEnd d n)
-unfolding cellStep if◌then◌else◌
-hex-on d One = cell-on d (Quoted Whole) refl (quote-on d)
-hex-on d Two = cell-on d (Hex One) refl (cell-on d (Quoted Whole) refl (quote-on d))
-hex-on d Three = cell-on d (Hex Two) refl (cell-on d (Hex One) refl (cell-on d (Quoted Whole) refl (quote-on d)))
-hex-on d Four =
-    cell-on d (Hex Three) refl (cell-on d (Hex Two) refl (cell-on d (Hex One) refl (cell-on d (Quoted Whole) refl (quote-on d))))
+hex_on : (d : Dialect) (n : HexLeft) → Completes d (Inside (Hex n)) (hex_end d n)
+unfolding cell_step if◌then◌else◌
+hex_on d One = cell_on d (Quoted Whole) refl (quote_on d)
+hex_on d Two = cell_on d (Hex One) refl (cell_on d (Quoted Whole) refl (quote_on d))
+hex_on d Three = cell_on d (Hex Two) refl (cell_on d (Hex One) refl (cell_on d (Quoted Whole) refl (quote_on d)))
+hex_on d Four =
+    cell_on d (Hex Three) refl (cell_on d (Hex Two) refl (cell_on d (Hex One) refl (cell_on d (Quoted Whole) refl (quote_on d))))
 
-numeral-on : (d : Dialect) (n : Numeral) → Completes d (Inside (InNumber n)) (numeralEnd n)
-unfolding cellStep numeralStep if◌then◌else◌
-numeral-on d Minus = cell-on d (InNumber Zero) refl (cell-over d refl)
-numeral-on d Zero = cell-over d refl
-numeral-on d Integer = cell-over d refl
-numeral-on d Point = cell-on d (InNumber Fraction) refl (cell-over d refl)
-numeral-on d Fraction = cell-over d refl
-numeral-on d E = cell-on d (InNumber Exponent) refl (cell-over d refl)
-numeral-on d ESign = cell-on d (InNumber Exponent) refl (cell-over d refl)
-numeral-on d Exponent = cell-over d refl
+numeral_on : (d : Dialect) (n : Numeral) → Completes d (Inside (InNumber n)) (numeral_end n)
+unfolding cell_step numeral_step if◌then◌else◌
+numeral_on d Minus = cell_on d (InNumber Zero) refl (cell_over d refl)
+numeral_on d Zero = cell_over d refl
+numeral_on d Integer = cell_over d refl
+numeral_on d Point = cell_on d (InNumber Fraction) refl (cell_over d refl)
+numeral_on d Fraction = cell_over d refl
+numeral_on d E = cell_on d (InNumber Exponent) refl (cell_over d refl)
+numeral_on d ESign = cell_on d (InNumber Exponent) refl (cell_over d refl)
+numeral_on d Exponent = cell_over d refl
 
-letter-on : (d : Dialect) (w : Word) {bs : Bytes} → Completes d (Inside (afterLetter w)) bs → Completes d (Inside (InWord w)) (letterOf w ∷ bs)
-unfolding cellStep if◌then◌else◌
-letter-on d w k = cell-on d (afterLetter w) (rw (same_byte (letterOf w))) k
+letter_on : (d : Dialect) (w : Word) {bs : Bytes} → Completes d (Inside (after_letter w)) bs → Completes d (Inside (InWord w)) (letter_of w ∷ bs)
+unfolding cell_step if◌then◌else◌
+letter_on d w k = cell_on d (after_letter w) (rw (same_byte (letter_of w))) k
 
-word_on : (d : Dialect) (w : Word) → Completes d (Inside (InWord w)) (wordEnd w)
-word_on d T = letter-on d T (letter-on d Tr (letter-on d Tru (complete-on d)))
-word_on d Tr = letter-on d Tr (letter-on d Tru (complete-on d))
-word_on d Tru = letter-on d Tru (complete-on d)
-word_on d F = letter-on d F (letter-on d Fa (letter-on d Fal (letter-on d Fals (complete-on d))))
-word_on d Fa = letter-on d Fa (letter-on d Fal (letter-on d Fals (complete-on d)))
-word_on d Fal = letter-on d Fal (letter-on d Fals (complete-on d))
-word_on d Fals = letter-on d Fals (complete-on d)
-word_on d N = letter-on d N (letter-on d Nu (letter-on d Nul (complete-on d)))
-word_on d Nu = letter-on d Nu (letter-on d Nul (complete-on d))
-word_on d Nul = letter-on d Nul (complete-on d)
-word_on d Backslash = letter-on d Backslash (complete-on d)
+word_on : (d : Dialect) (w : Word) → Completes d (Inside (InWord w)) (word_end w)
+word_on d T = letter_on d T (letter_on d Tr (letter_on d Tru (complete_on d)))
+word_on d Tr = letter_on d Tr (letter_on d Tru (complete_on d))
+word_on d Tru = letter_on d Tru (complete_on d)
+word_on d F = letter_on d F (letter_on d Fa (letter_on d Fal (letter_on d Fals (complete_on d))))
+word_on d Fa = letter_on d Fa (letter_on d Fal (letter_on d Fals (complete_on d)))
+word_on d Fal = letter_on d Fal (letter_on d Fals (complete_on d))
+word_on d Fals = letter_on d Fals (complete_on d)
+word_on d N = letter_on d N (letter_on d Nu (letter_on d Nul (complete_on d)))
+word_on d Nu = letter_on d Nu (letter_on d Nul (complete_on d))
+word_on d Nul = letter_on d Nul (complete_on d)
+word_on d Backslash = letter_on d Backslash (complete_on d)
 
 -- a quote opens a cell
-quote-opens : (d : Dialect) → cellStep d Fresh (quoteOf d) ≡ More (Quoted Whole)
-unfolding cellStep firstByte if◌then◌else◌
-quote-opens Csvj = refl
-quote-opens Tdif = refl
-quote-opens (CsvPlus s) = rw (same_byte (quoteOf (CsvPlus s)))
+quote_opens : (d : Dialect) → cell_step d Fresh (quote_of d) ≡ More (Quoted Whole)
+unfolding cell_step first_byte if◌then◌else◌
+quote_opens Csvj = refl
+quote_opens Tdif = refl
+quote_opens (CsvPlus s) = rw (same_byte (quote_of (CsvPlus s)))
 
-fresh-line : (s : Settings) → cellStep (CsvPlus s) Fresh LF ≡ Stop
-unfolding cellStep firstByte if◌then◌else◌
-fresh-line s = rw (lf-no-quote (CsvPlus s), lf-no-delimiter s)
+fresh_line : (s : Settings) → cell_step (CsvPlus s) Fresh LF ≡ Stop
+unfolding cell_step first_byte if◌then◌else◌
+fresh_line s = rw (lf_no_quote (CsvPlus s), lf_no_delimiter s)
 
-fresh_on : (d : Dialect) → Completes d (Inside Fresh) (freshEnd d)
-fresh_on Csvj = cell-on Csvj (Quoted Whole) (quote-opens Csvj) (quote-on Csvj)
-fresh_on Tdif = cell-on Tdif (Quoted Whole) (quote-opens Tdif) (quote-on Tdif)
-fresh_on (CsvPlus s) = cell-over (CsvPlus s) (fresh-line s)
+fresh_on : (d : Dialect) → Completes d (Inside Fresh) (fresh_end d)
+fresh_on Csvj = cell_on Csvj (Quoted Whole) (quote_opens Csvj) (quote_on Csvj)
+fresh_on Tdif = cell_on Tdif (Quoted Whole) (quote_opens Tdif) (quote_on Tdif)
+fresh_on (CsvPlus s) = cell_over (CsvPlus s) (fresh_line s)
 
-cell-completes : (d : Dialect) (c : Cell) → Completes d (Inside c) (cellEnd d c)
-unfolding cellStep if◌then◌else◌
-cell-completes d Fresh = fresh_on d
-cell-completes d (Quoted c) = char-on d (λ x. Inside (Quoted x)) (quoteOf d ∷ line) (λ i b x xs e h. cell-on d (Quoted x) (rw e) h) (quote-on d) c
-cell-completes d Closed = closed_on d
-cell-completes d Escape = cell-on d (Quoted Whole) refl (quote-on d)
-cell-completes d (Hex n) = hex-on d n
-cell-completes d (InNumber n) = numeral-on d n
-cell-completes d (InWord w) = word_on d w
-cell-completes d (Plain c) = char-on d (λ x. Inside (Plain x)) line (λ i b x xs e h. cell-on d (Plain x) (rw e) h) (plain-on d) c
-cell-completes d Complete = complete-on d
+cell_completes : (d : Dialect) (c : Cell) → Completes d (Inside c) (cell_end d c)
+unfolding cell_step if◌then◌else◌
+cell_completes d Fresh = fresh_on d
+cell_completes d (Quoted c) = char_on d (λ x. Inside (Quoted x)) (quote_of d ∷ line) (λ i b x xs e h. cell_on d (Quoted x) (rw e) h) (quote_on d) c
+cell_completes d Closed = closed_on d
+cell_completes d Escape = cell_on d (Quoted Whole) refl (quote_on d)
+cell_completes d (Hex n) = hex_on d n
+cell_completes d (InNumber n) = numeral_on d n
+cell_completes d (InWord w) = word_on d w
+cell_completes d (Plain c) = char_on d (λ x. Inside (Plain x)) line (λ i b x xs e h. cell_on d (Plain x) (rw e) h) (plain_on d) c
+cell_completes d Complete = complete_on d
 
 -- a record from any state that begins one
-begin-line : (s : Settings) → beginRecord (CsvPlus s) LF ≡ To Begin (Ends true)
-unfolding beginRecord inCell
-begin-line s = rw (fresh-line s) (after_line (CsvPlus s) true)
+begin_line : (s : Settings) → begin_record (CsvPlus s) LF ≡ To Begin (Ends true)
+unfolding begin_record in_cell
+begin_line s = rw (fresh_line s) (after_line (CsvPlus s) true)
 
-begin-quote : beginRecord Tdif QUOTE ≡ To (Inside (Quoted Whole)) OfCell
-unfolding beginRecord inCell cellStep firstByte if◌then◌else◌
-begin-quote = refl
+begin_quote : begin_record Tdif QUOTE ≡ To (Inside (Quoted Whole)) OfCell
+unfolding begin_record in_cell cell_step first_byte if◌then◌else◌
+begin_quote = refl
 
-begin-empty : beginRecord Csvj LF ≡ To Begin (Ends false)
-unfolding beginRecord if◌then◌else◌
-begin-empty = refl
+begin_empty : begin_record Csvj LF ≡ To Begin (Ends false)
+unfolding begin_record if◌then◌else◌
+begin_empty = refl
 
-record-on : (d : Dialect) (f : FileState) → fileStep d f LF ≡ beginRecord d LF → fileStep d f QUOTE ≡ beginRecord d QUOTE → Completes d f (beginEnd d)
-record-on Csvj f l q = over Csvj f LF Begin false (l ∙ begin-empty)
-record-on Tdif f l q = on Tdif f QUOTE (Inside (Quoted Whole)) OfCell (q ∙ begin-quote) (quote-on Tdif)
-record-on (CsvPlus s) f l q = over (CsvPlus s) f LF Begin true (l ∙ begin-line s)
+record_on : (d : Dialect) (f : FileState) → file_step d f LF ≡ begin_record d LF → file_step d f QUOTE ≡ begin_record d QUOTE → Completes d f (begin_end d)
+record_on Csvj f l q = over Csvj f LF Begin false (l ∙ begin_empty)
+record_on Tdif f l q = on Tdif f QUOTE (Inside (Quoted Whole)) OfCell (q ∙ begin_quote) (quote_on Tdif)
+record_on (CsvPlus s) f l q = over (CsvPlus s) f LF Begin true (l ∙ begin_line s)
 
-begin-on : (d : Dialect) → Completes d Begin (beginEnd d)
-unfolding fileStep
-begin-on d = record-on d Begin refl refl
+begin_on : (d : Dialect) → Completes d Begin (begin_end d)
+unfolding file_step
+begin_on d = record_on d Begin refl refl
 
-file-lf : (d : Dialect) → beginFile d LF ≡ beginRecord d LF
-unfolding beginFile if◌then◌else◌
-file-lf Csvj = refl
-file-lf Tdif = refl
-file-lf (CsvPlus s) = refl
+file_lf : (d : Dialect) → begin_file d LF ≡ begin_record d LF
+unfolding begin_file if◌then◌else◌
+file_lf Csvj = refl
+file_lf Tdif = refl
+file_lf (CsvPlus s) = refl
 
-file-quote : (d : Dialect) → beginFile d QUOTE ≡ beginRecord d QUOTE
-unfolding beginFile if◌then◌else◌
-file-quote Csvj = refl
-file-quote Tdif = refl
-file-quote (CsvPlus s) = refl
+file_quote : (d : Dialect) → begin_file d QUOTE ≡ begin_record d QUOTE
+unfolding begin_file if◌then◌else◌
+file_quote Csvj = refl
+file_quote Tdif = refl
+file_quote (CsvPlus s) = refl
 
-bom-one : (d : Dialect) → fileStep d PlainBom1 0x80 ≡ To (Inside (Plain (Within Last))) OfCell
-unfolding fileStep inCell cellStep charStep innerStep rowOf if◌then◌else◌
-bom-one d = refl
+bom_one : (d : Dialect) → file_step d PlainBom1 0x80 ≡ To (Inside (Plain (Within Last))) OfCell
+unfolding file_step in_cell cell_step char_step inner_step row_of if◌then◌else◌
+bom_one d = refl
 
-bom-two : (d : Dialect) → fileStep d PlainBom2 0x80 ≡ To (Inside (Plain Whole)) OfCell
-unfolding fileStep inCell cellStep charStep innerStep if◌then◌else◌
-bom-two d = refl
+bom_two : (d : Dialect) → file_step d PlainBom2 0x80 ≡ To (Inside (Plain Whole)) OfCell
+unfolding file_step in_cell cell_step char_step inner_step if◌then◌else◌
+bom_two d = refl
 
-quote-wanted : (d : Dialect) → fileStep d ExpectCell (quoteOf d) ≡ To (Inside (Quoted Whole)) OfCell
-unfolding fileStep inCell if◌then◌else◌
-quote-wanted d = rw (no-blank d, quote-opens d)
+quote_wanted : (d : Dialect) → file_step d ExpectCell (quote_of d) ≡ To (Inside (Quoted Whole)) OfCell
+unfolding file_step in_cell if◌then◌else◌
+quote_wanted d = rw (no_blank d, quote_opens d)
   where
-    no-blank : (x : Dialect) → isBlank (quoteOf x) ≡ false
-    no-blank Csvj = refl
-    no-blank Tdif = refl
-    no-blank (CsvPlus s) = go s.quote
+    no_blank : (x : Dialect) → is_blank (quote_of x) ≡ false
+    no_blank Csvj = refl
+    no_blank Tdif = refl
+    no_blank (CsvPlus s) = go s.quote
       where
-        go : (q : Quote) → isBlank (quoteByte q) ≡ false
+        go : (q : Quote) → is_blank (quote_byte q) ≡ false
         go Double = refl
         go Single = refl
 
 pub completes : (d : Dialect) (f : FileState) → Completes d f (completion d f)
-unfolding completion fileStep if◌then◌else◌
-completes d Top = record-on d Top (file-lf d) (file-quote d)
-completes d Begin = begin-on d
-completes d Ended = on d Ended LF Begin Passed refl (begin-on d)
-completes d Bom1 = on d Bom1 0xBB Bom2 Outside refl (on d Bom2 0xBF Begin Passed refl (begin-on d))
-completes d Bom2 = on d Bom2 0xBF Begin Passed refl (begin-on d)
-completes d PlainBom1 = on d PlainBom1 0x80 (Inside (Plain (Within Last))) OfCell (bom-one d) (cell-completes d (Plain (Within Last)))
-completes d PlainBom2 = on d PlainBom2 0x80 (Inside (Plain Whole)) OfCell (bom-two d) (plain-on d)
+unfolding completion file_step if◌then◌else◌
+completes d Top = record_on d Top (file_lf d) (file_quote d)
+completes d Begin = begin_on d
+completes d Ended = on d Ended LF Begin Passed refl (begin_on d)
+completes d Bom1 = on d Bom1 0xBB Bom2 Outside refl (on d Bom2 0xBF Begin Passed refl (begin_on d))
+completes d Bom2 = on d Bom2 0xBF Begin Passed refl (begin_on d)
+completes d PlainBom1 = on d PlainBom1 0x80 (Inside (Plain (Within Last))) OfCell (bom_one d) (cell_completes d (Plain (Within Last)))
+completes d PlainBom2 = on d PlainBom2 0x80 (Inside (Plain Whole)) OfCell (bom_two d) (plain_on d)
 completes d (Comment c) =
-    char-on d Comment (LF ∷ beginEnd d) (λ i b x xs e h. on d (Comment (Within i)) b (Comment x) Outside (rw e) h)
-    (on d (Comment Whole) LF Begin Passed refl (begin-on d)) c
-completes d Blanks = record-on d Blanks refl refl
-completes d ExpectCell = on d ExpectCell (quoteOf d) (Inside (Quoted Whole)) OfCell (quote-wanted d) (quote-on d)
-completes d (Inside c) = cell-completes d c
+    char_on d Comment (LF ∷ begin_end d) (λ i b x xs e h. on d (Comment (Within i)) b (Comment x) Outside (rw e) h)
+    (on d (Comment Whole) LF Begin Passed refl (begin_on d)) c
+completes d Blanks = record_on d Blanks refl refl
+completes d ExpectCell = on d ExpectCell (quote_of d) (Inside (Quoted Whole)) OfCell (quote_wanted d) (quote_on d)
+completes d (Inside c) = cell_completes d c
 completes d After = over d After LF Begin false (after_line d false)
 completes d Cr = over d Cr LF Begin false refl
 
@@ -342,9 +342,9 @@ no_step : {A : Type 0} {e : ByteFault} {f : FileState} {p : ByteRole} (s : Step)
 no_step s p q = let z : ◌≡◌ {A = ℕ} 0 1 = cc in absurd (omega arith)
 
 -- a refused byte is in no completion
-refused-dead : (d : Dialect) (f : FileState) (b : ℕ) (e : ByteFault) (bs : Bytes) → fileStep d f b ≡ Reject e → Completes d f (b ∷ bs) → ⊥
-refused-dead d f b e bs x (completed h) = no_step (fileStep d f b) x h
-refused-dead d f b e bs x (onward h k) = no_step (fileStep d f b) x h
+refused_dead : (d : Dialect) (f : FileState) (b : ℕ) (e : ByteFault) (bs : Bytes) → file_step d f b ≡ Reject e → Completes d f (b ∷ bs) → ⊥
+refused_dead d f b e bs x (completed h) = no_step (file_step d f b) x h
+refused_dead d f b e bs x (onward h k) = no_step (file_step d f b) x h
 
 -- some continuation with this byte completes a record
 abbrev pub Viable : Dialect → FileState → ℕ → Type 0
@@ -352,17 +352,17 @@ Viable d f b = (bs : Bytes) × Completes d f (b ∷ bs)
 
 -- this byte is refused
 abbrev pub Refused : Dialect → FileState → ℕ → Type 0
-Refused d f b = (e : ByteFault) × (fileStep d f b ≡ Reject e)
+Refused d f b = (e : ByteFault) × (file_step d f b ≡ Reject e)
 
-refused-or-viable : (d : Dialect) (f : FileState) (b : ℕ) → Refused d f b ⊎ Viable d f b
-refused-or-viable d f b = go (fileStep d f b) refl
+refused_or_viable : (d : Dialect) (f : FileState) (b : ℕ) → Refused d f b ⊎ Viable d f b
+refused_or_viable d f b = go (file_step d f b) refl
   where
-    go : (s : Step) → fileStep d f b ≡ s → Refused d f b ⊎ Viable d f b
+    go : (s : Step) → file_step d f b ≡ s → Refused d f b ⊎ Viable d f b
     go (Reject e) h = inl (e, h)
     go (To f' p) h = inr (completion d f', onward h (completes d f'))
 
-pub refused-iff : (d : Dialect) (f : FileState) (b : ℕ) → Refused d f b ↔ ¬ (Viable d f b)
-refused-iff d f b = (λ r v. refused-dead d f b r.0 v.0 r.1 v.1, back (refused-or-viable d f b))
+pub refused_iff : (d : Dialect) (f : FileState) (b : ℕ) → Refused d f b ↔ ¬ (Viable d f b)
+refused_iff d f b = (λ r v. refused_dead d f b r.0 v.0 r.1 v.1, back (refused_or_viable d f b))
   where
     back : Refused d f b ⊎ Viable d f b → ¬ (Viable d f b) → Refused d f b
     back (inl r) n = r

@@ -1,6 +1,6 @@
 -- The table of faults as the rules define it. After bytes that were read without a fault, within the limits: the next byte is fault 2
--- or 3 exactly where no file continues with it (`refused-file`), it is 2 exactly where it breaks the UTF-8 table of a text it belongs
--- to (`encoding-file`), and so it is 3 exactly where it is neither (`syntax-file`).
+-- or 3 exactly where no file continues with it (`refused_file`), it is 2 exactly where it breaks the UTF-8 table of a text it belongs
+-- to (`encoding_file`), and so it is 3 exactly where it is neither (`syntax_file`).
 use Prim.Native.Nat.{ℕ, ◌<◌}
 use native.Mathlib.Omega.{arith}
 use mathlib.Core.Path.{◌≡◌, refl, sym, ap, ◌∙◌}
@@ -12,146 +12,146 @@ use lib.ListN.{length, length-append}
 use Rattle.model.specs.rules.Types.{Dialect, Target, ByteFault, Encoding, Syntax, FileState, Top, ByteRole, Outside, Passed, OfCell, Between}
 use Rattle.model.specs.rules.Types.{Tail, Ends, Step, To, Reject, Fault, Byte, CheckResult, Sound, Faulty}
 use Rattle.model.specs.rules.Base.{Bytes, if◌then◌else◌}
-use Rattle.model.specs.rules.File.{fileStep}
-use Rattle.model.specs.rules.Records.{Read, Progress, going, stopped, nothingRead, recordFault, fileFull, recordFull, readByte, readFrom}
-use Rattle.model.specs.rules.Records.{readBytes, move, complete, validated, closing}
-use Rattle.model.specs.laws.Viable.{Completes, completed, onward, CanGoOn, textAt, breaks}
+use Rattle.model.specs.rules.File.{file_step}
+use Rattle.model.specs.rules.Records.{Read, Progress, going, stopped, nothing_read, record_fault, file_full, record_full, read_byte, read_from}
+use Rattle.model.specs.rules.Records.{read_bytes, move, complete, validated, closing}
+use Rattle.model.specs.laws.Viable.{Completes, completed, onward, CanGoOn, text_at, breaks}
 use Rattle.model.proofs.Tests.{split, impossible}
-use Rattle.model.proofs.file_laws.ReadAppend.{read-append, read-stopped}
-use Rattle.model.proofs.file_laws.Viable.{Viable, refused-iff}
-use Rattle.model.proofs.cell_laws.Encoding.{encoding-iff, syntax-whole}
-use Rattle.model.specs.rules.Report.{isAtByte}
-use Rattle.model.proofs.file_laws.RecordFaults.{OfRecord, of-sound, of-fault, fault-record}
+use Rattle.model.proofs.file_laws.ReadAppend.{read_append, read_stopped}
+use Rattle.model.proofs.file_laws.Viable.{Viable, refused_iff}
+use Rattle.model.proofs.cell_laws.Encoding.{encoding_iff, syntax_whole}
+use Rattle.model.specs.rules.Report.{is_at_byte}
+use Rattle.model.proofs.file_laws.RecordFaults.{OfRecord, of_sound, of_fault, fault_record}
 
 -- ---- the state of a file is the one that its bytes lead to, by form alone
 
 data Leads (d : Dialect) : FileState → Bytes → FileState → Type 0 where
-  leads-here : {f : FileState} → Leads d f [] f
-  leads-on : {f f' g : FileState} {p : ByteRole} {b : ℕ} {bs : Bytes} → fileStep d f b ≡ To f' p → Leads d f' bs g → Leads d f (b ∷ bs) g
+  leads_here : {f : FileState} → Leads d f [] f
+  leads_on : {f f' g : FileState} {p : ByteRole} {b : ℕ} {bs : Bytes} → file_step d f b ≡ To f' p → Leads d f' bs g → Leads d f (b ∷ bs) g
 
-leads-completes : {d : Dialect} {f g : FileState} {xs zs : Bytes} → Leads d f xs g → Completes d g zs → Completes d f (xs ++ zs)
-leads-completes leads-here k = k
-leads-completes (leads-on e l) k = onward e (leads-completes l k)
+leads_completes : {d : Dialect} {f g : FileState} {xs zs : Bytes} → Leads d f xs g → Completes d g zs → Completes d f (xs ++ zs)
+leads_completes leads_here k = k
+leads_completes (leads_on e l) k = onward e (leads_completes l k)
 
-next-completes :
-    (d : Dialect) (f f' : FileState) (p : ByteRole) (b : ℕ) (bs : Bytes) → fileStep d f b ≡ To f' p → 0 < length bs →
+next_completes :
+    (d : Dialect) (f f' : FileState) (p : ByteRole) (b : ℕ) (bs : Bytes) → file_step d f b ≡ To f' p → 0 < length bs →
     Completes d f (b ∷ bs) → Completes d f' bs
-next-completes d f f' p b bs e h (completed x) = absurd (omega arith)
-next-completes d f f' p b bs e h (onward {f' = g} x k) = let q : g ≡ f' = cc in rw q at k
+next_completes d f f' p b bs e h (completed x) = absurd (omega arith)
+next_completes d f f' p b bs e h (onward {f' = g} x k) = let q : g ≡ f' = cc in rw q at k
 
-completes-after : {d : Dialect} {f g : FileState} {xs : Bytes} (zs : Bytes) → 0 < length zs → Leads d f xs g → Completes d f (xs ++ zs) → Completes d g zs
-completes-after zs h leads-here k = k
-completes-after {d} zs h (leads-on {f} {f'} {p} {b} {bs} e l) k =
+completes_after : {d : Dialect} {f g : FileState} {xs : Bytes} (zs : Bytes) → 0 < length zs → Leads d f xs g → Completes d f (xs ++ zs) → Completes d g zs
+completes_after zs h leads_here k = k
+completes_after {d} zs h (leads_on {f} {f'} {p} {b} {bs} e l) k =
     let n : 0 < length (bs ++ zs) = omega (arith, length-append bs zs) in
-    completes-after zs h l (next-completes d f f' p b (bs ++ zs) e n k)
+    completes_after zs h l (next_completes d f f' p b (bs ++ zs) e n k)
 
-validated-form : {A : Type 0} (r next : Read) (v : CheckResult) (e : ByteFault) → OfRecord v → validated r next v ≡ stopped (Byte e) r → A
-validated-form r next Sound e of-sound h = let z : ◌≡◌ {A = ℕ} 0 1 = cc in absurd (omega arith)
-validated-form r next (Faulty x) e (of-fault k) h = let q : x ≡ Byte e = cc in impossible (sym k ∙ ap isAtByte q)
+validated_form : {A : Type 0} (r next : Read) (v : CheckResult) (e : ByteFault) → OfRecord v → validated r next v ≡ stopped (Byte e) r → A
+validated_form r next Sound e of_sound h = let z : ◌≡◌ {A = ℕ} 0 1 = cc in absurd (omega arith)
+validated_form r next (Faulty x) e (of_fault k) h = let q : x ≡ Byte e = cc in impossible (sym k ∙ ap is_at_byte q)
 
 module _ (d : Dialect) (target : Option Target) where
   -- a byte that was read moved the file by form
   data Moves (r : Read) (b : ℕ) : Progress → Type 0 where
-    moves : {next : Read} {p : ByteRole} → fileStep d r.state b ≡ To next.state p → Moves r b (going next)
+    moves : {next : Read} {p : ByteRole} → file_step d r.state b ≡ To next.state p → Moves r b (going next)
     halts : {e : Fault} {at : Read} → Moves r b (stopped e at)
 
-  validated-moves : (r next : Read) (b : ℕ) (p : ByteRole) (v : CheckResult) → fileStep d r.state b ≡ To next.state p → Moves r b (validated r next v)
-  validated-moves r next b p Sound e = moves e
-  validated-moves r next b p (Faulty x) e = halts
+  validated_moves : (r next : Read) (b : ℕ) (p : ByteRole) (v : CheckResult) → file_step d r.state b ≡ To next.state p → Moves r b (validated r next v)
+  validated_moves r next b p Sound e = moves e
+  validated_moves r next b p (Faulty x) e = halts
 
-  move-moves : (r : Read) (b : ℕ) (s : Step) → fileStep d r.state b ≡ s → Moves r b (move d target r b s)
+  move_moves : (r : Read) (b : ℕ) (s : Step) → file_step d r.state b ≡ s → Moves r b (move d target r b s)
   unfolding move complete
-  move-moves r b (Reject x) e = halts
-  move-moves r b (To f Outside) e = moves e
-  move-moves r b (To f Passed) e = moves e
-  move-moves r b (To f OfCell) e = moves e
-  move-moves r b (To f (Between k)) e = moves e
-  move-moves r b (To f (Tail k)) e = moves e
-  move-moves r b (To f (Ends k)) e = validated-moves r _ b (Ends k) (recordFault d target r.done (closing d k r)) e
+  move_moves r b (Reject x) e = halts
+  move_moves r b (To f Outside) e = moves e
+  move_moves r b (To f Passed) e = moves e
+  move_moves r b (To f OfCell) e = moves e
+  move_moves r b (To f (Between k)) e = moves e
+  move_moves r b (To f (Tail k)) e = moves e
+  move_moves r b (To f (Ends k)) e = validated_moves r _ b (Ends k) (record_fault d target r.done (closing d k r)) e
 
-  byte-moves : (r : Read) (b : ℕ) → Moves r b (readByte d target r b)
-  unfolding readByte
-  byte-moves r b =
-      split (Moves r b) _ (λ _. halts) λ _. split (Moves r b) _ (λ _. halts) λ _. move-moves r b (fileStep d r.state b) refl
+  byte_moves : (r : Read) (b : ℕ) → Moves r b (read_byte d target r b)
+  unfolding read_byte
+  byte_moves r b =
+      split (Moves r b) _ (λ _. halts) λ _. split (Moves r b) _ (λ _. halts) λ _. move_moves r b (file_step d r.state b) refl
 
   no_stop : {A : Type 0} {e : Fault} {r at : Read} → going r ≡ stopped e at → A
   no_stop x = let z : ◌≡◌ {A = ℕ} 0 1 = cc in absurd (omega arith)
 
   -- only a refusal by form is fault 2 or 3
-  move-refused : (r : Read) (b : ℕ) (s : Step) (e : ByteFault) → move d target r b s ≡ stopped (Byte e) r → s ≡ Reject e
+  move_refused : (r : Read) (b : ℕ) (s : Step) (e : ByteFault) → move d target r b s ≡ stopped (Byte e) r → s ≡ Reject e
   unfolding move complete
-  move-refused r b (Reject x) e h = let q : x ≡ e = cc in ap Reject q
-  move-refused r b (To f Outside) e h = no_stop h
-  move-refused r b (To f Passed) e h = no_stop h
-  move-refused r b (To f OfCell) e h = no_stop h
-  move-refused r b (To f (Between k)) e h = no_stop h
-  move-refused r b (To f (Tail k)) e h = no_stop h
-  move-refused r b (To f (Ends k)) e h =
-      validated-form r _ (recordFault d target r.done (closing d k r)) e (fault-record d target r.done (closing d k r)) h
+  move_refused r b (Reject x) e h = let q : x ≡ e = cc in ap Reject q
+  move_refused r b (To f Outside) e h = no_stop h
+  move_refused r b (To f Passed) e h = no_stop h
+  move_refused r b (To f OfCell) e h = no_stop h
+  move_refused r b (To f (Between k)) e h = no_stop h
+  move_refused r b (To f (Tail k)) e h = no_stop h
+  move_refused r b (To f (Ends k)) e h =
+      validated_form r _ (record_fault d target r.done (closing d k r)) e (fault_record d target r.done (closing d k r)) h
 
-  no-going : {A : Type 0} {e : Fault} {at r : Read} → stopped e at ≡ going r → A
-  no-going x = let z : ◌≡◌ {A = ℕ} 0 1 = cc in absurd (omega arith)
+  no_going : {A : Type 0} {e : Fault} {at r : Read} → stopped e at ≡ going r → A
+  no_going x = let z : ◌≡◌ {A = ℕ} 0 1 = cc in absurd (omega arith)
 
-  read-leads : (q : Read) (xs : Bytes) (r : Read) → readFrom d target (going q) xs ≡ going r → Leads d q.state xs r.state
-  unfolding readFrom
-  read-leads q [] r e = let h : q ≡ r = cc in rw h leads-here
-  read-leads q (x ∷ xs) r e = go (readByte d target q x) (byte-moves q x) e (λ next. read-leads next xs r)
+  read_leads : (q : Read) (xs : Bytes) (r : Read) → read_from d target (going q) xs ≡ going r → Leads d q.state xs r.state
+  unfolding read_from
+  read_leads q [] r e = let h : q ≡ r = cc in rw h leads_here
+  read_leads q (x ∷ xs) r e = go (read_byte d target q x) (byte_moves q x) e (λ next. read_leads next xs r)
     where
       go :
-          (p : Progress) → Moves q x p → readFrom d target p xs ≡ going r →
-          ((next : Read) → readFrom d target (going next) xs ≡ going r → Leads d next.state xs r.state) →
+          (p : Progress) → Moves q x p → read_from d target p xs ≡ going r →
+          ((next : Read) → read_from d target (going next) xs ≡ going r → Leads d next.state xs r.state) →
           Leads d q.state (x ∷ xs) r.state
-      go (going next) (moves m) k ih = leads-on m (ih next k)
-      go (stopped y at) halts k ih = no-going (sym (read-stopped d target y at xs) ∙ k)
+      go (going next) (moves m) k ih = leads_on m (ih next k)
+      go (stopped y at) halts k ih = no_going (sym (read_stopped d target y at xs) ∙ k)
 
-  file-leads : (xs : Bytes) (r : Read) → readBytes d target xs ≡ going r → Leads d Top xs r.state
-  unfolding readBytes nothingRead
-  file-leads xs r e = read-leads nothingRead xs r e
+  file_leads : (xs : Bytes) (r : Read) → read_bytes d target xs ≡ going r → Leads d Top xs r.state
+  unfolding read_bytes nothing_read
+  file_leads xs r e = read_leads nothing_read xs r e
 
   -- the byte after them, within the limits
-  module _ (xs : Bytes) (r : Read) (b : ℕ) (read : readBytes d target xs ≡ going r) (file : fileFull r ≡ false) (size : recordFull r b ≡ false) where
-    next-byte : readBytes d target (xs ++ (b ∷ [])) ≡ move d target r b (fileStep d r.state b)
-    unfolding readBytes readFrom readByte if◌then◌else◌
-    next-byte = rw (read-append, read, file, size)
+  module _ (xs : Bytes) (r : Read) (b : ℕ) (read : read_bytes d target xs ≡ going r) (file : file_full r ≡ false) (size : record_full r b ≡ false) where
+    next_byte : read_bytes d target (xs ++ (b ∷ [])) ≡ move d target r b (file_step d r.state b)
+    unfolding read_bytes read_from read_byte if◌then◌else◌
+    next_byte = rw (read_append, read, file, size)
 
-    rejected : (e : ByteFault) → fileStep d r.state b ≡ Reject e → readBytes d target (xs ++ (b ∷ [])) ≡ stopped (Byte e) r
+    rejected : (e : ByteFault) → file_step d r.state b ≡ Reject e → read_bytes d target (xs ++ (b ∷ [])) ≡ stopped (Byte e) r
     unfolding move
-    rejected e h = next-byte ∙ rw h
+    rejected e h = next_byte ∙ rw h
 
-    refused : (e : ByteFault) → readBytes d target (xs ++ (b ∷ [])) ≡ stopped (Byte e) r → fileStep d r.state b ≡ Reject e
-    refused e h = move-refused r b (fileStep d r.state b) e (sym next-byte ∙ h)
+    refused : (e : ByteFault) → read_bytes d target (xs ++ (b ∷ [])) ≡ stopped (Byte e) r → file_step d r.state b ≡ Reject e
+    refused e h = move_refused r b (file_step d r.state b) e (sym next_byte ∙ h)
 
-    viable-file : Viable d r.state b → CanGoOn d xs b
-    viable-file v = (v.0, leads-completes (file-leads xs r read) v.1)
+    viable_file : Viable d r.state b → CanGoOn d xs b
+    viable_file v = (v.0, leads_completes (file_leads xs r read) v.1)
 
-    file-viable : CanGoOn d xs b → Viable d r.state b
-    file-viable g = (g.0, completes-after (b ∷ g.0) (omega arith) (file-leads xs r read) g.1)
+    file_viable : CanGoOn d xs b → Viable d r.state b
+    file_viable g = (g.0, completes_after (b ∷ g.0) (omega arith) (file_leads xs r read) g.1)
 
     -- fault 2 or 3, exactly where no file continues with this byte
-    pub refused-file : ((e : ByteFault) × (readBytes d target (xs ++ (b ∷ [])) ≡ stopped (Byte e) r)) ↔ ¬ (CanGoOn d xs b)
-    refused-file =
-        let v = refused-iff d r.state b in (
-          λ h g. v.0 (h.0, refused h.0 h.1) (file-viable g),
-          λ n. let x = v.1 (λ g. n (viable-file g)) in (x.0, rejected x.0 x.1),
+    pub refused_file : ((e : ByteFault) × (read_bytes d target (xs ++ (b ∷ [])) ≡ stopped (Byte e) r)) ↔ ¬ (CanGoOn d xs b)
+    refused_file =
+        let v = refused_iff d r.state b in (
+          λ h g. v.0 (h.0, refused h.0 h.1) (file_viable g),
+          λ n. let x = v.1 (λ g. n (viable_file g)) in (x.0, rejected x.0 x.1),
         )
 
     -- fault 2, exactly where it breaks the UTF-8 table
-    pub encoding-file : (readBytes d target (xs ++ (b ∷ [])) ≡ stopped (Byte Encoding) r) ↔ (breaks (textAt d r.state) b ≡ true)
-    encoding-file =
-        let v = encoding-iff d r.state b in
+    pub encoding_file : (read_bytes d target (xs ++ (b ∷ [])) ≡ stopped (Byte Encoding) r) ↔ (breaks (text_at d r.state) b ≡ true)
+    encoding_file =
+        let v = encoding_iff d r.state b in
         (λ h. v.0 (refused Encoding h), λ t. rejected Encoding (v.1 t))
 
     -- fault 3, exactly where no file continues with it and it does not break the table
-    pub syntax-file : (readBytes d target (xs ++ (b ∷ [])) ≡ stopped (Byte Syntax) r) ↔ (¬ (CanGoOn d xs b) × (breaks (textAt d r.state) b ≡ false))
-    syntax-file =
-        let v = refused-file in
-        let w = encoding-iff d r.state b in (
-          λ h. (v.0 (Syntax, h), syntax-whole d r.state b (refused Syntax h)),
+    pub syntax_file : (read_bytes d target (xs ++ (b ∷ [])) ≡ stopped (Byte Syntax) r) ↔ (¬ (CanGoOn d xs b) × (breaks (text_at d r.state) b ≡ false))
+    syntax_file =
+        let v = refused_file in
+        let w = encoding_iff d r.state b in (
+          λ h. (v.0 (Syntax, h), syntax_whole d r.state b (refused Syntax h)),
           λ n. go (v.1 n.0) n.1,
         )
       where
         go :
-            (h : (e : ByteFault) × (readBytes d target (xs ++ (b ∷ [])) ≡ stopped (Byte e) r)) → breaks (textAt d r.state) b ≡ false →
-            readBytes d target (xs ++ (b ∷ [])) ≡ stopped (Byte Syntax) r
+            (h : (e : ByteFault) × (read_bytes d target (xs ++ (b ∷ [])) ≡ stopped (Byte e) r)) → breaks (text_at d r.state) b ≡ false →
+            read_bytes d target (xs ++ (b ∷ [])) ≡ stopped (Byte Syntax) r
         go (Syntax, h) t = h
-        go (Encoding, h) t = impossible (sym t ∙ (encoding-iff d r.state b).0 (refused Encoding h))
+        go (Encoding, h) t = impossible (sym t ∙ (encoding_iff d r.state b).0 (refused Encoding h))

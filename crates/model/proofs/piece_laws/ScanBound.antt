@@ -8,27 +8,27 @@ use mathlib.Core.List.{List, [], ◌∷◌, map}
 use lib.ListN.{length}
 use Rattle.model.specs.rules.Types.{Dialect, FileState, Outside, Passed, OfCell, Between, Tail, Ends, Step, To, Reject, Fault}
 use Rattle.model.specs.rules.Base.{Bytes}
-use Rattle.model.specs.rules.File.{fileStep}
+use Rattle.model.specs.rules.File.{file_step}
 use Rattle.model.specs.rules.Text.{Value}
 use Rattle.model.specs.rules.Records.{Read, going, move}
 use Rattle.model.specs.laws.Laws.{all_none, Bounded}
-use Rattle.model.specs.laws.Scans.{RawCell, Scan, ScanResult, pends, fails, completes, scan-between, scanStep, scan, value_of, read_of, ScanBound}
+use Rattle.model.specs.laws.Scans.{RawCell, Scan, ScanResult, pends, fails, completes, scan_between, scan_step, scan, value_of, read_of, ScanBound}
 use Rattle.model.proofs.Tests.{split}
-use Rattle.model.proofs.file_laws.Bound.{weigh-none, slack, Steady, y-ends, y-over, step-steady, Counted, CountedTo, c-going, closed-bound}
-use Rattle.model.proofs.file_laws.Bound.{over-bound, move-counted}
-use Rattle.model.proofs.piece_laws.ScanLaws.{values-closing}
+use Rattle.model.proofs.file_laws.Bound.{weigh_none, slack, Steady, y_ends, y_over, step_steady, Counted, CountedTo, c_going, closed_bound}
+use Rattle.model.proofs.file_laws.Bound.{over_bound, move_counted}
+use Rattle.model.proofs.piece_laws.ScanLaws.{values_closing}
 
 module _ (d : Dialect) (limit : ℕ) where
   -- the result of a scan of at most `room` bytes
   data Fitting (room : ℕ) : ScanResult → Type 0 where
-    fit-pends : {s : Scan} → Fitting room (pends s)
-    fit-fails : {e : Fault} {s : Scan} → Fitting room (fails e s)
-    fit-completes :
+    fit_pends : {s : Scan} → Fitting room (pends s)
+    fit_fails : {e : Fault} {s : Scan} → Fitting room (fails e s)
+    fit_completes :
         {s : Scan} {cs : List RawCell} {f : FileState} {next : ℕ} {left : Bytes} → Bounded s.size (map (value_of d) cs) → suc s.size + length left ≤ room →
         Fitting room (completes s cs f next left)
 
   counted_of : {r : Read} → CountedTo d none (going r) → Counted d none r
-  counted_of (c-going i) = i
+  counted_of (c_going i) = i
 
   abbrev Fits : Bytes → Type 0
   Fits bs = (s : Scan) (room : ℕ) → Counted d none (read_of d [] s) → s.size + length bs ≤ room → Fitting room (scan d limit s bs)
@@ -36,38 +36,38 @@ module _ (d : Dialect) (limit : ℕ) where
   step_fits :
       (s : Scan) (b : ℕ) (bs : Bytes) (room : ℕ) → Fits bs → Counted d none (read_of d [] s) → s.size + suc (length bs) ≤ room →
       (x : Step) → Steady s.state x →
-      Fitting room (scanStep s b bs (λ s'. scan d limit s' bs) x)
-  unfolding scanStep move
-  step_fits s b bs room ih i l (Reject e) y = fit-fails
-  step_fits s b bs room ih i l (To f Outside) y = ih _ room (counted_of (move-counted d none (read_of d [] s) b (To f Outside) i y)) (omega arith)
-  step_fits s b bs room ih i l (To f Passed) y = ih _ room (counted_of (move-counted d none (read_of d [] s) b (To f Passed) i y)) (omega arith)
-  step_fits s b bs room ih i l (To f OfCell) y = ih _ room (counted_of (move-counted d none (read_of d [] s) b (To f OfCell) i y)) (omega arith)
+      Fitting room (scan_step s b bs (λ s'. scan d limit s' bs) x)
+  unfolding scan_step move
+  step_fits s b bs room ih i l (Reject e) y = fit_fails
+  step_fits s b bs room ih i l (To f Outside) y = ih _ room (counted_of (move_counted d none (read_of d [] s) b (To f Outside) i y)) (omega arith)
+  step_fits s b bs room ih i l (To f Passed) y = ih _ room (counted_of (move_counted d none (read_of d [] s) b (To f Passed) i y)) (omega arith)
+  step_fits s b bs room ih i l (To f OfCell) y = ih _ room (counted_of (move_counted d none (read_of d [] s) b (To f OfCell) i y)) (omega arith)
   step_fits s b bs room ih i l (To f (Between k)) y =
-      ih _ room (rw (values-closing d none [] k s) at (counted_of (move-counted d none (read_of d [] s) b (To f (Between k)) i y))) (omega arith)
+      ih _ room (rw (values_closing d none [] k s) at (counted_of (move_counted d none (read_of d [] s) b (To f (Between k)) i y))) (omega arith)
   step_fits s b bs room ih i l (To f (Tail k)) y =
-      ih _ room (rw (values-closing d none [] k s) at (counted_of (move-counted d none (read_of d [] s) b (To f (Tail k)) i y))) (omega arith)
-  step_fits s b bs room ih i l (To f (Ends k)) (y-ends z) =
+      ih _ room (rw (values_closing d none [] k s) at (counted_of (move_counted d none (read_of d [] s) b (To f (Tail k)) i y))) (omega arith)
+  step_fits s b bs room ih i l (To f (Ends k)) (y_ends z) =
       let m : suc s.size + length bs ≤ room = omega arith in
-      fit-completes (subst (λ (vs : List Value). Bounded s.size vs) (values-closing d none [] k s) (closed-bound d none (read_of d [] s) k i z)) m
-  step_fits s b bs room ih i l (To f (Ends k)) y-over =
-      let m : suc s.size + length bs ≤ room = omega arith in fit-completes (over-bound d none (read_of d [] s) i) m
+      fit_completes (subst (λ (vs : List Value). Bounded s.size vs) (values_closing d none [] k s) (closed_bound d none (read_of d [] s) k i z)) m
+  step_fits s b bs room ih i l (To f (Ends k)) y_over =
+      let m : suc s.size + length bs ≤ room = omega arith in fit_completes (over_bound d none (read_of d [] s) i) m
 
   fits : (bs : Bytes) → Fits bs
   unfolding scan
-  fits [] s room i l = fit-pends
+  fits [] s room i l = fit_pends
   fits (b ∷ bs) s room i l =
       let P : ScanResult → Type 0 = Fitting room in
-      split P _ (λ _. fit-fails) λ _. split P _ (λ _. fit-fails) λ _. step_fits s b bs room (fits bs) i l (fileStep d s.state b) (step-steady d s.state b)
+      split P _ (λ _. fit_fails) λ _. split P _ (λ _. fit_fails) λ _. step_fits s b bs room (fits bs) i l (file_step d s.state b) (step_steady d s.state b)
 
   fitting :
       {room : ℕ} {s : Scan} {cs : List RawCell} {f : FileState} {next : ℕ} {left : Bytes} → Fitting room (completes s cs f next left) →
       Bounded s.size (map (value_of d) cs) × (suc s.size + length left ≤ room)
-  fitting (fit-completes b l) = (b, l)
+  fitting (fit_completes b l) = (b, l)
 
-pub scan-bound : ScanBound
-scan-bound d limit f o bs s cs g next left e =
+pub scan_bound : ScanBound
+scan_bound d limit f o bs s cs g next left e =
     let z : 0 + 0 ≤ 0 + slack f = omega arith in
-    let all : Fitting d limit (length bs) (scan d limit (scan-between f o) bs)
-    = fits d limit bs (scan-between f o) (length bs) (record { sum = 0; cells = weigh-none; fits = z; done = all_none })
+    let all : Fitting d limit (length bs) (scan d limit (scan_between f o) bs)
+    = fits d limit bs (scan_between f o) (length bs) (record { sum = 0; cells = weigh_none; fits = z; done = all_none })
     (omega arith) in
     fitting d limit (rw e at all)

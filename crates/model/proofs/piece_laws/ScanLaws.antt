@@ -9,102 +9,102 @@ use lib.Dec.{leb}
 use borrow.Author.Tests.{leb-true, leb-false, le-leb, lt-leb}
 use Rattle.model.specs.rules.Types.{Dialect, Target, Outside, Passed, OfCell, Between, Tail, Ends, Step, To, Reject, FileTooLong, RecordTooLong}
 use Rattle.model.specs.rules.Base.{if◌then◌else◌, Bytes}
-use Rattle.model.specs.rules.File.{fileStep, counts}
+use Rattle.model.specs.rules.File.{file_step, counts}
 use Rattle.model.specs.rules.Report.{MAXFILE, MAXRECORD}
-use Rattle.model.specs.rules.Records.{Rec, going, stopped, closing, complete, move, fileFull, recordFull, readByte, readFrom}
-use Rattle.model.specs.laws.Scans.{Scan, fails, closingRaw, scanStep, scan, value_of, read_of, resume, ScanReads, movedCell, moved, moved_to}
+use Rattle.model.specs.rules.Records.{Rec, going, stopped, closing, complete, move, file_full, record_full, read_byte, read_from}
+use Rattle.model.specs.laws.Scans.{Scan, fails, closing_raw, scan_step, scan, value_of, read_of, resume, ScanReads, moved_cell, moved, moved_to}
 use Rattle.model.specs.laws.Scans.{Shift, PartMoved, CompleteReads}
-use Rattle.model.proofs.Tests.{split-on}
-use Rattle.model.proofs.file_laws.ReadAppend.{read-stopped}
+use Rattle.model.proofs.Tests.{split_on}
+use Rattle.model.proofs.file_laws.ReadAppend.{read_stopped}
 
 -- ---- reading
 
 module _ (d : Dialect) (target : Option Target) (done : List Rec) where
-  pub values-closing : (k : Bool) (s : Scan) → closing d k (read_of d done s) ≡ map (value_of d) (closingRaw k s)
-  values-closing true s = sym (map-append (value_of d) s.cells (record { from = s.opened; upto = s.offset; bytes = s.raw } ∷ []))
-  values-closing false s = refl
+  pub values_closing : (k : Bool) (s : Scan) → closing d k (read_of d done s) ≡ map (value_of d) (closing_raw k s)
+  values_closing true s = sym (map-append (value_of d) s.cells (record { from = s.opened; upto = s.offset; bytes = s.raw } ∷ []))
+  values_closing false s = refl
 
   abbrev Comes : Bytes → Type 0
-  Comes bs = (s : Scan) → readFrom d target (going (read_of d done s)) bs ≡ resume d target done (scan d MAXFILE s bs)
+  Comes bs = (s : Scan) → read_from d target (going (read_of d done s)) bs ≡ resume d target done (scan d MAXFILE s bs)
 
-  step-reads :
+  step_reads :
       (s : Scan) (b : ℕ) (bs : Bytes) → Comes bs → (x : Step) →
-      readFrom d target (move d target (read_of d done s) b x) bs ≡ resume d target done (scanStep s b bs (λ s'. scan d MAXFILE s' bs) x)
-  unfolding move scanStep
-  step-reads s b bs ih (Reject e) = read-stopped d target _ _ bs
-  step-reads s b bs ih (To f Outside) = ih _
-  step-reads s b bs ih (To f Passed) = ih _
-  step-reads s b bs ih (To f OfCell) = ih _
-  step-reads s b bs ih (To f (Between k)) = rw (values-closing k s) (ih _)
-  step-reads s b bs ih (To f (Tail k)) = rw (values-closing k s) (ih _)
-  step-reads s b bs ih (To f (Ends k)) = rw (values-closing k s)
+      read_from d target (move d target (read_of d done s) b x) bs ≡ resume d target done (scan_step s b bs (λ s'. scan d MAXFILE s' bs) x)
+  unfolding move scan_step
+  step_reads s b bs ih (Reject e) = read_stopped d target _ _ bs
+  step_reads s b bs ih (To f Outside) = ih _
+  step_reads s b bs ih (To f Passed) = ih _
+  step_reads s b bs ih (To f OfCell) = ih _
+  step_reads s b bs ih (To f (Between k)) = rw (values_closing k s) (ih _)
+  step_reads s b bs ih (To f (Tail k)) = rw (values_closing k s) (ih _)
+  step_reads s b bs ih (To f (Ends k)) = rw (values_closing k s)
 
-  choose-reads :
+  choose_reads :
       (s : Scan) (b : ℕ) (bs : Bytes) → Comes bs → (u v : Bool) (x : Step) →
-      readFrom d target
+      read_from d target
       (if u then stopped FileTooLong (read_of d done s)
       else if v then stopped RecordTooLong (read_of d done s) else move d target (read_of d done s) b x) bs
       ≡ resume d target done
-      (if u then fails FileTooLong s else if v then fails RecordTooLong s else scanStep s b bs (λ s'. scan d MAXFILE s' bs) x)
+      (if u then fails FileTooLong s else if v then fails RecordTooLong s else scan_step s b bs (λ s'. scan d MAXFILE s' bs) x)
   unfolding if◌then◌else◌
-  choose-reads s b bs ih true v x = read-stopped d target FileTooLong (read_of d done s) bs
-  choose-reads s b bs ih false true x = read-stopped d target RecordTooLong (read_of d done s) bs
-  choose-reads s b bs ih false false x = step-reads s b bs ih x
+  choose_reads s b bs ih true v x = read_stopped d target FileTooLong (read_of d done s) bs
+  choose_reads s b bs ih false true x = read_stopped d target RecordTooLong (read_of d done s) bs
+  choose_reads s b bs ih false false x = step_reads s b bs ih x
 
   comes : (bs : Bytes) → Comes bs
-  unfolding readFrom readByte fileFull recordFull scan
+  unfolding read_from read_byte file_full record_full scan
   comes [] s = refl
-  comes (b ∷ bs) s = choose-reads s b bs (comes bs) (leb MAXFILE s.offset) (leb MAXRECORD s.size && counts s.state b) (fileStep d s.state b)
+  comes (b ∷ bs) s = choose_reads s b bs (comes bs) (leb MAXFILE s.offset) (leb MAXRECORD s.size && counts s.state b) (file_step d s.state b)
 
-pub scan-reads : ScanReads
-scan-reads d target done s bs = comes d target done bs s
+pub scan_reads : ScanReads
+scan_reads d target done s bs = comes d target done bs s
 
 -- ---- shift
 
-leb-moved : (n a b : ℕ) → leb (n + a) (n + b) ≡ leb a b
-leb-moved n a b =
-    split-on (leb a b) (λ h. rw h (le-leb (n + a) (n + b) (let k : a ≤ b = leb-true a b h in omega arith))) λ h.
+leb_moved : (n a b : ℕ) → leb (n + a) (n + b) ≡ leb a b
+leb_moved n a b =
+    split_on (leb a b) (λ h. rw h (le-leb (n + a) (n + b) (let k : a ≤ b = leb-true a b h in omega arith))) λ h.
     rw h (lt-leb (n + a) (n + b) (let k : suc b ≤ a = leb-false a b h in omega arith))
 
-next-moved : (n a : ℕ) → suc (n + a) ≡ n + suc a
-next-moved n a = omega arith
+next_moved : (n a : ℕ) → suc (n + a) ≡ n + suc a
+next_moved n a = omega arith
 
 module _ (d : Dialect) (n limit : ℕ) where
-  closing-moved : (k : Bool) (s : Scan) → closingRaw k (moved n s) ≡ map (movedCell n) (closingRaw k s)
-  closing-moved true s = sym (map-append (movedCell n) s.cells (record { from = s.opened; upto = s.offset; bytes = s.raw } ∷ []))
-  closing-moved false s = refl
+  closing_moved : (k : Bool) (s : Scan) → closing_raw k (moved n s) ≡ map (moved_cell n) (closing_raw k s)
+  closing_moved true s = sym (map-append (moved_cell n) s.cells (record { from = s.opened; upto = s.offset; bytes = s.raw } ∷ []))
+  closing_moved false s = refl
 
   abbrev Shifts : Bytes → Type 0
   Shifts bs = (s : Scan) → scan d (n + limit) (moved n s) bs ≡ moved_to n (scan d limit s bs)
 
-  step-moved :
+  step_moved :
       (s : Scan) (b : ℕ) (bs : Bytes) → Shifts bs → (x : Step) →
-      scanStep (moved n s) b bs (λ s'. scan d (n + limit) s' bs) x ≡ moved_to n (scanStep s b bs (λ s'. scan d limit s' bs) x)
-  unfolding scanStep
-  step-moved s b bs ih (Reject e) = refl
-  step-moved s b bs ih (To f Outside) = rw (next-moved n s.offset) (ih _)
-  step-moved s b bs ih (To f Passed) = rw (next-moved n s.offset) (ih _)
-  step-moved s b bs ih (To f OfCell) = rw (next-moved n s.offset) (ih _)
-  step-moved s b bs ih (To f (Between k)) = rw (next-moved n s.offset, closing-moved k s) (ih _)
-  step-moved s b bs ih (To f (Tail k)) = rw (next-moved n s.offset, closing-moved k s) (ih _)
-  step-moved s b bs ih (To f (Ends k)) = rw (next-moved n s.offset, closing-moved k s)
+      scan_step (moved n s) b bs (λ s'. scan d (n + limit) s' bs) x ≡ moved_to n (scan_step s b bs (λ s'. scan d limit s' bs) x)
+  unfolding scan_step
+  step_moved s b bs ih (Reject e) = refl
+  step_moved s b bs ih (To f Outside) = rw (next_moved n s.offset) (ih _)
+  step_moved s b bs ih (To f Passed) = rw (next_moved n s.offset) (ih _)
+  step_moved s b bs ih (To f OfCell) = rw (next_moved n s.offset) (ih _)
+  step_moved s b bs ih (To f (Between k)) = rw (next_moved n s.offset, closing_moved k s) (ih _)
+  step_moved s b bs ih (To f (Tail k)) = rw (next_moved n s.offset, closing_moved k s) (ih _)
+  step_moved s b bs ih (To f (Ends k)) = rw (next_moved n s.offset, closing_moved k s)
 
-  choose-moved :
+  choose_moved :
       (s : Scan) (b : ℕ) (bs : Bytes) → Shifts bs → (u v : Bool) (x : Step) →
       (if u then fails FileTooLong (moved n s)
-      else if v then fails RecordTooLong (moved n s) else scanStep (moved n s) b bs (λ s'. scan d (n + limit) s' bs) x)
-      ≡ moved_to n (if u then fails FileTooLong s else if v then fails RecordTooLong s else scanStep s b bs (λ s'. scan d limit s' bs) x)
+      else if v then fails RecordTooLong (moved n s) else scan_step (moved n s) b bs (λ s'. scan d (n + limit) s' bs) x)
+      ≡ moved_to n (if u then fails FileTooLong s else if v then fails RecordTooLong s else scan_step s b bs (λ s'. scan d limit s' bs) x)
   unfolding if◌then◌else◌
-  choose-moved s b bs ih true v x = refl
-  choose-moved s b bs ih false true x = refl
-  choose-moved s b bs ih false false x = step-moved s b bs ih x
+  choose_moved s b bs ih true v x = refl
+  choose_moved s b bs ih false true x = refl
+  choose_moved s b bs ih false false x = step_moved s b bs ih x
 
   shifts : (bs : Bytes) → Shifts bs
   unfolding scan
   shifts [] s = refl
   shifts (b ∷ bs) s =
-      rw (leb-moved n limit s.offset)
-      (choose-moved s b bs (shifts bs) (leb limit s.offset) (leb MAXRECORD s.size && counts s.state b) (fileStep d s.state b))
+      rw (leb_moved n limit s.offset)
+      (choose_moved s b bs (shifts bs) (leb limit s.offset) (leb MAXRECORD s.size && counts s.state b) (file_step d s.state b))
 
 pub shift : Shift
 shift d n limit s bs = shifts d n limit bs s
@@ -112,7 +112,7 @@ shift d n limit s bs = shifts d n limit bs s
 pub part_moved : PartMoved
 part_moved d target done n s bs l =
     let limit : n + (MAXFILE - n) ≡ MAXFILE = omega arith in
-    scan-reads d target done (moved n s) bs ∙ ap (λ x. resume d target done (scan d x (moved n s) bs)) (sym limit)
+    scan_reads d target done (moved n s) bs ∙ ap (λ x. resume d target done (scan d x (moved n s) bs)) (sym limit)
     ∙ ap (resume d target done) (shift d n (MAXFILE - n) s bs)
 
 -- ---- a complete record
@@ -120,4 +120,4 @@ part_moved d target done n s bs l =
 pub completing : CompleteReads
 unfolding complete
 completing d target done s cs f next left =
-    record { sound = λ h. rw h; faulty = λ e h. rw h (read-stopped d target e (read_of d done s) left) }
+    record { sound = λ h. rw h; faulty = λ e h. rw h (read_stopped d target e (read_of d done s) left) }

@@ -10,27 +10,27 @@ use lib.Dec.{leb}
 use borrow.Author.Tests.{leb-false}
 use Rattle.model.specs.rules.Types.{Dialect, Outside, Passed, OfCell, Between, Tail, Ends, Step, To, Reject}
 use Rattle.model.specs.rules.Base.{Bytes}
-use Rattle.model.specs.rules.File.{fileStep, counts}
+use Rattle.model.specs.rules.File.{file_step, counts}
 use Rattle.model.specs.rules.Report.{MAXRECORD}
-use Rattle.model.specs.laws.Scans.{RawCell, Scan, closingRaw, scanStep, scan, bytesIn, Sized, SizedTo, sized-pends, sized-fails}
-use Rattle.model.specs.laws.Scans.{sized-completes, ScanSize}
+use Rattle.model.specs.laws.Scans.{RawCell, Scan, closing_raw, scan_step, scan, bytes_in, Sized, SizedTo, sized_pends, sized_fails}
+use Rattle.model.specs.laws.Scans.{sized_completes, ScanSize}
 use Rattle.model.proofs.Tests.{split}
-use Rattle.model.proofs.file_laws.FileSteps.{Transition, cell-counts, between-counts, step-transition}
+use Rattle.model.proofs.file_laws.FileSteps.{Transition, cell_counts, between_counts, step_transition}
 
 -- ---- sizes
 
-bytes-snoc : (cs : List RawCell) (c : RawCell) → bytesIn (cs ++ (c ∷ [])) ≡ bytesIn cs + length c.bytes
-unfolding bytesIn
-bytes-snoc [] c = omega arith
-bytes-snoc (x ∷ cs) c = let e : bytesIn (cs ++ (c ∷ [])) ≡ bytesIn cs + length c.bytes = bytes-snoc cs c in omega arith
+bytes_snoc : (cs : List RawCell) (c : RawCell) → bytes_in (cs ++ (c ∷ [])) ≡ bytes_in cs + length c.bytes
+unfolding bytes_in
+bytes_snoc [] c = omega arith
+bytes_snoc (x ∷ cs) c = let e : bytes_in (cs ++ (c ∷ [])) ≡ bytes_in cs + length c.bytes = bytes_snoc cs c in omega arith
 
-closing-size : (k : Bool) (s : Scan) → Sized s → bytesIn (closingRaw k s) ≤ s.size
-closing-size true s z =
-    let e : bytesIn (closingRaw true s) ≡ bytesIn s.cells + length s.raw
-    = bytes-snoc s.cells (record { from = s.opened; upto = s.offset; bytes = s.raw }) in
-    let h : bytesIn s.cells + length s.raw ≤ s.size = z.held in
+closing_size : (k : Bool) (s : Scan) → Sized s → bytes_in (closing_raw k s) ≤ s.size
+closing_size true s z =
+    let e : bytes_in (closing_raw true s) ≡ bytes_in s.cells + length s.raw
+    = bytes_snoc s.cells (record { from = s.opened; upto = s.offset; bytes = s.raw }) in
+    let h : bytes_in s.cells + length s.raw ≤ s.size = z.held in
     omega arith
-closing-size false s z = let h : bytesIn s.cells + length s.raw ≤ s.size = z.held in omega arith
+closing_size false s z = let h : bytes_in s.cells + length s.raw ≤ s.size = z.held in omega arith
 
 -- a byte that counts was not one too many
 not_full : (n : ℕ) (c : Bool) → (leb MAXRECORD n && c) ≡ false → c ≡ true → suc n ≤ MAXRECORD
@@ -44,36 +44,36 @@ module _ (d : Dialect) (limit : ℕ) where
   abbrev Fits : Bytes → Type 0
   Fits bs = (s : Scan) → Sized s → SizedTo (scan d limit s bs)
 
-  step-sized :
+  step_sized :
       (s : Scan) (b : ℕ) (bs : Bytes) → Fits bs → Sized s → (leb MAXRECORD s.size && counts s.state b) ≡ false → (x : Step) →
-      Transition d s.state b x → SizedTo (scanStep s b bs (λ s'. scan d limit s' bs) x)
-  unfolding scanStep bytesIn
-  step-sized s b bs ih z h (Reject e) y = sized-fails z
-  step-sized s b bs ih z h (To f Outside) y = ih _ (record { held = omega arith; limit = omega arith })
-  step-sized s b bs ih z h (To f Passed) y = ih _ (record { held = omega arith; limit = omega arith })
-  step-sized s b bs ih z h (To f OfCell) y =
-      let m : suc s.size ≤ MAXRECORD = not_full s.size (counts s.state b) h (cell-counts y) in
-      let l : bytesIn s.cells + length s.raw ≤ s.size = z.held in
+      Transition d s.state b x → SizedTo (scan_step s b bs (λ s'. scan d limit s' bs) x)
+  unfolding scan_step bytes_in
+  step_sized s b bs ih z h (Reject e) y = sized_fails z
+  step_sized s b bs ih z h (To f Outside) y = ih _ (record { held = omega arith; limit = omega arith })
+  step_sized s b bs ih z h (To f Passed) y = ih _ (record { held = omega arith; limit = omega arith })
+  step_sized s b bs ih z h (To f OfCell) y =
+      let m : suc s.size ≤ MAXRECORD = not_full s.size (counts s.state b) h (cell_counts y) in
+      let l : bytes_in s.cells + length s.raw ≤ s.size = z.held in
       let e : length (s.raw ++ (b ∷ [])) ≡ length s.raw + 1 = length-append s.raw (b ∷ []) in
-      let g : bytesIn s.cells + length (s.raw ++ (b ∷ [])) ≤ suc s.size = omega arith in
+      let g : bytes_in s.cells + length (s.raw ++ (b ∷ [])) ≤ suc s.size = omega arith in
       ih _ (record { held = g; limit = m })
-  step-sized s b bs ih z h (To f (Between k)) y =
-      let m : suc s.size ≤ MAXRECORD = not_full s.size (counts s.state b) h (between-counts y) in
-      let l : bytesIn (closingRaw k s) ≤ s.size = closing-size k s z in
-      let g : bytesIn (closingRaw k s) + 0 ≤ suc s.size = omega arith in
+  step_sized s b bs ih z h (To f (Between k)) y =
+      let m : suc s.size ≤ MAXRECORD = not_full s.size (counts s.state b) h (between_counts y) in
+      let l : bytes_in (closing_raw k s) ≤ s.size = closing_size k s z in
+      let g : bytes_in (closing_raw k s) + 0 ≤ suc s.size = omega arith in
       ih _ (record { held = g; limit = m })
-  step-sized s b bs ih z h (To f (Tail k)) y =
-      let l : bytesIn (closingRaw k s) ≤ s.size = closing-size k s z in
-      let g : bytesIn (closingRaw k s) + 0 ≤ s.size = omega arith in
+  step_sized s b bs ih z h (To f (Tail k)) y =
+      let l : bytes_in (closing_raw k s) ≤ s.size = closing_size k s z in
+      let g : bytes_in (closing_raw k s) + 0 ≤ s.size = omega arith in
       ih _ (record { held = g; limit = z.limit })
-  step-sized s b bs ih z h (To f (Ends k)) y = sized-completes z (closing-size k s z)
+  step_sized s b bs ih z h (To f (Ends k)) y = sized_completes z (closing_size k s z)
 
   sizes : (bs : Bytes) → Fits bs
   unfolding scan
-  sizes [] s z = sized-pends z
+  sizes [] s z = sized_pends z
   sizes (b ∷ bs) s z =
-      split SizedTo _ (λ _. sized-fails z) λ _. split SizedTo _ (λ _. sized-fails z) λ h.
-      step-sized s b bs (sizes bs) z h (fileStep d s.state b) (step-transition d s.state b)
+      split SizedTo _ (λ _. sized_fails z) λ _. split SizedTo _ (λ _. sized_fails z) λ h.
+      step_sized s b bs (sizes bs) z h (file_step d s.state b) (step_transition d s.state b)
 
-pub scan-size : ScanSize
-scan-size d limit s bs z = sizes d limit bs s z
+pub scan_size : ScanSize
+scan_size d limit s bs z = sizes d limit bs s z

@@ -11,15 +11,15 @@ use borrow.Author.Tests.{leb-true, leb-false, le-leb, lt-leb, ne_eqb, le-ltb}
 use Rattle.model.specs.rules.Types.{Csvj, Dialect, Inner, Char, Whole, Within, Advance, On, HexLeft, Four, Three, Two, One, Text, Cell, Fresh}
 use Rattle.model.specs.rules.Types.{Quoted, Escape, Hex, Complete, More, WholeCell}
 use Rattle.model.specs.rules.Base.{Bytes, QUOTE, ◌is◌, if◌then◌else◌}
-use Rattle.model.specs.rules.Utf8.{charStep, isSurrogate, Wide, gap, ed, lone, inner, wideStep, wideFrom, isContent}
-use Rattle.model.specs.rules.Cell.{firstByte, quotedByte, cellStep, is_whole}
-use Rattle.model.specs.rules.Decode.{validateCell, contentOf}
-use Rattle.model.specs.rules.Text.{escaped, hexDigit, surrogate, jsonBody, jsonCell}
+use Rattle.model.specs.rules.Utf8.{char_step, is_surrogate, Wide, gap, ed, lone, inner, wide_step, wide_from, is_content}
+use Rattle.model.specs.rules.Cell.{first_byte, quoted_byte, cell_step, is_whole}
+use Rattle.model.specs.rules.Decode.{validate_cell, content_of}
+use Rattle.model.specs.rules.Text.{escaped, hex_digit, surrogate, json_body, json_cell}
 use Rattle.model.proofs.Tests.{split, impossible, is→eq}
-use Rattle.model.proofs.cell_laws.Utf8.{ascii-whole, inner-high}
-use Rattle.model.proofs.cell_laws.CellRuns.{Runs, here, there, runs-sound}
-use Rattle.model.proofs.round_trip.TextBack.{charOf, Apart, pair, Steps, steps, step-apart}
-use Rattle.model.proofs.round_trip.JsonBack.{json-back, found, Lone, high, low, inner-ed}
+use Rattle.model.proofs.cell_laws.Utf8.{ascii_whole, inner_high}
+use Rattle.model.proofs.cell_laws.CellRuns.{Runs, here, there, runs_sound}
+use Rattle.model.proofs.round_trip.TextBack.{char_of, Apart, pair, Steps, steps, step_apart}
+use Rattle.model.proofs.round_trip.JsonBack.{json_back, found, Lone, high, low, inner_ed}
 
 pub runs_append : {d : Dialect} {c c' c'' : Cell} {xs ys : Bytes} → Runs d c xs c' → Runs d c' ys c'' → Runs d c (xs ++ ys) c''
 runs_append here r = r
@@ -28,11 +28,11 @@ runs_append (there e q) r = there e (runs_append q r)
 -- ---- a byte, escaped or not
 
 -- a hexadecimal digit
-hex-step : (m : HexLeft) (n : ℕ) → n < 16 → cellStep Csvj (Hex m) (hexDigit n) ≡ cellStep Csvj (Hex m) 0x30
-unfolding cellStep if◌then◌else◌
-hex-step m n h = go (leb n 9) refl
+hex_step : (m : HexLeft) (n : ℕ) → n < 16 → cell_step Csvj (Hex m) (hex_digit n) ≡ cell_step Csvj (Hex m) 0x30
+unfolding cell_step if◌then◌else◌
+hex_step m n h = go (leb n 9) refl
   where
-    go : (t : Bool) → leb n 9 ≡ t → cellStep Csvj (Hex m) (hexDigit n) ≡ cellStep Csvj (Hex m) 0x30
+    go : (t : Bool) → leb n 9 ≡ t → cell_step Csvj (Hex m) (hex_digit n) ≡ cell_step Csvj (Hex m) 0x30
     go true e = let k : n ≤ 9 = leb-true n 9 e in rw (e, le-leb 0x30 (0x30 + n) (omega arith), le-leb (0x30 + n) 0x39 (omega arith))
     go false e =
         let k : 9 < n = leb-false n 9 e in
@@ -49,71 +49,71 @@ hex-step m n h = go (leb n 9) refl
 -- \u and four digits
 coded :
     (a b c d : ℕ) → a < 16 → b < 16 → c < 16 → d < 16 →
-    Runs Csvj (Quoted Whole) (0x5C ∷ 0x75 ∷ hexDigit a ∷ hexDigit b ∷ hexDigit c ∷ hexDigit d ∷ []) (Quoted Whole)
-unfolding cellStep quotedByte if◌then◌else◌
+    Runs Csvj (Quoted Whole) (0x5C ∷ 0x75 ∷ hex_digit a ∷ hex_digit b ∷ hex_digit c ∷ hex_digit d ∷ []) (Quoted Whole)
+unfolding cell_step quoted_byte if◌then◌else◌
 coded a b c d i j k l =
     there {c' = Escape} refl
     (there {c' = Hex Four} refl
-    (there {c' = Hex Three} (hex-step Four a i)
-    (there {c' = Hex Two} (hex-step Three b j)
-    (there {c' = Hex One} (hex-step Two c k) (there {c' = Quoted Whole} (hex-step One d l) here)))))
+    (there {c' = Hex Three} (hex_step Four a i)
+    (there {c' = Hex Two} (hex_step Three b j)
+    (there {c' = Hex One} (hex_step Two c k) (there {c' = Quoted Whole} (hex_step One d l) here)))))
 
 -- a backslash and a letter
-short : (b : ℕ) → cellStep Csvj Escape b ≡ More (Quoted Whole) → Runs Csvj (Quoted Whole) (0x5C ∷ b ∷ []) (Quoted Whole)
-unfolding cellStep quotedByte if◌then◌else◌
+short : (b : ℕ) → cell_step Csvj Escape b ≡ More (Quoted Whole) → Runs Csvj (Quoted Whole) (0x5C ∷ b ∷ []) (Quoted Whole)
+unfolding cell_step quoted_byte if◌then◌else◌
 short b e = there {c' = Escape} refl (there {c' = Quoted Whole} e here)
 
 -- a byte written as it is
-raw-byte :
-    (a : ℕ) (c : Char) → (a is QUOTE) ≡ false → (a is 0x5C) ≡ false → leb 0x20 a ≡ true → charStep Whole a ≡ On c →
+raw_byte :
+    (a : ℕ) (c : Char) → (a is QUOTE) ≡ false → (a is 0x5C) ≡ false → leb 0x20 a ≡ true → char_step Whole a ≡ On c →
     Runs Csvj (Quoted Whole) (a ∷ []) (Quoted c)
-unfolding cellStep quotedByte if◌then◌else◌
-raw-byte a c q s l e =
+unfolding cell_step quoted_byte if◌then◌else◌
+raw_byte a c q s l e =
     let k : 0x20 ≤ a = leb-true 0x20 a l in
-    let x : cellStep Csvj (Quoted Whole) a ≡ More (Quoted c) = rw (q, s, le-ltb a 0x20 k, e) in there x here
+    let x : cell_step Csvj (Quoted Whole) a ≡ More (Quoted c) = rw (q, s, le-ltb a 0x20 k, e) in there x here
 
-same-char : {x y : Char} {o : Advance} → o ≡ On x → o ≡ On y → x ≡ y
-same-char p q = cc
+same_char : {x y : Char} {o : Advance} → o ≡ On x → o ≡ On y → x ≡ y
+same_char p q = cc
 
-escaped-runs : (a : ℕ) (c : Char) → charStep Whole a ≡ On c → Runs Csvj (Quoted Whole) (escaped a) (Quoted c)
-escaped-runs a c e =
+escaped_runs : (a : ℕ) (c : Char) → char_step Whole a ≡ On c → Runs Csvj (Quoted Whole) (escaped a) (Quoted c)
+escaped_runs a c e =
     let P : Bytes → Type 0 = λ l. Runs Csvj (Quoted Whole) l (Quoted c) in
-    split P _ (λ k. let p : Whole ≡ c = ascii 0x22 (is→eq a _ k) (omega arith) in rw (← p) (short 0x22 (unfold cellStep if◌then◌else◌ in refl))) λ q.
-    split P _ (λ k. let p : Whole ≡ c = ascii 0x5C (is→eq a _ k) (omega arith) in rw (← p) (short 0x5C (unfold cellStep if◌then◌else◌ in refl))) λ s.
-    split P _ (λ k. raw-byte a c q s k e) λ l.
+    split P _ (λ k. let p : Whole ≡ c = ascii 0x22 (is→eq a _ k) (omega arith) in rw (← p) (short 0x22 (unfold cell_step if◌then◌else◌ in refl))) λ q.
+    split P _ (λ k. let p : Whole ≡ c = ascii 0x5C (is→eq a _ k) (omega arith) in rw (← p) (short 0x5C (unfold cell_step if◌then◌else◌ in refl))) λ s.
+    split P _ (λ k. raw_byte a c q s k e) λ l.
     let m : a < 0x20 = leb-false 0x20 a l in
-    let p : Whole ≡ c = same-char (ascii-whole a (omega arith)) e in
+    let p : Whole ≡ c = same_char (ascii_whole a (omega arith)) e in
     rw (← p)
     (let Q : Bytes → Type 0 = λ l. Runs Csvj (Quoted Whole) l (Quoted Whole) in
-    split Q _ (λ _. short 0x62 (unfold cellStep if◌then◌else◌ in refl)) λ _.
-    split Q _ (λ _. short 0x74 (unfold cellStep if◌then◌else◌ in refl)) λ _.
-    split Q _ (λ _. short 0x6E (unfold cellStep if◌then◌else◌ in refl)) λ _.
-    split Q _ (λ _. short 0x66 (unfold cellStep if◌then◌else◌ in refl)) λ _.
-    split Q _ (λ _. short 0x72 (unfold cellStep if◌then◌else◌ in refl)) λ _.
+    split Q _ (λ _. short 0x62 (unfold cell_step if◌then◌else◌ in refl)) λ _.
+    split Q _ (λ _. short 0x74 (unfold cell_step if◌then◌else◌ in refl)) λ _.
+    split Q _ (λ _. short 0x6E (unfold cell_step if◌then◌else◌ in refl)) λ _.
+    split Q _ (λ _. short 0x66 (unfold cell_step if◌then◌else◌ in refl)) λ _.
+    split Q _ (λ _. short 0x72 (unfold cell_step if◌then◌else◌ in refl)) λ _.
     unfold if◌then◌else◌ in coded 0 0 (a / 0x10) (a % 0x10) (omega arith) (omega arith) (omega arith) (omega arith))
   where
     ascii : (x : ℕ) → a ≡ x → x < 0x80 → Whole ≡ c
-    ascii x p h = same-char (ascii-whole a (omega arith)) e
+    ascii x p h = same_char (ascii_whole a (omega arith)) e
 
-raw-escaped : (a : ℕ) → 0x80 ≤ a → escaped a ≡ a ∷ []
+raw_escaped : (a : ℕ) → 0x80 ≤ a → escaped a ≡ a ∷ []
 unfolding if◌then◌else◌
-raw-escaped a h = rw (ne_eqb a QUOTE (omega arith), ne_eqb a 0x5C (omega arith), le-leb 0x20 a (omega arith))
+raw_escaped a h = rw (ne_eqb a QUOTE (omega arith), ne_eqb a 0x5C (omega arith), le-leb 0x20 a (omega arith))
 
-later-runs : (i : Inner) (a : ℕ) (c : Char) → charStep (Within i) a ≡ On c → Runs Csvj (Quoted (Within i)) (escaped a) (Quoted c)
-unfolding cellStep
-later-runs i a c e =
-    let x : cellStep Csvj (Quoted (Within i)) a ≡ More (Quoted c) = rw e in
-    rw (raw-escaped a (inner-high i a c e)) (there x here)
+later_runs : (i : Inner) (a : ℕ) (c : Char) → char_step (Within i) a ≡ On c → Runs Csvj (Quoted (Within i)) (escaped a) (Quoted c)
+unfolding cell_step
+later_runs i a c e =
+    let x : cell_step Csvj (Quoted (Within i)) a ≡ More (Quoted c) = rw e in
+    rw (raw_escaped a (inner_high i a c e)) (there x here)
 
-byte-runs : (x : Char) (a : ℕ) (c : Char) → charStep x a ≡ On c → Runs Csvj (Quoted x) (escaped a) (Quoted c)
-byte-runs Whole a c e = escaped-runs a c e
-byte-runs (Within i) a c e = later-runs i a c e
+byte_runs : (x : Char) (a : ℕ) (c : Char) → char_step x a ≡ On c → Runs Csvj (Quoted x) (escaped a) (Quoted c)
+byte_runs Whole a c e = escaped_runs a c e
+byte_runs (Within i) a c e = later_runs i a c e
 
 -- ---- a lone surrogate
 
-surrogate-runs : (b c : ℕ) → 0xA0 ≤ b → b ≤ 0xBF → 0x80 ≤ c → c ≤ 0xBF → Runs Csvj (Quoted Whole) (surrogate b c) (Quoted Whole)
+surrogate_runs : (b c : ℕ) → 0xA0 ≤ b → b ≤ 0xBF → 0x80 ≤ c → c ≤ 0xBF → Runs Csvj (Quoted Whole) (surrogate b c) (Quoted Whole)
 unfolding if◌then◌else◌
-surrogate-runs b c p q r t =
+surrogate_runs b c p q r t =
     coded 0xD ((b - 0x80) % 0x40 / 4) ((b - 0x80) % 0x40 % 4 * 4 + (c - 0x80) / 0x10) (c % 0x10) (omega arith) (omega arith) (omega arith) (omega arith)
 
 -- ---- a content
@@ -121,12 +121,12 @@ surrogate-runs b c p q r t =
 abbrev close : Bytes
 close = QUOTE ∷ []
 
-close-runs : Runs Csvj (Quoted Whole) close Complete
-unfolding cellStep quotedByte if◌then◌else◌
-close-runs = there refl here
+close_runs : Runs Csvj (Quoted Whole) close Complete
+unfolding cell_step quoted_byte if◌then◌else◌
+close_runs = there refl here
 
-end_whole : (w : Wide) → wideFrom w [] ≡ true → charOf w ≡ Whole
-unfolding wideFrom charOf
+end_whole : (w : Wide) → wide_from w [] ≡ true → char_of w ≡ Whole
+unfolding wide_from char_of
 end_whole (gap h) e = refl
 end_whole (ed h) e = impossible e
 end_whole (lone h) e = impossible e
@@ -134,70 +134,70 @@ end_whole (inner i) e = impossible e
 
 -- the rest of a content is written so that it runs to the closing quote
 abbrev Writes : Bytes → Type 0
-Writes bs = (w : Wide) → wideFrom w bs ≡ true → Apart w bs → Runs Csvj (Quoted (charOf w)) (jsonBody bs ++ close) Complete
+Writes bs = (w : Wide) → wide_from w bs ≡ true → Apart w bs → Runs Csvj (Quoted (char_of w)) (json_body bs ++ close) Complete
 
-nil-writes : Writes []
-unfolding jsonBody
-nil-writes w e a = rw (end_whole w e) close-runs
+nil_writes : Writes []
+unfolding json_body
+nil_writes w e a = rw (end_whole w e) close_runs
 
 -- one byte that begins no surrogate
-byte-writes :
+byte_writes :
     (w : Wide) (a : ℕ) (bs : Bytes) → Steps w a bs → pair a bs ≡ false → Writes bs →
-    Runs Csvj (Quoted (charOf w)) (escaped a ++ (jsonBody bs ++ close)) Complete
-byte-writes w a bs (steps w' e h k) n ih = runs_append (byte-runs (charOf w) a (charOf w') e) (ih w' h (k n))
+    Runs Csvj (Quoted (char_of w)) (escaped a ++ (json_body bs ++ close)) Complete
+byte_writes w a bs (steps w' e h k) n ih = runs_append (byte_runs (char_of w) a (char_of w') e) (ih w' h (k n))
 
-ed-end : {A : Type 0} (h : Bool) (y : ℕ) → 0xA0 ≤ y → wideFrom (ed h) (y ∷ []) ≡ true → A
-unfolding wideFrom wideStep if◌then◌else◌
-ed-end h y k e = go (leb y 0xAF) (leb y 0xBF) h refl refl (rw (le-leb 0x80 y (omega arith), lt-leb y 0x9F (omega arith), le-leb 0xA0 y k, wideFrom) at e)
+ed_end : {A : Type 0} (h : Bool) (y : ℕ) → 0xA0 ≤ y → wide_from (ed h) (y ∷ []) ≡ true → A
+unfolding wide_from wide_step if◌then◌else◌
+ed_end h y k e = go (leb y 0xAF) (leb y 0xBF) h refl refl (rw (le-leb 0x80 y (omega arith), lt-leb y 0x9F (omega arith), le-leb 0xA0 y k, wide_from) at e)
   where
     B : Bool → Bool → Bool → Option Wide
     B s t h = if s then some (lone true) else (if (leb 0xB0 y && t) then (if h then none else some (lone false)) else none)
 
     go :
         {A : Type 0} (s t h : Bool) → leb y 0xAF ≡ s → leb y 0xBF ≡ t →
-        (elim (B (leb y 0xAF) (leb y 0xBF) h) as (λ _. Bool) [ none ↦ false | some w' ↦ wideFrom w' [] ]) ≡ true → A
+        (elim (B (leb y 0xAF) (leb y 0xBF) h) as (λ _. Bool) [ none ↦ false | some w' ↦ wide_from w' [] ]) ≡ true → A
     go true t h p q x = impossible (rw p at x)
     go false true true p q x = let m : 0xAF < y = leb-false y 0xAF p in impossible (rw (p, le-leb 0xB0 y (omega arith), q) at x)
     go false true false p q x = let m : 0xAF < y = leb-false y 0xAF p in impossible (rw (p, le-leb 0xB0 y (omega arith), q) at x)
     go false false h p q x = let m : 0xAF < y = leb-false y 0xAF p in impossible (rw (p, le-leb 0xB0 y (omega arith), q) at x)
 
-ed-last : {A : Type 0} (w : Wide) (y : ℕ) → 0xA0 ≤ y → wideFrom w (0xED ∷ y ∷ []) ≡ true → A
-unfolding wideFrom wideStep if◌then◌else◌
-ed-last (gap h) y k e = ed-end h y k e
-ed-last (ed h) y k e = impossible e
-ed-last (lone h) y k e = impossible e
-ed-last (inner i) y k e = impossible (rw (inner-ed i, wideFrom) at e)
+ed_last : {A : Type 0} (w : Wide) (y : ℕ) → 0xA0 ≤ y → wide_from w (0xED ∷ y ∷ []) ≡ true → A
+unfolding wide_from wide_step if◌then◌else◌
+ed_last (gap h) y k e = ed_end h y k e
+ed_last (ed h) y k e = impossible e
+ed_last (lone h) y k e = impossible e
+ed_last (inner i) y k e = impossible (rw (inner_ed i, wide_from) at e)
 
-no-pair : (w : Wide) (x y : ℕ) → wideFrom w (x ∷ y ∷ []) ≡ true → (isSurrogate x y) ≡ false
-no-pair w x y e = go (x is 0xED) (leb 0xA0 y) refl refl
+no_pair : (w : Wide) (x y : ℕ) → wide_from w (x ∷ y ∷ []) ≡ true → (is_surrogate x y) ≡ false
+no_pair w x y e = go (x is 0xED) (leb 0xA0 y) refl refl
   where
     go : (s t : Bool) → (x is 0xED) ≡ s → leb 0xA0 y ≡ t → (s && t) ≡ false
     go false t p q = refl
     go true false p q = refl
-    go true true p q = ed-last w y (leb-true 0xA0 y q) (rw (is→eq x 0xED p) at e)
+    go true true p q = ed_last w y (leb-true 0xA0 y q) (rw (is→eq x 0xED p) at e)
 
 abbrev Surrogated : Wide → ℕ → ℕ → Bytes → Type 0
-Surrogated w y z bs = Runs Csvj (Quoted (charOf w)) (surrogate y z ++ (jsonBody bs ++ close)) Complete
+Surrogated w y z bs = Runs Csvj (Quoted (char_of w)) (surrogate y z ++ (json_body bs ++ close)) Complete
 
-pair-writes : (h : Bool) (y z : ℕ) (bs : Bytes) → Lone h y z bs → Writes bs → Surrogated (gap h) y z bs
-unfolding charOf
-pair-writes h y z bs (high p q r t k) ih = runs_append (surrogate-runs y z p (omega arith) r t) (ih (gap true) k tt)
-pair-writes h y z bs (low f p q r t k) ih = runs_append (surrogate-runs y z (omega arith) q r t) (ih (gap false) k tt)
+pair_writes : (h : Bool) (y z : ℕ) (bs : Bytes) → Lone h y z bs → Writes bs → Surrogated (gap h) y z bs
+unfolding char_of
+pair_writes h y z bs (high p q r t k) ih = runs_append (surrogate_runs y z p (omega arith) r t) (ih (gap true) k tt)
+pair_writes h y z bs (low f p q r t k) ih = runs_append (surrogate_runs y z (omega arith) q r t) (ih (gap false) k tt)
 
-body-writes : (bs : Bytes) → Writes bs
-unfolding jsonBody
-body-writes [] w e a = nil-writes w e a
-body-writes (x ∷ []) w e a = byte-writes w x [] (step-apart w x [] e a) refl nil-writes
-body-writes (x ∷ y ∷ []) w e a = rw append_assoc (byte-writes w x (y ∷ []) (step-apart w x (y ∷ []) e a) (no-pair w x y e) (body-writes (y ∷ [])))
-body-writes (x ∷ y ∷ z ∷ bs) w e a =
-    split (λ l. Runs Csvj (Quoted (charOf w)) (l ++ close) Complete) (isSurrogate x y)
-    (λ t. let r = found w x y z bs t e in rw append_assoc (rw r.1.1 (pair-writes r.1.0 y z bs r.1.2 (body-writes bs))))
-    (λ t. rw append_assoc (byte-writes w x (y ∷ z ∷ bs) (step-apart w x (y ∷ z ∷ bs) e a) t (body-writes (y ∷ z ∷ bs))))
+body_writes : (bs : Bytes) → Writes bs
+unfolding json_body
+body_writes [] w e a = nil_writes w e a
+body_writes (x ∷ []) w e a = byte_writes w x [] (step_apart w x [] e a) refl nil_writes
+body_writes (x ∷ y ∷ []) w e a = rw append_assoc (byte_writes w x (y ∷ []) (step_apart w x (y ∷ []) e a) (no_pair w x y e) (body_writes (y ∷ [])))
+body_writes (x ∷ y ∷ z ∷ bs) w e a =
+    split (λ l. Runs Csvj (Quoted (char_of w)) (l ++ close) Complete) (is_surrogate x y)
+    (λ t. let r = found w x y z bs t e in rw append_assoc (rw r.1.1 (pair_writes r.1.0 y z bs r.1.2 (body_writes bs))))
+    (λ t. rw append_assoc (byte_writes w x (y ∷ z ∷ bs) (step_apart w x (y ∷ z ∷ bs) e a) t (body_writes (y ∷ z ∷ bs))))
 
-pub json-sound : (bs : Bytes) → isContent bs ≡ true → validateCell Csvj (jsonCell Text bs) ≡ WholeCell
-unfolding validateCell jsonCell isContent charOf cellStep firstByte is_whole if◌then◌else◌
-json-sound bs e = let x : cellStep Csvj Fresh QUOTE ≡ More (Quoted Whole) = refl in runs-sound 0 (there x (body-writes bs (gap false) e tt)) refl
+pub json_sound : (bs : Bytes) → is_content bs ≡ true → validate_cell Csvj (json_cell Text bs) ≡ WholeCell
+unfolding validate_cell json_cell is_content char_of cell_step first_byte is_whole if◌then◌else◌
+json_sound bs e = let x : cell_step Csvj Fresh QUOTE ≡ More (Quoted Whole) = refl in runs_sound 0 (there x (body_writes bs (gap false) e tt)) refl
 
-pub json-content : (bs : Bytes) → isContent bs ≡ true → contentOf Csvj (jsonCell Text bs) ≡ bs
-unfolding jsonCell isContent contentOf if◌then◌else◌
-json-content bs e = json-back (gap false) bs e
+pub json_content : (bs : Bytes) → is_content bs ≡ true → content_of Csvj (json_cell Text bs) ≡ bs
+unfolding json_cell is_content content_of if◌then◌else◌
+json_content bs e = json_back (gap false) bs e

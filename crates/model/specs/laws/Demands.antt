@@ -3,30 +3,30 @@ use Rattle.std.specs.Prelude.{ℕ, ◌≤◌, ◌≡◌, true, false, List, [], 
 use Rattle.std.proofs.Math.Option.{none, some}
 use Rattle.model.specs.rules.Types.{Report, Dialect, Target}
 use Rattle.model.specs.rules.Base.{if◌then◌else◌, Bytes, concat}
-use Rattle.model.specs.rules.Dialect.{dialectOf, into}
-use Rattle.model.specs.rules.Text.{tableText}
+use Rattle.model.specs.rules.Dialect.{dialect_of, into}
+use Rattle.model.specs.rules.Text.{table_text}
 use Rattle.model.specs.rules.Report.{accepted, MAXFILE, MAXPIECE, LEASTOUTPUT}
-use Rattle.model.specs.rules.Records.{rows, Progress, readBytes, readFile, recordsOf}
+use Rattle.model.specs.rules.Records.{rows, Progress, read_bytes, read_file, records_of}
 use Rattle.model.specs.rules.Api.{converter, Written}
-use Rattle.model.specs.rules.Ledger.{Call, piece, finish, Entry, roomOf, faultIn, consumedIn, closed_in, writtenIn, answerNow, checked, history, ledger}
+use Rattle.model.specs.rules.Ledger.{Call, piece, finish, Entry, room_of, fault_in, consumed_in, closed_in, written_in, answer_now, checked, history, ledger}
 use Rattle.model.specs.laws.Laws.{All}
 use Rattle.model.specs.laws.RoundTrips.{RoundTrip}
 
 -- ---- demand 3: the ledger
 
 -- what these calls have shown of the file (§16.5 §16.6)
-abbrev pub seenIn : Dialect → Target → List Entry → Progress
-seenIn d t past = if closed_in past then readFile d (some t) (consumedIn past) else readBytes d (some t) (consumedIn past)
+abbrev pub seen_in : Dialect → Target → List Entry → Progress
+seen_in d t past = if closed_in past then read_file d (some t) (consumed_in past) else read_bytes d (some t) (consumed_in past)
 
 -- the outputs of any list of calls, joined, are the canonical text of the records completed in the bytes consumed (§19.4)
 abbrev pub JoinedOutputs : Type 0
 JoinedOutputs =
-    (m n : ℕ) (d t : Dialect) (cs : List Call) → dialectOf m ≡ some d → dialectOf n ≡ some t →
-    writtenIn (history m n cs) ≡ tableText (into t) (rows (recordsOf (seenIn d (into t) (history m n cs))))
+    (m n : ℕ) (d t : Dialect) (cs : List Call) → dialect_of m ≡ some d → dialect_of n ≡ some t →
+    written_in (history m n cs) ≡ table_text (into t) (rows (records_of (seen_in d (into t) (history m n cs))))
 
 -- no call writes more than its room: the output that the rules require is enough (§15.11)
 abbrev pub OutputFits : Type 0
-OutputFits = (m n : ℕ) (cs : List Call) → All (λ (x : Entry). length x.answer.text ≤ roomOf x.call) (history m n cs)
+OutputFits = (m n : ℕ) (cs : List Call) → All (λ (x : Entry). length x.answer.text ≤ room_of x.call) (history m n cs)
 
 -- ---- whole and pieces
 
@@ -35,15 +35,15 @@ abbrev pub pieces : List Bytes → List Call
 pieces ps = map (λ (p : Bytes). piece p LEASTOUTPUT) ps
 
 -- the answer to the end call after them (§16.6)
-abbrev pub atEnd : (source target : ℕ) → List Bytes → Written
-atEnd m n ps = answerNow m n (history m n (pieces ps)) (finish LEASTOUTPUT)
+abbrev pub at_end : (source target : ℕ) → List Bytes → Written
+at_end m n ps = answer_now m n (history m n (pieces ps)) (finish LEASTOUTPUT)
 
 -- the end call reports what the whole converter does, and all that was written is its text where it accepts (§16.6 §19.4)
 pub record SameAsWhole (m n : ℕ) (ps : List Bytes) : Type 0 where
-  pub report : (atEnd m n ps).report ≡ (converter m n (concat ps) MAXFILE).report
+  pub report : (at_end m n ps).report ≡ (converter m n (concat ps) MAXFILE).report
   pub text :
       (converter m n (concat ps) MAXFILE).report ≡ accepted →
-      writtenIn (history m n (pieces ps)) ++ (atEnd m n ps).text ≡ (converter m n (concat ps) MAXFILE).text
+      written_in (history m n (pieces ps)) ++ (at_end m n ps).text ≡ (converter m n (concat ps) MAXFILE).text
 
 -- a file in pieces, however it is cut, is converted as it is whole (§16.6 §19.4)
 abbrev pub WholeAndPieces : Type 0
@@ -53,14 +53,14 @@ WholeAndPieces = (m n : ℕ) (ps : List Bytes) → All (λ (p : Bytes). length p
 abbrev pub EndIsWhole : Type 0
 EndIsWhole =
     (m n : ℕ) (cs : List Call) (room : ℕ) → checked m n (history m n cs) (finish room) ≡ false →
-    (answerNow m n (history m n cs) (finish room)).report ≡ (converter m n (consumedIn (history m n cs)) MAXFILE).report
+    (answer_now m n (history m n cs) (finish room)).report ≡ (converter m n (consumed_in (history m n cs)) MAXFILE).report
 
 -- a fault found by a piece call is the fault of every file that begins with the bytes consumed (§16.5 §16.7)
 abbrev pub FaultOfEveryFile : Type 0
 FaultOfEveryFile =
-    (m n : ℕ) (cs : List Call) (bs rest : Bytes) (room : ℕ) (e : Report) → faultIn (history m n cs) ≡ none →
-    faultIn (history m n (cs ++ (piece bs room ∷ []))) ≡ some e →
-    (converter m n (consumedIn (history m n (cs ++ (piece bs room ∷ []))) ++ rest) MAXFILE).report ≡ e
+    (m n : ℕ) (cs : List Call) (bs rest : Bytes) (room : ℕ) (e : Report) → fault_in (history m n cs) ≡ none →
+    fault_in (history m n (cs ++ (piece bs room ∷ []))) ≡ some e →
+    (converter m n (consumed_in (history m n (cs ++ (piece bs room ∷ []))) ++ rest) MAXFILE).report ≡ e
 
 -- ---- demand 3: code
 
@@ -68,7 +68,7 @@ FaultOfEveryFile =
 abbrev pub Answers : {S : Type 0} → (ℕ → ℕ → List Entry → S → Type 0) → S → Call → Written → S → Type 0
 Answers Carries s c a next =
     (m n : ℕ) (past : List Entry) → Carries m n past s →
-    (a ≡ answerNow m n past c) × Carries m n (past ++ (record { call = c; answer = a } ∷ [])) next
+    (a ≡ answer_now m n past c) × Carries m n (past ++ (record { call = c; answer = a } ∷ [])) next
     × (checked m n past c ≡ true → next ≡ s)
 
 -- any list of calls on a fresh state (§15.1 §16.1)
@@ -88,9 +88,9 @@ PreservesLedger {S} Carries =
 -- §19.4)
 pub record ModelDemands : Type 1 where
   pub round_trip : RoundTrip
-  pub joined-outputs : JoinedOutputs
+  pub joined_outputs_lem : JoinedOutputs
   pub fits : OutputFits
-  pub whole-and-pieces : WholeAndPieces
-  pub end-is-whole : EndIsWhole
-  pub fault-of-every-file : FaultOfEveryFile
-  pub every-list-of-calls : {S : Type 0} (Carries : ℕ → ℕ → List Entry → S → Type 0) → PreservesLedger Carries
+  pub whole_and_pieces : WholeAndPieces
+  pub end_is_whole : EndIsWhole
+  pub fault_of_every_file : FaultOfEveryFile
+  pub every_list_of_calls : {S : Type 0} (Carries : ℕ → ℕ → List Entry → S → Type 0) → PreservesLedger Carries

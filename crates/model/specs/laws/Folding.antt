@@ -2,8 +2,8 @@
 -- points has to be. They are proved in proofs/AllFolding.antt.
 use Rattle.std.specs.Prelude.{ℕ, suc, ◌+◌, ◌<◌, ◌≤◌, ◌≡◌, Bool, true, ◌&&◌, List, [], ◌∷◌, map, length, get_or, T}
 use Rattle.model.specs.rules.Base.{if◌then◌else◌, ◌is◌, Bytes}
-use Rattle.model.specs.rules.Utf8.{pack, packed, isContent}
-use Rattle.model.specs.rules.Names.{foldPoint, isPair, pairPoint, foldByte, foldName}
+use Rattle.model.specs.rules.Utf8.{pack, packed, is_content}
+use Rattle.model.specs.rules.Names.{fold_point, is_pair, pair_point, fold_byte, fold_name}
 use Rattle.model.specs.laws.Laws.{All}
 
 -- numbers that a code point can have, a surrogate's too (§2.6 §2.10)
@@ -25,55 +25,55 @@ abbrev pub second_of : ℕ → ℕ
 second_of u = get_or (pack u) 1 0
 
 -- a byte of a folded name, by the byte and its neighbours in the name (§4.10)
-unfoldable pub foldAt : (before here after : ℕ) → ℕ
-foldAt a b c =
-    if isPair a b then second_of (foldPoint (pairPoint a b))
-    else if isPair b c then first_of (foldPoint (pairPoint b c))
-    else foldByte b
+unfoldable pub fold_at : (before here after : ℕ) → ℕ
+fold_at a b c =
+    if is_pair a b then second_of (fold_point (pair_point a b))
+    else if is_pair b c then first_of (fold_point (pair_point b c))
+    else fold_byte b
 
 -- the byte before a place, and none before the first (§4.10)
-abbrev pub byteBefore : Bytes → ℕ → ℕ
-byteBefore bs i = get_or (0 ∷ bs) i 0
+abbrev pub byte_before : Bytes → ℕ → ℕ
+byte_before bs i = get_or (0 ∷ bs) i 0
 
 -- ---- the table
 
 -- what the entry of a table says of a code point, and that folding it again changes nothing (§4.10)
-abbrev pub isFold : (point entry : ℕ) → Bool
-isFold u x = x is foldPoint u && foldPoint x is x
+abbrev pub is_fold : (point entry : ℕ) → Bool
+is_fold u x = x is fold_point u && fold_point x is x
 
 -- the entries of a table from code point u on are all right: a test that computes, once for the whole table (§4.10)
-abbrev pub foldsFrom : ℕ → List ℕ → Bool
-foldsFrom u [] = true
-foldsFrom u (x ∷ xs) = isFold u x && foldsFrom (suc u) xs
+abbrev pub folds_from : ℕ → List ℕ → Bool
+folds_from u [] = true
+folds_from u (x ∷ xs) = is_fold u x && folds_from (suc u) xs
 
 -- a table of the code points up to U+04FF that follows the rule throughout (§4.10)
 pub record FoldTable (table : List ℕ) : Type 0 where
   pub entries : length table ≡ 1280
-  pub follows : (u : ℕ) → u < 1280 → get_or table u 0 ≡ foldPoint u
-  pub settles : (u : ℕ) → u < 1280 → foldPoint (get_or table u 0) ≡ get_or table u 0
+  pub follows : (u : ℕ) → u < 1280 → get_or table u 0 ≡ fold_point u
+  pub settles : (u : ℕ) → u < 1280 → fold_point (get_or table u 0) ≡ get_or table u 0
 
 -- ---- laws
 
 -- a name is folded one code point at a time, and what that comes to for each of its bytes (§4.10)
 pub record FoldLaws : Type 0 where
   -- what names are made of: code points, and nothing else
-  pub content-points : (bs : Bytes) → isContent bs ≡ true → PointsOf bs
+  pub content_points : (bs : Bytes) → is_content bs ≡ true → PointsOf bs
   -- folding a name is folding each of its code points
-  pub each-point : (us : List ℕ) → foldName (packed us) ≡ packed (map foldPoint us)
+  pub each_point : (us : List ℕ) → fold_name (packed us) ≡ packed (map fold_point us)
   -- no two lists of code points have the same bytes
-  pub packed-apart : (us vs : List ℕ) → packed us ≡ packed vs → us ≡ vs
+  pub packed_apart : (us vs : List ℕ) → packed us ≡ packed vs → us ≡ vs
   -- so two names fold to the same exactly when their code points do
   pub same_name :
       (us vs : List ℕ)
-      → (foldName (packed us) ≡ foldName (packed vs) → map foldPoint us ≡ map foldPoint vs)
-      × (map foldPoint us ≡ map foldPoint vs → foldName (packed us) ≡ foldName (packed vs))
+      → (fold_name (packed us) ≡ fold_name (packed vs) → map fold_point us ≡ map fold_point vs)
+      × (map fold_point us ≡ map fold_point vs → fold_name (packed us) ≡ fold_name (packed vs))
   -- folding twice is folding once
-  pub point-twice : (u : ℕ) → foldPoint (foldPoint u) ≡ foldPoint u
-  pub twice : (bs : Bytes) → foldName (foldName bs) ≡ foldName bs
+  pub point_twice : (u : ℕ) → fold_point (fold_point u) ≡ fold_point u
+  pub twice : (bs : Bytes) → fold_name (fold_name bs) ≡ fold_name bs
   -- a folded name is as long as the name, byte for byte
-  pub fold-length : (bs : Bytes) → length (foldName bs) ≡ length bs
-  pub fold_at : (bs : Bytes) (i : ℕ) → get_or (foldName bs) i 0 ≡ foldAt (byteBefore bs i) (get_or bs i 0) (get_or bs (i + 1) 0)
+  pub fold_length : (bs : Bytes) → length (fold_name bs) ≡ length bs
+  pub fold_at_lem : (bs : Bytes) (i : ℕ) → get_or (fold_name bs) i 0 ≡ fold_at (byte_before bs i) (get_or bs i 0) (get_or bs (i + 1) 0)
   -- past the table every code point stays
-  pub stays-above : (u : ℕ) → 0x500 ≤ u → foldPoint u ≡ u
+  pub stays_above : (u : ℕ) → 0x500 ≤ u → fold_point u ≡ u
   -- a table that passes the test follows the rule throughout
-  pub table : (xs : List ℕ) → length xs ≡ 1280 → T (foldsFrom 0 xs) → FoldTable xs
+  pub table : (xs : List ℕ) → length xs ≡ 1280 → T (folds_from 0 xs) → FoldTable xs

@@ -1,5 +1,5 @@
 -- Reading a part of a file up to the end of the current record, by form and size alone: no record is checked, and a cell is its raw
--- bytes, without kind or content. The laws that relate it to `readFrom` of Records are stated here and proved in proofs/piece_laws:
+-- bytes, without kind or content. The laws that relate it to `read_from` of Records are stated here and proved in proofs/piece_laws:
 -- reading is scanning from record to record, with or without a target (`ScanReads`); places may be counted from anywhere (`Shift`);
 -- and what was read before the part may be prepended afterwards (`View`).
 use Rattle.std.specs.Prelude.{ℕ, suc, ◌+◌, ◌-◌, ◌≤◌, ◌≡◌, Bool, true, false, ◌&&◌, List, [], ◌∷◌, ◌++◌, map, length, leb}
@@ -8,11 +8,11 @@ use Rattle.model.specs.rules.Types.{Dialect, Target, FileState, Top, Begin, Ende
 use Rattle.model.specs.rules.Types.{ExpectCell, Inside, After, Cr, Outside, Passed, OfCell, Between, Tail, Ends, Step, To, Reject, Fault, Byte}
 use Rattle.model.specs.rules.Types.{FileTooLong, RecordTooLong, Sound, Faulty}
 use Rattle.model.specs.rules.Base.{if◌then◌else◌, ◌is◌, Bytes}
-use Rattle.model.specs.rules.File.{fileStep, counts}
-use Rattle.model.specs.rules.Decode.{kind_of, contentOf}
+use Rattle.model.specs.rules.File.{file_step, counts}
+use Rattle.model.specs.rules.Decode.{kind_of, content_of}
 use Rattle.model.specs.rules.Text.{Value}
 use Rattle.model.specs.rules.Report.{MAXFILE, MAXRECORD}
-use Rattle.model.specs.rules.Records.{Rec, Read, Progress, going, stopped, complete, readFrom, recordFault}
+use Rattle.model.specs.rules.Records.{Rec, Read, Progress, going, stopped, complete, read_from, record_fault}
 use Rattle.model.specs.laws.Laws.{Bounded}
 
 -- a cell of the file: its span and its raw bytes (§10.3)
@@ -39,21 +39,21 @@ pub data ScanResult : Type 0 where
   completes : Scan → List RawCell → FileState → (next : ℕ) → (left : Bytes) → ScanResult
 
 -- the record's cells, with the current one where it closes (§10.3)
-abbrev pub closingRaw : (closes : Bool) → Scan → List RawCell
-closingRaw true s = s.cells ++ (record { from = s.opened; upto = s.offset; bytes = s.raw } ∷ [])
-closingRaw false s = s.cells
+abbrev pub closing_raw : (closes : Bool) → Scan → List RawCell
+closing_raw true s = s.cells ++ (record { from = s.opened; upto = s.offset; bytes = s.raw } ∷ [])
+closing_raw false s = s.cells
 
 -- where a record may begin (§6.20)
-abbrev pub scan-between : FileState → ℕ → Scan
-scan-between f o = record { state = f; offset = o; start = o; size = 0; opened = o; raw = []; cells = [] }
+abbrev pub scan_between : FileState → ℕ → Scan
+scan_between f o = record { state = f; offset = o; start = o; size = 0; opened = o; raw = []; cells = [] }
 
 -- the byte b takes this step; `more` is the result of scanning after it, and `left` are the bytes after it (§7.4 §6.20)
-unfoldable pub scanStep : Scan → (b : ℕ) → (left : Bytes) → (more : Scan → ScanResult) → Step → ScanResult
-scanStep s b left more (Reject e) = fails (Byte e) s
-scanStep s b left more (To f Outside) =
+unfoldable pub scan_step : Scan → (b : ℕ) → (left : Bytes) → (more : Scan → ScanResult) → Step → ScanResult
+scan_step s b left more (Reject e) = fails (Byte e) s
+scan_step s b left more (To f Outside) =
     more (record { state = f; offset = suc s.offset; start = s.start; size = 0; opened = suc s.offset; raw = []; cells = [] })
-scanStep s b left more (To f Passed) = more (scan-between f (suc s.offset))
-scanStep s b left more (To f OfCell) =
+scan_step s b left more (To f Passed) = more (scan_between f (suc s.offset))
+scan_step s b left more (To f OfCell) =
     more (record {
       state = f;
       offset = suc s.offset;
@@ -63,7 +63,7 @@ scanStep s b left more (To f OfCell) =
       raw = s.raw ++ (b ∷ []);
       cells = s.cells;
     })
-scanStep s b left more (To f (Between closes)) =
+scan_step s b left more (To f (Between closes)) =
     more (record {
       state = f;
       offset = suc s.offset;
@@ -71,11 +71,11 @@ scanStep s b left more (To f (Between closes)) =
       size = suc s.size;
       opened = suc s.offset;
       raw = [];
-      cells = closingRaw closes s;
+      cells = closing_raw closes s;
     })
-scanStep s b left more (To f (Tail closes)) =
-    more (record { state = f; offset = suc s.offset; start = s.start; size = s.size; opened = suc s.offset; raw = []; cells = closingRaw closes s })
-scanStep s b left more (To f (Ends closes)) = completes s (closingRaw closes s) f (suc s.offset) left
+scan_step s b left more (To f (Tail closes)) =
+    more (record { state = f; offset = suc s.offset; start = s.start; size = s.size; opened = suc s.offset; raw = []; cells = closing_raw closes s })
+scan_step s b left more (To f (Ends closes)) = completes s (closing_raw closes s) f (suc s.offset) left
 
 -- scanning, with a file's limit of `limit` bytes (§7.1 §7.2 §7.6)
 unfoldable pub scan : Dialect → (limit : ℕ) → Scan → Bytes → ScanResult
@@ -83,13 +83,13 @@ scan d limit s [] = pends s
 scan d limit s (b ∷ bs) =
     if leb limit s.offset then fails FileTooLong s
     else if leb MAXRECORD s.size && counts s.state b then fails RecordTooLong s
-    else scanStep s b bs (λ s'. scan d limit s' bs) (fileStep d s.state b)
+    else scan_step s b bs (λ s'. scan d limit s' bs) (file_step d s.state b)
 
 -- ---- the same as reading
 
 -- the value of a raw cell (§2.3)
 abbrev pub value_of : Dialect → RawCell → Value
-value_of d c = record { from = c.from; upto = c.upto; kind = kind_of d c.bytes; content = contentOf d c.bytes }
+value_of d c = record { from = c.from; upto = c.upto; kind = kind_of d c.bytes; content = content_of d c.bytes }
 
 -- the reading state of a scan, after the records `done` (§15.2)
 abbrev pub read_of : Dialect → (done : List Rec) → Scan → Read
@@ -110,19 +110,19 @@ abbrev pub resume : Dialect → (target : Option Target) → (done : List Rec) �
 resume d target done (pends s) = going (read_of d done s)
 resume d target done (fails e s) = stopped e (read_of d done s)
 resume d target done (completes s cs f next left) =
-    readFrom d target (complete d target (read_of d done s) (map (value_of d) cs) f next) left
+    read_from d target (complete d target (read_of d done s) (map (value_of d) cs) f next) left
 
 -- reading is scanning to the end of the current record, and validating it: with a target or without one the scan is the same (§7.5)
 abbrev pub ScanReads : Type 0
 ScanReads =
     (d : Dialect) (target : Option Target) (done : List Rec) (s : Scan) (bs : Bytes) →
-    readFrom d target (going (read_of d done s)) bs ≡ resume d target done (scan d MAXFILE s bs)
+    read_from d target (going (read_of d done s)) bs ≡ resume d target done (scan d MAXFILE s bs)
 
 -- ---- shift
 
 -- the same with places counted from n bytes before (§10.3)
-abbrev pub movedCell : ℕ → RawCell → RawCell
-movedCell n c = record { from = n + c.from; upto = n + c.upto; bytes = c.bytes }
+abbrev pub moved_cell : ℕ → RawCell → RawCell
+moved_cell n c = record { from = n + c.from; upto = n + c.upto; bytes = c.bytes }
 
 -- a scan with its places counted from n bytes before (§6.19)
 abbrev pub moved : ℕ → Scan → Scan
@@ -134,14 +134,14 @@ moved n s =
       size = s.size;
       opened = n + s.opened;
       raw = s.raw;
-      cells = map (movedCell n) s.cells;
+      cells = map (moved_cell n) s.cells;
     }
 
 -- the result of a scan, with its places counted from n bytes before (§6.19)
 abbrev pub moved_to : ℕ → ScanResult → ScanResult
 moved_to n (pends s) = pends (moved n s)
 moved_to n (fails e s) = fails e (moved n s)
-moved_to n (completes s cs f next left) = completes (moved n s) (map (movedCell n) cs) f (n + next) left
+moved_to n (completes s cs f next left) = completes (moved n s) (map (moved_cell n) cs) f (n + next) left
 
 -- scanning with places and the limit moved by n is scanning moved by n (§6.19)
 abbrev pub Shift : Type 0
@@ -150,20 +150,20 @@ Shift = (d : Dialect) (n limit : ℕ) (s : Scan) (bs : Bytes) → scan d (n + li
 -- ---- view
 
 -- a cell of the current record was begun or is complete: up to the record's end nothing is outside it (§6.20)
-abbrev pub inRecord : FileState → Bool
-inRecord Top = false
-inRecord Begin = false
-inRecord Ended = false
-inRecord Bom1 = false
-inRecord Bom2 = false
-inRecord PlainBom1 = true
-inRecord PlainBom2 = true
-inRecord (Comment c) = false
-inRecord Blanks = false
-inRecord ExpectCell = true
-inRecord (Inside c) = true
-inRecord After = true
-inRecord Cr = true
+abbrev pub in_record : FileState → Bool
+in_record Top = false
+in_record Begin = false
+in_record Ended = false
+in_record Bom1 = false
+in_record Bom2 = false
+in_record PlainBom1 = true
+in_record PlainBom2 = true
+in_record (Comment c) = false
+in_record Blanks = false
+in_record ExpectCell = true
+in_record (Inside c) = true
+in_record After = true
+in_record Cr = true
 
 -- what was read of the current record before the part: where it starts, where its open cell was opened, that cell's bytes so far, and
 -- its complete cells (§15.2)
@@ -174,20 +174,20 @@ pub record Buffered : Type 0 where
   pub cells : List RawCell
 
 -- a cell that was opened where the part began starts with the buffered bytes (§15.2)
-unfoldable pub joinedCell : Buffered → (began : ℕ) → RawCell → RawCell
-joinedCell k began c = if c.from is began then record { from = k.opened; upto = c.upto; bytes = k.raw ++ c.bytes } else c
+unfoldable pub joined_cell : Buffered → (began : ℕ) → RawCell → RawCell
+joined_cell k began c = if c.from is began then record { from = k.opened; upto = c.upto; bytes = k.raw ++ c.bytes } else c
 
 -- the open cell's bytes; if it was opened where the part began, the buffered ones come first (§15.2)
-unfoldable pub joinedRaw : Buffered → (began opened : ℕ) → Bytes → Bytes
-joinedRaw k began opened raw = if opened is began then k.raw ++ raw else raw
+unfoldable pub joined_raw : Buffered → (began opened : ℕ) → Bytes → Bytes
+joined_raw k began opened raw = if opened is began then k.raw ++ raw else raw
 
 -- a place that is still where the part began is the buffered one (§15.2)
-unfoldable pub joinedPlace : (kept began place : ℕ) → ℕ
-joinedPlace kept began place = if place is began then kept else place
+unfoldable pub joined_place : (kept began place : ℕ) → ℕ
+joined_place kept began place = if place is began then kept else place
 
 -- the buffered cells before those scanned of a part that began there (§15.2)
-abbrev pub joinedCells : Buffered → (began : ℕ) → List RawCell → List RawCell
-joinedCells k began cs = k.cells ++ map (joinedCell k began) cs
+abbrev pub joined_cells : Buffered → (began : ℕ) → List RawCell → List RawCell
+joined_cells k began cs = k.cells ++ map (joined_cell k began) cs
 
 -- a scan of the part, with the buffered bytes and cells before it (§15.2)
 abbrev pub joined : Buffered → (began : ℕ) → Scan → Scan
@@ -195,29 +195,29 @@ joined k began s =
     record {
       state = s.state;
       offset = s.offset;
-      start = joinedPlace k.start began s.start;
+      start = joined_place k.start began s.start;
       size = s.size;
-      opened = joinedPlace k.opened began s.opened;
-      raw = joinedRaw k began s.opened s.raw;
-      cells = joinedCells k began s.cells;
+      opened = joined_place k.opened began s.opened;
+      raw = joined_raw k began s.opened s.raw;
+      cells = joined_cells k began s.cells;
     }
 
 -- the result of a scan of the part, with the buffered bytes and cells before it (§15.2)
-abbrev pub joinedTo : Buffered → (began : ℕ) → ScanResult → ScanResult
-joinedTo k began (pends s) = pends (joined k began s)
-joinedTo k began (fails e s) = fails e (joined k began s)
-joinedTo k began (completes s cs f next left) = completes (joined k began s) (joinedCells k began cs) f next left
+abbrev pub joined_to : Buffered → (began : ℕ) → ScanResult → ScanResult
+joined_to k began (pends s) = pends (joined k began s)
+joined_to k began (fails e s) = fails e (joined k began s)
+joined_to k began (completes s cs f next left) = completes (joined k began s) (joined_cells k began cs) f next left
 
 -- bytes and cells may be buffered where a record is current; elsewhere there are none (§15.2)
 pub data Holds (f : FileState) (k : Buffered) : Type 0 where
-  current : inRecord f ≡ true → Holds f k
-  nothing-current : k.raw ≡ [] → k.cells ≡ [] → Holds f k
+  current : in_record f ≡ true → Holds f k
+  nothing_current : k.raw ≡ [] → k.cells ≡ [] → Holds f k
 
 -- a scan that starts with buffered bytes and cells is a scan that starts with none, and these before it (§15.2)
 abbrev pub View : Type 0
 View =
     (d : Dialect) (limit : ℕ) (k : Buffered) (began : ℕ) (s : Scan) (bs : Bytes) → Holds s.state k → began ≤ s.offset →
-    scan d limit (joined k began s) bs ≡ joinedTo k began (scan d limit s bs)
+    scan d limit (joined k began s) bs ≡ joined_to k began (scan d limit s bs)
 
 -- ---- a part of a file
 
@@ -236,24 +236,24 @@ abbrev pub PartReads : Type 0
 PartReads =
     (d : Dialect) (target : Option Target) (done : List Rec) (n : ℕ) (k : Buffered) (f : FileState) (size began : ℕ) (bs : Bytes) → n ≤ MAXFILE →
     Holds f k →
-    readFrom d target (going (read_of d done (standing n k f size began))) bs
-    ≡ resume d target done (joinedTo k (n + began) (moved_to n (scan d (MAXFILE - n) (fresh f size began) bs)))
+    read_from d target (going (read_of d done (standing n k f size began))) bs
+    ≡ resume d target done (joined_to k (n + began) (moved_to n (scan d (MAXFILE - n) (fresh f size began) bs)))
 
 -- the same where nothing is pending and the place is known, as after a record of the part (§16.4)
 abbrev pub PartMoved : Type 0
 PartMoved =
     (d : Dialect) (target : Option Target) (done : List Rec) (n : ℕ) (s : Scan) (bs : Bytes) → n ≤ MAXFILE →
-    readFrom d target (going (read_of d done (moved n s))) bs ≡ resume d target done (moved_to n (scan d (MAXFILE - n) s bs))
+    read_from d target (going (read_of d done (moved n s))) bs ≡ resume d target done (moved_to n (scan d (MAXFILE - n) s bs))
 
 -- a complete record without a fault is done, and reading continues after it; one with a fault stops reading (§7.8)
 pub record CompleteLaws (d : Dialect) (target : Option Target) (done : List Rec) (s : Scan) (cs : List RawCell) (f : FileState)
     (next : ℕ) (left : Bytes) : Type 0 where
   pub sound :
-      recordFault d target done (map (value_of d) cs) ≡ Sound →
+      record_fault d target done (map (value_of d) cs) ≡ Sound →
       resume d target done (completes s cs f next left)
-      ≡ readFrom d target (going (read_of d (done ++ (record { start = s.start; size = s.size; cells = map (value_of d) cs } ∷ [])) (scan-between f next))) left
+      ≡ read_from d target (going (read_of d (done ++ (record { start = s.start; size = s.size; cells = map (value_of d) cs } ∷ [])) (scan_between f next))) left
   pub faulty :
-      (e : Fault) → recordFault d target done (map (value_of d) cs) ≡ Faulty e →
+      (e : Fault) → record_fault d target done (map (value_of d) cs) ≡ Faulty e →
       resume d target done (completes s cs f next left) ≡ stopped e (read_of d done s)
 
 -- what becomes of a complete record, for every dialect, target and record (§7.8)
@@ -269,32 +269,32 @@ CompleteReads =
 abbrev pub ScanBound : Type 0
 ScanBound =
     (d : Dialect) (limit : ℕ) (f : FileState) (o : ℕ) (bs : Bytes) (s : Scan) (cs : List RawCell) (g : FileState) (next : ℕ) (left : Bytes) →
-    scan d limit (scan-between f o) bs ≡ completes s cs g next left →
+    scan d limit (scan_between f o) bs ≡ completes s cs g next left →
     Bounded s.size (map (value_of d) cs) × (suc s.size + length left ≤ length bs)
 
 -- how many bytes the cells have (§15.2)
-unfoldable pub bytesIn : List RawCell → ℕ
-bytesIn [] = 0
-bytesIn (c ∷ cs) = length c.bytes + bytesIn cs
+unfoldable pub bytes_in : List RawCell → ℕ
+bytes_in [] = 0
+bytes_in (c ∷ cs) = length c.bytes + bytes_in cs
 
 -- the current record is within its limit, and its cells' bytes are among those counted (§7.2 §15.2)
 pub record Sized (s : Scan) : Type 0 where
-  pub held : bytesIn s.cells + length s.raw ≤ s.size
+  pub held : bytes_in s.cells + length s.raw ≤ s.size
   pub limit : s.size ≤ MAXRECORD
 
 -- the result of a scan is within the limit of a record (§15.2)
 pub data SizedTo : ScanResult → Type 0 where
-  sized-pends : {s : Scan} → Sized s → SizedTo (pends s)
-  sized-fails : {e : Fault} {s : Scan} → Sized s → SizedTo (fails e s)
-  sized-completes :
-      {s : Scan} {cs : List RawCell} {f : FileState} {next : ℕ} {left : Bytes} → Sized s → bytesIn cs ≤ s.size →
+  sized_pends : {s : Scan} → Sized s → SizedTo (pends s)
+  sized_fails : {e : Fault} {s : Scan} → Sized s → SizedTo (fails e s)
+  sized_completes :
+      {s : Scan} {cs : List RawCell} {f : FileState} {next : ℕ} {left : Bytes} → Sized s → bytes_in cs ≤ s.size →
       SizedTo (completes s cs f next left)
 
 -- scanning leaves the current record within its limit (§15.2)
 abbrev pub ScanSize : Type 0
 ScanSize = (d : Dialect) (limit : ℕ) (s : Scan) (bs : Bytes) → Sized s → SizedTo (scan d limit s bs)
 
--- helper: `unfolding scans-compute` opens every definition of this module
-unfoldable pub scans-compute : Type 0
-unfolding scanStep scan joinedCell joinedRaw joinedPlace bytesIn
-scans-compute = Unit {0}
+-- helper: `unfolding scans_compute` opens every definition of this module
+unfoldable pub scans_compute : Type 0
+unfolding scan_step scan joined_cell joined_raw joined_place bytes_in
+scans_compute = Unit {0}

@@ -5,12 +5,12 @@ use Rattle.std.proofs.Math.Option.{Option, none, some}
 use Rattle.model.specs.rules.Types.{Report, Kind, Text, Number, True, False, Null, Dialect, Csvj, Target, CheckResult, Sound, Faulty, CellCheck}
 use Rattle.model.specs.rules.Types.{WholeCell, Unsound}
 use Rattle.model.specs.rules.Base.{if◌then◌else◌, ◌is◌, Bytes, is_empty, concat, over}
-use Rattle.model.specs.rules.Dialect.{dialectOf, into}
-use Rattle.model.specs.rules.Utf8.{isContent}
-use Rattle.model.specs.rules.Decode.{kindNumber, kind_of, contentOf, validateCell}
-use Rattle.model.specs.rules.Text.{Value, tableText}
-use Rattle.model.specs.rules.Report.{report, accepted, refusal, number_of, columnOf}
-use Rattle.model.specs.rules.Records.{Rec, rows, ◌orElse◌, Progress, going, stopped, readFile, faultReport, headerFault, targetNext}
+use Rattle.model.specs.rules.Dialect.{dialect_of, into}
+use Rattle.model.specs.rules.Utf8.{is_content}
+use Rattle.model.specs.rules.Decode.{kind_number, kind_of, content_of, validate_cell}
+use Rattle.model.specs.rules.Text.{Value, table_text}
+use Rattle.model.specs.rules.Report.{report, accepted, refusal, number_of, column_of}
+use Rattle.model.specs.rules.Records.{Rec, rows, ◌or_else◌, Progress, going, stopped, read_file, fault_report, header_fault, target_next}
 
 -- ---- the reader
 
@@ -22,41 +22,41 @@ pub record Answer : Type 0 where
   pub cells : List Value
 
 -- a reader's refusal: no columns, no data records, no cells (§9.2)
-abbrev pub noAnswer : Report → Answer
-noAnswer e = record { report = e; columns = 0; records = 0; cells = [] }
+abbrev pub no_answer : Report → Answer
+no_answer e = record { report = e; columns = 0; records = 0; cells = [] }
 
 -- the answer on a file that the rules accept: 10 exactly when it has more cells than the shortest list has places. (No file without a
 -- header is accepted: that is fault 1.) (§10.1 §10.5)
 abbrev pub answered : List Rec → List Value → (room : ℕ) → Answer
-answered [] vs room = noAnswer accepted
+answered [] vs room = no_answer accepted
 answered (h ∷ rs) vs room =
-    if ltb room (length vs) then noAnswer (refusal 10)
+    if ltb room (length vs) then no_answer (refusal 10)
     else record { report = accepted; columns = length h.cells; records = length rs; cells = vs }
 
 -- the reader's answer on what was read of a file and its end: the fault, if there was one (§10.1 §10.5)
-abbrev pub readAnswer : Progress → (room : ℕ) → Answer
-readAnswer (stopped e r) room = noAnswer (faultReport e r)
-readAnswer (going r) room = answered r.done (concat (rows r.done)) room
+abbrev pub read_answer : Progress → (room : ℕ) → Answer
+read_answer (stopped e r) room = no_answer (fault_report e r)
+read_answer (going r) room = answered r.done (concat (rows r.done)) room
 
 -- the reader, with its cells in place of the lists. `room`: how many places the shortest list has (§1.7 §9.1 §10.1)
 unfoldable pub reader : (dialect : ℕ) → Bytes → (room : ℕ) → Answer
-reader n bs room = elim (dialectOf n) [ none ↦ noAnswer (refusal 11) | some d ↦ readAnswer (readFile d none bs) room ]
+reader n bs room = elim (dialect_of n) [ none ↦ no_answer (refusal 11) | some d ↦ read_answer (read_file d none bs) room ]
 
 -- the smaller of two lengths, for the shortest list (§10.5)
 abbrev pub least : ℕ → ℕ → ℕ
 least a b = if leb a b then a else b
 
 -- what the list of starts is filled with (§10.2)
-abbrev pub startsOf : List Value → List ℕ
-startsOf = map (λ (v : Value). v.from)
+abbrev pub starts_of : List Value → List ℕ
+starts_of = map (λ (v : Value). v.from)
 
 -- what the list of ends is filled with (§10.2)
-abbrev pub endsOf : List Value → List ℕ
-endsOf = map (λ (v : Value). v.upto)
+abbrev pub ends_of : List Value → List ℕ
+ends_of = map (λ (v : Value). v.upto)
 
 -- what the list of kinds is filled with, by number (§2.3 §10.2)
-abbrev pub kindsOf : List Value → List ℕ
-kindsOf = map (λ (v : Value). kindNumber v.kind)
+abbrev pub kinds_of : List Value → List ℕ
+kinds_of = map (λ (v : Value). kind_number v.kind)
 
 -- the result of a call of the reader: its answer, and the three lent lists afterwards (§10.1 §10.2)
 pub record ReadCall : Type 0 where
@@ -70,17 +70,17 @@ pub record ReadCall : Type 0 where
 
 -- a call of the reader: each list is filled from its first place on, and all past the cells, or all on refusal, is as it was
 -- (§9.3 §9.4 §10.2)
-unfoldable pub readCall : (dialect : ℕ) → Bytes → (starts ends kinds : List ℕ) → ReadCall
-readCall n bs starts ends kinds =
+unfoldable pub read_call : (dialect : ℕ) → Bytes → (starts ends kinds : List ℕ) → ReadCall
+read_call n bs starts ends kinds =
     let a : Answer = reader n bs (least (length starts) (least (length ends) (length kinds))) in
     record {
       report = a.report;
       columns = a.columns;
       records = a.records;
       cells = length a.cells;
-      starts = over (startsOf a.cells) starts;
-      ends = over (endsOf a.cells) ends;
-      kinds = over (kindsOf a.cells) kinds;
+      starts = over (starts_of a.cells) starts;
+      ends = over (ends_of a.cells) ends;
+      kinds = over (kinds_of a.cells) kinds;
     }
 
 -- ---- the decoder
@@ -92,24 +92,24 @@ pub record Decoded : Type 0 where
   pub content : Bytes
 
 -- a decoder's refusal: length and kind are 0 (§9.2)
-abbrev pub notDecoded : Report → Decoded
-notDecoded e = record { report = e; kind = 0; content = [] }
+abbrev pub not_decoded : Report → Decoded
+not_decoded e = record { report = e; kind = 0; content = [] }
 
 -- the answer on a cell that was checked: its fault with record and column 0, or 10 for too little room, or its kind and content
 -- (§11.2 §11.6)
-abbrev pub decodedAs : Dialect → Bytes → (room : ℕ) → CellCheck → Decoded
-decodedAs d bs room (Unsound e o) = notDecoded (report (number_of e) 0 0 o)
-decodedAs d bs room WholeCell =
-    if ltb room (length (contentOf d bs)) then notDecoded (refusal 10)
-    else record { report = accepted; kind = kindNumber (kind_of d bs); content = contentOf d bs }
+abbrev pub decoded_as : Dialect → Bytes → (room : ℕ) → CellCheck → Decoded
+decoded_as d bs room (Unsound e o) = not_decoded (report (number_of e) 0 0 o)
+decoded_as d bs room WholeCell =
+    if ltb room (length (content_of d bs)) then not_decoded (refusal 10)
+    else record { report = accepted; kind = kind_number (kind_of d bs); content = content_of d bs }
 
 -- the decoder: 11 first, then the check of the raw cell (§1.7 §9.1 §11.1)
 unfoldable pub decoder : (dialect : ℕ) → Bytes → (room : ℕ) → Decoded
-decoder n bs room = elim (dialectOf n) [ none ↦ notDecoded (refusal 11) | some d ↦ decodedAs d bs room (validateCell d bs) ]
+decoder n bs room = elim (dialect_of n) [ none ↦ not_decoded (refusal 11) | some d ↦ decoded_as d bs room (validate_cell d bs) ]
 
 -- the lent room after the call: the content, and then what was there before (§9.3 §9.4 §11.1)
-unfoldable pub decoderLeaves : (dialect : ℕ) → Bytes → (room : List ℕ) → List ℕ
-decoderLeaves n bs room = over (decoder n bs (length room)).content room
+unfoldable pub decoder_leaves : (dialect : ℕ) → Bytes → (room : List ℕ) → List ℕ
+decoder_leaves n bs room = over (decoder n bs (length room)).content room
 
 -- ---- the whole converter
 
@@ -127,24 +127,24 @@ abbrev pub fitted : (room : ℕ) → Bytes → Written
 fitted room bs = if ltb room (length bs) then unwritten (refusal 10) else record { report = accepted; text = bs }
 
 -- the canonical text of the records that were read for this target, or the fault found (§12.1 §12.2)
-abbrev pub convertedAs : (target : Target) → (room : ℕ) → Progress → Written
-convertedAs t room (stopped e r) = unwritten (faultReport e r)
-convertedAs t room (going r) = fitted room (tableText t (rows r.done))
+abbrev pub converted_as : (target : Target) → (room : ℕ) → Progress → Written
+converted_as t room (stopped e r) = unwritten (fault_report e r)
+converted_as t room (going r) = fitted room (table_text t (rows r.done))
 
 -- the whole converter: 11 first, for either number (§1.7 §9.1 §12.1 §12.2)
 unfoldable pub converter : (source target : ℕ) → Bytes → (room : ℕ) → Written
 converter m n bs room =
-    elim (dialectOf m) [
+    elim (dialect_of m) [
       | none ↦ unwritten (refusal 11)
-      | some d ↦ elim (dialectOf n) [
+      | some d ↦ elim (dialect_of n) [
         | none ↦ unwritten (refusal 11)
-        | some t ↦ convertedAs (into t) room (readFile d (some (into t)) bs)
+        | some t ↦ converted_as (into t) room (read_file d (some (into t)) bs)
       ]
     ]
 
 -- the lent output after the call: the text, and then what was there before (§9.3 §9.4 §12.1)
-unfoldable pub converterLeaves : (source target : ℕ) → Bytes → (out : List ℕ) → List ℕ
-converterLeaves m n bs out = over (converter m n bs (length out)).text out
+unfoldable pub converter_leaves : (source target : ℕ) → Bytes → (out : List ℕ) → List ℕ
+converter_leaves m n bs out = over (converter m n bs (length out)).text out
 
 -- ---- the writer
 
@@ -158,8 +158,8 @@ pub record Table : Type 0 where
   pub records : ℕ
 
 -- the kind of a number, or none (§2.3 §13.6)
-unfoldable pub kindNamed : ℕ → Option Kind
-kindNamed n =
+unfoldable pub kind_named : ℕ → Option Kind
+kind_named n =
     if n is 1 then some Text
     else if n is 2 then some Number
     else if n is 3 then some True
@@ -178,8 +178,8 @@ is_number Null j = false
 
 -- bytes can be the content of this kind (§13.5 §13.7 §13.8)
 abbrev pub is_value : Kind → Bytes → Bool
-is_value Text bs = isContent bs
-is_value Number bs = is_number (kind_of Csvj bs) (validateCell Csvj bs)
+is_value Text bs = is_content bs
+is_value Number bs = is_number (kind_of Csvj bs) (validate_cell Csvj bs)
 is_value True bs = is_empty bs
 is_value False bs = is_empty bs
 is_value Null bs = is_empty bs
@@ -189,9 +189,9 @@ abbrev pub slice : Bytes → (from upto : ℕ) → Bytes
 slice bs s e = take (e - s) (drop s bs)
 
 -- one cell of a table, or none: its kind is known, its span lies in the content, its bytes can be of its kind (§13.4 §13.6)
-unfoldable pub tableCell : (content : Bytes) (from upto kind : ℕ) → Option Value
-tableCell bs s e n =
-    elim (kindNamed n) [
+unfoldable pub table_cell : (content : Bytes) (from upto kind : ℕ) → Option Value
+table_cell bs s e n =
+    elim (kind_named n) [
       | none ↦ none
       | some k ↦
           if leb s e && leb e (length bs) && is_value k (slice bs s e) then some (record { from = s; upto = e; kind = k; content = slice bs s e })
@@ -205,13 +205,13 @@ cons (some v) none = none
 cons (some v) (some vs) = some (v ∷ vs)
 
 -- the cells of a table, or none where one of them is none or the lists differ in length (§13.2 §13.3)
-unfoldable pub tableCells : (content : Bytes) (starts ends kinds : List ℕ) → Option (List Value)
-tableCells bs [] [] [] = some []
-tableCells bs [] [] (k ∷ ks) = none
-tableCells bs [] (e ∷ es) ks = none
-tableCells bs (s ∷ ss) [] ks = none
-tableCells bs (s ∷ ss) (e ∷ es) [] = none
-tableCells bs (s ∷ ss) (e ∷ es) (k ∷ ks) = cons (tableCell bs s e k) (tableCells bs ss es ks)
+unfoldable pub table_cells : (content : Bytes) (starts ends kinds : List ℕ) → Option (List Value)
+table_cells bs [] [] [] = some []
+table_cells bs [] [] (k ∷ ks) = none
+table_cells bs [] (e ∷ es) ks = none
+table_cells bs (s ∷ ss) [] ks = none
+table_cells bs (s ∷ ss) (e ∷ es) [] = none
+table_cells bs (s ∷ ss) (e ∷ es) (k ∷ ks) = cons (table_cell bs s e k) (table_cells bs ss es ks)
 
 -- cells as rows: this number of records, each of this number of columns (§13.1)
 unfoldable pub rows_of : (records columns : ℕ) → List Value → List (List Value)
@@ -219,55 +219,55 @@ rows_of zero columns vs = []
 rows_of (suc n) columns vs = take columns vs ∷ rows_of n columns (drop columns vs)
 
 -- the records of a table, given its cells: none where their number is not columns times records, or there is no record (§13.9 §13.10)
-abbrev pub tableRows : (columns records : ℕ) → Option (List Value) → Option (List (List Value))
-tableRows columns records none = none
-tableRows columns records (some vs) =
+abbrev pub table_rows : (columns records : ℕ) → Option (List Value) → Option (List (List Value))
+table_rows columns records none = none
+table_rows columns records (some vs) =
     if eqb (length vs) (columns * records) && ltb 0 records then some (rows_of records columns vs) else none
 
 -- the records of a table, or none where what was given is no table, which is 12 (§6.12 §13.2)
-unfoldable pub rowsIn : Table → Option (List (List Value))
-rowsIn t = tableRows t.columns t.records (tableCells t.content t.starts t.ends t.kinds)
+unfoldable pub rows_in : Table → Option (List (List Value))
+rows_in t = table_rows t.columns t.records (table_cells t.content t.starts t.ends t.kinds)
 
 -- the fault of record n, with offset 0, or what follows it if it has none (§13.11)
-abbrev pub orNext : (n : ℕ) → CheckResult → Option Report → Option Report
-orNext n Sound next = next
-orNext n (Faulty e) next = some (report (number_of e) n (columnOf e) 0)
+abbrev pub or_next : (n : ℕ) → CheckResult → Option Report → Option Report
+or_next n Sound next = next
+or_next n (Faulty e) next = some (report (number_of e) n (column_of e) 0)
 
 -- the fault of the row that follows the rows `done`. 8, 7 and 6 are the header's, since all rows have its count of cells; names
 -- go by the target's rule, so what would clash there is 6 (§13.11 §13.12)
-abbrev pub rowFault : Target → (done : List (List Value)) → List Value → CheckResult
-rowFault t [] r = headerFault t.dialect r or_else targetNext t [] r
-rowFault t (h ∷ rs) r = targetNext t (h ∷ rs) r
+abbrev pub row_fault : Target → (done : List (List Value)) → List Value → CheckResult
+row_fault t [] r = header_fault t.dialect r or_else target_next t [] r
+row_fault t (h ∷ rs) r = target_next t (h ∷ rs) r
 
 -- the first fault of the rows that follow `done` (§13.11)
 unfoldable pub rows_from : Target → (done : List (List Value)) → List (List Value) → Option Report
 rows_from t done [] = none
 rows_from t done (r ∷ rs) =
     let next : Option Report = rows_from t (done ++ (r ∷ [])) rs in
-    orNext (suc (length done)) (rowFault t done r) next
+    or_next (suc (length done)) (row_fault t done r) next
 
 -- the first fault of a table (§13.11)
-unfoldable pub rowsFault : Target → List (List Value) → Option Report
-rowsFault t rs = rows_from t [] rs
+unfoldable pub rows_fault : Target → List (List Value) → Option Report
+rows_fault t rs = rows_from t [] rs
 
 -- the fault, or the text if it has room (§13.13)
-abbrev pub writtenRows : Target → (room : ℕ) → List (List Value) → Option Report → Written
-writtenRows t room rs (some e) = unwritten e
-writtenRows t room rs none = fitted room (tableText t rs)
+abbrev pub written_rows : Target → (room : ℕ) → List (List Value) → Option Report → Written
+written_rows t room rs (some e) = unwritten e
+written_rows t room rs none = fitted room (table_text t rs)
 
 -- the writer: 11, then 12, then the records' faults, then 10 (§1.7 §9.1 §13.1 §13.2 §13.11)
 unfoldable pub writer : (target : ℕ) → Table → (room : ℕ) → Written
 writer n table room =
-    elim (dialectOf n) [
+    elim (dialect_of n) [
       | none ↦ unwritten (refusal 11)
-      | some t ↦ elim (rowsIn table) [ none ↦ unwritten (refusal 12) | some rs ↦ writtenRows (into t) room rs (rowsFault (into t) rs) ]
+      | some t ↦ elim (rows_in table) [ none ↦ unwritten (refusal 12) | some rs ↦ written_rows (into t) room rs (rows_fault (into t) rs) ]
     ]
 
 -- the lent output after the call: the text, and then what was there before (§9.3 §9.4 §13.1)
-unfoldable pub writerLeaves : (target : ℕ) → Table → (out : List ℕ) → List ℕ
-writerLeaves n table out = over (writer n table (length out)).text out
+unfoldable pub writer_leaves : (target : ℕ) → Table → (out : List ℕ) → List ℕ
+writer_leaves n table out = over (writer n table (length out)).text out
 
--- helper: `unfolding api-computes` opens every definition of this module
-unfoldable pub api-computes : Type 0
-unfolding reader readCall decoder decoderLeaves converter converterLeaves kindNamed tableCell tableCells rows_of rowsIn rows_from rowsFault writer writerLeaves
-api-computes = Unit {0}
+-- helper: `unfolding api_computes` opens every definition of this module
+unfoldable pub api_computes : Type 0
+unfolding reader read_call decoder decoder_leaves converter converter_leaves kind_named table_cell table_cells rows_of rows_in rows_from rows_fault writer writer_leaves
+api_computes = Unit {0}

@@ -72,7 +72,7 @@ concat (x ∷ xs) = x ++ concat xs
 abbrev pub over : (new old : List ℕ) → List ℕ
 over new old = new ++ drop (length new) old
 
--- helper: `unfolding base-computes` opens every definition of this module
-unfoldable pub base-computes : Type 0
+-- helper: `unfolding base_computes` opens every definition of this module
+unfoldable pub base_computes : Type 0
 unfolding if◌then◌else◌ same holds concat
-base-computes = Unit {0}
+base_computes = Unit {0}

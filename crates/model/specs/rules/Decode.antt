@@ -3,19 +3,19 @@ use Rattle.std.specs.Prelude.{ℕ, suc, ◌+◌, ◌-◌, ◌*◌, Bool, true, f
 use Rattle.model.specs.rules.Types.{Kind, Text, Number, True, False, Null, Dialect, Csvj, Tdif, CsvPlus, HexLeft, Four, Three, Two, One}
 use Rattle.model.specs.rules.Types.{Cell, Fresh, More, Stop, Refuse, Syntax, Byte, CutShort, CellCheck, WholeCell, Unsound}
 use Rattle.model.specs.rules.Base.{if◌then◌else◌, ◌is◌, Bytes, QUOTE, BACKSLASH, begins}
-use Rattle.model.specs.rules.Dialect.{quoteOf}
-use Rattle.model.specs.rules.Utf8.{pack, isHigh, isLow, joined}
-use Rattle.model.specs.rules.Cell.{cellStep, is_whole, isDigit}
+use Rattle.model.specs.rules.Dialect.{quote_of}
+use Rattle.model.specs.rules.Utf8.{pack, is_high, is_low, joined}
+use Rattle.model.specs.rules.Cell.{cell_step, is_whole, is_digit}
 
 -- ---- kinds
 
 -- the number of a kind (§2.3)
-abbrev pub kindNumber : Kind → ℕ
-kindNumber Text = 1
-kindNumber Number = 2
-kindNumber True = 3
-kindNumber False = 4
-kindNumber Null = 5
+abbrev pub kind_number : Kind → ℕ
+kind_number Text = 1
+kind_number Number = 2
+kind_number True = 3
+kind_number False = 4
+kind_number Null = 5
 
 -- the kind of a whole cell, by its first byte (§2.5 §3.4 §4.3)
 unfoldable pub kind_of : Dialect → Bytes → Kind
@@ -45,8 +45,8 @@ pub data Unit16 : Type 0 where
   unit : ℕ → Unit16
 
 -- the value of a hexadecimal digit (§3.6)
-abbrev pub hexOf : ℕ → ℕ
-hexOf b = if leb b 0x39 then b - 0x30 else if leb b 0x46 then b - 0x37 else b - 0x57
+abbrev pub hex_of : ℕ → ℕ
+hex_of b = if leb b 0x39 then b - 0x30 else if leb b 0x46 then b - 0x37 else b - 0x57
 
 -- the byte that an escape of one letter denotes (§3.6)
 abbrev pub short_of : ℕ → ℕ
@@ -72,10 +72,10 @@ units between (b ∷ bs) =
     else if b is BACKSLASH then units escape bs
     else byte b ∷ units between bs
 units escape (b ∷ bs) = if b is 0x75 then units (digits Four 0) bs else byte (short_of b) ∷ units between bs
-units (digits Four u) (b ∷ bs) = units (digits Three (u * 0x10 + hexOf b)) bs
-units (digits Three u) (b ∷ bs) = units (digits Two (u * 0x10 + hexOf b)) bs
-units (digits Two u) (b ∷ bs) = units (digits One (u * 0x10 + hexOf b)) bs
-units (digits One u) (b ∷ bs) = unit (u * 0x10 + hexOf b) ∷ units between bs
+units (digits Four u) (b ∷ bs) = units (digits Three (u * 0x10 + hex_of b)) bs
+units (digits Three u) (b ∷ bs) = units (digits Two (u * 0x10 + hex_of b)) bs
+units (digits Two u) (b ∷ bs) = units (digits One (u * 0x10 + hex_of b)) bs
+units (digits One u) (b ∷ bs) = unit (u * 0x10 + hex_of b) ∷ units between bs
 
 -- the content of a string: a high surrogate and directly after it a low one are one code point, any other surrogate is a
 -- lone one (§2.6 §2.7 §2.8)
@@ -85,41 +85,41 @@ text_of (byte b ∷ us) = b ∷ text_of us
 text_of (unit h ∷ []) = pack h
 text_of (unit h ∷ byte b ∷ us) = pack h ++ (b ∷ text_of us)
 text_of (unit h ∷ unit l ∷ us) =
-    if isHigh h && isLow l then pack (joined h l) ++ text_of us else pack h ++ text_of (unit l ∷ us)
+    if is_high h && is_low l then pack (joined h l) ++ text_of us else pack h ++ text_of (unit l ∷ us)
 
 -- ---- content
 
 -- the content of a whole cell: decoded text, a number's spelling, and nothing for other kinds (§2.4)
-unfoldable pub contentOf : Dialect → Bytes → Bytes
-contentOf Csvj [] = []
-contentOf Csvj (b ∷ bs) =
+unfoldable pub content_of : Dialect → Bytes → Bytes
+content_of Csvj [] = []
+content_of Csvj (b ∷ bs) =
     if b is QUOTE then text_of (units between bs)
-    else if b is 0x2D || isDigit b then b ∷ bs
+    else if b is 0x2D || is_digit b then b ∷ bs
     else []
-contentOf Tdif [] = []
-contentOf Tdif (b ∷ bs) = if b is QUOTE then undouble QUOTE false bs else []
-contentOf (CsvPlus s) [] = []
-contentOf (CsvPlus s) (b ∷ bs) =
-    if b is quoteOf (CsvPlus s) then undouble (quoteOf (CsvPlus s)) false bs else b ∷ bs
+content_of Tdif [] = []
+content_of Tdif (b ∷ bs) = if b is QUOTE then undouble QUOTE false bs else []
+content_of (CsvPlus s) [] = []
+content_of (CsvPlus s) (b ∷ bs) =
+    if b is quote_of (CsvPlus s) then undouble (quote_of (CsvPlus s)) false bs else b ∷ bs
 
 -- ---- whether raw bytes are a single cell
 
 -- whether raw bytes, from here on, end a single cell: fault 2 or 3 at a byte, 3 also where the cell has ended before the
 -- byte, or 4 where the bytes end too early (§11.2 §11.3 §11.4 §11.5)
-unfoldable pub validateFrom : Dialect → Cell → (offset : ℕ) → Bytes → CellCheck
-validateFrom d c i [] = if is_whole d c then WholeCell else Unsound CutShort i
-validateFrom d c i (b ∷ bs) =
-    elim (cellStep d c b) [
-      | More c' ↦ validateFrom d c' (suc i) bs
+unfoldable pub validate_from : Dialect → Cell → (offset : ℕ) → Bytes → CellCheck
+validate_from d c i [] = if is_whole d c then WholeCell else Unsound CutShort i
+validate_from d c i (b ∷ bs) =
+    elim (cell_step d c b) [
+      | More c' ↦ validate_from d c' (suc i) bs
       | Stop ↦ Unsound (Byte Syntax) i
       | Refuse e ↦ Unsound (Byte e) i
     ]
 
 -- whether raw bytes are a single cell, whatever their length and whatever they begin with (§11.1 §11.7)
-unfoldable pub validateCell : Dialect → Bytes → CellCheck
-validateCell d bs = validateFrom d Fresh 0 bs
+unfoldable pub validate_cell : Dialect → Bytes → CellCheck
+validate_cell d bs = validate_from d Fresh 0 bs
 
--- helper: `unfolding decode-computes` opens every definition of this module
-unfoldable pub decode-computes : Type 0
-unfolding kind_of undouble units text_of contentOf validateFrom validateCell
-decode-computes = Unit {0}
+-- helper: `unfolding decode_computes` opens every definition of this module
+unfoldable pub decode_computes : Type 0
+unfolding kind_of undouble units text_of content_of validate_from validate_cell
+decode_computes = Unit {0}

@@ -6,30 +6,30 @@ use Rattle.model.specs.rules.Types.{Cell, Fresh, Plain, CellStep, More, Stop, Re
 use Rattle.model.specs.rules.Types.{FileState, Top, Begin, Ended, Bom1, Bom2, PlainBom1, PlainBom2, Comment, Blanks, ExpectCell, Inside, After, Cr}
 use Rattle.model.specs.rules.Types.{Outside, Passed, OfCell, Between, Tail, Ends, Step, To, Reject, Ending, Clean, Final, Cut}
 use Rattle.model.specs.rules.Base.{if◌then◌else◌, ◌is◌, LF, CR, COMMA}
-use Rattle.model.specs.rules.Dialect.{delimiterOf}
-use Rattle.model.specs.rules.Utf8.{charStep}
-use Rattle.model.specs.rules.Cell.{cellStep, is_whole, inQuotes}
+use Rattle.model.specs.rules.Dialect.{delimiter_of}
+use Rattle.model.specs.rules.Utf8.{char_step}
+use Rattle.model.specs.rules.Cell.{cell_step, is_whole, in_quotes}
 
 -- a space or a tab, which may surround values and commas of CSVJ (§3.2)
-abbrev pub isBlank : ℕ → Bool
-isBlank b = b is 0x20 || b is 0x09
+abbrev pub is_blank : ℕ → Bool
+is_blank b = b is 0x20 || b is 0x09
 
 -- the byte after a cell that ends before it (`closes`), or after blanks that follow a cell of CSVJ: a delimiter or the
 -- record's ending, in CSVJ a blank, and nothing else (§3.1 §3.2 §3.3 §4.1 §4.5 §5.1 §5.3 §5.8 §6.23)
-unfoldable pub afterCell : Dialect → (closes : Bool) → ℕ → Step
-afterCell Csvj closes b =
-    if isBlank b then To After (Between closes)
+unfoldable pub after_cell : Dialect → (closes : Bool) → ℕ → Step
+after_cell Csvj closes b =
+    if is_blank b then To After (Between closes)
     else if b is COMMA then To ExpectCell (Between closes)
     else if b is LF then To Begin (Ends closes)
     else if b is CR then To Cr (Tail closes)
     else Reject Syntax
-afterCell Tdif closes b =
+after_cell Tdif closes b =
     if b is COMMA then To (Inside Fresh) (Between closes)
     else if b is LF then To Begin (Ends closes)
     else if b is CR then To Ended (Ends closes)
     else Reject Syntax
-afterCell (CsvPlus s) closes b =
-    if b is delimiterOf (CsvPlus s) then To (Inside Fresh) (Between closes)
+after_cell (CsvPlus s) closes b =
+    if b is delimiter_of (CsvPlus s) then To (Inside Fresh) (Between closes)
     else if b is LF then To Begin (Ends closes)
     else if b is CR then To Cr (Tail closes)
     else Reject Syntax
@@ -41,27 +41,27 @@ grow Stop s = s
 grow (Refuse e) s = Reject e
 
 -- the next byte of a record inside a cell: the cell's own, or after it a delimiter or the record's ending (§3.3 §4.5 §5.3)
-unfoldable pub inCell : Dialect → Cell → ℕ → Step
-inCell d c b = grow (cellStep d c b) (afterCell d true b)
+unfoldable pub in_cell : Dialect → Cell → ℕ → Step
+in_cell d c b = grow (cell_step d c b) (after_cell d true b)
 
 -- a record's first byte. CSVJ: a blank begins a record too, and an ending at once is a record with no values. TDIF: # begins
 -- a comment, and an ending has no place here, so a record has a cell. CSV+: an ending at once follows one empty cell (§3.2
 -- §3.3 §3.12 §4.6 §4.7 §4.8 §5.6 §6.1)
-unfoldable pub beginRecord : Dialect → ℕ → Step
-beginRecord Csvj b =
-    if isBlank b then To Blanks (Between false)
+unfoldable pub begin_record : Dialect → ℕ → Step
+begin_record Csvj b =
+    if is_blank b then To Blanks (Between false)
     else if b is LF then To Begin (Ends false)
     else if b is CR then To Cr (Tail false)
-    else inCell Csvj Fresh b
-beginRecord Tdif b = if b is 0x23 then To (Comment Whole) Outside else inCell Tdif Fresh b
-beginRecord (CsvPlus s) b = inCell (CsvPlus s) Fresh b
+    else in_cell Csvj Fresh b
+begin_record Tdif b = if b is 0x23 then To (Comment Whole) Outside else in_cell Tdif Fresh b
+begin_record (CsvPlus s) b = in_cell (CsvPlus s) Fresh b
 
 -- the file's first byte, which may begin the byte order mark: CSVJ skips the mark, TDIF has none, CSV+ refuses it at its third byte
 -- (§3.8 §4.11 §5.9)
-unfoldable pub beginFile : Dialect → ℕ → Step
-beginFile Csvj b = if b is 0xEF then To Bom1 Outside else beginRecord Csvj b
-beginFile Tdif b = beginRecord Tdif b
-beginFile (CsvPlus s) b = if b is 0xEF then To PlainBom1 OfCell else beginRecord (CsvPlus s) b
+unfoldable pub begin_file : Dialect → ℕ → Step
+begin_file Csvj b = if b is 0xEF then To Bom1 Outside else begin_record Csvj b
+begin_file Tdif b = begin_record Tdif b
+begin_file (CsvPlus s) b = if b is 0xEF then To PlainBom1 OfCell else begin_record (CsvPlus s) b
 
 -- a byte of a comment, which is fault 2 where it breaks the table (§4.7 §6.2)
 abbrev pub commented : Advance → Step
@@ -69,52 +69,52 @@ commented Broken = Reject Encoding
 commented (On c) = To (Comment c) Outside
 
 -- the next byte of a file: the next state of the file and the byte's role in its record, or fault 2 or 3 (§6.2 §6.3)
-unfoldable pub fileStep : Dialect → FileState → ℕ → Step
-fileStep d Top b = beginFile d b
-fileStep d Begin b = beginRecord d b
+unfoldable pub file_step : Dialect → FileState → ℕ → Step
+file_step d Top b = begin_file d b
+file_step d Begin b = begin_record d b
 -- the LF of a CRLF whose CR ended a record or a comment; a second one would begin an empty line (§4.2 §4.6)
-fileStep d Ended b = if b is LF then To Begin Passed else beginRecord d b
+file_step d Ended b = if b is LF then To Begin Passed else begin_record d b
 -- after EF at offset 0 the byte order mark has to continue (§3.9); in CSV+ its third byte is the fault, and any other is of an
 -- unquoted cell (§5.9)
-fileStep d Bom1 b = if b is 0xBB then To Bom2 Outside else Reject Syntax
-fileStep d Bom2 b = if b is 0xBF then To Begin Passed else Reject Syntax
-fileStep d PlainBom1 b = if b is 0xBB then To PlainBom2 OfCell else inCell d (Plain (Within (Second EeToEf))) b
-fileStep d PlainBom2 b = if b is 0xBF then Reject Syntax else inCell d (Plain (Within Last)) b
+file_step d Bom1 b = if b is 0xBB then To Bom2 Outside else Reject Syntax
+file_step d Bom2 b = if b is 0xBF then To Begin Passed else Reject Syntax
+file_step d PlainBom1 b = if b is 0xBB then To PlainBom2 OfCell else in_cell d (Plain (Within (Second EeToEf))) b
+file_step d PlainBom2 b = if b is 0xBF then Reject Syntax else in_cell d (Plain (Within Last)) b
 -- a comment extends to its line break (§4.7)
-fileStep d (Comment Whole) b =
-    if b is LF then To Begin Passed else if b is CR then To Ended Passed else commented (charStep Whole b)
-fileStep d (Comment (Within i)) b = commented (charStep (Within i) b)
-fileStep d Blanks b = beginRecord d b
-fileStep d ExpectCell b = if isBlank b then To ExpectCell (Between false) else inCell d Fresh b
-fileStep d (Inside c) b = inCell d c b
-fileStep d After b = afterCell d false b
+file_step d (Comment Whole) b =
+    if b is LF then To Begin Passed else if b is CR then To Ended Passed else commented (char_step Whole b)
+file_step d (Comment (Within i)) b = commented (char_step (Within i) b)
+file_step d Blanks b = begin_record d b
+file_step d ExpectCell b = if is_blank b then To ExpectCell (Between false) else in_cell d Fresh b
+file_step d (Inside c) b = in_cell d c b
+file_step d After b = after_cell d false b
 -- a CR outside quotes is followed by its LF (§3.1 §5.7)
-fileStep d Cr b = if b is LF then To Begin (Ends false) else Reject Syntax
+file_step d Cr b = if b is LF then To Begin (Ends false) else Reject Syntax
 
 -- ---- the end of the file
 
 -- the end of the file in a cell: in CSV+ it completes the last record if the cell may end there (§5.1 §5.11 §6.4)
-abbrev pub lastCell : Dialect → Cell → Ending
-lastCell Csvj c = Cut
-lastCell Tdif c = Cut
-lastCell (CsvPlus s) c = if is_whole (CsvPlus s) c then Final else Cut
+abbrev pub last_cell : Dialect → Cell → Ending
+last_cell Csvj c = Cut
+last_cell Tdif c = Cut
+last_cell (CsvPlus s) c = if is_whole (CsvPlus s) c then Final else Cut
 
 -- the meaning of the end of the file in each state: between records nothing; else fault 4, or the end of a last CSV+ record (§5.2
 -- §6.4 §6.25)
-unfoldable pub fileEnd : Dialect → FileState → Ending
-fileEnd d Top = Clean
-fileEnd d Begin = Clean
-fileEnd d Ended = Clean
-fileEnd d Bom1 = Cut
-fileEnd d Bom2 = Cut
-fileEnd d PlainBom1 = Cut
-fileEnd d PlainBom2 = Cut
-fileEnd d (Comment c) = Cut
-fileEnd d Blanks = Cut
-fileEnd d ExpectCell = Cut
-fileEnd d (Inside c) = lastCell d c
-fileEnd d After = Cut
-fileEnd d Cr = Cut
+unfoldable pub file_end : Dialect → FileState → Ending
+file_end d Top = Clean
+file_end d Begin = Clean
+file_end d Ended = Clean
+file_end d Bom1 = Cut
+file_end d Bom2 = Cut
+file_end d PlainBom1 = Cut
+file_end d PlainBom2 = Cut
+file_end d (Comment c) = Cut
+file_end d Blanks = Cut
+file_end d ExpectCell = Cut
+file_end d (Inside c) = last_cell d c
+file_end d After = Cut
+file_end d Cr = Cut
 
 -- ---- the open cell
 
@@ -138,27 +138,27 @@ cell_at Cr = Fresh
 -- ---- what counts in a record
 
 -- the next byte of a file is inside quotes (§7.4)
-abbrev pub quotesOpen : FileState → Bool
-quotesOpen Top = false
-quotesOpen Begin = false
-quotesOpen Ended = false
-quotesOpen Bom1 = false
-quotesOpen Bom2 = false
-quotesOpen PlainBom1 = false
-quotesOpen PlainBom2 = false
-quotesOpen (Comment c) = false
-quotesOpen Blanks = false
-quotesOpen ExpectCell = false
-quotesOpen (Inside c) = inQuotes c
-quotesOpen After = false
-quotesOpen Cr = false
+abbrev pub quotes_open : FileState → Bool
+quotes_open Top = false
+quotes_open Begin = false
+quotes_open Ended = false
+quotes_open Bom1 = false
+quotes_open Bom2 = false
+quotes_open PlainBom1 = false
+quotes_open PlainBom2 = false
+quotes_open (Comment c) = false
+quotes_open Blanks = false
+quotes_open ExpectCell = false
+quotes_open (Inside c) = in_quotes c
+quotes_open After = false
+quotes_open Cr = false
 
 -- the byte would be counted in its record: all but a CR or LF outside quotes. Used for a record's bytes only; comments and the byte
 -- order mark belong to none (Records, `move`) (§7.4)
 unfoldable pub counts : FileState → ℕ → Bool
-counts f b = quotesOpen f || not (b is LF || b is CR)
+counts f b = quotes_open f || not (b is LF || b is CR)
 
--- helper: `unfolding file-computes` opens every definition of this module
-unfoldable pub file-computes : Type 0
-unfolding afterCell inCell beginRecord beginFile fileStep fileEnd counts
-file-computes = Unit {0}
+-- helper: `unfolding file_computes` opens every definition of this module
+unfoldable pub file_computes : Type 0
+unfolding after_cell in_cell begin_record begin_file file_step file_end counts
+file_computes = Unit {0}

@@ -5,7 +5,7 @@ use Rattle.model.specs.rules.Types.{Report, Encoding, Syntax, Fault, NoRecord, B
 use Rattle.model.specs.rules.Types.{RecordTooLong, TooManyColumns, NoCells, LacksKind, LoneSurrogate, Clash, TextTooLong, OutputTooLong}
 
 -- a report: number, record, column, offset (§6.14)
-abbrev pub report : (number record-number column offset : ℕ) → Report
+abbrev pub report : (number record_number column offset : ℕ) → Report
 report n r c o = record { number = n; record_number = r; column = c; offset = o }
 
 -- acceptance: four zeros (§6.15)
@@ -58,38 +58,38 @@ number_of TextTooLong = 9
 number_of OutputTooLong = 9
 
 -- the table's last column: 0, but for 6, 7 and three of the reasons for 9 (§6.6 §6.7 §8.2 §8.3 §8.4 §8.5 §8.6)
-abbrev pub columnOf : Fault → ℕ
-columnOf NoRecord = 0
-columnOf (Byte e) = 0
-columnOf CutShort = 0
-columnOf CellCount = 0
-columnOf (RepeatedName c) = c
-columnOf (HeaderKind c) = c
-columnOf FileTooLong = 0
-columnOf RecordTooLong = 0
-columnOf TooManyColumns = 0
-columnOf NoCells = 0
-columnOf (LacksKind c) = c
-columnOf (LoneSurrogate c) = c
-columnOf (Clash c) = c
-columnOf TextTooLong = 0
-columnOf OutputTooLong = 0
+abbrev pub column_of : Fault → ℕ
+column_of NoRecord = 0
+column_of (Byte e) = 0
+column_of CutShort = 0
+column_of CellCount = 0
+column_of (RepeatedName c) = c
+column_of (HeaderKind c) = c
+column_of FileTooLong = 0
+column_of RecordTooLong = 0
+column_of TooManyColumns = 0
+column_of NoCells = 0
+column_of (LacksKind c) = c
+column_of (LoneSurrogate c) = c
+column_of (Clash c) = c
+column_of TextTooLong = 0
+column_of OutputTooLong = 0
 
 -- the fault's offset is where reading is, that is the faulty byte, the first byte too many or the file's length, and not the record's
 -- start (§6.1 §6.2 §6.3 §6.4 §6.8)
-abbrev pub isAtByte : Fault → Bool
-isAtByte NoRecord = true
-isAtByte (Byte e) = true
-isAtByte CutShort = true
-isAtByte CellCount = false
-isAtByte (RepeatedName c) = false
-isAtByte (HeaderKind c) = false
-isAtByte FileTooLong = true
-isAtByte RecordTooLong = true
-isAtByte TooManyColumns = false
-isAtByte NoCells = false
-isAtByte (LacksKind c) = false
-isAtByte (LoneSurrogate c) = false
-isAtByte (Clash c) = false
-isAtByte TextTooLong = false
-isAtByte OutputTooLong = false
+abbrev pub is_at_byte : Fault → Bool
+is_at_byte NoRecord = true
+is_at_byte (Byte e) = true
+is_at_byte CutShort = true
+is_at_byte CellCount = false
+is_at_byte (RepeatedName c) = false
+is_at_byte (HeaderKind c) = false
+is_at_byte FileTooLong = true
+is_at_byte RecordTooLong = true
+is_at_byte TooManyColumns = false
+is_at_byte NoCells = false
+is_at_byte (LacksKind c) = false
+is_at_byte (LoneSurrogate c) = false
+is_at_byte (Clash c) = false
+is_at_byte TextTooLong = false
+is_at_byte OutputTooLong = false

@@ -20,47 +20,47 @@ pub record Row : Type 0 where
 abbrev row : ℕ → ℕ → ℕ → ℕ → ℕ → Row
 row lo hi size lo2 hi2 = record { lo = lo; hi = hi; size = size; lo2 = lo2; hi2 = hi2 }
 
--- the table, from its second row on; its first row, 00 to 7F, is a character of one byte and is in `charStep` (§2.11)
+-- the table, from its second row on; its first row, 00 to 7F, is a character of one byte and is in `char_step` (§2.11)
 --                  | first |    | length | second |
-unfoldable pub rowOf : Lead → Row
-rowOf C2ToDf = row 0xC2 0xDF 2 0x80 0xBF
-rowOf E0 = row 0xE0 0xE0 3 0xA0 0xBF
-rowOf E1ToEc = row 0xE1 0xEC 3 0x80 0xBF
-rowOf Ed = row 0xED 0xED 3 0x80 0x9F
-rowOf EeToEf = row 0xEE 0xEF 3 0x80 0xBF
-rowOf F0 = row 0xF0 0xF0 4 0x90 0xBF
-rowOf F1ToF3 = row 0xF1 0xF3 4 0x80 0xBF
-rowOf F4 = row 0xF4 0xF4 4 0x80 0x8F
+unfoldable pub row_of : Lead → Row
+row_of C2ToDf = row 0xC2 0xDF 2 0x80 0xBF
+row_of E0 = row 0xE0 0xE0 3 0xA0 0xBF
+row_of E1ToEc = row 0xE1 0xEC 3 0x80 0xBF
+row_of Ed = row 0xED 0xED 3 0x80 0x9F
+row_of EeToEf = row 0xEE 0xEF 3 0x80 0xBF
+row_of F0 = row 0xF0 0xF0 4 0x90 0xBF
+row_of F1ToF3 = row 0xF1 0xF3 4 0x80 0xBF
+row_of F4 = row 0xF4 0xF4 4 0x80 0x8F
 
 -- the rows for more than one byte, in the table's order (§2.11)
 unfoldable pub leads : List Lead
 leads = C2ToDf ∷ E0 ∷ E1ToEc ∷ Ed ∷ EeToEf ∷ F0 ∷ F1ToF3 ∷ F4 ∷ []
 
 -- the first byte of a character of more than one byte: its row, or none, which breaks the table (§2.11)
-unfoldable pub leadByte : List Lead → ℕ → Advance
-leadByte [] b = Broken
-leadByte (l ∷ ls) b = if within (rowOf l).lo (rowOf l).hi b then On (Within (Second l)) else leadByte ls b
+unfoldable pub lead_byte : List Lead → ℕ → Advance
+lead_byte [] b = Broken
+lead_byte (l ∷ ls) b = if within (row_of l).lo (row_of l).hi b then On (Within (Second l)) else lead_byte ls b
 
 -- after the second byte of a character of this length (§2.11)
-abbrev pub afterSecond : (size : ℕ) → Char
-afterSecond size = if size is 2 then Whole else if size is 3 then Within Last else Within LastTwo
+abbrev pub after_second : (size : ℕ) → Char
+after_second size = if size is 2 then Whole else if size is 3 then Within Last else Within LastTwo
 
 -- a character's second byte by its row, and its later bytes, which are 80 to BF (§2.11)
-unfoldable pub innerStep : Inner → ℕ → Advance
-innerStep (Second l) b = if within (rowOf l).lo2 (rowOf l).hi2 b then On (afterSecond (rowOf l).size) else Broken
-innerStep LastTwo b = if within 0x80 0xBF b then On (Within Last) else Broken
-innerStep Last b = if within 0x80 0xBF b then On Whole else Broken
+unfoldable pub inner_step : Inner → ℕ → Advance
+inner_step (Second l) b = if within (row_of l).lo2 (row_of l).hi2 b then On (after_second (row_of l).size) else Broken
+inner_step LastTwo b = if within 0x80 0xBF b then On (Within Last) else Broken
+inner_step Last b = if within 0x80 0xBF b then On Whole else Broken
 
 -- the next byte of a text, by the table (§2.11)
-unfoldable pub charStep : Char → ℕ → Advance
-charStep Whole b = if within 0x00 0x7F b then On Whole else leadByte leads b
-charStep (Within i) b = innerStep i b
+unfoldable pub char_step : Char → ℕ → Advance
+char_step Whole b = if within 0x00 0x7F b then On Whole else lead_byte leads b
+char_step (Within i) b = inner_step i b
 
 -- a text obeys the table from here to its end, and is not cut inside a character (§1.5 §2.11)
-unfoldable pub textFrom : Char → Bytes → Bool
-textFrom Whole [] = true
-textFrom (Within i) [] = false
-textFrom c (b ∷ bs) = elim (charStep c b) [ Broken ↦ false | On c' ↦ textFrom c' bs ]
+unfoldable pub text_from : Char → Bytes → Bool
+text_from Whole [] = true
+text_from (Within i) [] = false
+text_from c (b ∷ bs) = elim (char_step c b) [ Broken ↦ false | On c' ↦ text_from c' bs ]
 
 -- ---- code points
 
@@ -78,16 +78,16 @@ packed [] = []
 packed (u ∷ us) = pack u ++ packed us
 
 -- a byte that stands inside a character, after its first: 80 to BF in every row of the table (§2.11)
-abbrev pub isLater : ℕ → Bool
-isLater b = within 0x80 0xBF b
+abbrev pub is_later : ℕ → Bool
+is_later b = within 0x80 0xBF b
 
 -- the number of a high surrogate (§2.8)
-abbrev pub isHigh : ℕ → Bool
-isHigh u = within 0xD800 0xDBFF u
+abbrev pub is_high : ℕ → Bool
+is_high u = within 0xD800 0xDBFF u
 
 -- the number of a low surrogate (§2.8)
-abbrev pub isLow : ℕ → Bool
-isLow u = within 0xDC00 0xDFFF u
+abbrev pub is_low : ℕ → Bool
+is_low u = within 0xDC00 0xDFFF u
 
 -- the code point of a high and a low surrogate (§2.8)
 abbrev pub joined : ℕ → ℕ → ℕ
@@ -96,14 +96,14 @@ joined h l = 0x10000 + (h - 0xD800) * 0x400 + (l - 0xDC00)
 -- ---- content
 
 -- the first two bytes of a lone surrogate; no character of the table has them (§2.6 §2.11)
-abbrev pub isSurrogate : ℕ → ℕ → Bool
-isSurrogate a b = a is 0xED && leb 0xA0 b
+abbrev pub is_surrogate : ℕ → ℕ → Bool
+is_surrogate a b = a is 0xED && leb 0xA0 b
 
 -- content contains a lone surrogate (§2.6 §8.3)
-unfoldable pub holdsLone : Bytes → Bool
-holdsLone [] = false
-holdsLone (a ∷ []) = false
-holdsLone (a ∷ b ∷ bs) = if isSurrogate a b then true else holdsLone (b ∷ bs)
+unfoldable pub holds_lone : Bytes → Bool
+holds_lone [] = false
+holds_lone (a ∷ []) = false
+holds_lone (a ∷ b ∷ bs) = if is_surrogate a b then true else holds_lone (b ∷ bs)
 
 -- the state inside content, with what is needed to recognise a high surrogate directly before a low one (§2.6 §2.9)
 pub data Wide : Type 0 where
@@ -128,29 +128,29 @@ settle (On c) = some (settled c)
 
 -- the next byte of content: of the table's text, or of a lone surrogate, which is not low directly after a high one (§2.6
 -- §2.9)
-unfoldable pub wideStep : Wide → ℕ → Option Wide
-wideStep (gap h) b = if b is 0xED then some (ed h) else settle (charStep Whole b)
-wideStep (ed h) b =
+unfoldable pub wide_step : Wide → ℕ → Option Wide
+wide_step (gap h) b = if b is 0xED then some (ed h) else settle (char_step Whole b)
+wide_step (ed h) b =
     if within 0x80 0x9F b then some (inner Last)
     else if within 0xA0 0xAF b then some (lone true)
     else if within 0xB0 0xBF b then (if h then none else some (lone false))
     else none
-wideStep (lone h) b = if within 0x80 0xBF b then some (gap h) else none
-wideStep (inner i) b = settle (charStep (Within i) b)
+wide_step (lone h) b = if within 0x80 0xBF b then some (gap h) else none
+wide_step (inner i) b = settle (char_step (Within i) b)
 
 -- bytes are content from here to their end, and are not cut inside a character or a surrogate (§2.6 §2.9)
-unfoldable pub wideFrom : Wide → Bytes → Bool
-wideFrom (gap h) [] = true
-wideFrom (ed h) [] = false
-wideFrom (lone h) [] = false
-wideFrom (inner i) [] = false
-wideFrom w (b ∷ bs) = elim (wideStep w b) [ none ↦ false | some w' ↦ wideFrom w' bs ]
+unfoldable pub wide_from : Wide → Bytes → Bool
+wide_from (gap h) [] = true
+wide_from (ed h) [] = false
+wide_from (lone h) [] = false
+wide_from (inner i) [] = false
+wide_from w (b ∷ bs) = elim (wide_step w b) [ none ↦ false | some w' ↦ wide_from w' bs ]
 
 -- bytes have the form of content (§2.6 §2.9)
-unfoldable pub isContent : Bytes → Bool
-isContent bs = wideFrom (gap false) bs
+unfoldable pub is_content : Bytes → Bool
+is_content bs = wide_from (gap false) bs
 
--- helper: `unfolding utf8-computes` opens every definition of this module
-unfoldable pub utf8-computes : Type 0
-unfolding rowOf leads leadByte innerStep charStep textFrom pack packed holdsLone wideStep wideFrom isContent
-utf8-computes = Unit {0}
+-- helper: `unfolding utf8_computes` opens every definition of this module
+unfoldable pub utf8_computes : Type 0
+unfolding row_of leads lead_byte inner_step char_step text_from pack packed holds_lone wide_step wide_from is_content
+utf8_computes = Unit {0}

@@ -8,8 +8,8 @@ use borrow.Author.Tests.{not-true, not-false}
 use Rattle.model.specs.rules.Dialect.{into}
 use Rattle.model.specs.rules.Text.{Value}
 use Rattle.model.proofs.Tests.{impossible}
-use Rattle.piece_record.specs.Completion.{faultAt, textAt, FinishSound, not-encoded, ruled}
-use Rattle.piece_record.proofs.BufferedCells.{starts-stand, kinds-made, made_cells, made-values, kinds-count}
+use Rattle.piece_record.specs.Completion.{fault_at, text_at, FinishSound, not_encoded, ruled}
+use Rattle.piece_record.proofs.BufferedCells.{starts_stand, kinds_made, made_cells, made_values, kinds_count}
 use Rattle.piece_record.proofs.complete_spans.Statement.{statement}
 use Rattle.piece_record.proofs.complete_spans.Tie as tie
 
@@ -21,7 +21,7 @@ may-be-written-requires c κs =
 returns : tie.Need-returns
 returns c =
     let asked = c.before.may-be-written in
-    not-encoded refl (λ f. impossible (sym (not-true asked.result c.if1.true) ∙ asked.ensures.1 f)) refl
+    not_encoded refl (λ f. impossible (sym (not-true asked.result c.if1.true) ∙ asked.ensures.1 f)) refl
 
 kinds-of-requires : tie.Need-kinds-of-requires
 kinds-of-requires c κs =
@@ -31,7 +31,7 @@ kinds-of-requires c κs =
     let a = s.args in
     let few = s.requires.1.1.0.0 in
     let long = s.requires.1.1.1 in
-    (starts-stand a.d a.bytes.now a.starts.now a.ends.now s.requires.0 s.requires.1.0, omega arith)
+    (starts_stand a.d a.bytes.now a.starts.now a.ends.now s.requires.0 s.requires.1.0, omega arith)
 
 slice-reshare-prefix-finish : tie.Need-slice-reshare-prefix-finish
 slice-reshare-prefix-finish c =
@@ -52,8 +52,8 @@ slice-aggregate-finish c =
     let a = s.args in
     sym
     (ap length
-    (kinds-made a.d a.bytes.now a.starts.now a.ends.now s.requires.0 _ _
-    c.before.before.before.kinds-of.ensures) ∙ kinds-count a.d a.bytes.now 0 a.ends.now)
+    (kinds_made a.d a.bytes.now a.starts.now a.ends.now s.requires.0 _ _
+    c.before.before.before.kinds-of.ensures) ∙ kinds_count a.d a.bytes.now 0 a.ends.now)
 
 finish-requires : tie.Need-finish-requires
 finish-requires c κs =
@@ -78,9 +78,9 @@ returns-2 c =
     let s = c16 in
     let a = s.args in
     let f = c.before.before.finish in
-    ruled (subst (λ (vs : List Value). FinishSound (faultAt a.d (into a.t) a.p vs) (textAt (into a.t) a.p vs) a.o
+    ruled (subst (λ (vs : List Value). FinishSound (fault_at a.d (into a.t) a.p vs) (text_at (into a.t) a.p vs) a.o
     a.out.now f.new.1.1.1.1.1.1.1.0 f.result)
-    (made-values a.d a.bytes.now a.starts.now a.ends.now s.requires.0 _ _
+    (made_values a.d a.bytes.now a.starts.now a.ends.now s.requires.0 _ _
     c4.before.before.before.kinds-of.ensures)
     f.ensures)
 

@@ -11,10 +11,10 @@ use Rattle.model.specs.rules.Dialect.{into}
 use Rattle.model.specs.rules.Text.{Value}
 use Rattle.cell_decoder.specs.declared.source.Source.TheVariants.{File}
 use Rattle.cell_decoder.specs.Sources.{cells_in}
-use Rattle.buffer.proofs.WriteProgress.{length-written}
-use Rattle.record_writer.proofs.CleanCells.{parts-of}
+use Rattle.buffer.proofs.WriteProgress.{length_written}
+use Rattle.record_writer.proofs.CleanCells.{parts_of}
 use Rattle.piece_record.proofs.BufferedCells.{whole_room}
-use Rattle.piece_record.specs.Completion.{faultAt, textAt, is-written, is-refused, has-no-room}
+use Rattle.piece_record.specs.Completion.{fault_at, text_at, is_written, is_refused, has_no_room}
 use Rattle.piece_record.proofs.finish.Statement.{statement}
 use Rattle.piece_record.proofs.finish.Tie as tie
 
@@ -22,7 +22,7 @@ abbrev cells : tie.Start → List Value
 cells s = let a = s.args in cells_in (File a.d) a.s.now a.starts.now a.ends.now a.kinds.now
 
 abbrev text : tie.Start → Bytes
-text s = textAt (into s.args.t) s.args.p (cells s)
+text s = text_at (into s.args.t) s.args.p (cells s)
 
 -- the start of the call, from the point after the checks
 abbrev start : tie.After-check-record → tie.Start
@@ -34,13 +34,13 @@ start c =
 is-clean-record-requires : tie.Need-is-clean-record-requires
 is-clean-record-requires c κs =
     let c4 = c.before.before.before.before in
-    parts-of c4.before.before.requires.0
+    parts_of c4.before.before.requires.0
 
 -- the fault is that of the record at this place
 fault : (c : tie.After-check-record)
     → let a = (start c).args in
-    c.check-record.result.verdict ≡ faultAt a.d (into a.t) a.p (cells (start c))
-unfolding faultAt
+    c.check-record.result.verdict ≡ fault_at a.d (into a.t) a.p (cells (start c))
+unfolding fault_at
 fault c = c.check-record.ensures.0
 
 -- the measured length of a record without a fault is that of its text
@@ -55,7 +55,7 @@ returns c =
     let long = measured checked sound in
     let o : u.args.o ≤ length u.args.out.now = u.pre.1.1 in
     let less : length u.args.out.now - u.args.o < checked.check-record.result.length = c.if1.true in
-    has-no-room (sym (fault checked) ∙ sound) (omega arith) refl
+    has_no_room (sym (fault checked) ∙ sound) (omega arith) refl
 
 -- its text has room
 fits : (c : tie.Else1) → let u = start c.before.before.before.before in u.args.o + length (text u) ≤ length u.args.out.now
@@ -77,7 +77,7 @@ write-line-requires c κs =
 returns-2 : tie.Need-returns-2
 returns-2 c =
     let checked = c.before.before.before in
-    is-refused (sym (fault checked) ∙ c.before.v.given.1) refl
+    is_refused (sym (fault checked) ∙ c.before.v.given.1) refl
 
 returns-3 : tie.Need-returns-3
 unfolding if◌then◌else◌
@@ -86,7 +86,7 @@ returns-3 c =
     let left = c.before.before.before.before in
     let checked = left.before.before.before.before in
     let sound = left.before.before.enum_told.given.1 in
-    is-written (sym (fault checked) ∙ sound) (fits left) p.text p.place
+    is_written (sym (fault checked) ∙ sound) (fits left) p.text p.place
 
 same_length : tie.Need-same-length
 unfolding if◌then◌else◌
@@ -94,7 +94,7 @@ same_length c =
     let p = c.before.before.write-line.ensures in
     let left = c.before.before.before.before in
     let u = start left.before.before.before.before in
-    ap length p.text ∙ length-written u.args.out.now u.args.o (text u) (fits left)
+    ap length p.text ∙ length_written u.args.out.now u.args.o (text u) (fits left)
 
 pub finish_spec : {M : Type 1} → statement M
 finish_spec =

@@ -6,7 +6,7 @@ use mathlib.Core.Bool.{false}
 use mathlib.Core.Logic.{⊎_elim}
 use lib.ListN.{length, get_or}
 use Rattle.model.proofs.Tests.{impossible}
-use Rattle.piece_record.proofs.BufferedCells.{no-ed-next}
+use Rattle.piece_record.proofs.BufferedCells.{no_ed_next}
 use Rattle.piece_record.proofs.holds_ed.Statement.{statement}
 use Rattle.piece_record.proofs.holds_ed.Tie as tie
 
@@ -23,7 +23,7 @@ loop-again c =
       omega arith,
       λ none. ⊎_elim
           (λ t. impossible (sym none ∙ t.1))
-          (λ t. no-ed-next s l.i (l.invariant.1 (sym t.1 ∙ none)) t.0.left)
+          (λ t. no_ed_next s l.i (l.invariant.1 (sym t.1 ∙ none)) t.0.left)
           c.if1.branch,
     )
 

@@ -5,7 +5,7 @@ use mathlib.Core.Path.{◌≡◌, refl}
 use mathlib.Core.Logic.{⊎_elim}
 use lib.ListN.{length}
 use Rattle.model.proofs.Tests.{impossible}
-use Rattle.piece_record.proofs.BufferedCells.{FollowedTo, followed-next, followed-whole, not-followed}
+use Rattle.piece_record.proofs.BufferedCells.{FollowedTo, followed_next, followed_whole, not_followed}
 use Rattle.piece_record.proofs.is_ed_followed.Statement.{statement}
 use Rattle.piece_record.proofs.is_ed_followed.Tie as tie
 
@@ -27,7 +27,7 @@ returns c =
       λ e.
           impossible e,
       λ f. absurd
-          (not-followed s l.i l.invariant.0 c.before.before.before.before.loop-test.true c.before.before.if1.true
+          (not_followed s l.i l.invariant.0 c.before.before.before.before.loop-test.true c.before.before.if1.true
           (λ least most. absurd (omega arith)) f),
     )
 
@@ -41,7 +41,7 @@ returns-2 c =
       λ e.
           impossible e,
       λ f. absurd
-          (not-followed s l.i l.invariant.0 c4.before.before.loop-test.true
+          (not_followed s l.i l.invariant.0 c4.before.before.loop-test.true
           c.before.before.before.before.if1.true (λ least most. absurd (omega arith)) f),
     )
 
@@ -50,14 +50,14 @@ loop-again c =
     let l = c.before.before.before.loop in
     let s = c.before.before.before.before.args.s.now in (
       omega arith,
-      followed-next s l.i l.invariant.1
+      followed_next s l.i l.invariant.1
           (⊎_elim (λ t e. let low = t.2.left in let high = t.4.left in (low, omega arith)) (λ t e. absurd (t.left e)) c.if1.branch),
     )
 
 returns-3 : tie.Need-returns-3 invariant-loop decreases-loop
 returns-3 c =
     let l = c.before.loop in
-    let whole = followed-whole c.before.before.args.s.now l.i l.invariant.1 c.loop-test.false in
+    let whole = followed_whole c.before.before.args.s.now l.i l.invariant.1 c.loop-test.false in
     (λ e. whole, λ f. refl)
 
 pub is-ed-followed-spec : {M : Type 1} → statement M

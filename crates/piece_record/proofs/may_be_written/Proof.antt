@@ -5,7 +5,7 @@ use mathlib.Core.Path.{refl, sym, subst}
 use lib.ListN.{take, length-take}
 use borrow.Author.Rules.{rules}
 use Rattle.cell_decoder.specs.Followed.{EdFollowed}
-use Rattle.piece_record.proofs.BufferedCells.{end-inside, no-ed-followed}
+use Rattle.piece_record.proofs.BufferedCells.{end_inside, no_ed_followed}
 use Rattle.piece_record.proofs.may_be_written.Statement.{statement}
 use Rattle.piece_record.proofs.may_be_written.Tie as tie
 
@@ -13,14 +13,14 @@ slice-aggregate-holds-ed : tie.Need-slice-aggregate-holds-ed
 slice-aggregate-holds-ed c =
     let start = c.before.before.before.before in
     let to = c.before.last-end in
-    omega (arith, to.ensures, end-inside start.requires, length-take to.result start.args.bytes.now)
+    omega (arith, to.ensures, end_inside start.requires, length-take to.result start.args.bytes.now)
 
 slice-aggregate-is-ed-followed : tie.Need-slice-aggregate-is-ed-followed
 slice-aggregate-is-ed-followed c =
     let c4 = c.before.before.before.before in
     let start = c4.before.before.before in
     let to = c.before.before.before.before.last-end in
-    omega (arith, to.ensures, end-inside start.requires, length-take to.result start.args.bytes.now)
+    omega (arith, to.ensures, end_inside start.requires, length-take to.result start.args.bytes.now)
 
 returns : tie.Need-returns
 returns c =
@@ -38,7 +38,7 @@ returns-2 c =
     let to = c.before.before.before.last-end in (
       λ _.
           subst (λ (n : ℕ). EdFollowed (take n bytes)) to.ensures
-          (no-ed-followed (take to.result bytes) (c.before.holds-ed.ensures c.if1.false)),
+          (no_ed_followed (take to.result bytes) (c.before.holds-ed.ensures c.if1.false)),
       λ _. refl,
     )
 

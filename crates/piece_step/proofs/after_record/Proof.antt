@@ -2,7 +2,7 @@
 use native.Mathlib.Omega.{arith}
 use mathlib.Core.Path.{sym, ap, subst}
 use borrow.Author.Rules.{rules}
-use Rattle.piece_step.specs.Steps.{stepAfter, Fitting}
+use Rattle.piece_step.specs.Steps.{step_after, Fitting}
 use Rattle.piece_step.proofs.after_record.Statement.{statement}
 use Rattle.piece_step.proofs.after_record.Tie as tie
 
@@ -25,19 +25,19 @@ returns c =
     let c4 = c.before.before.before.before in
     let a = c4.before.before.args in
     rw c.before.before.columns-with.ensures
-    (sym (ap (stepAfter a.p a.n a.i a.start a.total a.state a.next a.o) c.before.before.before.before.r.given.1))
+    (sym (ap (step_after a.p a.n a.i a.start a.total a.state a.next a.o) c.before.before.before.before.r.given.1))
 
 returns-2 : tie.Need-returns-2
 returns-2 c =
     let c4 = c.before.before.before.before in
     let a = c4.before.before.args in
     rw (c.record-report.ensures, c.before.record-start.ensures)
-    (sym (ap (stepAfter a.p a.n a.i a.start a.total a.state a.next a.o) c.before.before.before.before.r2.given.1))
+    (sym (ap (step_after a.p a.n a.i a.start a.total a.state a.next a.o) c.before.before.before.before.r2.given.1))
 
 returns-3 : tie.Need-returns-3
 returns-3 c =
     let a = c.before.before.args in
-    sym (ap (stepAfter a.p a.n a.i a.start a.total a.state a.next a.o) c.enum_told.given.1)
+    sym (ap (step_after a.p a.n a.i a.start a.total a.state a.next a.o) c.enum_told.given.1)
 
 pub after-record-spec : {M : Type 1} → statement M
 after-record-spec =

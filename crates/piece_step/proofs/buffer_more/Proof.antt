@@ -5,14 +5,14 @@ use lib.ListN.{length, drop, length-take, length-drop}
 use borrow.Author.Rules.{rules}
 use mathlib.Core.List.{List}
 use Rattle.model.specs.laws.Scans.{RawCell}
-use Rattle.model.specs.laws.Places.{bufferedEnds}
-use Rattle.piece_state.specs.CurrentRecord.{rawCellsAt}
+use Rattle.model.specs.laws.Places.{buffered_ends}
+use Rattle.piece_state.specs.CurrentRecord.{raw_cells_at}
 use Rattle.piece_step.proofs.BufferedParts.{written_behind}
 use Rattle.piece_step.proofs.buffer_more.Statement.{statement}
 use Rattle.piece_step.proofs.buffer_more.Tie as tie
 
 abbrev shown : tie.Start → List RawCell
-shown s = rawCellsAt s.args.piece.now s.args.starts.now s.args.stops.now 0 s.args.cells
+shown s = raw_cells_at s.args.piece.now s.args.starts.now s.args.stops.now 0 s.args.cells
 
 buffer-cells-requires : tie.Need-buffer-cells-requires
 buffer-cells-requires c κs =
@@ -39,7 +39,7 @@ returns c =
     let a = s.args in
     let k = c.before.before.before.before.buffer-cells.ensures in
     let room : a.kept + a.cells ≤ length a.ends.now = s.requires.1.0 in
-    (k.0, (k.1.0, written_behind a.ends.now a.kept (bufferedEnds a.fill (shown s)) _ (omega arith) k.1.1))
+    (k.0, (k.1.0, written_behind a.ends.now a.kept (buffered_ends a.fill (shown s)) _ (omega arith) k.1.1))
 
 pub buffer-more-spec : {M : Type 1} → statement M
 buffer-more-spec =

@@ -7,10 +7,10 @@ use borrow.Author.Rules.{rules}
 use Rattle.model.specs.rules.Dialect.{into}
 use Rattle.model.specs.rules.Report.{MAXCOLUMNS}
 use Rattle.model.specs.laws.Scans.{ScanResult}
-use Rattle.piece_step.specs.Steps.{StepInBounds, stopped-bounds, StepSound}
-use Rattle.piece_step.proofs.ScanAnswers.{completed-as, pending-as, failed-as}
-use Rattle.piece_step.proofs.Steps.{here, lists-done, cells-shown, next-file, cells-few, start-in, fits-done, bounds-done, turns-done, lists-pended}
-use Rattle.piece_step.proofs.Steps.{cells-yet, room_open, end-file, start-yet, opened-yet, bounds-pended, turns-pended-on, failed-file, turns-failed}
+use Rattle.piece_step.specs.Steps.{StepInBounds, stopped_bounds, StepSound}
+use Rattle.piece_step.proofs.ScanAnswers.{completed_as, pending_as, failed_as}
+use Rattle.piece_step.proofs.Steps.{here, lists_done, cells_shown, next_file, cells_few, start_in, fits_done, bounds_done, turns_done, lists_pended}
+use Rattle.piece_step.proofs.Steps.{cells_yet, room_open, end_file, start_yet, opened_yet, bounds_pended, turns_pended_on, failed_file, turns_failed}
 use Rattle.piece_step.proofs.step.Statement.{statement}
 use Rattle.piece_step.proofs.step.Tie as tie
 
@@ -20,14 +20,14 @@ found s = let a = s.args in here a.d a.piece.now a.n a.i a.p a.bytes.now a.ends.
 
 -- the lists have room
 module _ (s : tie.Start) where
-  in-starts : MAXCOLUMNS ≤ length s.args.starts.now
-  in-starts = omega (arith, s.requires.1.long-starts)
+  in_starts : MAXCOLUMNS ≤ length s.args.starts.now
+  in_starts = omega (arith, s.requires.1.long_starts)
 
-  in-stops : MAXCOLUMNS ≤ length s.args.stops.now
-  in-stops = omega (arith, s.pre.1.long-stops)
+  in_stops : MAXCOLUMNS ≤ length s.args.stops.now
+  in_stops = omega (arith, s.pre.1.long_stops)
 
   in-kinds : MAXCOLUMNS ≤ length s.args.kinds.now
-  in-kinds = omega (arith, s.pre.1.long-kinds)
+  in-kinds = omega (arith, s.pre.1.long_kinds)
 
 scan-requires : tie.Need-scan-requires
 scan-requires c κs =
@@ -37,7 +37,7 @@ scan-requires c κs =
     let r = s.requires.0 in
     let at = r.at in
     let offset = r.bounds.offset in
-    ((r.inside, omega arith, omega arith), ((r.bounds.size, omega arith), (in-starts s, in-stops s, in-kinds s)))
+    ((r.inside, omega arith, omega arith), ((r.bounds.size, omega arith), (in_starts s, in_stops s, in-kinds s)))
 
 complete-record-requires : tie.Need-complete-record-requires
 complete-record-requires c κs =
@@ -50,17 +50,17 @@ complete-record-requires c κs =
     let s = c24.before.before in
     let a = s.args in
     let adv = c12.before.before.before.scan.ensures in
-    let x = completed-as (found s) _ _ _ _ (sym adv.0 ∙ c4.before.before.before.start.given.1) in
-    let few = cells-few a.d a.piece.now a.n a.i a.p a.bytes.now a.ends.now a.out.now a.o s.requires.0 _ _ _ _ x in
-    let file = next-file a.d a.piece.now a.n a.i a.p a.bytes.now a.ends.now a.out.now a.o s.requires.0 _ _ _ _ x in (
+    let x = completed_as (found s) _ _ _ _ (sym adv.0 ∙ c4.before.before.before.start.given.1) in
+    let few = cells_few a.d a.piece.now a.n a.i a.p a.bytes.now a.ends.now a.out.now a.o s.requires.0 _ _ _ _ x in
+    let file = next_file a.d a.piece.now a.n a.i a.p a.bytes.now a.ends.now a.out.now a.o s.requires.0 _ _ _ _ x in (
       record {
-        long-starts = c12.before.before.starts.given ∙ s.requires.1.long-starts;
-        long-stops = c12.stops.given ∙ s.requires.1.long-stops;
-        long-kinds = c8.before.before.kinds.given ∙ s.requires.1.long-kinds;
+        long_starts = c12.before.before.starts.given ∙ s.requires.1.long_starts;
+        long_stops = c12.stops.given ∙ s.requires.1.long_stops;
+        long_kinds = c8.before.before.kinds.given ∙ s.requires.1.long_kinds;
       },
       (
-        lists-done a.d a.piece.now a.n a.i a.p a.bytes.now a.ends.now a.out.now a.o s.requires.0 _ _ _ _ x _ _ _ _
-            adv.1.0 adv.1.1.0 (in-starts s) (in-stops s) c12.before.before.starts.given c12.stops.given (omega arith),
+        lists_done a.d a.piece.now a.n a.i a.p a.bytes.now a.ends.now a.out.now a.o s.requires.0 _ _ _ _ x _ _ _ _
+            adv.1.0 adv.1.1.0 (in_starts s) (in_stops s) c12.before.before.starts.given c12.stops.given (omega arith),
         (s.requires.0.bounds.written, s.requires.0.room),
       ),
     )
@@ -79,9 +79,9 @@ add-after-record c =
     let s = c36.before.before in
     let a = s.args in
     let adv = c24.before.before.before.scan.ensures in
-    let x = completed-as (found s) _ _ _ _ (sym adv.0 ∙ c16.before.before.before.start.given.1) in
-    let few = cells-few a.d a.piece.now a.n a.i a.p a.bytes.now a.ends.now a.out.now a.o s.requires.0 _ _ _ _ x in
-    let file = next-file a.d a.piece.now a.n a.i a.p a.bytes.now a.ends.now a.out.now a.o s.requires.0 _ _ _ _ x in
+    let x = completed_as (found s) _ _ _ _ (sym adv.0 ∙ c16.before.before.before.start.given.1) in
+    let few = cells_few a.d a.piece.now a.n a.i a.p a.bytes.now a.ends.now a.out.now a.o s.requires.0 _ _ _ _ x in
+    let file = next_file a.d a.piece.now a.n a.i a.p a.bytes.now a.ends.now a.out.now a.o s.requires.0 _ _ _ _ x in
     let cells = s.requires.0.bounds.cells in
     let offset = s.requires.0.bounds.offset in
     record { fits = omega arith }
@@ -100,15 +100,15 @@ after-record-requires c κs =
     let s = c36.before.before in
     let a = s.args in
     let adv = c24.before.before.before.scan.ensures in
-    let x = completed-as (found s) _ _ _ _ (sym adv.0 ∙ c16.before.before.before.start.given.1) in
+    let x = completed_as (found s) _ _ _ _ (sym adv.0 ∙ c16.before.before.before.start.given.1) in
     let records = s.requires.0.bounds.records in
     let offset = s.requires.0.bounds.offset in (
       (
-        next-file a.d a.piece.now a.n a.i a.p a.bytes.now a.ends.now a.out.now a.o s.requires.0 _ _ _ _ x,
-        start-in a.d a.piece.now a.n a.i a.p a.bytes.now a.ends.now a.out.now a.o s.requires.0 _ _ _ _ x,
+        next_file a.d a.piece.now a.n a.i a.p a.bytes.now a.ends.now a.out.now a.o s.requires.0 _ _ _ _ x,
+        start_in a.d a.piece.now a.n a.i a.p a.bytes.now a.ends.now a.out.now a.o s.requires.0 _ _ _ _ x,
         omega arith,
       ),
-      fits-done a.d a.piece.now a.n a.i a.p a.bytes.now a.ends.now a.out.now a.o s.requires.0 _ _ _ _ x _ _ _ _ _ _
+      fits_done a.d a.piece.now a.n a.i a.p a.bytes.now a.ends.now a.out.now a.o s.requires.0 _ _ _ _ x _ _ _ _ _ _
           c8.before.before.before.complete-record.ensures,
     )
 
@@ -123,18 +123,18 @@ buffer-rest-requires c κs =
     let s = c24 in
     let a = s.args in
     let adv = c12.before.scan.ensures in
-    let x = pending-as (found s) _ _ (sym adv.0 ∙ c4.before.state.given.1) in
-    let file = end-file a.d a.piece.now a.n a.i a.p a.bytes.now a.ends.now a.out.now a.o s.requires.0 _ _ x in (
-      lists-pended a.d a.piece.now a.n a.i a.p a.bytes.now a.ends.now a.out.now a.o s.requires.0 _ _ x _ _ _ _
-          adv.1.0 adv.1.1.0 (in-starts s) (in-stops s) c12.starts.given c8.before.before.stops.given,
+    let x = pending_as (found s) _ _ (sym adv.0 ∙ c4.before.state.given.1) in
+    let file = end_file a.d a.piece.now a.n a.i a.p a.bytes.now a.ends.now a.out.now a.o s.requires.0 _ _ x in (
+      lists_pended a.d a.piece.now a.n a.i a.p a.bytes.now a.ends.now a.out.now a.o s.requires.0 _ _ x _ _ _ _
+          adv.1.0 adv.1.1.0 (in_starts s) (in_stops s) c12.starts.given c8.before.before.stops.given,
       (
         (
           omega arith,
-          start-yet a.d a.piece.now a.n a.i a.p a.bytes.now a.ends.now a.out.now a.o s.requires.0 _ _ x,
-          opened-yet a.d a.piece.now a.n a.i a.p a.bytes.now a.ends.now a.out.now a.o s.requires.0 _ _ x,
+          start_yet a.d a.piece.now a.n a.i a.p a.bytes.now a.ends.now a.out.now a.o s.requires.0 _ _ x,
+          opened_yet a.d a.piece.now a.n a.i a.p a.bytes.now a.ends.now a.out.now a.o s.requires.0 _ _ x,
         ),
         room_open a.d a.piece.now a.n a.i a.p a.bytes.now a.ends.now a.out.now a.o s.requires.0 _ _ x _ _ _ _
-            adv.1.0 adv.1.1.0 (in-starts s) (in-stops s),
+            adv.1.0 adv.1.1.0 (in_starts s) (in_stops s),
       ),
     )
 
@@ -148,8 +148,8 @@ add-record-report-2 c =
     let s = c20.before in
     let a = s.args in
     let adv = c8.before.before.scan.ensures in
-    let x = failed-as (found s) _ _ (sym adv.0 ∙ c.before.before.fault.given.1) in
-    let file = failed-file a.d a.piece.now a.n a.i a.p a.bytes.now a.ends.now a.out.now a.o s.requires.0 _ _ x in
+    let x = failed_as (found s) _ _ (sym adv.0 ∙ c.before.before.fault.given.1) in
+    let file = failed_file a.d a.piece.now a.n a.i a.p a.bytes.now a.ends.now a.out.now a.o s.requires.0 _ _ x in
     record { fits = omega arith }
 
 add-record-report : tie.Need-overflow-add-record-report
@@ -178,14 +178,14 @@ returns c =
     let s = c36.before.before.before in
     let a = s.args in
     let adv = c28.scan.ensures in
-    let x = completed-as (found s) _ _ _ _ (sym adv.0 ∙ c20.start.given.1) in
+    let x = completed_as (found s) _ _ _ _ (sym adv.0 ∙ c20.start.given.1) in
     let done = c12.complete-record.ensures in (
       subst (StepInBounds a.piece.now a.n a.i _ a.out.now) (sym c.after-record.ensures)
-          (bounds-done a.d a.piece.now a.n a.i a.p a.bytes.now a.ends.now a.out.now a.o s.requires.0 _ _ _ _ x _ _ _ _ _ _ done),
+          (bounds_done a.d a.piece.now a.n a.i a.p a.bytes.now a.ends.now a.out.now a.o s.requires.0 _ _ _ _ x _ _ _ _ _ _ done),
       λ rs k hold. subst (StepSound a.d (into a.t) a.piece.now a.i a.p rs k a.o a.out.now _ _ _) (sym c.after-record.ensures)
-          (turns-done a.d a.piece.now a.n a.i a.p a.bytes.now a.ends.now a.out.now a.o s.requires.0 _ _ _ _ x _ _ _ _ _ _ done
-          (λ h. cells-shown a.d a.piece.now a.n a.i a.p a.bytes.now a.ends.now a.out.now a.o
-          s.requires.0 _ _ _ _ x _ _ _ _ adv.1.0 adv.1.1.0 (in-starts s) (in-stops s) h) rs k hold),
+          (turns_done a.d a.piece.now a.n a.i a.p a.bytes.now a.ends.now a.out.now a.o s.requires.0 _ _ _ _ x _ _ _ _ _ _ done
+          (λ h. cells_shown a.d a.piece.now a.n a.i a.p a.bytes.now a.ends.now a.out.now a.o
+          s.requires.0 _ _ _ _ x _ _ _ _ adv.1.0 adv.1.1.0 (in_starts s) (in_stops s) h) rs k hold),
     )
 
 returns-2 : tie.Need-returns-2
@@ -200,15 +200,15 @@ returns-2 c =
     let s = c28.before in
     let a = s.args in
     let adv = c16.before.before.scan.ensures in
-    let x = pending-as (found s) _ _ (sym adv.0 ∙ c8.before.before.state.given.1) in
+    let x = pending_as (found s) _ _ (sym adv.0 ∙ c8.before.before.state.given.1) in
     let p = c.before.before.before.before.buffer-rest.ensures in (
-      bounds-pended a.d a.piece.now a.n a.i a.p a.bytes.now a.ends.now a.out.now a.o s.requires.0 _ _ x _ _ _ _ p
-          (λ h. cells-yet a.d a.piece.now a.n a.i a.p a.bytes.now a.ends.now a.out.now a.o s.requires.0 _ _ x _ _ _ _
-          adv.1.0 adv.1.1.0 (in-starts s) (in-stops s) h),
-      λ rs k hold. turns-pended-on a.d a.piece.now a.n a.i a.p a.bytes.now a.ends.now a.out.now a.o
+      bounds_pended a.d a.piece.now a.n a.i a.p a.bytes.now a.ends.now a.out.now a.o s.requires.0 _ _ x _ _ _ _ p
+          (λ h. cells_yet a.d a.piece.now a.n a.i a.p a.bytes.now a.ends.now a.out.now a.o s.requires.0 _ _ x _ _ _ _
+          adv.1.0 adv.1.1.0 (in_starts s) (in_stops s) h),
+      λ rs k hold. turns_pended_on a.d a.piece.now a.n a.i a.p a.bytes.now a.ends.now a.out.now a.o
           s.requires.0 _ _ x _ _ _ _ p
-          (λ h. cells-yet a.d a.piece.now a.n a.i a.p a.bytes.now a.ends.now a.out.now a.o s.requires.0 _ _ x _ _ _ _
-          adv.1.0 adv.1.1.0 (in-starts s) (in-stops s) h) (into a.t) rs k hold p,
+          (λ h. cells_yet a.d a.piece.now a.n a.i a.p a.bytes.now a.ends.now a.out.now a.o s.requires.0 _ _ x _ _ _ _
+          adv.1.0 adv.1.1.0 (in_starts s) (in_stops s) h) (into a.t) rs k hold p,
     )
 
 returns-3 : tie.Need-returns-3
@@ -221,10 +221,10 @@ returns-3 c =
     let s = c20.before.before in
     let a = s.args in
     let adv = c8.before.before.before.scan.ensures in
-    let x = failed-as (found s) _ _ (sym adv.0 ∙ c.before.before.before.fault.given.1) in (
-      stopped-bounds,
+    let x = failed_as (found s) _ _ (sym adv.0 ∙ c.before.before.before.fault.given.1) in (
+      stopped_bounds,
       λ rs k hold. rw c.record-report.ensures
-          (turns-failed a.d a.piece.now a.n a.i a.p a.bytes.now a.ends.now a.out.now a.o s.requires.0 _ _ x
+          (turns_failed a.d a.piece.now a.n a.i a.p a.bytes.now a.ends.now a.out.now a.o s.requires.0 _ _ x
           (into a.t) _ _ rs k hold),
     )
 

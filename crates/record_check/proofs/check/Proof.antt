@@ -2,7 +2,7 @@
 use borrow.Author.Rules.{rules}
 use Rattle.model.specs.rules.Base.{if◌then◌else◌}
 use Rattle.cell_decoder.specs.Sources.{cells_in}
-use Rattle.cell_decoder.proofs.CellsIn.{cells-length}
+use Rattle.cell_decoder.proofs.CellsIn.{cells_length}
 use Rattle.record_check.proofs.check.Statement.{statement}
 use Rattle.record_check.proofs.check.Tie as tie
 
@@ -17,7 +17,7 @@ returns-2 c =
     let start = if-data.before.before.before.before.before in
     let a = start.args in
     let cells = cells_in a.src a.s.now a.starts.now a.ends.now a.kinds.now in
-    let count = cells-length a.src a.s.now a.starts.now a.ends.now a.kinds.now start.requires.with-ends start.requires.with-kinds in
+    let count = cells_length a.src a.s.now a.starts.now a.ends.now a.kinds.now start.requires.with_ends start.requires.with_kinds in
     rw if-data.if1.false (c.«data».ensures cells count)
 
 pub check-spec : {M : Type 1} → statement M

@@ -5,14 +5,14 @@ use native.Mathlib.Omega.{arith}
 use lib.ListN.{length, get_or}
 use borrow.Author.Rules.{rules}
 use borrow.Author.Tests.{not-true, not-false}
-use Rattle.model.specs.rules.Text.{isText}
-use Rattle.cell_decoder.specs.Sources.{kindFrom}
-use Rattle.record_check.proofs.Records.{notTextAt, not-text-end, not-text-here, not-text-next}
+use Rattle.model.specs.rules.Text.{is_text}
+use Rattle.cell_decoder.specs.Sources.{kind_from}
+use Rattle.record_check.proofs.Records.{not_text_at, not_text_end, not_text_here, not_text_next}
 use Rattle.record_check.proofs.first_not_text.Statement.{statement}
 use Rattle.record_check.proofs.first_not_text.Tie as tie
 
 abbrev invariant-loop : tie.invariant-loop
-invariant-loop kinds n₀ n = (n ≤ length kinds) × (notTextAt kinds 0 ≡ notTextAt kinds n)
+invariant-loop kinds n₀ n = (n ≤ length kinds) × (not_text_at kinds 0 ≡ not_text_at kinds n)
 
 abbrev decreases-loop : tie.decreases-loop
 decreases-loop kinds n₀ n = length kinds - n
@@ -20,8 +20,8 @@ decreases-loop kinds n₀ n = length kinds - n
 -- whether the kind at n is text
 told : (c : tie.After-is-text invariant-loop decreases-loop)
     → let u = c.before.before.before.before in
-    c.is-text.result ≡ isText (kindFrom (get_or u.before.before.args.kinds.now u.loop.n 0))
-told c = c.is-text.ensures ∙ ap isText c.before.kind-of-number.ensures
+    c.is_text_lem.result ≡ is_text (kind_from (get_or u.before.before.args.kinds.now u.loop.n 0))
+told c = c.is_text_lem.ensures ∙ ap is_text c.before.kind-of-number.ensures
 
 returns : tie.Need-returns invariant-loop decreases-loop
 returns c =
@@ -30,8 +30,8 @@ returns c =
     let kinds = u.before.before.args.kinds.now in
     sym
     (u.loop.invariant.1
-    ∙ not-text-here kinds u.loop.n c.before.before.before.before.loop-test.true
-    (sym (told c.before) ∙ not-true c.before.is-text.result c.if1.true))
+    ∙ not_text_here kinds u.loop.n c.before.before.before.before.loop-test.true
+    (sym (told c.before) ∙ not-true c.before.is_text_lem.result c.if1.true))
 
 loop-again : tie.Need-loop-preserved invariant-loop decreases-loop
 loop-again c =
@@ -40,12 +40,12 @@ loop-again c =
     let kinds = u.before.before.args.kinds.now in (
       omega (arith, c.before.before.before.before.loop-test.true),
       u.loop.invariant.1
-          ∙ not-text-next kinds u.loop.n c.before.before.before.before.loop-test.true
-          (sym (told c.before) ∙ not-false c.before.is-text.result c.if1.false),
+          ∙ not_text_next kinds u.loop.n c.before.before.before.before.loop-test.true
+          (sym (told c.before) ∙ not-false c.before.is_text_lem.result c.if1.false),
     )
 
 returns-2 : tie.Need-returns-2 invariant-loop decreases-loop
-returns-2 c = sym (c.before.loop.invariant.1 ∙ not-text-end c.before.before.before.args.kinds.now c.before.loop.n c.loop-test.false)
+returns-2 c = sym (c.before.loop.invariant.1 ∙ not_text_end c.before.before.before.args.kinds.now c.before.loop.n c.loop-test.false)
 
 pub first-not-text-spec : {M : Type 1} → statement M
 first-not-text-spec =

@@ -1,7 +1,7 @@
 -- `record_fast::crlf_end` meets its contract: a CR is an ending only with the LF after it.
 use native.Mathlib.Omega.{arith}
 use borrow.Author.Rules.{rules}
-use Rattle.record_fast.specs.FastScan.{RecordEndSound, at_once, by-pair, nowhere}
+use Rattle.record_fast.specs.FastScan.{RecordEndSound, at_once, by_pair, nowhere}
 use Rattle.record_fast.proofs.crlf_end.Statement.{statement}
 use Rattle.record_fast.proofs.crlf_end.Tie as tie
 use Rattle.record_fast.proofs.crlf_end.Reads as reads
@@ -26,7 +26,7 @@ add-t4 : tie.Need-overflow-add-t4
 add-t4 c = search rules
 
 returns-3 : tie.Need-returns-3
-returns-3 c = λ d h. by-pair (omega arith) h c.if2.false
+returns-3 c = λ d h. by_pair (omega arith) h c.if2.false
 
 pub crlf-end-spec : {M : Type 1} → statement M
 crlf-end-spec =

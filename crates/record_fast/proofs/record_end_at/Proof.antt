@@ -5,9 +5,9 @@ use mathlib.Core.Path.{ap, ◌∙◌}
 use borrow.Author.Rules.{rules}
 use Rattle.model.specs.declared.Dialect.{Dialect}
 use Rattle.model.specs.rules.Base.{CR}
-use Rattle.model.specs.rules.File.{afterCell}
-use Rattle.record_fast.specs.FastScan.{RecordEndSound, at_once, by-pair, nowhere}
-use Rattle.record_fast.proofs.Endings.{after-lf, after-cr-csvj, after-cr-tdif, after-cr-plus}
+use Rattle.model.specs.rules.File.{after_cell}
+use Rattle.record_fast.specs.FastScan.{RecordEndSound, at_once, by_pair, nowhere}
+use Rattle.record_fast.proofs.Endings.{after_lf, after_cr_csvj, after_cr_tdif, after_cr_plus}
 use Rattle.record_fast.proofs.record_end_at.Statement.{statement}
 use Rattle.record_fast.proofs.record_end_at.Tie as tie
 use Rattle.record_fast.proofs.record_end_at.Reads as reads
@@ -23,7 +23,7 @@ add-t10 c = search rules
 returns : tie.Need-returns
 returns c =
     let a = c.before.before.before.args in
-    at_once (ap (λ (b : ℕ). afterCell a.d true b) c.if1.true ∙ after-lf a.d)
+    at_once (ap (λ (b : ℕ). after_cell a.d true b) c.if1.true ∙ after_lf a.d)
 
 returns-2 : tie.Need-returns-2
 returns-2 c = nowhere
@@ -50,22 +50,22 @@ returns-3 : tie.Need-returns-3
 returns-3 c =
     let start = c.before.before.before.before.before.before.before in
     let a = start.args in
-    c.crlf-end.ensures a.d (ap (λ (b : ℕ). afterCell a.d true b) c.before.before.before.if2.false ∙
-    ap (λ (x : Dialect). afterCell x true CR) c.before.enum_told.given.1 ∙ after-cr-csvj)
+    c.crlf-end.ensures a.d (ap (λ (b : ℕ). after_cell a.d true b) c.before.before.before.if2.false ∙
+    ap (λ (x : Dialect). after_cell x true CR) c.before.enum_told.given.1 ∙ after_cr_csvj)
 
 returns-4 : tie.Need-returns-4
 returns-4 c =
     let start = c.before.before.before.before.before.before in
     let a = start.args in
-    at_once (ap (λ (b : ℕ). afterCell a.d true b) c.before.before.if2.false ∙ ap (λ (x : Dialect). afterCell x true CR)
-    c.enum-told2.given.1 ∙ after-cr-tdif)
+    at_once (ap (λ (b : ℕ). after_cell a.d true b) c.before.before.if2.false ∙ ap (λ (x : Dialect). after_cell x true CR)
+    c.enum-told2.given.1 ∙ after_cr_tdif)
 
 returns-5 : tie.Need-returns-5
 returns-5 c =
     let start = c.before.before.before.before.before.before.before in
     let a = start.args in
-    c.crlf-end2.ensures a.d (ap (λ (b : ℕ). afterCell a.d true b) c.before.before.before.if2.false ∙
-    ap (λ (x : Dialect). afterCell x true CR) c.before.enum-told3.given.1 ∙ after-cr-plus _)
+    c.crlf-end2.ensures a.d (ap (λ (b : ℕ). after_cell a.d true b) c.before.before.before.if2.false ∙
+    ap (λ (x : Dialect). after_cell x true CR) c.before.enum-told3.given.1 ∙ after_cr_plus _)
 
 pub record-end-at-spec : {M : Type 1} → statement M
 record-end-at-spec =

@@ -9,17 +9,17 @@ use lib.ListN.{length}
 use borrow.Author.Rules.{rules}
 use borrow.Author.Tests.{eqb-true}
 use Rattle.model.specs.rules.Base.{QUOTE}
-use Rattle.model.specs.rules.Dialect.{quoteOf}
+use Rattle.model.specs.rules.Dialect.{quote_of}
 use Rattle.model.specs.rules.Report.{MAXFILE, MAXRECORD}
-use Rattle.codes.proofs.Least.{least_first, least-second, least_above}
+use Rattle.codes.proofs.Least.{least_first, least_second, least_above}
 use Rattle.model.specs.rules.Api.{least}
-use Rattle.record_scanner.specs.Stored.{storedFrom}
-use Rattle.record_scanner.proofs.StoreLaws.{length-stored-if}
+use Rattle.record_scanner.specs.Stored.{stored_from}
+use Rattle.record_scanner.proofs.StoreLaws.{length_stored_if}
 use Rattle.model.specs.declared.Cell.TheVariants.{Fresh}
 use Rattle.cell_fast.specs.Ends.{EndsFrom}
-use Rattle.record_fast.specs.FastScan.{RecordEndSound, is-fallback}
+use Rattle.record_fast.specs.FastScan.{RecordEndSound, is_fallback}
 use Rattle.record_fast.specs.declared.RecordEnd.{RecordEnd}
-use Rattle.record_fast.proofs.FastScanInvariant.{Bounds, Row, Writes, begins-on, row-begins, cell-lies-in, next-cell, last-cell, odd}
+use Rattle.record_fast.proofs.FastScanInvariant.{Bounds, Row, Writes, begins_on, row_begins, cell_lies_in, next_cell_lem, last_cell_lem, odd}
 use Rattle.record_fast.proofs.scan.Statement.{statement}
 use Rattle.record_fast.proofs.scan.Tie as tie
 use Rattle.record_fast.proofs.scan.Reads as reads
@@ -33,8 +33,8 @@ abbrev decreases-loop : tie.decreases-loop
 decreases-loop d part from limit room base starts₀ ends₀ kinds₀ start most stop p q clean₀ at₀ n₀ starts ends kinds clean at n = stop - at
 
 returns : tie.Need-returns invariant-loop decreases-loop
-unfolding storedFrom
-returns c = is-fallback [] _ refl (record { at-starts = refl; at-ends = refl; at-kinds = refl })
+unfolding stored_from
+returns c = is_fallback [] _ refl (record { at_starts = refl; at_ends = refl; at_kinds = refl })
 
 loop-holds : tie.Need-loop-init invariant-loop decreases-loop
 loop-holds c =
@@ -48,13 +48,13 @@ loop-holds c =
     let m : most ≡ least (length a.part.now) a.limit = c.before.before.before.before.min-of.ensures in
     let s : stop ≡ least most (start + MAXRECORD) = c.before.before.min-of2.ensures in
     let m1 : most ≤ length a.part.now = rw m (least_first (length a.part.now) a.limit) in
-    let m2 : most ≤ a.limit = rw m (least-second (length a.part.now) a.limit) in
+    let m2 : most ≤ a.limit = rw m (least_second (length a.part.now) a.limit) in
     let s1 : stop ≤ most = rw s (least_first most (start + MAXRECORD)) in
-    let s2 : stop ≤ start + MAXRECORD = rw s (least-second most (start + MAXRECORD)) in
+    let s2 : stop ≤ start + MAXRECORD = rw s (least_second most (start + MAXRECORD)) in
     let on : start < most = c.before.before.before.if1.false in
     let s3 : start < stop = rw s (least_above start most (start + MAXRECORD) on (omega arith)) in
-    row-begins _ _ _ _ _ _ _ _ _ _ _ pre.0.0 pre.0.1 pre.0.2 pre.0.3 pre.1 (record { inside = omega arith; under = omega arith; short = s2 })
-    (begins-on _ _ _ _ at-record-start.record-start.ensures pre.0.0) (omega arith) (omega arith) (omega arith)
+    row_begins _ _ _ _ _ _ _ _ _ _ _ pre.0.0 pre.0.1 pre.0.2 pre.0.3 pre.1 (record { inside = omega arith; under = omega arith; short = s2 })
+    (begins_on _ _ _ _ at-record-start.record-start.ensures pre.0.0) (omega arith) (omega arith) (omega arith)
     λ z. sym c.quote-of.ensures ∙ eqb-true _ _ z
 
 cell-end-requires : tie.Need-cell-end-requires invariant-loop decreases-loop
@@ -80,7 +80,7 @@ lies : (u : tie.After-both invariant-loop decreases-loop)
     u.before.before.before.before.before.before.before.before.before.before.before.before.before.before.before.args.part.now)
 lies u =
     let x =
-    cell-lies-in _ _ _ _ _ _ _ _ _ _ _ u.before.before.before.before.loop.invariant u.before.before.before.loop-test.true
+    cell_lies_in _ _ _ _ _ _ _ _ _ _ _ u.before.before.before.before.loop.invariant u.before.before.before.loop-test.true
     (ends_at u) _ u.before.before.before.before.before.before.before.before.before.before.record-start.ensures in
     (x.0, x.1)
 
@@ -138,21 +138,21 @@ same-length-7 c =
     let at-store-cell = c.before.before.before.before.before.before in
     let at-loop =
     c.before.before.before.before.before.before.before.before.before.before.before.before.before.before.before.before.before.before.before.before in
-    ap length at-store-cell.store-cell.ensures.0 ∙ length-stored-if true _ _ _ _ ∙ at-loop.loop.inv.long.0
+    ap length at-store-cell.store-cell.ensures.0 ∙ length_stored_if true _ _ _ _ ∙ at-loop.loop.inv.long.0
 
 same-length-8 : tie.Need-same-length-8 invariant-loop decreases-loop
 same-length-8 c =
     let at-store-cell = c.before.before.before.before.before.before in
     let at-loop =
     c.before.before.before.before.before.before.before.before.before.before.before.before.before.before.before.before.before.before.before.before in
-    ap length at-store-cell.store-cell.ensures.1.0 ∙ length-stored-if true _ _ _ _ ∙ at-loop.loop.inv.long.1
+    ap length at-store-cell.store-cell.ensures.1.0 ∙ length_stored_if true _ _ _ _ ∙ at-loop.loop.inv.long.1
 
 same-length-9 : tie.Need-same-length-9 invariant-loop decreases-loop
 same-length-9 c =
     let at-store-cell = c.before.before.before.before.before.before in
     let at-loop =
     c.before.before.before.before.before.before.before.before.before.before.before.before.before.before.before.before.before.before.before.before in
-    ap length at-store-cell.store-cell.ensures.1.1 ∙ length-stored-if true _ _ _ _ ∙ at-loop.loop.inv.long.2
+    ap length at-store-cell.store-cell.ensures.1.1 ∙ length_stored_if true _ _ _ _ ∙ at-loop.loop.inv.long.2
 
 returns-4 : tie.Need-returns-4 invariant-loop decreases-loop
 returns-4 c =
@@ -162,7 +162,7 @@ returns-4 c =
     let u = at-record-end-at.before.before.before in
     let l = u.before.before.before.before.loop in
     rw u.both.ensures
-    (last-cell _ _ _ _ _ _ _ _ _ _ _ l.invariant u.before.before.before.loop-test.true (ends_at u) (lies u).0 u.before.if2.false
+    (last_cell_lem _ _ _ _ _ _ _ _ _ _ _ l.invariant u.before.before.before.loop-test.true (ends_at u) (lies u).0 u.before.if2.false
     (subst (λ (r : RecordEnd). RecordEndSound u.before.before.before.before.before.before.before.before.before.before.before.before.before.before.before.args.d u.before.before.before.before.before.before.before.before.before.before.before.before.before.before.before.args.part.now u.before.before.cell-end.result.at u.before.before.before.before.before.before.before.min-of2.result r) at-state.state.given.1 at-record-end-at.record-end-at.ensures)
     (u.before.before.cell-end.ensures.content u.before.if2.false) (record { put = at-store-cell.store-cell.ensures }) _
     u.before.before.before.before.before.before.before.before.before.before.record-start.ensures)
@@ -209,7 +209,7 @@ loop-again c =
     let u = at-if3.before.before in
     let l = u.before.before.before.before.loop in
     rw u.both.ensures
-    (next-cell _ _ _ _ _ _ _ _ _ _ _ l.invariant u.before.before.before.loop-test.true (ends_at u) u.before.if2.false
+    (next_cell_lem _ _ _ _ _ _ _ _ _ _ _ l.invariant u.before.before.before.loop-test.true (ends_at u) u.before.if2.false
     (at-if3.if3.false ∙ u.before.before.before.before.before.before.delimiter-of.ensures)
     (u.before.before.cell-end.ensures.content u.before.if2.false) (record { put = at-store-cell2.store-cell2.ensures }) (lies u).0)
 
@@ -228,7 +228,7 @@ scan-spec =
     (λ c κs. search rules)
     returns
     (λ c. let start = c.before.before.before.before.before.before.before in let m : c.before.min-of.result ≤
-    start.args.limit = rw c.before.min-of.ensures (least-second _ _) in omega arith)
+    start.args.limit = rw c.before.min-of.ensures (least_second _ _) in omega arith)
     (λ c κs. search rules)
     (λ c κs. search rules)
     (λ c κs. search rules)

@@ -5,17 +5,17 @@ use borrow.Author.Rules.{rules}
 use Rattle.model.specs.declared.Fault.{Fault}
 use Rattle.model.specs.declared.CheckResult.{CheckResult}
 use Rattle.model.specs.declared.CheckResult.TheVariants.{Sound, Faulty}
-use Rattle.model.specs.rules.Records.{◌orElse◌}
-use Rattle.model.proofs.file_laws.CheckResults.{fault-sound}
+use Rattle.model.specs.rules.Records.{◌or_else◌}
+use Rattle.model.proofs.file_laws.CheckResults.{fault_sound}
 use Rattle.record_target.proofs.check_record.Statement.{statement}
 use Rattle.record_target.proofs.check_record.Tie as tie
 
 or-faulty : (v w : CheckResult) (e : Fault) → v ≡ Faulty e → (v or_else w) ≡ Faulty e
-unfolding ◌orElse◌
+unfolding ◌or_else◌
 or-faulty v w e h = rw h
 
 or_sound : (v w : CheckResult) → v ≡ Sound → (v or_else w) ≡ w
-unfolding ◌orElse◌
+unfolding ◌or_else◌
 or_sound v w h = rw h
 
 returns : tie.Need-returns
@@ -23,7 +23,7 @@ returns c =
     let told = c.before.before.e.given.1 in
     let check = c.before.before.before.before.check in (
       c.refused.ensures ∙ sym (or-faulty _ _ _ (sym check.ensures ∙ told)),
-      λ s. fault-sound (sym c.refused.ensures ∙ s),
+      λ s. fault_sound (sym c.refused.ensures ∙ s),
     )
 
 returns-2 : tie.Need-returns-2

@@ -6,13 +6,13 @@ use lib.ListN.{length}
 use borrow.Author.Rules.{rules}
 use Rattle.model.specs.declared.CheckResult.TheVariants.{Sound}
 use Rattle.model.specs.rules.Base.{is_empty}
-use Rattle.model.specs.rules.Dialect.{isCsvj, into}
-use Rattle.model.specs.rules.Records.{uncarriedFrom, clashFault}
-use Rattle.model.specs.rules.Text.{Value, recordText}
-use Rattle.model.proofs.file_laws.CheckResults.{fault-sound}
+use Rattle.model.specs.rules.Dialect.{is_csvj, into}
+use Rattle.model.specs.rules.Records.{uncarried_from, clash_fault}
+use Rattle.model.specs.rules.Text.{Value, record_text}
+use Rattle.model.proofs.file_laws.CheckResults.{fault_sound}
 use Rattle.cell_decoder.specs.Sources.{cells_in}
-use Rattle.cell_decoder.proofs.CellsIn.{cells-length}
-use Rattle.record_check.proofs.Keys.{cells-named}
+use Rattle.cell_decoder.proofs.CellsIn.{cells_length}
+use Rattle.record_check.proofs.Keys.{cells_named}
 use Rattle.record_target.proofs.Reasons.{no_cells, lacks, clashes, by_length}
 use Rattle.record_target.proofs.check_target.Statement.{statement}
 use Rattle.record_target.proofs.check_target.Tie as tie
@@ -21,7 +21,7 @@ abbrev cells : tie.Start → List Value
 cells c = let a = c.args in cells_in a.src a.s.now a.starts.now a.ends.now a.kinds.now
 
 counted : (c : tie.Start) → length (cells c) ≡ length c.args.starts.now
-counted c = let a = c.args in cells-length a.src a.s.now a.starts.now a.ends.now a.kinds.now c.requires.0.with-ends c.requires.0.with-kinds
+counted c = let a = c.args in cells_length a.src a.s.now a.starts.now a.ends.now a.kinds.now c.requires.0.with_ends c.requires.0.with_kinds
 
 returns : tie.Need-returns
 returns c =
@@ -32,13 +32,13 @@ returns c =
           ∙ sym
           (no_cells a.t a.header a.written (cells u)
           (sym (c.before.before.lacks-cells.ensures (cells u) (counted u)) ∙ c.before.if1.true)),
-      λ s. fault-sound (sym c.refused.ensures ∙ s),
+      λ s. fault_sound (sym c.refused.ensures ∙ s),
     )
 
 -- it is no header, or has cells, or the target is CSVJ
 has : (c : tie.After-measure)
     → let u = c.before.before.before.before.before.before.before in
-    (u.args.header && is_empty (cells u) && not (isCsvj u.args.t)) ≡ false
+    (u.args.header && is_empty (cells u) && not (is_csvj u.args.t)) ≡ false
 has c =
     let c4 = c.before.before.before.before in
     let u = c4.before.before.before in
@@ -53,24 +53,24 @@ returns-2 c =
           ∙ sym
           (lacks a.t a.header a.written (cells u) (has m) _
           (sym m.measure.ensures.1 ∙ c.before.before.carries.given.1)),
-      λ s. fault-sound (sym c.refused2.ensures ∙ s),
+      λ s. fault_sound (sym c.refused2.ensures ∙ s),
     )
 
 -- the target can represent its cells
 carries : (c : tie.After-name-clash)
     → let u = c.before.before.before.before.before.before.before.before.before.before in
-    uncarriedFrom u.args.t 1 (cells u) ≡ Sound
+    uncarried_from u.args.t 1 (cells u) ≡ Sound
 carries c = sym c.before.before.before.measure.ensures.1 ∙ c.before.enum_told.given.1
 
 -- the check result for its names
 clash : (c : tie.After-name-clash)
     → let u = c.before.before.before.before.before.before.before.before.before.before in
-    clashFault u.args.t u.args.header (cells u) ≡ c.name-clash.result
+    clash_fault u.args.t u.args.header (cells u) ≡ c.name-clash.result
 clash c =
     let c4 = c.before.before.before.before in
     let c8 = c4.before.before.before.before in
     let u = c8.before.before in
-    sym (c.name-clash.ensures u.args.kinds.now (sym u.requires.0.with-kinds))
+    sym (c.name-clash.ensures u.args.kinds.now (sym u.requires.0.with_kinds))
 
 returns-3 : tie.Need-returns-3
 returns-3 c =
@@ -79,7 +79,7 @@ returns-3 c =
     let u = m.before.before.before.before.before.before.before in
     let a = u.args in (
       c.refused3.ensures ∙ sym (clashes a.t a.header a.written (cells u) (has m) (carries k) _ (clash k ∙ c.before.before.e.given.1)),
-      λ s. fault-sound (sym c.refused3.ensures ∙ s),
+      λ s. fault_sound (sym c.refused3.ensures ∙ s),
     )
 
 returns-4 : tie.Need-returns-4
@@ -88,7 +88,7 @@ returns-4 c =
     let m = k.before.before.before in
     let u = m.before.before.before.before.before.before.before in
     let a = u.args in
-    let z = c.check-size.ensures (recordText (into a.t) a.header (cells u)) m.measure.ensures.0 in
+    let z = c.check-size.ensures (record_text (into a.t) a.header (cells u)) m.measure.ensures.0 in
     (z.says ∙ sym (by_length a.t a.header a.written (cells u) (has m) (carries k) (clash k ∙ c.before.enum-told2.given.1)), z.long)
 
 pub check-target-spec : {M : Type 1} → statement M
@@ -106,7 +106,7 @@ check-target-spec =
     (λ c κs.
     let c4 = c.before.before.before.before in
     let c8 = c4.before.before.before.before in
-    cells-named c8.before.requires.0)
+    cells_named c8.before.requires.0)
     (λ c. search rules)
     (λ c κs. search rules)
     returns-3

@@ -2,9 +2,9 @@
 ghost use Rattle.std.specs.Prelude.{◌≡◌, true, ◌≤◌, length};
 ghost use Rattle.model.specs.declared.Dialect.{Dialect as TheDialect};
 ghost use Rattle.model.specs.rules.Base.{QUOTE};
-ghost use Rattle.model.specs.rules.Dialect.{quoteOf};
-ghost use Rattle.model.specs.rules.Cell.{mayBeEmpty};
-ghost use Rattle.swar.specs.Words.{isClean, AllIn};
+ghost use Rattle.model.specs.rules.Dialect.{quote_of};
+ghost use Rattle.model.specs.rules.Cell.{may_be_empty};
+ghost use Rattle.swar.specs.Words.{is_clean, AllIn};
 ghost use Rattle.cell_fast.specs.Ends.{CleanCell};
 
 use crate::quotes;
@@ -12,7 +12,7 @@ use model::Dialect;
 
 // Whether the dialect has texts without quotation marks.
 pub fn may_be_bare(d: Dialect) -> bool
-    ensures { result ≡ mayBeEmpty d }
+    ensures { result ≡ may_be_empty d }
 {
     match d {
         Dialect::Csvj => false,
@@ -23,7 +23,7 @@ pub fn may_be_bare(d: Dialect) -> bool
 
 fn all_clean(raw: &[u8], from: usize, upto: usize) -> bool
     requires { (from ≤ upto) × (upto ≤ length raw.now) }
-    ensures { result ≡ true → AllIn (isClean QUOTE) raw.now from upto }
+    ensures { result ≡ true → AllIn (is_clean QUOTE) raw.now from upto }
 {
     let mut i = from;
     while 8 < upto - i {
@@ -47,7 +47,7 @@ fn may_be_text(bare: bool, around: usize) -> bool
 
 // `bare`: the dialect has texts without quotation marks.
 pub fn is_clean(bare: bool, raw: &[u8]) -> bool
-    ensures { (d : TheDialect) → quoteOf d ≡ QUOTE → bare ≡ mayBeEmpty d → result ≡ true → CleanCell d raw.now }
+    ensures { (d : TheDialect) → quote_of d ≡ QUOTE → bare ≡ may_be_empty d → result ≡ true → CleanCell d raw.now }
 {
     let around = quotes::quotes_around(raw);
     if !may_be_text(bare, around) {

@@ -1,11 +1,11 @@
 // Verbatim cells into CSV+ with the quotation mark for a quote: quoted only where the delimiter or an empty only cell requires it (§14.7).
-// The definition is `plusCell` of specs/CleanCellText.antt.
+// The definition is `plus_cell` of specs/CleanCellText.antt.
 ghost use Rattle.std.specs.Prelude.{◌≡◌, true, ◌++◌, ◌≤◌, eqb, length, drop};
 ghost use Rattle.model.specs.rules.Base.{QUOTE, begins, holds};
 ghost use Rattle.swar.specs.Words.{is_byte};
 ghost use Rattle.buffer.specs.Writes.{Room, WrittenAt};
-ghost use Rattle.record_writer.specs.Joined.{before, joinedFrom, Spans};
-ghost use Rattle.record_writer.specs.CleanCellText.{marked, quotesBy, needsQuotes, plusCell};
+ghost use Rattle.record_writer.specs.Joined.{before, joined_from, Spans};
+ghost use Rattle.record_writer.specs.CleanCellText.{marked, quotes_by, needs_quotes, plus_cell};
 
 use crate::clean::quotes;
 
@@ -41,7 +41,7 @@ fn holds_byte(bs: &[u8], p: u8) -> bool
 }
 
 fn needs_quotes(bs: &[u8], p: u8, only: bool) -> bool
-    ensures { result ≡ needsQuotes p only bs.now }
+    ensures { result ≡ needs_quotes p only bs.now }
 {
     if holds_byte(bs, p) {
         return true;
@@ -55,8 +55,8 @@ fn needs_quotes(bs: &[u8], p: u8, only: bool) -> bool
 // ---- cells
 
 fn write_text(bs: &[u8], p: u8, only: bool, out: &mut [u8], o: usize, write: bool) -> usize
-    requires { Room write o (marked (needsQuotes p only bs.now) bs.now) out.old }
-    ensures { WrittenAt write out.old o (marked (needsQuotes p only bs.now) bs.now) out.new result }
+    requires { Room write o (marked (needs_quotes p only bs.now) bs.now) out.old }
+    ensures { WrittenAt write out.old o (marked (needs_quotes p only bs.now) bs.now) out.new result }
 {
     let quoted = needs_quotes(bs, p, only);
     let from = quotes::write_quote(quoted, out, o, write);
@@ -65,7 +65,7 @@ fn write_text(bs: &[u8], p: u8, only: bool, out: &mut [u8], o: usize, write: boo
 }
 
 fn quotes_before(raw: &[u8]) -> usize
-    ensures { result ≡ quotesBy (begins QUOTE raw.now) }
+    ensures { result ≡ quotes_by (begins QUOTE raw.now) }
 {
     if quotes::has_quotes(raw) {
         return 1;
@@ -83,8 +83,8 @@ fn write_column(
     write: bool,
 ) -> usize
     requires in_bounds { begins QUOTE raw.now ≡ true → 2 ≤ length raw.now }
-    requires room { Room write o (before p n ++ plusCell p only raw.now) out.old }
-    ensures { WrittenAt write out.old o (before p n ++ plusCell p only raw.now) out.new result }
+    requires room { Room write o (before p n ++ plus_cell p only raw.now) out.old }
+    ensures { WrittenAt write out.old o (before p n ++ plus_cell p only raw.now) out.new result }
 {
     let at = quotes::write_delimiter(p, n, out, o, write);
     let from = quotes_before(raw);
@@ -103,9 +103,9 @@ pub fn write_csv_plus(
     write: bool,
 ) -> usize
     requires spans { Spans s.now starts.now ends.now }
-    requires room { Room write at (joinedFrom p (plusCell p (eqb (length starts.now) 1)) s.now 0 starts.now ends.now) out.old }
+    requires room { Room write at (joined_from p (plus_cell p (eqb (length starts.now) 1)) s.now 0 starts.now ends.now) out.old }
     ensures { WrittenAt write out.old at
-        (joinedFrom p (plusCell p (eqb (length starts.now) 1)) s.now 0 starts.now ends.now)
+        (joined_from p (plus_cell p (eqb (length starts.now) 1)) s.now 0 starts.now ends.now)
         out.new result }
 {
     let only = starts.len() == 1;

@@ -1,19 +1,19 @@
 // Verbatim cells into a target that quotes every text. Only the first byte of a cell is tested, and the cell is copied unchanged. Writing
-// and measuring are two loops, so that no cell tests which of the two is done. The definition is `quotedCell` of specs/CleanCellText.antt.
+// and measuring are two loops, so that no cell tests which of the two is done. The definition is `quoted_cell` of specs/CleanCellText.antt.
 ghost use Rattle.std.specs.Prelude.{◌≡◌, true, ◌++◌, ◌+◌, ◌≤◌, length};
 ghost use Rattle.model.specs.rules.Base.{COMMA};
 ghost use Rattle.model.specs.rules.Report.{MAXRECORD, MAXFILE};
 ghost use Rattle.buffer.specs.Writes.{measure, Room, WrittenAt};
-ghost use Rattle.record_writer.specs.Joined.{before, joinedFrom, Spans};
-ghost use Rattle.record_writer.specs.CleanCellText.{quotedCell};
+ghost use Rattle.record_writer.specs.Joined.{before, joined_from, Spans};
+ghost use Rattle.record_writer.specs.CleanCellText.{quoted_cell};
 
 use crate::clean::quotes;
 
 // ---- writing
 
 fn write_cell(raw: &[u8], out: &mut [u8], o: usize) -> usize
-    requires { Room true o (quotedCell raw.now) out.old }
-    ensures { WrittenAt true out.old o (quotedCell raw.now) out.new result }
+    requires { Room true o (quoted_cell raw.now) out.old }
+    ensures { WrittenAt true out.old o (quoted_cell raw.now) out.new result }
 {
     let bare = !quotes::has_quotes(raw);
     let from = quotes::write_quote(bare, out, o, true);
@@ -22,8 +22,8 @@ fn write_cell(raw: &[u8], out: &mut [u8], o: usize) -> usize
 }
 
 fn write_column(raw: &[u8], n: usize, out: &mut [u8], o: usize) -> usize
-    requires { Room true o (before COMMA n ++ quotedCell raw.now) out.old }
-    ensures { WrittenAt true out.old o (before COMMA n ++ quotedCell raw.now) out.new result }
+    requires { Room true o (before COMMA n ++ quoted_cell raw.now) out.old }
+    ensures { WrittenAt true out.old o (before COMMA n ++ quoted_cell raw.now) out.new result }
 {
     let from = quotes::write_delimiter(0x2C, n, out, o, true);
     write_cell(raw, out, from)
@@ -31,8 +31,8 @@ fn write_column(raw: &[u8], n: usize, out: &mut [u8], o: usize) -> usize
 
 fn write(s: &[u8], starts: &[usize], ends: &[usize], out: &mut [u8], at: usize) -> usize
     requires spans { Spans s.now starts.now ends.now }
-    requires room { Room true at (joinedFrom COMMA quotedCell s.now 0 starts.now ends.now) out.old }
-    ensures { WrittenAt true out.old at (joinedFrom COMMA quotedCell s.now 0 starts.now ends.now) out.new result }
+    requires room { Room true at (joined_from COMMA quoted_cell s.now 0 starts.now ends.now) out.old }
+    ensures { WrittenAt true out.old at (joined_from COMMA quoted_cell s.now 0 starts.now ends.now) out.new result }
 {
     let mut n = 0;
     let mut o = at;
@@ -49,7 +49,7 @@ fn write(s: &[u8], starts: &[usize], ends: &[usize], out: &mut [u8], at: usize) 
 
 fn cell_length(raw: &[u8]) -> usize
     requires { length raw.now ≤ MAXRECORD }
-    ensures { result ≡ length (quotedCell raw.now) }
+    ensures { result ≡ length (quoted_cell raw.now) }
 {
     if quotes::has_quotes(raw) {
         return raw.len();
@@ -59,7 +59,7 @@ fn cell_length(raw: &[u8]) -> usize
 
 fn column_length(raw: &[u8], n: usize) -> usize
     requires { length raw.now ≤ MAXRECORD }
-    ensures { result ≡ length (before COMMA n ++ quotedCell raw.now) }
+    ensures { result ≡ length (before COMMA n ++ quoted_cell raw.now) }
 {
     if n == 0 {
         return cell_length(raw);
@@ -70,7 +70,7 @@ fn column_length(raw: &[u8], n: usize) -> usize
 fn measure(s: &[u8], starts: &[usize], ends: &[usize], at: usize) -> usize
     requires spans { Spans s.now starts.now ends.now }
     requires at_bound { at ≤ MAXFILE }
-    ensures { result ≡ measure (at + length (joinedFrom COMMA quotedCell s.now 0 starts.now ends.now)) }
+    ensures { result ≡ measure (at + length (joined_from COMMA quoted_cell s.now 0 starts.now ends.now)) }
 {
     let mut n = 0;
     let mut o = at;
@@ -93,8 +93,8 @@ pub fn write_quoted(
     write: bool,
 ) -> usize
     requires spans { Spans s.now starts.now ends.now }
-    requires room { Room write at (joinedFrom COMMA quotedCell s.now 0 starts.now ends.now) out.old }
-    ensures { WrittenAt write out.old at (joinedFrom COMMA quotedCell s.now 0 starts.now ends.now) out.new result }
+    requires room { Room write at (joined_from COMMA quoted_cell s.now 0 starts.now ends.now) out.old }
+    ensures { WrittenAt write out.old at (joined_from COMMA quoted_cell s.now 0 starts.now ends.now) out.new result }
 {
     if write {
         return self::write(s, starts, ends, out, at);

@@ -1,7 +1,7 @@
 -- `swar::last_word` meets its contract: for each length of the span the bytes that are read cover it.
 use borrow.Author.Rules.{rules}
 use native.Mathlib.Omega.{arith}
-use Rattle.swar.proofs.Spans.{last-eight, last-fours, last_none, last-three}
+use Rattle.swar.proofs.Spans.{last_eight, last_fours, last_none, last_three}
 use Rattle.swar.proofs.last_word.Statement.{statement}
 use Rattle.swar.proofs.last_word.Tie as tie
 
@@ -9,13 +9,13 @@ returns : tie.Need-returns
 returns c =
     let u = c.before.before.before in
     let a = u.args in
-    last-eight a.s.now a.from a.upto c.word.result u.requires.0 u.requires.1 (omega arith) c.word.ensures
+    last_eight a.s.now a.from a.upto c.word.result u.requires.0 u.requires.1 (omega arith) c.word.ensures
 
 returns-2 : tie.Need-returns-2
 returns-2 c =
     let u = c.before.before.before.before in
     let a = u.args in
-    last-fours a.s.now a.from a.upto c.fours.result u.requires.0 u.requires.1 (omega arith) (omega arith) c.fours.ensures
+    last_fours a.s.now a.from a.upto c.fours.result u.requires.0 u.requires.1 (omega arith) (omega arith) c.fours.ensures
 
 returns-3 : tie.Need-returns-3
 returns-3 c =
@@ -27,7 +27,7 @@ returns-4 : tie.Need-returns-4
 returns-4 c =
     let u = c.before.before.before.before.before in
     let a = u.args in
-    last-three a.s.now a.from a.upto c.three.result u.requires.0 u.requires.1 (omega arith) c.before.if3.false c.three.ensures
+    last_three a.s.now a.from a.upto c.three.result u.requires.0 u.requires.1 (omega arith) c.before.if3.false c.three.ensures
 
 pub last-word-spec : {M : Type 1} → statement M
 last-word-spec =

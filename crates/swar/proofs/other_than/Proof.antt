@@ -4,7 +4,7 @@ use Prim.Native.Nat.{◌*◌}
 use lib.Bits.{bit_xor, and_le_r}
 use borrow.Author.Rules.{rules}
 use Rattle.swar.specs.Words.{ONES}
-use Rattle.swar.proofs.ThresholdTests.{other-flags}
+use Rattle.swar.proofs.ThresholdTests.{other_flags}
 use Rattle.swar.proofs.other_than.Statement.{statement}
 use Rattle.swar.proofs.other_than.Tie as tie
 
@@ -12,7 +12,7 @@ add-result : tie.Need-overflow-add-result
 add-result c = omega (arith, and_le_r (bit_xor c.args.w (c.args.c * ONES)) 0x7F7F7F7F7F7F7F7F)
 
 returns : tie.Need-returns
-returns c = other-flags c.args.w (omega arith) c.args.c (omega arith)
+returns c = other_flags c.args.w (omega arith) c.args.c (omega arith)
 
 pub other-than-spec : {M : Type 1} → statement M
 other-than-spec = tie.close (tie.spec (λ c. search rules) add-result returns)

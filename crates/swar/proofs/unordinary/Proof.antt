@@ -3,15 +3,15 @@
 use native.Mathlib.Omega.{arith}
 use lib.Bits.{and_le_r}
 use borrow.Author.Rules.{rules}
-use Rattle.swar.proofs.OrdinaryTest.{stop-fits, flags}
+use Rattle.swar.proofs.OrdinaryTest.{stop_fits, flags}
 use Rattle.swar.proofs.unordinary.Statement.{statement}
 use Rattle.swar.proofs.unordinary.Tie as tie
 
 sub-is-first : tie.Need-overflow-sub-is-first
-sub-is-first c = stop-fits c.before.args.w c.before.args.p c.eight-stops.result c.eight-stops.ensures
+sub-is-first c = stop_fits c.before.args.w c.before.args.p c.eight-stops.result c.eight-stops.ensures
 
 sub-is-second : tie.Need-overflow-sub-is-second
-sub-is-second c = stop-fits c.before.before.args.w c.before.before.args.q c.eight-stops2.result c.eight-stops2.ensures
+sub-is-second c = stop_fits c.before.before.args.w c.before.before.args.q c.eight-stops2.result c.eight-stops2.ensures
 
 sub-below-20 : tie.Need-overflow-sub-below-20
 sub-below-20 c = omega (arith, and_le_r c.before.before.args.w 0x7F7F7F7F7F7F7F7F)

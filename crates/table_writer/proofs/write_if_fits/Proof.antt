@@ -4,18 +4,18 @@ use native.Mathlib.Omega.{arith}
 use lib.ListN.{length}
 use Rattle.model.specs.rules.Base.{Bytes}
 use Rattle.model.specs.rules.Dialect.{into}
-use Rattle.model.specs.rules.Text.{tableText}
+use Rattle.model.specs.rules.Text.{table_text}
 use Rattle.model.specs.rules.Api.{rows_of}
 use Rattle.cell_decoder.specs.declared.source.Source.TheVariants.{Contents}
 use Rattle.cell_decoder.specs.Sources.{cells_in}
-use Rattle.table_writer.proofs.Answers.{refuses, writes, too_short, long-enough}
+use Rattle.table_writer.proofs.Answers.{refuses, writes, too_short, long_enough}
 use Rattle.table_writer.proofs.write_if_fits.Statement.{statement}
 use Rattle.table_writer.proofs.write_if_fits.Tie as tie
 
 -- the table's text
 abbrev text : tie.Start → Bytes
 text c =
-    tableText (into c.args.t)
+    table_text (into c.args.t)
     (rows_of c.args.records c.args.columns
     (cells_in Contents c.args.content.now c.args.starts.now c.args.ends.now c.args.kinds.now))
 
@@ -35,7 +35,7 @@ returns-2 c =
     let c4 = c.before.before.before.before in
     let at-else = c4.before in
     let s = at-else.before.before.before.before.before.before in
-    writes s.args.room.now (long-enough (length s.args.room.now) (text s) (omega (arith, at-else.if1.false, s.requires.1.1)))
+    writes s.args.room.now (long_enough (length s.args.room.now) (text s) (omega (arith, at-else.if1.false, s.requires.1.1)))
     c.call-report2.ensures s.requires.1.1 c.before.before.before.write-records.ensures
 
 pub write-if-fits-spec : {M : Type 1} → statement M

@@ -6,8 +6,8 @@ use borrow.Author.Tests.{not-true, not-false}
 use Rattle.model.specs.rules.Api.{Table}
 use Rattle.table_writer.specs.TableParts.{given}
 use Rattle.table_writer.proofs.Tables.{Tabled, tabled}
-use Rattle.table_writer.specs.Answered.{writtenIn}
-use Rattle.table_writer.proofs.Answers.{refuses, answers-as, no_table}
+use Rattle.table_writer.specs.Answered.{written_in}
+use Rattle.table_writer.proofs.Answers.{refuses, answers_as, no_table}
 use Rattle.table_writer.proofs.write_in.Statement.{statement}
 use Rattle.table_writer.proofs.write_in.Tie as tie
 
@@ -40,7 +40,7 @@ returns-2 : tie.Need-returns-2
 returns-2 c =
     let at-else = c.before.before.before.before in
     let s = at-else.before.before.before.before.before.before.before in
-    answers-as s.args.room.now (ap (writtenIn s.args.t (length s.args.room.now)) (is_one at-else).rows) c.before.before.write-table.ensures
+    answers_as s.args.room.now (ap (written_in s.args.t (length s.args.room.now)) (is_one at-else).rows) c.before.before.write-table.ensures
 
 pub write-in-spec : {M : Type 1} → statement M
 write-in-spec =

@@ -7,7 +7,7 @@ use Rattle.model.specs.rules.Text.{Value}
 use Rattle.model.specs.rules.Api.{rows_of}
 use Rattle.cell_decoder.specs.declared.source.Source.TheVariants.{Contents}
 use Rattle.cell_decoder.specs.Sources.{cells_in}
-use Rattle.table_writer.proofs.Answers.{refuses, answers-as, accepted-size, accepted-written, refused-written}
+use Rattle.table_writer.proofs.Answers.{refuses, answers_as, accepted_size, accepted_written, refused_written}
 use Rattle.table_writer.proofs.write_table.Statement.{statement}
 use Rattle.table_writer.proofs.write_table.Tie as tie
 
@@ -22,7 +22,7 @@ write-if-fits-requires c κs =
     let at-measured = c.before.before.before.before in
     let s = at-measured.before.before.before.before.before.before in
     let told = c.before.before.length.given in
-    (s.requires.0, (s.requires.1, accepted-size s.args.t (rows s) told.0.0 (sym at-measured.measure.ensures ∙ told.1)))
+    (s.requires.0, (s.requires.1, accepted_size s.args.t (rows s) told.0.0 (sym at-measured.measure.ensures ∙ told.1)))
 
 returns : tie.Need-returns
 returns c =
@@ -30,8 +30,8 @@ returns c =
     let at-measured = c4.before.before.before in
     let s = at-measured.before.before.before.before.before.before in
     let told = c4.before.length.given in
-    answers-as s.args.room.now
-    (accepted-written s.args.t (rows s) told.0.0 (length s.args.room.now) (sym at-measured.measure.ensures ∙ told.1))
+    answers_as s.args.room.now
+    (accepted_written s.args.t (rows s) told.0.0 (length s.args.room.now) (sym at-measured.measure.ensures ∙ told.1))
     c.before.before.write-if-fits.ensures
 
 returns-2 : tie.Need-returns-2
@@ -40,7 +40,7 @@ returns-2 c =
     let s = at-measured.before.before.before.before.before.before in
     let told = c.before.before.e.given in
     refuses c.refusal.ensures refl
-    (refused-written s.args.t (rows s) told.0.0 (length s.args.room.now) (sym at-measured.measure.ensures ∙ told.1))
+    (refused_written s.args.t (rows s) told.0.0 (length s.args.room.now) (sym at-measured.measure.ensures ∙ told.1))
 
 pub write-table-spec : {M : Type 1} → statement M
 write-table-spec =

@@ -3,8 +3,8 @@ use mathlib.Core.Path.{refl, ap, ◌∙◌}
 use Prim.Native.Nat.{◌+◌, ◌-◌, ◌≤◌}
 use native.Mathlib.Omega.{arith}
 use lib.ListN.{length, drop}
-use Rattle.buffer.proofs.BlockProgress.{length-written, Writing}
-use Rattle.buffer.proofs.Overlaps.{first_block, next-block, last_block}
+use Rattle.buffer.proofs.BlockProgress.{length_written, Writing}
+use Rattle.buffer.proofs.Overlaps.{first_block, next_block, last_block}
 use Rattle.buffer.proofs.blocks.copy_long.Statement.{statement}
 use Rattle.buffer.proofs.blocks.copy_long.Tie as tie
 
@@ -27,7 +27,7 @@ loop-again : tie.Need-loop-preserved invariant-loop decreases-loop
 loop-again c =
     let l = c.before.before.before.before.before in (
       omega (arith, c.before.before.before.before.loop-test.true),
-      next-block l.loop.i l.loop.invariant.1 8 (omega (arith, c.before.before.before.before.loop-test.true)) (omega arith)
+      next_block l.loop.i l.loop.invariant.1 8 (omega (arith, c.before.before.before.before.loop-test.true)) (omega arith)
           c.before.before.copy-eight.ensures,
     )
 
@@ -59,6 +59,6 @@ copy-long-spec =
     loop-again
     (λ c. let start = c.before.before.before.before.before in omega (arith, start.requires.1))
     copy-eight-requires-2
-    (λ c. let u = c.before.before.before.before.before.before.before.before in ap length (returns c) ∙ length-written
+    (λ c. let u = c.before.before.before.before.before.before.before.before in ap length (returns c) ∙ length_written
     u.args.out.now u.args.at u.args.src.now u.requires.1)
     returns)

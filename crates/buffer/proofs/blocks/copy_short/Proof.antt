@@ -5,7 +5,7 @@ use native.Mathlib.Omega.{arith}
 use lib.ListN.{length}
 use borrow.Author.Rules.{rules}
 use Rattle.buffer.proofs.BlockProgress.{start}
-use Rattle.buffer.proofs.Overlaps.{no_block, next-block, last_block}
+use Rattle.buffer.proofs.Overlaps.{no_block, next_block, last_block}
 use Rattle.buffer.proofs.blocks.copy_short.Statement.{statement}
 use Rattle.buffer.proofs.blocks.copy_short.Tie as tie
 
@@ -14,7 +14,7 @@ returns c =
     let f = c.before.before.before.before.before.before in
     let u = f.before.before.before.before.before in
     let a = u.args in
-    let first = next-block 0 (start a.out.now a.at a.src.now u.requires.1) 4 f.before.before.if1.true refl f.copy-four.ensures in
+    let first = next_block 0 (start a.out.now a.at a.src.now u.requires.1) 4 f.before.before.if1.true refl f.copy-four.ensures in
     last_block 4 first 4 (length a.src.now - 4) refl (omega (arith, u.requires.0)) f.before.before.if1.true
     (omega (arith, f.before.before.if1.true)) c.before.before.copy-four2.ensures
 

@@ -8,7 +8,7 @@ use Prim.Native.Nat.{◌+◌, ◌-◌, ◌<◌, ◌≤◌}
 use native.Mathlib.Omega.{arith}
 use lib.ListN.{length, drop, get_or}
 use Rattle.model.specs.rules.Decode.{undouble}
-use Rattle.cell_decoder.proofs.DoubledQuotes.{at-end, at_other, at-double, at-close, at_last}
+use Rattle.cell_decoder.proofs.DoubledQuotes.{at_end, at_other, at_double, at_close, at_last}
 use Rattle.cell_decoder.proofs.content.undoubled_length.Statement.{statement}
 use Rattle.cell_decoder.proofs.content.undoubled_length.Tie as tie
 
@@ -38,7 +38,7 @@ returns-2 c =
     let a = at-loop.before.args in
     omega (
       arith,
-      ap length (at-close a.q a.raw.now at-loop.loop.i at-if1.before.before.loop-test.true
+      ap length (at_close a.q a.raw.now at-loop.loop.i at-if1.before.before.loop-test.true
           at-if1.if1.true (omega arith) c.if3.true),
     )
 
@@ -54,7 +54,7 @@ turn c =
     let i = c.before.before.before.loop.i in
     let h = c.before.before.loop-test.true in
     ⊎_elim
-    (λ w. rw w.4 (at-double q raw i h w.0.taken (omega (arith, w.1)) w.3.left, omega arith, omega (arith, w.1)))
+    (λ w. rw w.4 (at_double q raw i h w.0.taken (omega (arith, w.1)) w.3.left, omega arith, omega (arith, w.1)))
     (λ w. rw w.1 (at_other q raw i h w.0.left, omega arith, omega arith))
     c.if1.branch
 
@@ -62,7 +62,7 @@ loop-again : tie.Need-loop-preserved invariant-loop decreases-loop
 loop-again c = (omega (arith, (turn c.before).1), omega (arith, ap length (turn c.before).0))
 
 returns-3 : tie.Need-returns-3 invariant-loop decreases-loop
-returns-3 c = omega (arith, ap length (at-end c.before.before.args.q false c.before.before.args.raw.now c.before.loop.i c.loop-test.false))
+returns-3 c = omega (arith, ap length (at_end c.before.before.args.q false c.before.before.args.raw.now c.before.loop.i c.loop-test.false))
 
 pub undoubled-length-spec : {M : Type 1} → statement M
 undoubled-length-spec =

@@ -3,14 +3,14 @@ use mathlib.Core.Path.{sym}
 use native.Mathlib.Omega.{arith}
 use lib.ListN.{take}
 use borrow.Author.Rules.{rules}
-use Rattle.buffer.proofs.WriteProgress.{taken-whole}
-use Rattle.cell_decoder.proofs.Strings.{proceeds-length}
+use Rattle.buffer.proofs.WriteProgress.{taken_whole}
+use Rattle.cell_decoder.proofs.Strings.{proceeds_length}
 use Rattle.cell_decoder.proofs.content.write_escape.Statement.{statement}
 use Rattle.cell_decoder.proofs.content.write_escape.Tie as tie
 
 array-share-prefix-bytes : tie.Need-array-share-prefix-bytes
 array-share-prefix-bytes c =
-    taken-whole c.before.before.unescape-at.result.size c.before.before.unescape-at.result.bytes c.before.before.unescape-at.ensures.sized
+    taken_whole c.before.before.unescape-at.result.size c.before.before.unescape-at.result.bytes c.before.before.unescape-at.ensures.sized
 
 slice-aggregate-copy : tie.Need-slice-aggregate-copy
 slice-aggregate-copy c = sym c.before.before.before.unescape-at.ensures.sized
@@ -19,7 +19,7 @@ copy-requires : tie.Need-copy-requires
 copy-requires c κs =
     let at-piece-at = c.before.before.before in
     let at_pre = at-piece-at.before.before.before in
-    omega (arith, at-piece-at.unescape-at.ensures.sized, proceeds-length at-piece-at.unescape-at.ensures, at_pre.requires.1)
+    omega (arith, at-piece-at.unescape-at.ensures.sized, proceeds_length at-piece-at.unescape-at.ensures, at_pre.requires.1)
 
 returns : tie.Need-returns
 returns c =

@@ -2,7 +2,7 @@
 use mathlib.Core.Path.{◌∙◌}
 use native.Mathlib.Omega.{arith}
 use borrow.Author.Rules.{rules}
-use Rattle.buffer.proofs.WriteProgress.{written-first}
+use Rattle.buffer.proofs.WriteProgress.{written_first}
 use Rattle.cell_decoder.proofs.content.write_in.Statement.{statement}
 use Rattle.cell_decoder.proofs.content.write_in.Tie as tie
 
@@ -20,7 +20,7 @@ returns-2 : tie.Need-returns-2
 returns-2 c =
     let at-enum-told2 = c.before.before.before.before in
     let a = at-enum-told2.before.before.before.before.args in
-    rw at-enum-told2.enum-told2.given.1 (c.before.before.copy.ensures.1 ∙ written-first a.out.now a.raw.now)
+    rw at-enum-told2.enum-told2.given.1 (c.before.before.copy.ensures.1 ∙ written_first a.out.now a.raw.now)
 
 returns-3 : tie.Need-returns-3
 returns-3 c =

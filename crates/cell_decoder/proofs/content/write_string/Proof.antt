@@ -4,14 +4,14 @@ use mathlib.Core.List.{◌∷◌}
 use Prim.Native.Nat.{◌+◌, ◌-◌}
 use native.Mathlib.Omega.{arith}
 use lib.ListN.{length, get_or}
-use Rattle.cell_decoder.specs.Strings.{stringFrom}
-use Rattle.cell_decoder.proofs.Strings.{string-end, string-quote, string-byte, stepped}
-use Rattle.buffer.proofs.WriteProgress.{Writing, start, here, store, room-left, filled}
+use Rattle.cell_decoder.specs.Strings.{string_from}
+use Rattle.cell_decoder.proofs.Strings.{string_end, string_quote, string_byte, stepped}
+use Rattle.buffer.proofs.WriteProgress.{Writing, start, here, store, room_left, filled}
 use Rattle.cell_decoder.proofs.content.write_string.Statement.{statement}
 use Rattle.cell_decoder.proofs.content.write_string.Tie as tie
 
 abbrev invariant-loop : tie.invariant-loop
-invariant-loop raw out₀ i₀ o₀ out i o = Writing out₀ 0 (stringFrom raw 1) out o (stringFrom raw i)
+invariant-loop raw out₀ i₀ o₀ out i o = Writing out₀ 0 (string_from raw 1) out o (string_from raw i)
 
 abbrev decreases-loop : tie.decreases-loop
 decreases-loop raw out₀ i₀ o₀ out i o = length raw - i
@@ -23,12 +23,12 @@ returns : tie.Need-returns invariant-loop decreases-loop
 returns c =
     let at-loop = c.before.before.before in
     let a = at-loop.before.before.before.args in
-    filled (rw (string-quote a.raw.now at-loop.loop.i c.before.before.loop-test.true c.if1.true) at at-loop.loop.invariant)
+    filled (rw (string_quote a.raw.now at-loop.loop.i c.before.before.loop-test.true c.if1.true) at at-loop.loop.invariant)
 
 write-escape-requires : tie.Need-write-escape-requires invariant-loop decreases-loop
 write-escape-requires c κs =
     let at-loop = c.before.before.before.before.before in
-    ((omega arith, c.before.if2.true), omega (arith, room-left at-loop.loop.invariant))
+    ((omega arith, c.before.if2.true), omega (arith, room_left at-loop.loop.invariant))
 
 loop-again : tie.Need-loop-preserved invariant-loop decreases-loop
 loop-again c =
@@ -39,12 +39,12 @@ loop-again c =
 now-left : (c : tie.Else2 invariant-loop decreases-loop)
     → let raw = c.before.before.before.before.before.before.before.args.raw.now in
     let l = c.before.before.before.before.loop in
-    Writing c.before.before.before.before.before.before.before.args.out.now 0 (stringFrom raw 1) l.out l.o
-    (get_or raw l.i 0 ∷ stringFrom raw (l.i + 1))
+    Writing c.before.before.before.before.before.before.before.args.out.now 0 (string_from raw 1) l.out l.o
+    (get_or raw l.i 0 ∷ string_from raw (l.i + 1))
 now-left c =
     let at-loop-test = c.before.before.before in
     let at-loop = at-loop-test.before in
-    rw (string-byte at-loop.before.before.before.args.raw.now at-loop.loop.i at-loop-test.loop-test.true
+    rw (string_byte at-loop.before.before.before.args.raw.now at-loop.loop.i at-loop-test.loop-test.true
     c.before.if1.false c.if2.false) at at-loop.loop.invariant
 
 slice-write-out : tie.Need-slice-write-out invariant-loop decreases-loop
@@ -54,7 +54,7 @@ loop-again-2 : tie.Need-loop-preserved-2 invariant-loop decreases-loop
 loop-again-2 c = store (now-left c)
 
 returns-2 : tie.Need-returns-2 invariant-loop decreases-loop
-returns-2 c = filled (rw (string-end c.before.before.before.before.args.raw.now c.before.loop.i c.loop-test.false) at c.before.loop.invariant)
+returns-2 c = filled (rw (string_end c.before.before.before.before.args.raw.now c.before.loop.i c.loop-test.false) at c.before.loop.invariant)
 
 pub write-string-spec : {M : Type 1} → statement M
 write-string-spec =

@@ -7,7 +7,7 @@ use Prim.Native.Nat.{◌+◌, ◌-◌, ◌<◌, ◌≤◌}
 use native.Mathlib.Omega.{arith}
 use lib.ListN.{length, drop, get_or}
 use Rattle.model.specs.rules.Decode.{undouble}
-use Rattle.cell_decoder.proofs.DoubledQuotes.{at-end, at_other, at-double, at-close, at_last}
+use Rattle.cell_decoder.proofs.DoubledQuotes.{at_end, at_other, at_double, at_close, at_last}
 use Rattle.buffer.proofs.WriteProgress.{Writing, start, here, store, filled}
 use Rattle.cell_decoder.proofs.content.write_undoubled.Statement.{statement}
 use Rattle.cell_decoder.proofs.content.write_undoubled.Tie as tie
@@ -34,7 +34,7 @@ returns-2 c =
     let at-if1 = c.before.before.before in
     let at-loop = at-if1.before.before.before in
     let a = at-loop.before.args in
-    filled (rw (at-close a.q a.raw.now at-loop.loop.i at-if1.before.before.loop-test.true at-if1.if1.true
+    filled (rw (at_close a.q a.raw.now at-loop.loop.i at-if1.before.before.loop-test.true at-if1.if1.true
     (omega arith) c.if3.true) at at-loop.loop.invariant)
 
 -- what a step takes of the text: the byte; of two quotes the second is skipped
@@ -49,7 +49,7 @@ turn c =
     let i = c.before.before.before.loop.i in
     let h = c.before.before.loop-test.true in
     ⊎_elim
-    (λ w. rw w.4 (at-double q raw i h w.0.taken (omega (arith, w.1)) w.3.left, omega arith, omega (arith, w.1)))
+    (λ w. rw w.4 (at_double q raw i h w.0.taken (omega (arith, w.1)) w.3.left, omega arith, omega (arith, w.1)))
     (λ w. rw w.1 (at_other q raw i h w.0.left, omega arith, omega arith))
     c.if1.branch
 
@@ -69,7 +69,7 @@ loop-again c = store (now-left c.before)
 
 returns-3 : tie.Need-returns-3 invariant-loop decreases-loop
 returns-3 c =
-    filled (rw (at-end c.before.before.args.q false c.before.before.args.raw.now c.before.loop.i c.loop-test.false) at
+    filled (rw (at_end c.before.before.args.q false c.before.before.args.raw.now c.before.loop.i c.loop-test.false) at
     c.before.loop.invariant)
 
 pub write-undoubled-spec : {M : Type 1} → statement M

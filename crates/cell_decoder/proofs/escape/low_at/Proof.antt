@@ -3,23 +3,23 @@
 use native.Mathlib.Omega.{arith}
 use borrow.Author.Rules.{rules}
 use Rattle.cell_decoder.specs.Strings.{UnitThere}
-use Rattle.cell_decoder.proofs.Strings.{low-cut, low-other, low-short, low_below, low-above, low-there}
+use Rattle.cell_decoder.proofs.Strings.{low_cut, low_other, low_short, low_below, low_above, low_there}
 use Rattle.cell_decoder.proofs.escape.low_at.Statement.{statement}
 use Rattle.cell_decoder.proofs.escape.low_at.Tie as tie
 
 returns : tie.Need-returns
-returns c = low-cut c.before.before.args.raw.now c.before.before.args.i c.if1.true
+returns c = low_cut c.before.before.args.raw.now c.before.before.args.i c.if1.true
 
 returns-2 : tie.Need-returns-2
 returns-2 c =
     let a = c.before.before.before.before.args in
-    low-other a.raw.now a.i (omega arith) c.if2.true
+    low_other a.raw.now a.i (omega arith) c.if2.true
 
 returns-3 : tie.Need-returns-3
 returns-3 c =
     let start = c.before.before.before.before.before.before in
     let a = start.args in
-    low-short a.raw.now a.i (omega arith) c.before.before.if2.false c.if3.true
+    low_short a.raw.now a.i (omega arith) c.before.before.if2.false c.if3.true
 
 -- a \u escape is there
 there : (c : tie.After-unit-at)
@@ -38,7 +38,7 @@ returns-5 c =
     let start = c.before.before.before.before.before.before.before.before.before in
     let raw = start.args.raw.now in
     let i = start.args.i in
-    low-above raw i (there c.before.before) (omega (arith, c.before.before.unit-at.ensures.0))
+    low_above raw i (there c.before.before) (omega (arith, c.before.before.unit-at.ensures.0))
 
 returns-6 : tie.Need-returns-6
 returns-6 c =
@@ -46,7 +46,7 @@ returns-6 c =
     let start = at-unit-at.before.before.before.before.before.before.before in
     let raw = start.args.raw.now in
     let i = start.args.i in
-    low-there raw i at-unit-at.unit-at.result (there at-unit-at) at-unit-at.unit-at.ensures.0 c.before.if4.false c.if5.false
+    low_there raw i at-unit-at.unit-at.result (there at-unit-at) at-unit-at.unit-at.ensures.0 c.before.if4.false c.if5.false
 
 pub low-at-spec : {M : Type 1} → statement M
 low-at-spec =

@@ -1,11 +1,11 @@
 -- `cell_decoder::source::spelling_in` meets its contract: in a file the first byte determines the encoding.
 use mathlib.Core.Path.{sym, ap, ◌∙◌}
 use borrow.Author.Rules.{rules}
-use Rattle.cell_decoder.specs.FirstByte.{spellingBy, contentIn}
-use Rattle.cell_decoder.specs.Sources.{contentBy, spellingIn}
+use Rattle.cell_decoder.specs.FirstByte.{spelling_by, content_in}
+use Rattle.cell_decoder.specs.Sources.{content_by, spelling_in}
 use Rattle.cell_decoder.specs.declared.first_byte.Spelling.{Spelling}
 use Rattle.cell_decoder.specs.declared.source.Source.{Source}
-use Rattle.cell_decoder.proofs.FirstByte.{content-first}
+use Rattle.cell_decoder.proofs.FirstByte.{content_first}
 use Rattle.cell_decoder.proofs.source.spelling_in.Statement.{statement}
 use Rattle.cell_decoder.proofs.source.spelling_in.Tie as tie
 
@@ -14,11 +14,11 @@ returns c =
     let asked = c.before.before.before in
     let a = asked.before.before.before.args in
     let raw = a.raw.now in
-    let r = c.spelling-by.ensures ∙ ap (spellingBy asked.src.given.0.0) c.before.first-of.ensures in (
-      ap (λ (s : Spelling). contentIn s raw) r
-          ∙ content-first asked.src.given.0.0 raw
-          ∙ ap (λ (src : Source). contentBy src raw) (sym asked.src.given.1),
-      r ∙ ap (λ (src : Source). spellingIn src raw) (sym asked.src.given.1),
+    let r = c.spelling-by.ensures ∙ ap (spelling_by asked.src.given.0.0) c.before.first-of.ensures in (
+      ap (λ (s : Spelling). content_in s raw) r
+          ∙ content_first asked.src.given.0.0 raw
+          ∙ ap (λ (src : Source). content_by src raw) (sym asked.src.given.1),
+      r ∙ ap (λ (src : Source). spelling_in src raw) (sym asked.src.given.1),
     )
 
 returns-2 : tie.Need-returns-2

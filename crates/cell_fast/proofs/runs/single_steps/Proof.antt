@@ -2,20 +2,20 @@
 use Prim.Native.Nat.{◌-◌}
 use native.Mathlib.Omega.{arith}
 use lib.ListN.{get_or}
-use Rattle.swar.specs.Words.{cleanAscii}
+use Rattle.swar.specs.Words.{clean_ascii}
 use Rattle.cell_fast.specs.TextRuns.{PassRun}
-use Rattle.cell_fast.proofs.PassRuns.{pass-none, pass-byte, clean-byte}
+use Rattle.cell_fast.proofs.PassRuns.{pass_none, pass_byte, clean_byte}
 use Rattle.cell_fast.proofs.runs.single_steps.Statement.{statement}
 use Rattle.cell_fast.proofs.runs.single_steps.Tie as tie
 
 abbrev invariant-loop : tie.invariant-loop
-invariant-loop s at stop p q i₀ i = PassRun (cleanAscii p q) s at stop i
+invariant-loop s at stop p q i₀ i = PassRun (clean_ascii p q) s at stop i
 
 abbrev decreases-loop : tie.decreases-loop
 decreases-loop s at stop p q i₀ i = stop - i
 
 loop-holds : tie.Need-loop-init invariant-loop decreases-loop
-loop-holds c = pass-none c.args.s.now c.args.at c.args.stop c.requires.0
+loop-holds c = pass_none c.args.s.now c.args.at c.args.stop c.requires.0
 
 loop-again : tie.Need-loop-preserved invariant-loop decreases-loop
 loop-again c =
@@ -23,9 +23,9 @@ loop-again c =
     let u = at_test.before in
     let a = u.before.args in
     let clean =
-    clean-byte a.p a.q (get_or a.s.now u.loop.i 0) c.before.before.before.before.if1.false
+    clean_byte a.p a.q (get_or a.s.now u.loop.i 0) c.before.before.before.before.if1.false
     c.before.before.before.if2.false c.before.before.if3.false c.before.if4.false c.if5.false in
-    pass-byte u.loop.invariant at_test.loop-test.true u.before.requires.1 clean
+    pass_byte u.loop.invariant at_test.loop-test.true u.before.requires.1 clean
 
 pub single-steps-spec : {M : Type 1} → statement M
 single-steps-spec =

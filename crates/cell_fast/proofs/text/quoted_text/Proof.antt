@@ -4,7 +4,7 @@ use Prim.Native.Nat.{◌-◌}
 use mathlib.Core.Bool.{true}
 use native.Mathlib.Omega.{arith}
 use Rattle.cell_fast.specs.CellOutcome.{QuotedText}
-use Rattle.cell_fast.proofs.TextRuns.{quoted-none, quoted-run-on, quoted-clean-on, quoted-other-on}
+use Rattle.cell_fast.proofs.TextRuns.{quoted_none, quoted_run_on, quoted_clean_on, quoted_other_on}
 use Rattle.cell_fast.proofs.text.quoted_text.Statement.{statement}
 use Rattle.cell_fast.proofs.text.quoted_text.Tie as tie
 
@@ -15,12 +15,12 @@ abbrev decreases-loop : tie.decreases-loop
 decreases-loop d s at stop q i₀ clean₀ i clean = stop - i
 
 loop-holds : tie.Need-loop-init invariant-loop decreases-loop
-loop-holds c = let u = c.before in quoted-none u.args.d u.args.s.now u.args.stop u.args.at true u.requires.0
+loop-holds c = let u = c.before in quoted_none u.args.d u.args.s.now u.args.stop u.args.at true u.requires.0
 
 -- after a run
 after_run : (c : tie.After-clean-run invariant-loop decreases-loop)
     → let a = c.before.before.before.args in QuotedText a.d a.s.now a.stop a.at c.Clean-run.result c.before.loop.clean
-after_run c = let u = c.before.before.before in quoted-run-on c.before.loop.invariant u.args.q u.requires.2 u.requires.1 c.Clean-run.ensures
+after_run c = let u = c.before.before.before in quoted_run_on c.before.loop.invariant u.args.q u.requires.2 u.requires.1 c.Clean-run.ensures
 
 loop-less : tie.Need-loop-smaller invariant-loop decreases-loop
 loop-less c = omega arith
@@ -28,7 +28,7 @@ loop-less c = omega arith
 loop-again : tie.Need-loop-preserved invariant-loop decreases-loop
 loop-again c =
     let point = c.before.before.before.before.before in
-    quoted-other-on (after_run (point)) c.before.before.before.pass.ensures
+    quoted_other_on (after_run (point)) c.before.before.before.pass.ensures
 
 loop-less-2 : tie.Need-loop-smaller-2 invariant-loop decreases-loop
 loop-less-2 c = omega arith
@@ -36,7 +36,7 @@ loop-less-2 c = omega arith
 loop-again-2 : tie.Need-loop-preserved-2 invariant-loop decreases-loop
 loop-again-2 c =
     let point = c.before.before.before.before.before in
-    quoted-clean-on (after_run (point)) c.if3.false c.before.before.before.pass.ensures
+    quoted_clean_on (after_run (point)) c.if3.false c.before.before.before.pass.ensures
 
 pub quoted-text-spec : {M : Type 1} → statement M
 quoted-text-spec =

@@ -4,20 +4,20 @@ use native.Mathlib.Omega.{arith}
 use mathlib.Core.Path.{sym, ◌∙◌}
 use borrow.Author.Rules.{rules}
 use borrow.Author.Tests.{not-true, not-false}
-use Rattle.model.specs.rules.Cell.{isDigit}
+use Rattle.model.specs.rules.Cell.{is_digit}
 use Rattle.cell_fast.specs.TextRuns.{PassRun}
-use Rattle.cell_fast.proofs.PassRuns.{pass-none, pass-byte}
+use Rattle.cell_fast.proofs.PassRuns.{pass_none, pass_byte}
 use Rattle.cell_fast.proofs.value.digits.Statement.{statement}
 use Rattle.cell_fast.proofs.value.digits.Tie as tie
 
 abbrev invariant-loop : tie.invariant-loop
-invariant-loop s at stop i₀ i = PassRun isDigit s at stop i
+invariant-loop s at stop i₀ i = PassRun is_digit s at stop i
 
 abbrev decreases-loop : tie.decreases-loop
 decreases-loop s at stop i₀ i = stop - i
 
 loop-holds : tie.Need-loop-init invariant-loop decreases-loop
-loop-holds c = let u = c.before in pass-none u.args.s.now u.args.at u.args.stop u.requires.0
+loop-holds c = let u = c.before in pass_none u.args.s.now u.args.at u.args.stop u.requires.0
 
 returns : tie.Need-returns invariant-loop decreases-loop
 returns c =
@@ -27,7 +27,7 @@ returns c =
 loop-again : tie.Need-loop-preserved invariant-loop decreases-loop
 loop-again c =
     let start = c.before.before.before.before.before.before in
-    pass-byte c.before.before.before.before.loop.invariant c.before.before.before.loop-test.true start.requires.1
+    pass_byte c.before.before.before.before.loop.invariant c.before.before.before.loop-test.true start.requires.1
     (sym c.before.is_digit.ensures ∙ not-false _ c.if1.false)
 
 returns-2 : tie.Need-returns-2 invariant-loop decreases-loop

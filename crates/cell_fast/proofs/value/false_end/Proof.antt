@@ -1,7 +1,7 @@
 -- `cell_fast::value::false_end` meets its contract: four letters and the last.
 use native.Mathlib.Omega.{arith}
 use borrow.Author.Rules.{rules}
-use Rattle.cell_fast.proofs.BareValues.{false-ends}
+use Rattle.cell_fast.proofs.BareValues.{false_ends}
 use Rattle.cell_fast.proofs.value.false_end.Statement.{statement}
 use Rattle.cell_fast.proofs.value.false_end.Tie as tie
 
@@ -14,5 +14,5 @@ false-end-spec =
     (λ c. search rules)
     (λ c h. absurd (omega arith))
     (λ c. search rules)
-    (λ c h. let start = c.before.before.before.before.before in false-ends start.requires.1 start.requires.2
+    (λ c h. let start = c.before.before.before.before.before in false_ends start.requires.1 start.requires.2
     (c.before.before.before.letters-end.ensures c.before.before.if1.false) c.if2.false h))

@@ -7,7 +7,7 @@ use lib.ListN.{get_or}
 use borrow.Author.Rules.{rules}
 use borrow.Author.Tests.{eqb-true}
 use Rattle.model.proofs.Tests.{impossible}
-use Rattle.cell_fast.proofs.BareValues.{comma-integer, comma-fraction}
+use Rattle.cell_fast.proofs.BareValues.{comma_integer, comma_fraction}
 use Rattle.cell_fast.proofs.value.is_number.Statement.{statement}
 use Rattle.cell_fast.proofs.value.is_number.Tie as tie
 
@@ -22,7 +22,7 @@ returns-3 c e =
     let u = j.before.before.before.before.before in
     let i = j.before.before.before.word-digits in
     let same : i.result ≡ u.args.end = eqb-true i.result u.args.end e in
-    rw (← same) (comma-integer u.args.s.now u.args.stop u.args.at u.requires.2 i.result (omega arith) i.ensures
+    rw (← same) (comma_integer u.args.s.now u.args.stop u.args.at u.requires.2 i.result (omega arith) i.ensures
     j.before.before.if1.false (zero-alone j) (rw same u.requires.3))
 
 returns-6 : tie.Need-returns-6
@@ -33,7 +33,7 @@ returns-6 c e =
     let last = c.before.word-digits2 in
     let same : last.result ≡ u.args.end = eqb-true last.result u.args.end e in
     rw (← same)
-    (comma-fraction u.args.s.now u.args.stop u.args.at u.requires.2 i.result (omega arith) i.ensures
+    (comma_fraction u.args.s.now u.args.stop u.args.at u.requires.2 i.result (omega arith) i.ensures
     j.before.before.if1.false (zero-alone j) last.result c.before.before.if5.false last.ensures c.if6.false
     (omega arith) (rw same u.requires.3))
 

@@ -1,7 +1,7 @@
 -- `cell_fast::value::null_end` meets its contract, by its tests of the two bytes.
 use native.Mathlib.Omega.{arith}
 use borrow.Author.Rules.{rules}
-use Rattle.cell_fast.proofs.BareValues.{tdif-null-ends}
+use Rattle.cell_fast.proofs.BareValues.{tdif_null_ends}
 use Rattle.cell_fast.proofs.value.null_end.Statement.{statement}
 use Rattle.cell_fast.proofs.value.null_end.Tie as tie
 
@@ -17,4 +17,4 @@ null-end-spec =
     (λ c. search rules)
     (λ c h. absurd (omega arith))
     (λ c. search rules)
-    (λ c h. let start = c.before.before.before.before.before in tdif-null-ends start.requires.1 c.before.before.if2.false c.if3.false h))
+    (λ c h. let start = c.before.before.before.before.before in tdif_null_ends start.requires.1 c.before.before.if2.false c.if3.false h))

@@ -3,7 +3,7 @@
 use mathlib.Core.Path.{sym, ◌∙◌}
 use native.Mathlib.Omega.{arith}
 use borrow.Author.Rules.{rules}
-use Rattle.cell_fast.proofs.BareValues.{number-integer, number-fraction}
+use Rattle.cell_fast.proofs.BareValues.{number_integer, number_fraction}
 use Rattle.cell_fast.proofs.value.number_end.Statement.{statement}
 use Rattle.cell_fast.proofs.value.number_end.Tie as tie
 
@@ -14,7 +14,7 @@ returns-5 c h =
     let at-if1 = at-if2.before in
     let at-integer-end = at-if1.before in
     let u = at-integer-end.before.before in
-    number-fraction u.args.s.now u.args.stop u.args.at u.requires.1 at-integer-end.integer-end.result
+    number_fraction u.args.s.now u.args.stop u.args.at u.requires.1 at-integer-end.integer-end.result
     c.before.before.before.before.fraction_end.result at-integer-end.integer-end.ensures at-if1.if1.false
     at-if2.if2.false at-if3.if3.true
     c.before.before.before.before.fraction_end.ensures h (sym c.before.is-letter-e.ensures ∙ c.if5.false)
@@ -24,7 +24,7 @@ returns-7 c h =
     let at-if2 = c.before.before.before.before.before in
     let at-integer-end = at-if2.before.before in
     let u = at-integer-end.before.before in
-    number-integer u.args.s.now u.args.stop u.args.at u.requires.1 at-integer-end.integer-end.result
+    number_integer u.args.s.now u.args.stop u.args.at u.requires.1 at-integer-end.integer-end.result
     at-integer-end.integer-end.ensures h at-if2.if2.false c.before.before.before.if3.false
     (sym c.before.is-letter-e2.ensures ∙ c.if6.false)
 

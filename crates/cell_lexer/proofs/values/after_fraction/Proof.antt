@@ -1,13 +1,13 @@
 -- `cell_lexer::values::after_fraction` meets its contract, by its tests.
 use Rattle.model.specs.rules.Base.{if◌then◌else◌}
-use Rattle.model.specs.rules.Cell.{numeralStep}
+use Rattle.model.specs.rules.Cell.{numeral_step}
 use Rattle.model.proofs.Tests.{tests}
 use borrow.Author.Rules.{rules}
 use Rattle.cell_lexer.proofs.values.after_fraction.Statement.{statement}
 use Rattle.cell_lexer.proofs.values.after_fraction.Tie as tie
 
 pub after-fraction-spec : {M : Type 1} → statement M
-unfolding numeralStep if◌then◌else◌
+unfolding numeral_step if◌then◌else◌
 after-fraction-spec =
     tie.close (tie.spec (λ c κs. search rules) (λ c. search (tests, ← c.before.is_digit.ensures, c.if1.true))
     (λ c. search (tests, ← c.before.before.is_digit.ensures, c.before.if1.false))

@@ -1,7 +1,7 @@
 -- `cell_writer::body::unit_stop` meets its contract: the text of the unit there.
 use native.Mathlib.Omega.{arith}
 use borrow.Author.Rules.{rules}
-use Rattle.cell_writer.proofs.Bodies.{stops_end, stops-unit}
+use Rattle.cell_writer.proofs.Bodies.{stops_end, stops_unit}
 use Rattle.cell_writer.proofs.body.unit_stop.Statement.{statement}
 use Rattle.cell_writer.proofs.body.unit_stop.Tie as tie
 
@@ -15,7 +15,7 @@ returns-2 : tie.Need-returns-2
 returns-2 c =
     let u = c.before.before.before.before.before in
     let start = u.before.before in
-    stops-unit u.unit-at.ensures start.args.t start.requires.1 c.before.before.before.if1.false c.before.unit-text.ensures
+    stops_unit u.unit-at.ensures start.args.t start.requires.1 c.before.before.before.if1.false c.before.unit-text.ensures
     c.before.before.is-lone.ensures
 
 pub unit-stop-spec : {M : Type 1} → statement M

@@ -3,30 +3,30 @@ use mathlib.Core.Path.{◌≡◌, sym, ap, ◌∙◌}
 use mathlib.Core.Bool.{Bool}
 use mathlib.Core.List.{[], ◌++◌, append-nil}
 use Rattle.model.specs.rules.Base.{Bytes}
-use Rattle.buffer.proofs.WriteProgress.{Emitting, emitting, same-long, room_as, emitted-as, room_next, room-rest, put_next, put_whole}
-use Rattle.cell_decoder.specs.FirstByte.{contentIn}
-use Rattle.cell_writer.specs.Units.{bodyText}
-use Rattle.cell_writer.specs.Cells.{quoteBy, textCell}
-use Rattle.cell_writer.proofs.Cells.{text-parts}
+use Rattle.buffer.proofs.WriteProgress.{Emitting, emitting, same_long, room_as, emitted_as, room_next, room_rest, put_next, put_whole}
+use Rattle.cell_decoder.specs.FirstByte.{content_in}
+use Rattle.cell_writer.specs.Units.{body_text}
+use Rattle.cell_writer.specs.Cells.{quote_by, text_cell}
+use Rattle.cell_writer.proofs.Cells.{text_parts}
 use Rattle.cell_writer.proofs.cell.write_text.Statement.{statement}
 use Rattle.cell_writer.proofs.cell.write_text.Tie as tie
 
 abbrev body : tie.Start → Bytes
-body c = bodyText c.args.t (contentIn c.args.c c.args.raw.now)
+body c = body_text c.args.t (content_in c.args.c c.args.raw.now)
 
 abbrev start : tie.After-is-quoted → tie.Start
 start c = c.before.before.before
 
 abbrev quote : tie.After-is-quoted → Bytes
-quote c = quoteBy (start c).args.t c.is-quoted.result
+quote c = quote_by (start c).args.t c.is-quoted.result
 
 -- the cell by its parts
 parts : (c : tie.After-is-quoted)
-    → let a = (start c).args in textCell a.t a.only a.first (contentIn a.c a.raw.now) ≡ quote c ++ (body (start c) ++ quote c)
+    → let a = (start c).args in text_cell a.t a.only a.first (content_in a.c a.raw.now) ≡ quote c ++ (body (start c) ++ quote c)
 parts c =
     let a = (start c).args in
-    text-parts a.t a.only a.first (contentIn a.c a.raw.now)
-    ∙ ap (λ (q : Bool). quoteBy a.t q ++ (body (start c) ++ quoteBy a.t q)) (sym c.is-quoted.ensures)
+    text_parts a.t a.only a.first (content_in a.c a.raw.now)
+    ∙ ap (λ (q : Bool). quote_by a.t q ++ (body (start c) ++ quote_by a.t q)) (sym c.is-quoted.ensures)
 
 -- all of it remains
 first : (c : tie.After-is-quoted)
@@ -74,7 +74,7 @@ returns : tie.Need-returns
 returns c =
     let f = c.before.before in
     let u = f.before.before.before.before.before.before.before.before.before.before in
-    (emitted-as (parts u) (put_whole (fourth f)), f.before.before.before.before.write-body.ensures.1)
+    (emitted_as (parts u) (put_whole (fourth f)), f.before.before.before.before.write-body.ensures.1)
 
 pub write-text-spec : {M : Type 1} → statement M
 write-text-spec =
@@ -83,6 +83,6 @@ write-text-spec =
     (λ c κs. c.before.before.requires.0)
     write-quote-requires
     write-body-requires
-    (λ c κs. room-rest (third c.before.before.before))
-    (λ c. same-long (fourth c.before.before))
+    (λ c κs. room_rest (third c.before.before.before))
+    (λ c. same_long (fourth c.before.before))
     returns)

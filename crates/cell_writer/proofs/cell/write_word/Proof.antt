@@ -2,7 +2,7 @@
 use mathlib.Core.Path.{◌≡◌, sym, ap, ◌∙◌}
 use lib.ListN.{length, take}
 use borrow.Author.Rules.{rules}
-use Rattle.buffer.proofs.WriteProgress.{taken-whole, room_as, emitted-as}
+use Rattle.buffer.proofs.WriteProgress.{taken_whole, room_as, emitted_as}
 use Rattle.cell_writer.proofs.cell.write_word.Statement.{statement}
 use Rattle.cell_writer.proofs.cell.write_word.Tie as tie
 
@@ -11,13 +11,13 @@ long : (c : tie.After-word-for) → length (take c.word-for.result.size c.word-f
 long c = let s = c.word-for.ensures in ap length s.spells ∙ sym s.sized
 
 array-share-prefix-bytes : tie.Need-array-share-prefix-bytes
-array-share-prefix-bytes c = let u = c.before.before in taken-whole u.word-for.result.size u.word-for.result.bytes (long u)
+array-share-prefix-bytes c = let u = c.before.before in taken_whole u.word-for.result.size u.word-for.result.bytes (long u)
 
 emit-requires : tie.Need-emit-requires
 emit-requires c κs = let u = c.before.before.before in room_as u.word-for.ensures.spells u.before.before.requires
 
 returns : tie.Need-returns
-returns c = let u = c.before.before.before.before.before.before in emitted-as (sym u.word-for.ensures.spells) c.before.before.emit.ensures
+returns c = let u = c.before.before.before.before.before.before in emitted_as (sym u.word-for.ensures.spells) c.before.before.emit.ensures
 
 pub write-word-spec : {M : Type 1} → statement M
 write-word-spec =

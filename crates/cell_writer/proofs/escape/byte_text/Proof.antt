@@ -1,11 +1,11 @@
 -- `cell_writer::escape::byte_text` meets its contract: a string's byte or a text's, by the target.
 use borrow.Author.Rules.{rules}
-use Rattle.model.specs.rules.Text.{jsonBody}
+use Rattle.model.specs.rules.Text.{json_body}
 use Rattle.cell_writer.proofs.escape.byte_text.Statement.{statement}
 use Rattle.cell_writer.proofs.escape.byte_text.Tie as tie
 
 returns : tie.Need-returns
-unfolding jsonBody
+unfolding json_body
 returns c = rw c.before.enum_told.given.1 c.escape.ensures
 
 returns-2 : tie.Need-returns-2

@@ -2,8 +2,8 @@
 use mathlib.Core.Path.{ap, ◌∙◌}
 use Prim.Native.Nat.{ℕ, ◌+◌, ◌-◌, ◌*◌, ◌/◌, ◌%◌}
 use borrow.Author.Rules.{rules}
-use Rattle.model.specs.rules.Text.{hexDigit}
-use Rattle.cell_writer.proofs.Units.{lone-spells}
+use Rattle.model.specs.rules.Text.{hex_digit}
+use Rattle.cell_writer.proofs.Units.{lone_spells}
 use Rattle.cell_writer.proofs.escape.lone.Statement.{statement}
 use Rattle.cell_writer.proofs.escape.lone.Tie as tie
 
@@ -11,7 +11,7 @@ returns : tie.Need-returns
 returns c =
     let u = c.before.before.before in
     let low : ℕ = (u.before.args.b - 0x80) % 0x40 in
-    lone-spells u.hex-digit.ensures (c.before.hex-digit2.ensures ∙ ap (λ (n : ℕ). hexDigit (low % 4 * 4 + n / 0x10))
+    lone_spells u.hex-digit.ensures (c.before.hex-digit2.ensures ∙ ap (λ (n : ℕ). hex_digit (low % 4 * 4 + n / 0x10))
     c.before.before.later-bits.ensures) c.hex-digit3.ensures
 
 pub lone-spec : {M : Type 1} → statement M

@@ -4,26 +4,26 @@ use mathlib.Core.Bool.{false, ◌&&◌}
 use mathlib.Core.Path.{◌≡◌, sym, ◌∙◌}
 use borrow.Author.Rules.{rules}
 use Rattle.model.specs.rules.Base.{Bytes, is_empty}
-use Rattle.cell_decoder.specs.FirstByte.{contentIn}
-use Rattle.cell_writer.proofs.QuoteDecision.{quotes-special, quotes-empty, quotes-mark, quotes-none, not-only, not-empty}
+use Rattle.cell_decoder.specs.FirstByte.{content_in}
+use Rattle.cell_writer.proofs.QuoteDecision.{quotes_special, quotes_empty, quotes_mark, quotes_none, not_only, not_empty}
 use Rattle.cell_writer.proofs.special.is_quoted.Statement.{statement}
 use Rattle.cell_writer.proofs.special.is_quoted.Tie as tie
 
 abbrev content : tie.Start → Bytes
-content c = contentIn c.args.c c.args.raw.now
+content c = content_in c.args.c c.args.raw.now
 
 returns : tie.Need-returns
 returns c =
     let start = c.before.before.before in
     let a = start.args in
-    sym (quotes-special a.s a.only a.first (content start) (sym c.before.holds-special.ensures ∙ c.if1.true))
+    sym (quotes_special a.s a.only a.first (content start) (sym c.before.holds-special.ensures ∙ c.if1.true))
 
 returns-2 : tie.Need-returns-2
 returns-2 c =
     let u = c.before.before.before.before in
     let start = u.before.before in
     let a = start.args in
-    sym (quotes-empty a.s a.only a.first (content start) (sym u.holds-special.ensures ∙ c.before.before.before.if1.false)
+    sym (quotes_empty a.s a.only a.first (content start) (sym u.holds-special.ensures ∙ c.before.before.before.if1.false)
     c.before.before.if2.true (sym c.before.length-in.ensures ∙ c.if3.true))
 
 -- the cell is not alone, or not empty
@@ -31,8 +31,8 @@ neither : (c : tie.Joined2) → let start = c.before.before.before.before in (st
 neither c =
     let start = c.before.before.before.before in
     let a = start.args in
-    ⊎_elim (λ w. not-empty a.s a.only a.first (content start) (λ e. w.2.left (w.1.ensures ∙ e)))
-    (λ w. not-only a.s a.only a.first (content start) w.left) c.if2.branch
+    ⊎_elim (λ w. not_empty a.s a.only a.first (content start) (λ e. w.2.left (w.1.ensures ∙ e)))
+    (λ w. not_only a.s a.only a.first (content start) w.left) c.if2.branch
 
 returns-3 : tie.Need-returns-3
 returns-3 c =
@@ -40,7 +40,7 @@ returns-3 c =
     let start = j.before.before.before.before in
     let a = start.args in
     c.begins-with-bom.ensures
-    ∙ sym (quotes-mark a.s a.only a.first (content start) (sym j.before.before.holds-special.ensures ∙ j.before.if1.false)
+    ∙ sym (quotes_mark a.s a.only a.first (content start) (sym j.before.before.holds-special.ensures ∙ j.before.if1.false)
     (neither j) c.before.if4.true)
 
 returns-4 : tie.Need-returns-4
@@ -48,7 +48,7 @@ returns-4 c =
     let j = c.before in
     let start = j.before.before.before.before in
     let a = start.args in
-    sym (quotes-none a.s a.only a.first (content start) (sym j.before.before.holds-special.ensures ∙ j.before.if1.false)
+    sym (quotes_none a.s a.only a.first (content start) (sym j.before.before.holds-special.ensures ∙ j.before.if1.false)
     (neither j) c.if4.false)
 
 pub is-quoted-spec : {M : Type 1} → statement M

@@ -1,11 +1,11 @@
 -- `codes::cell::kind_by` meets its contract: each arm returns the definition's result for its dialect.
 use borrow.Author.Rules.{rules}
-use Rattle.codes.specs.FirstByte.{kindBy}
+use Rattle.codes.specs.FirstByte.{kind_by}
 use Rattle.codes.proofs.cell.kind_by.Statement.{statement}
 use Rattle.codes.proofs.cell.kind_by.Tie as tie
 
 pub kind-by-spec : {M : Type 1} → statement M
-unfolding kindBy
+unfolding kind_by
 kind-by-spec =
     tie.close
     (tie.spec

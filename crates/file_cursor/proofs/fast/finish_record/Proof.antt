@@ -5,7 +5,7 @@ use mathlib.Core.Path.{sym}
 use lib.ListN.{length}
 use lib.Seq.{length-take-le}
 use borrow.Author.Rules.{rules}
-use Rattle.file_cursor.proofs.RecordChecks.{ruled-sound}
+use Rattle.file_cursor.proofs.RecordChecks.{ruled_sound}
 use Rattle.file_cursor.specs.FastNext.{FastCheckSound, sound, unsure}
 use Rattle.file_cursor.proofs.fast.finish_record.Statement.{statement}
 use Rattle.file_cursor.proofs.fast.finish_record.Tie as tie
@@ -15,7 +15,7 @@ slice-aggregate-check-record c =
     let c4 = c.before.before.before.before in
     let a = c4.before.before.args in
     let m : a.cells ≤ 64 = c.before.if1.false in
-    let k : 64 ≤ length a.starts.now = c4.before.before.requires.0.at-starts in
+    let k : 64 ≤ length a.starts.now = c4.before.before.requires.0.at_starts in
     sym (length-take-le a.cells a.starts.now (omega arith))
 
 slice-aggregate-check-record-2 : tie.Need-slice-aggregate-check-record-2
@@ -23,7 +23,7 @@ slice-aggregate-check-record-2 c =
     let c4 = c.before.before.before.before in
     let a = c4.before.before.before.args in
     let m : a.cells ≤ 64 = c.before.before.if1.false in
-    let k : 64 ≤ length a.ends.now = c4.before.before.before.requires.0.at-ends in
+    let k : 64 ≤ length a.ends.now = c4.before.before.before.requires.0.at_ends in
     sym (length-take-le a.cells a.ends.now (omega arith))
 
 slice-aggregate-check-record-3 : tie.Need-slice-aggregate-check-record-3
@@ -32,7 +32,7 @@ slice-aggregate-check-record-3 c =
     let c8 = c4.before.before.before.before in
     let a = c8.args in
     let m : a.cells ≤ 64 = c.before.before.before.if1.false in
-    let k : 64 ≤ length a.kinds.now = c8.requires.0.at-kinds in
+    let k : 64 ≤ length a.kinds.now = c8.requires.0.at_kinds in
     sym (length-take-le a.cells a.kinds.now (omega arith))
 
 check-record-requires : tie.Need-check-record-requires
@@ -70,7 +70,7 @@ returns-3 c =
     let kept = c.before.before.before.enum-told2.given.1 in
     λ rs vs start y z.
     sound
-    (ruled-sound a.d a.aim a.file.now a.starts.now a.ends.now a.kinds.now a.cursor start a.cells a.state a.next rs vs y z
+    (ruled_sound a.d a.aim a.file.now a.starts.now a.ends.now a.kinds.now a.cursor start a.cells a.state a.next rs vs y z
     _ z.values u.before.before.before.before.if1.false _ u.check-record.ensures kept)
 
 pub finish-record-spec : {M : Type 1} → statement M

@@ -3,9 +3,9 @@ use Prim.Native.Nat.{◌≤◌}
 use native.Mathlib.Omega.{arith}
 use mathlib.Core.Path.{refl}
 use borrow.Author.Rules.{rules}
-use Rattle.file_cursor.proofs.NextRecords.{now-long, now-stand, now-shown, record-counts}
+use Rattle.file_cursor.proofs.NextRecords.{now_long, now_stand, now_shown, record_counts}
 use Rattle.file_cursor.specs.FastNext.{nothing}
-use Rattle.file_cursor.proofs.FastNext.{met, kept, clean-cells, tells}
+use Rattle.file_cursor.proofs.FastNext.{met, kept, clean_cells, tells}
 use Rattle.file_cursor.proofs.fast.next_data_record.Statement.{statement}
 use Rattle.file_cursor.proofs.fast.next_data_record.Tie as tie
 
@@ -24,7 +24,7 @@ finish-record-requires c κs =
     let later = c16.if1.false in
     let under : start.args.done ≤ start.args.from = q.1.0.0 in
     let most : start.args.from ≤ 16777215 = q.0.1 in
-    (now-long m, (now-stand m _ (record-counts m refl), (clean-cells t q.0.2 q.0.0 q.1.1 z, (later, omega arith, q.1.0.1))))
+    (now_long m, (now_stand m _ (record_counts m refl), (clean_cells t q.0.2 q.0.0 q.1.1 z, (later, omega arith, q.1.0.1))))
 
 returns-2 : tie.Need-returns-2
 returns-2 c =
@@ -49,7 +49,7 @@ returns-3 c =
     let m = met t q.0.2 q.0.0 q.1.1 z in (
       λ rs y.
           tells t q.0.2 q.0.0 q.1.1 a.aim rs a.done y.count c16.before.if1.false z
-          (c.finish-record.ensures rs _ _ y (now-shown m _ (record-counts m refl))),
+          (c.finish-record.ensures rs _ _ y (now_shown m _ (record_counts m refl))),
       kept t q.0.2 q.0.0 q.1.1,
     )
 
@@ -57,7 +57,7 @@ pub next-data-record-spec : {M : Type 1} → statement M
 next-data-record-spec =
     tie.close
     (tie.spec
-    (λ c. (λ rs y. nothing, record { at-starts = refl; at-ends = refl; at-kinds = refl }))
+    (λ c. (λ rs y. nothing, record { at_starts = refl; at_ends = refl; at_kinds = refl }))
     (λ c κs. search rules)
     (λ c. search rules)
     (λ c. search rules)

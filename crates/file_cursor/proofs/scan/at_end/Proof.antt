@@ -3,8 +3,8 @@ use mathlib.Core.Path.{sym, ap, ◌∙◌}
 use lib.ListN.{length}
 use borrow.Author.Rules.{rules}
 use Rattle.model.specs.declared.Ending.{Ending}
-use Rattle.file_cursor.specs.Ends.{isFinal, endEvent}
-use Rattle.record_scanner.proofs.StoreLaws.{not-stored, same-stored}
+use Rattle.file_cursor.specs.Ends.{is_final, end_event}
+use Rattle.record_scanner.proofs.StoreLaws.{not_stored, same_stored}
 use Rattle.file_cursor.proofs.scan.at_end.Statement.{statement}
 use Rattle.file_cursor.proofs.scan.at_end.Tie as tie
 
@@ -13,8 +13,8 @@ returns c =
     let c4 = c.before.before.before.before in
     let a = c4.before.before.before.args in
     let e = sym c.before.before.file-end.ensures ∙ c.enum_told.given.1 in
-    let n = ap isFinal e in
-    (ap (λ (x : Ending). endEvent x a.h (length a.file.now)) (sym e), (not-stored _ _ _ _ _ n, (not-stored _ _ _ _ _ n, not-stored _ _ _ _ _ n)))
+    let n = ap is_final e in
+    (ap (λ (x : Ending). end_event x a.h (length a.file.now)) (sym e), (not_stored _ _ _ _ _ n, (not_stored _ _ _ _ _ n, not_stored _ _ _ _ _ n)))
 
 returns-2 : tie.Need-returns-2
 returns-2 c =
@@ -26,10 +26,10 @@ returns-2 c =
     let at-enum-told2 = at-put.before.before.before.before.before in
     let a = c16.before.before.before.args in
     let e = sym at-enum-told2.before.before.file-end.ensures ∙ at-enum-told2.enum-told2.given.1 in
-    let y = sym (ap isFinal e) in
+    let y = sym (ap is_final e) in
     let p = at-put.store-cell.ensures in (
-      ap (λ (x : Ending). endEvent x a.h (length a.file.now)) (sym e),
-      (same-stored _ _ _ _ _ _ _ y p.0, (same-stored _ _ _ _ _ _ _ y p.1.0, same-stored _ _ _ _ _ _ _ y p.1.1)),
+      ap (λ (x : Ending). end_event x a.h (length a.file.now)) (sym e),
+      (same_stored _ _ _ _ _ _ _ y p.0, (same_stored _ _ _ _ _ _ _ y p.1.0, same_stored _ _ _ _ _ _ _ y p.1.1)),
     )
 
 returns-3 : tie.Need-returns-3
@@ -37,8 +37,8 @@ returns-3 c =
     let c4 = c.before.before.before.before in
     let a = c4.before.before.before.args in
     let e = sym c.before.before.file-end.ensures ∙ c.enum-told3.given.1 in
-    let n = ap isFinal e in
-    (ap (λ (x : Ending). endEvent x a.h (length a.file.now)) (sym e), (not-stored _ _ _ _ _ n, (not-stored _ _ _ _ _ n, not-stored _ _ _ _ _ n)))
+    let n = ap is_final e in
+    (ap (λ (x : Ending). end_event x a.h (length a.file.now)) (sym e), (not_stored _ _ _ _ _ n, (not_stored _ _ _ _ _ n, not_stored _ _ _ _ _ n)))
 
 pub at-end-spec : {M : Type 1} → statement M
 at-end-spec =

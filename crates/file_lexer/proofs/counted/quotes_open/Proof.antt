@@ -7,7 +7,7 @@ use types.Run.{OneOf, miss}
 use denote.Enum.Declared as declared
 use Rattle.model.specs.declared.FileState.{FileState}
 use Rattle.model.specs.declared.FileState.TheVariants.{Top, Begin, Ended, Bom1, Bom2, PlainBom1, PlainBom2, Comment, Blanks, ExpectCell, Inside, After, Cr}
-use Rattle.model.specs.rules.File.{quotesOpen}
+use Rattle.model.specs.rules.File.{quotes_open}
 use Rattle.model.specs.contracts.FileState.{the_type}
 use Rattle.model.proofs.Tests.{tests}
 use borrow.Author.Rules.{rules}
@@ -18,20 +18,20 @@ use Rattle.file_lexer.proofs.counted.quotes_open.Tie as tie
 abbrev others : List ℕ
 others = 0 ∷ 1 ∷ 2 ∷ 3 ∷ 4 ∷ 5 ∷ 6 ∷ 7 ∷ 8 ∷ 9 ∷ 11 ∷ 12 ∷ []
 
-not-inside : (f : FileState) → OneOf others (declared.tag_of the_type f) → false ≡ quotesOpen f
-not-inside Top h = refl
-not-inside Begin h = refl
-not-inside Ended h = refl
-not-inside Bom1 h = refl
-not-inside Bom2 h = refl
-not-inside PlainBom1 h = refl
-not-inside PlainBom2 h = refl
-not-inside (Comment t) h = refl
-not-inside Blanks h = refl
-not-inside ExpectCell h = refl
-not-inside (Inside c) h = absurd (miss others 10 tt h)
-not-inside After h = refl
-not-inside Cr h = refl
+not_inside : (f : FileState) → OneOf others (declared.tag_of the_type f) → false ≡ quotes_open f
+not_inside Top h = refl
+not_inside Begin h = refl
+not_inside Ended h = refl
+not_inside Bom1 h = refl
+not_inside Bom2 h = refl
+not_inside PlainBom1 h = refl
+not_inside PlainBom2 h = refl
+not_inside (Comment t) h = refl
+not_inside Blanks h = refl
+not_inside ExpectCell h = refl
+not_inside (Inside c) h = absurd (miss others 10 tt h)
+not_inside After h = refl
+not_inside Cr h = refl
 
 pub quotes-open-spec : {M : Type 1} → statement M
 quotes-open-spec =
@@ -40,4 +40,4 @@ quotes-open-spec =
     (λ c. search rules)
     (λ c κs. search rules)
     (λ c. search (tests, c.before.before.f.given.1))
-    (λ c. not-inside c.before.args.f c.match.keys2))
+    (λ c. not_inside c.before.args.f c.match.keys2))

@@ -1,13 +1,13 @@
 -- `file_lexer::separators::csvj_after` meets its contract, by its tests in the definition's order.
 use Rattle.model.specs.rules.Base.{if◌then◌else◌}
-use Rattle.model.specs.rules.File.{afterCell}
+use Rattle.model.specs.rules.File.{after_cell}
 use Rattle.model.proofs.Tests.{tests}
 use borrow.Author.Rules.{rules}
 use Rattle.file_lexer.proofs.separators.csvj_after.Statement.{statement}
 use Rattle.file_lexer.proofs.separators.csvj_after.Tie as tie
 
 pub csvj-after-spec : {M : Type 1} → statement M
-unfolding afterCell if◌then◌else◌
+unfolding after_cell if◌then◌else◌
 csvj-after-spec =
     tie.close
     (tie.spec

@@ -1,13 +1,13 @@
 -- `file_lexer::separators::plus_after` meets its contract, by its tests in the definition's order.
 use Rattle.model.specs.rules.Base.{if◌then◌else◌}
-use Rattle.model.specs.rules.File.{afterCell}
+use Rattle.model.specs.rules.File.{after_cell}
 use Rattle.model.proofs.Tests.{tests}
 use borrow.Author.Rules.{rules}
 use Rattle.file_lexer.proofs.separators.plus_after.Statement.{statement}
 use Rattle.file_lexer.proofs.separators.plus_after.Tie as tie
 
 pub plus-after-spec : {M : Type 1} → statement M
-unfolding afterCell if◌then◌else◌
+unfolding after_cell if◌then◌else◌
 plus-after-spec =
     tie.close
     (tie.spec

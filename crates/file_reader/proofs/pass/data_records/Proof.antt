@@ -5,8 +5,8 @@ use mathlib.Core.Path.{◌≡◌, refl, ◌∙◌}
 use lib.ListN.{length}
 use borrow.Author.Rules.{rules}
 use Rattle.model.specs.rules.Report.{MAXFILE}
-use Rattle.file_reader.proofs.PassInvariant.{Going, goes, now-held, held-lengths, few-here, fits-here, record-on, record-refused}
-use Rattle.file_reader.proofs.PassInvariant.{last-accepted, fault-refused, finish-accepted}
+use Rattle.file_reader.proofs.PassInvariant.{Going, goes, now_held, held_lengths, few_here, fits_here, record_on, record_refused}
+use Rattle.file_reader.proofs.PassInvariant.{last_accepted, fault_refused, finish_accepted}
 use Rattle.file_reader.proofs.pass.data_records.Statement.{statement}
 use Rattle.file_reader.proofs.pass.data_records.Tie as tie
 
@@ -31,7 +31,7 @@ next-data-requires c κs =
     let c4 = c.before.before.before.before in
     let c8 = c4.before.before.before.before in
     let l = c.before.before.before.loop in
-    let n = held-lengths l.invariant.lists in
+    let n = held_lengths l.invariant.lists in
     let q = c8.requires.1 in
     ((l.invariant.inside, l.invariant.under, l.invariant.few), (rw n.0 q.0, rw n.1 q.1, rw n.2 q.2))
 
@@ -43,7 +43,7 @@ add-cells c =
     let c16 = c12.before.before.before.before in
     let l = c16.loop in
     let v = c12.next-data in
-    let m = few-here _ l.invariant v.ensures _ _ _ _ _ c4.start.given.1 _ c.before.before.«data».ensures in
+    let m = few_here _ l.invariant v.ensures _ _ _ _ _ c4.start.given.1 _ c.before.before.«data».ensures in
     omega arith
 
 add-records : tie.Need-overflow-add-records invariant-loop decreases-loop
@@ -65,7 +65,7 @@ returns c =
     let c16 = c12.before.before.before.before in
     let l = c16.before.loop in
     let v = c12.before.next-data in
-    last-accepted _ l.invariant v.ensures _ _ _ _ _ c4.before.start.given.1 _ c.before.before.before.«data».ensures
+    last_accepted _ l.invariant v.ensures _ _ _ _ _ c4.before.start.given.1 _ c.before.before.before.«data».ensures
     c.if1.true c.before.enum_told.given.1
 
 loop-less : tie.Need-loop-smaller invariant-loop decreases-loop
@@ -76,7 +76,7 @@ loop-less c =
     let c16 = c12.before.before.before.before in
     let l = c16.before.loop in
     let v = c12.before.next-data in
-    let m = fits-here _ l.invariant v.ensures _ _ _ _ _ c4.before.start.given.1 _ c.before.before.before.«data».ensures
+    let m = fits_here _ l.invariant v.ensures _ _ _ _ _ c4.before.start.given.1 _ c.before.before.before.«data».ensures
     c.if1.false in
     let m0 = m.0 in let m1 = m.1 in let m2 = m.2 in let m3 = m.3 in
     omega arith
@@ -89,7 +89,7 @@ loop-again c =
     let c16 = c12.before.before.before.before in
     let l = c16.before.loop in
     let v = c12.before.next-data in
-    record-on _ l.invariant v.ensures _ _ _ _ _ c4.before.start.given.1 _ c.before.before.before.«data».ensures
+    record_on _ l.invariant v.ensures _ _ _ _ _ c4.before.start.given.1 _ c.before.before.before.«data».ensures
     c.if1.false c.before.enum_told.given.1
 
 add-record-report : tie.Need-overflow-add-record-report invariant-loop decreases-loop
@@ -111,7 +111,7 @@ returns-2 c =
     let c16 = c12.before.before.before.before in
     let l = c16.before.before.loop in
     let v = c12.before.before.next-data in
-    record-refused _ l.invariant v.ensures _ _ _ _ _ c4.before.before.start.given.1 _ c4.«data».ensures
+    record_refused _ l.invariant v.ensures _ _ _ _ _ c4.before.before.start.given.1 _ c4.«data».ensures
     _ c.before.before.e.given.1 _ c.record-report.ensures
 
 add-record-report-2 : tie.Need-overflow-add-record-report-2 invariant-loop decreases-loop
@@ -129,7 +129,7 @@ returns-3 c =
     let c4 = c.before.before.before.before in
     let c8 = c4.before.before.before.before in
     let c12 = c8.before.before.before.before in
-    fault-refused _ c12.before.before.loop.invariant c8.before.before.next-data.ensures _ _
+    fault_refused _ c12.before.before.loop.invariant c8.before.before.next-data.ensures _ _
     c.before.before.fault.given.1 _ c.record-report2.ensures
 
 returns-4 : tie.Need-returns-4 invariant-loop decreases-loop
@@ -137,7 +137,7 @@ returns-4 c =
     let c4 = c.before.before.before.before in
     let c8 = c4.before.before.before.before in
     let c12 = c8.before.before.before.before in
-    finish-accepted _ c12.loop.invariant c8.next-data.ensures c.enum-told2.given.1
+    finish_accepted _ c12.loop.invariant c8.next-data.ensures c.enum-told2.given.1
 
 pub data-records-spec : {M : Type 1} → statement M
 data-records-spec =
@@ -157,19 +157,19 @@ data-records-spec =
     let c8 = c4.before.before.before.before in
     let c12 = c8.before.before.before.before in
     let c16 = c12.before.before.before.before in
-    (held-lengths (now-held _ c16.before.loop.invariant c12.before.next-data.ensures)).0)
+    (held_lengths (now_held _ c16.before.loop.invariant c12.before.next-data.ensures)).0)
     (λ c.
     let c4 = c.before.before.before.before in
     let c8 = c4.before.before.before.before in
     let c12 = c8.before.before.before.before in
     let c16 = c12.before.before.before.before in
-    (held-lengths (now-held _ c16.before.loop.invariant c12.before.next-data.ensures)).1)
+    (held_lengths (now_held _ c16.before.loop.invariant c12.before.next-data.ensures)).1)
     (λ c.
     let c4 = c.before.before.before.before in
     let c8 = c4.before.before.before.before in
     let c12 = c8.before.before.before.before in
     let c16 = c12.before.before.before.before in
-    (held-lengths (now-held _ c16.before.loop.invariant c12.before.next-data.ensures)).2)
+    (held_lengths (now_held _ c16.before.loop.invariant c12.before.next-data.ensures)).2)
     returns
     loop-less
     loop-again
@@ -181,19 +181,19 @@ data-records-spec =
     let c8 = c4.before.before.before.before in
     let c12 = c8.before.before.before.before in
     let c16 = c12.before.before.before.before in
-    (held-lengths (now-held _ c16.before.before.loop.invariant c12.before.before.next-data.ensures)).0)
+    (held_lengths (now_held _ c16.before.before.loop.invariant c12.before.before.next-data.ensures)).0)
     (λ c.
     let c4 = c.before.before.before.before in
     let c8 = c4.before.before.before.before in
     let c12 = c8.before.before.before.before in
     let c16 = c12.before.before.before.before in
-    (held-lengths (now-held _ c16.before.before.loop.invariant c12.before.before.next-data.ensures)).1)
+    (held_lengths (now_held _ c16.before.before.loop.invariant c12.before.before.next-data.ensures)).1)
     (λ c.
     let c4 = c.before.before.before.before in
     let c8 = c4.before.before.before.before in
     let c12 = c8.before.before.before.before in
     let c16 = c12.before.before.before.before in
-    (held-lengths (now-held _ c16.before.before.loop.invariant c12.before.before.next-data.ensures)).2)
+    (held_lengths (now_held _ c16.before.before.loop.invariant c12.before.before.next-data.ensures)).2)
     returns-2
     (λ c. search rules)
     add-record-report-2
@@ -202,32 +202,32 @@ data-records-spec =
     let c4 = c.before.before.before.before in
     let c8 = c4.before.before.before.before in
     let c12 = c8.before.before.before.before in
-    (held-lengths (now-held _ c12.before.before.loop.invariant c8.before.before.next-data.ensures)).0)
+    (held_lengths (now_held _ c12.before.before.loop.invariant c8.before.before.next-data.ensures)).0)
     (λ c.
     let c4 = c.before.before.before.before in
     let c8 = c4.before.before.before.before in
     let c12 = c8.before.before.before.before in
-    (held-lengths (now-held _ c12.before.before.loop.invariant c8.before.before.next-data.ensures)).1)
+    (held_lengths (now_held _ c12.before.before.loop.invariant c8.before.before.next-data.ensures)).1)
     (λ c.
     let c4 = c.before.before.before.before in
     let c8 = c4.before.before.before.before in
     let c12 = c8.before.before.before.before in
-    (held-lengths (now-held _ c12.before.before.loop.invariant c8.before.before.next-data.ensures)).2)
+    (held_lengths (now_held _ c12.before.before.loop.invariant c8.before.before.next-data.ensures)).2)
     returns-3
     (λ c. search rules)
     (λ c.
     let c4 = c.before.before.before.before in
     let c8 = c4.before.before.before.before in
     let c12 = c8.before.before.before.before in
-    (held-lengths (now-held _ c12.loop.invariant c8.next-data.ensures)).0)
+    (held_lengths (now_held _ c12.loop.invariant c8.next-data.ensures)).0)
     (λ c.
     let c4 = c.before.before.before.before in
     let c8 = c4.before.before.before.before in
     let c12 = c8.before.before.before.before in
-    (held-lengths (now-held _ c12.loop.invariant c8.next-data.ensures)).1)
+    (held_lengths (now_held _ c12.loop.invariant c8.next-data.ensures)).1)
     (λ c.
     let c4 = c.before.before.before.before in
     let c8 = c4.before.before.before.before in
     let c12 = c8.before.before.before.before in
-    (held-lengths (now-held _ c12.loop.invariant c8.next-data.ensures)).2)
+    (held_lengths (now_held _ c12.loop.invariant c8.next-data.ensures)).2)
     returns-4)

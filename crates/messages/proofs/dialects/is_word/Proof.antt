@@ -6,12 +6,12 @@ use native.Mathlib.Omega.{arith}
 use lib.ListN.{length}
 use borrow.Author.Rules.{rules}
 use Rattle.model.specs.declared.Dialect.TheVariants.{Tdif}
-use Rattle.record_check.proofs.Keys.{different-lengths, sameFrom, same_end, same_differs, same_next}
+use Rattle.record_check.proofs.Keys.{different_lengths, same_from, same_end, same_differs, same_next}
 use Rattle.messages.proofs.dialects.is_word.Statement.{statement}
 use Rattle.messages.proofs.dialects.is_word.Tie as tie
 
 abbrev invariant-loop : tie.invariant-loop
-invariant-loop word name i₀ i = (i ≤ length word) × (length word ≡ length name) × (sameFrom Tdif word name 0 ≡ sameFrom Tdif word name i)
+invariant-loop word name i₀ i = (i ≤ length word) × (length word ≡ length name) × (same_from Tdif word name 0 ≡ same_from Tdif word name i)
 
 abbrev decreases-loop : tie.decreases-loop
 decreases-loop word name i₀ i = length word - i
@@ -19,7 +19,7 @@ decreases-loop word name i₀ i = length word - i
 returns : tie.Need-returns invariant-loop decreases-loop
 returns c =
     let s = c.before.before.before.args in
-    sym (different-lengths Tdif s.word.now s.name.now (λ e. omega arith))
+    sym (different_lengths Tdif s.word.now s.name.now (λ e. omega arith))
 
 returns-2 : tie.Need-returns-2 invariant-loop decreases-loop
 returns-2 c =

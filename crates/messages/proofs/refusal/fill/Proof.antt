@@ -4,7 +4,7 @@ use native.Mathlib.Omega.{arith}
 use lib.ListN.{length, drop}
 use Rattle.buffer.proofs.WriteProgress.{Writing, start}
 use Rattle.messages.specs.Sentences.{filled}
-use Rattle.messages.proofs.SentenceLaws.{filled-short, fill-room, fill-next, fill_done}
+use Rattle.messages.proofs.SentenceLaws.{filled_short, fill_room, fill_next, fill_done}
 use Rattle.messages.proofs.refusal.fill.Statement.{statement}
 use Rattle.messages.proofs.refusal.fill.Tie as tie
 
@@ -15,13 +15,13 @@ abbrev decreases-loop : tie.decreases-loop
 decreases-loop e form out₀ i₀ o₀ out i o = length form - i
 
 loop-holds : tie.Need-loop-init invariant-loop decreases-loop
-loop-holds c = (omega arith, start _ _ _ (omega (arith, filled-short c.before.before.args.e c.before.before.args.form.now)))
+loop-holds c = (omega arith, start _ _ _ (omega (arith, filled_short c.before.before.args.e c.before.before.args.form.now)))
 
 write-part-requires : tie.Need-write-part-requires invariant-loop decreases-loop
 write-part-requires c κs =
     let u = c.before.before.before in
     let a = u.before.before.before.args in
-    fill-room a.e a.form.now u.loop.i u.loop.invariant.1 c.before.before.loop-test.true
+    fill_room a.e a.form.now u.loop.i u.loop.invariant.1 c.before.before.loop-test.true
 
 loop-again : tie.Need-loop-preserved invariant-loop decreases-loop
 loop-again c =
@@ -29,7 +29,7 @@ loop-again c =
     let u = c4.before.before in
     let a = u.before.before.before.args in
     let t = c4.before.loop-test.true in
-    (omega arith, fill-next a.e a.form.now u.loop.i u.loop.invariant.1 t c.before.before.write-part.ensures)
+    (omega arith, fill_next a.e a.form.now u.loop.i u.loop.invariant.1 t c.before.before.write-part.ensures)
 
 same_length : tie.Need-same-length invariant-loop decreases-loop
 same_length c = c.before.loop.invariant.1.long

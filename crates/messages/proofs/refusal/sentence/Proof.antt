@@ -3,7 +3,7 @@ use borrow.Author.Rules.{rules}
 use Rattle.model.specs.rules.Base.{if◌then◌else◌}
 use Rattle.model.specs.laws.Ascii.{ascii}
 use Rattle.messages.specs.Sentences.{form_of}
-use Rattle.messages.proofs.SentenceLaws.{other-form, sentence-as, sentence-of}
+use Rattle.messages.proofs.SentenceLaws.{other_form, sentence_as, sentence_of_lem}
 use Rattle.messages.proofs.refusal.sentence.Statement.{statement}
 use Rattle.messages.proofs.refusal.sentence.Tie as tie
 
@@ -15,8 +15,8 @@ returns-10 c =
     let e = a.e in
     let r = u.match.rest in
     let few = r.0.0.0.0 in
-    sentence-as e a.out.now
-    (other-form e.number e.column few.0.0.0.0.1 few.0.0.0.1 few.0.0.1 few.0.1 few.1 r.0.0.0.1 r.0.0.1
+    sentence_as e a.out.now
+    (other_form e.number e.column few.0.0.0.0.1 few.0.0.0.1 few.0.0.1 few.0.1 few.1 r.0.0.0.1 r.0.0.1
     r.0.1 r.1)
     c.fill9.ensures
 
@@ -44,13 +44,13 @@ sentence-spec =
     (λ c κs. search rules)
     (λ c. search rules)
     (λ c κs. search rules)
-    (λ c. sentence-of _ _ 1 c.before.before.before.match.keys1 c.fill.ensures)
-    (λ c. sentence-of _ _ 2 c.before.before.before.match.keys2 c.fill2.ensures)
-    (λ c. sentence-of _ _ 3 c.before.before.before.match.keys3 c.fill3.ensures)
-    (λ c. sentence-of _ _ 4 c.before.before.before.match.keys4 c.fill4.ensures)
-    (λ c. sentence-of _ _ 5 c.before.before.before.match.keys5 c.fill5.ensures)
-    (λ c. sentence-of _ _ 6 c.before.before.before.match.keys6 c.fill6.ensures)
-    (λ c. sentence-of _ _ 7 c.before.before.before.match.keys7 c.fill7.ensures)
-    (λ c. sentence-of _ _ 8 c.before.before.before.match.keys8 c.fill8.ensures)
-    (λ c. sentence-of _ _ 9 c.before.before.match.keys9 c.uncarried.ensures)
+    (λ c. sentence_of_lem _ _ 1 c.before.before.before.match.keys1 c.fill.ensures)
+    (λ c. sentence_of_lem _ _ 2 c.before.before.before.match.keys2 c.fill2.ensures)
+    (λ c. sentence_of_lem _ _ 3 c.before.before.before.match.keys3 c.fill3.ensures)
+    (λ c. sentence_of_lem _ _ 4 c.before.before.before.match.keys4 c.fill4.ensures)
+    (λ c. sentence_of_lem _ _ 5 c.before.before.before.match.keys5 c.fill5.ensures)
+    (λ c. sentence_of_lem _ _ 6 c.before.before.before.match.keys6 c.fill6.ensures)
+    (λ c. sentence_of_lem _ _ 7 c.before.before.before.match.keys7 c.fill7.ensures)
+    (λ c. sentence_of_lem _ _ 8 c.before.before.before.match.keys8 c.fill8.ensures)
+    (λ c. sentence_of_lem _ _ 9 c.before.before.match.keys9 c.uncarried.ensures)
     returns-10)

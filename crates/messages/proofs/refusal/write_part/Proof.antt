@@ -4,7 +4,7 @@ use native.Mathlib.Omega.{arith}
 use borrow.Author.Rules.{rules}
 use borrow.Author.Tests.{eq-eqb, ne_eqb}
 use Rattle.model.specs.rules.Base.{if◌then◌else◌}
-use Rattle.buffer.proofs.WriteProgress.{set-written}
+use Rattle.buffer.proofs.WriteProgress.{set_written}
 use Rattle.messages.specs.Sentences.{part_of}
 use Rattle.messages.proofs.refusal.write_part.Statement.{statement}
 use Rattle.messages.proofs.refusal.write_part.Tie as tie
@@ -94,7 +94,7 @@ returns-5 c =
       ne_eqb _ 0x52 c.before.before.if2.false,
       ne_eqb _ 0x43 c.before.if3.false,
       ne_eqb _ 0x42 c.if4.false,
-    ) (refl, set-written a.out.now a.o a.b (omega arith))
+    ) (refl, set_written a.out.now a.o a.b (omega arith))
 
 pub write-part-spec : {M : Type 1} → statement M
 write-part-spec =

@@ -16,16 +16,16 @@ use Rattle.model.specs.rules.Ledger.{Call, finish}
 use Rattle.model.specs.laws.Scans.{Buffered}
 use Rattle.model.proofs.Tests.{impossible}
 use Rattle.codes.specs.declared.TextAnswer.{TextAnswer}
-use Rattle.piece_state.specs.Checks.{checkNow}
+use Rattle.piece_state.specs.Checks.{check_now}
 use Rattle.piece_state.specs.declared.checks.CallCheck.TheVariants as checks
 use Rattle.piece_state.specs.declared.place.Place.{Place}
-use Rattle.piece_step.specs.Steps.{InBounds, currentIn}
+use Rattle.piece_step.specs.Steps.{InBounds, current_in}
 use Rattle.piece_step.specs.Calls.{Named, Begun, Finished}
-use Rattle.piece_converter.specs.States.{storedEnd, place_of, numbersOf}
-use Rattle.piece_converter.specs.Contract.{converterOf, CallContract}
+use Rattle.piece_converter.specs.States.{stored_end, place_of, numbers_of}
+use Rattle.piece_converter.specs.Contract.{converter_of, CallContract}
 use Rattle.piece_converter.specs.declared.Converter.{Converter}
-use Rattle.piece_converter.proofs.Representation.{callAnswer}
-use Rattle.piece_converter.proofs.Contract.{checkOf, refused-called, lost-called, end-called}
+use Rattle.piece_converter.proofs.Representation.{call_answer}
+use Rattle.piece_converter.proofs.Contract.{check_of, refused_called, lost_called, end_called}
 use Rattle.piece_converter.proofs.lent.end.Statement.{statement}
 use Rattle.piece_converter.proofs.lent.end.Tie as tie
 
@@ -35,16 +35,16 @@ use Rattle.piece_converter.proofs.lent.end.Tie as tie
 abbrev stateAt : tie.After-check-call → Converter
 stateAt u =
     let a = u.before.before.before.before.args in
-    converterOf a.source a.target a.numbers.now a.ends.now a.name-ends.now a.bytes.now a.names.now
+    converter_of a.source a.target a.numbers.now a.ends.now a.name-ends.now a.bytes.now a.names.now
 
 abbrev call_at : tie.After-check-call → Call
 call_at u = let a = u.before.before.before.before.args in finish (length a.out.now)
 
-check-is : (u : tie.After-check-call) → u.check-call.result ≡ checkOf (stateAt u) (call_at u)
+check-is : (u : tie.After-check-call) → u.check-call.result ≡ check_of (stateAt u) (call_at u)
 check-is u =
     let a = u.before.before.before.before.args in
     subst
-    (λ (f : Report). u.check-call.result ≡ checkNow a.source a.target f (storedEnd a.numbers.now) 0 (length a.out.now))
+    (λ (f : Report). u.check-call.result ≡ check_now a.source a.target f (stored_end a.numbers.now) 0 (length a.out.now))
     u.before.stored-fault.ensures
     u.check-call.ensures
 
@@ -56,13 +56,13 @@ refused-returns c =
     subst
     (λ (told : TextAnswer). CallContract (stateAt u) (call_at u) out told (stateAt u) out)
     (sym c.refusal.ensures)
-    (refused-called (stateAt u) (call_at u) out e.0.0 (sym (check-is u) ∙ e.1))
+    (refused_called (stateAt u) (call_at u) out e.0.0 (sym (check-is u) ∙ e.1))
 
 -- ---- a call that is taken
 
 -- after the check that the run stays in bounds
-abbrev checkedAt : tie.After-is-in-bounds → tie.After-check-call
-checkedAt v =
+abbrev checked_at : tie.After-is-in-bounds → tie.After-check-call
+checked_at v =
     let v4 = v.before.before.before.before in
     let v8 = v4.before.before.before.before in
     v8.before
@@ -77,17 +77,17 @@ target v =
     let v4 = v.before.before.before.before in
     v4.before.before.before.d.given.0.1.0
 
-is-taken : (v : tie.After-is-in-bounds) → checkOf (stateAt (checkedAt v)) (call_at (checkedAt v)) ≡ checks.Proceed (source v) (target v)
+is-taken : (v : tie.After-is-in-bounds) → check_of (stateAt (checked_at v)) (call_at (checked_at v)) ≡ checks.Proceed (source v) (target v)
 is-taken v =
     let v4 = v.before.before.before.before in
-    sym (check-is (checkedAt v)) ∙ v4.before.before.before.d.given.1
+    sym (check-is (checked_at v)) ∙ v4.before.before.before.d.given.1
 
 abbrev placeAt : tie.After-is-in-bounds → Place
 placeAt v =
     let v4 = v.before.before.before.before in
     v4.before.IsPlace-in.result
 
-place_is : (v : tie.After-is-in-bounds) → placeAt v ≡ place_of (stateAt (checkedAt v))
+place_is : (v : tie.After-is-in-bounds) → placeAt v ≡ place_of (stateAt (checked_at v))
 place_is v =
     let v4 = v.before.before.before.before in
     v4.before.IsPlace-in.ensures
@@ -95,12 +95,12 @@ place_is v =
 lost-returns : tie.Need-returns
 lost-returns c =
     let v = c.before.before.before in
-    let s = stateAt (checkedAt v) in
+    let s = stateAt (checked_at v) in
     let none = ap (λ (x : TextAnswer). x.length) c.refusal2.ensures in
-    let within : c.refusal2.result.length ≤ length (checkedAt v).before.before.before.before.args.out.now = omega arith in
-    lost-called s (source v) (target v) (checkedAt v).before.before.before.before.args.out.now (call_at (checkedAt v)) c.refusal2.result
+    let within : c.refusal2.result.length ≤ length (checked_at v).before.before.before.before.args.out.now = omega arith in
+    lost_called s (source v) (target v) (checked_at v).before.before.before.before.args.out.now (call_at (checked_at v)) c.refusal2.result
     (is-taken v) within λ inside.
-    let inside-here = subst (λ (p : Place). InBounds p (currentIn p s.name_ends s.ends)) (sym (place_is v)) inside in
+    let inside-here = subst (λ (p : Place). InBounds p (current_in p s.name_ends s.ends)) (sym (place_is v)) inside in
     impossible (sym (not-true v.is-in-bounds.result c.before.before.if1.true) ∙ v.is-in-bounds.ensures.1 inside-here)
 
 end-file-requires : tie.Need-end-file-requires
@@ -110,10 +110,10 @@ end-file-requires c κs =
     let v = c8 in
     record {
       bounds = v.is-in-bounds.ensures.0 (not-false v.is-in-bounds.result c4.before.before.before.if1.false);
-      long-names = search rules;
-      long-name-ends = search rules;
-      long-bytes = search rules;
-      long-ends = search rules;
+      long_names = search rules;
+      long_name_ends = search rules;
+      long_bytes = search rules;
+      long_ends = search rules;
     }
 
 finished-returns : tie.Need-returns-3
@@ -123,23 +123,23 @@ finished-returns c =
     let c12 = c8.before.before.before.before in
     let w = c.before.before.before.before.end-file in
     let v = c12.before in
-    let u = checkedAt v in
+    let u = checked_at v in
     let a = u.before.before.before.before.args in
-    let name-ends' : List ℕ = w.new.1.1.1.1.0 in
+    let name_ends' : List ℕ = w.new.1.1.1.1.0 in
     let ends' : List ℕ = w.new.1.1.1.1.1.1.0 in
     let out' : List ℕ = w.new.1.1.1.1.1.1.1.0 in
     let finished =
     subst (λ (p : Place). (before : Bytes) (done : List Rec) (k : Buffered) →
     Begun (source v) (into (target v)) before [] p a.names.now a.name-ends.now a.bytes.now a.ends.now a.out.now done k →
-    Finished (source v) (into (target v)) p done k a.out.now out' w.result × Named before a.names.now name-ends' done) (place_is v)
+    Finished (source v) (into (target v)) p done k a.out.now out' w.result × Named before a.names.now name_ends' done) (place_is v)
     w.ensures.0 in
     let as_long : length out' ≡ length a.out.now = w.auto.1.1.1.1.1.1.1.0 in
-    let after : c.Numbers-of.result ≡ numbersOf w.result.place 1 w.result.report = c.Numbers-of.ensures in
+    let after : c.Numbers-of.result ≡ numbers_of w.result.place 1 w.result.report = c.Numbers-of.ensures in
     subst
-    (λ (n : List ℕ). CallContract (stateAt u) (call_at u) a.out.now (callAnswer w.result)
-    (converterOf a.source a.target n ends' name-ends' a.bytes.now a.names.now) out')
+    (λ (n : List ℕ). CallContract (stateAt u) (call_at u) a.out.now (call_answer w.result)
+    (converter_of a.source a.target n ends' name_ends' a.bytes.now a.names.now) out')
     (sym after)
-    (end-called (stateAt u) (source v) (target v) a.out.now w.result ends' name-ends' a.bytes.now a.names.now out'
+    (end_called (stateAt u) (source v) (target v) a.out.now w.result ends' name_ends' a.bytes.now a.names.now out'
     w.ensures.1 as_long (is-taken v) finished)
 
 pub end-spec : {M : Type 1} → statement M

@@ -7,7 +7,7 @@ use borrow.Author.Rules.{rules}
 use borrow.Author.Tests.{not-true, not-false}
 use Rattle.model.specs.rules.Report.{MAXCOLUMNS}
 use Rattle.model.proofs.Tests.{impossible}
-use Rattle.piece_state.proofs.Soundness.{ordered, is-ordered, buffered-outside, is-buffered}
+use Rattle.piece_state.proofs.Soundness.{ordered, is_ordered, buffered_outside, is_buffered}
 use Rattle.piece_run.proofs.bounds.is_buffered_in_bounds.Statement.{statement}
 use Rattle.piece_run.proofs.bounds.is_buffered_in_bounds.Tie as tie
 
@@ -35,7 +35,7 @@ returns-7 c =
     let c8 = c4.before.before.before.before in
     let c12 = c8.before.before.before.before in
     let q = c.before.is-buffered-in-record in
-    (λ z. impossible z, λ b. sym (not-true q.result c.if7.true) ∙ q.ensures ∙ is-buffered c12.before.before.before.args.p b.between)
+    (λ z. impossible z, λ b. sym (not-true q.result c.if7.true) ∙ q.ensures ∙ is_buffered c12.before.before.before.args.p b.between)
 
 returns-8 : tie.Need-returns-8
 returns-8 c =
@@ -54,7 +54,7 @@ returns-8 c =
         records = c4.before.before.if5.false;
         cells = c.before.before.before.before.if6.false;
         ordered = λ l. absurd (omega arith);
-        between = buffered-outside p (sym q.ensures ∙ not-false q.result c.before.before.if7.false);
+        between = buffered_outside p (sym q.ensures ∙ not-false q.result c.before.before.if7.false);
       },
       λ _. refl,
     )
@@ -80,9 +80,9 @@ returns-9 c =
         records = c4.before.before.before.if5.false;
         cells = c4.before.if6.false;
         ordered = λ _. ordered 0 (take p.cells s.args.ends.now) p.fill (sym c.is-in-order.ensures ∙ z);
-        between = buffered-outside p (sym q.ensures ∙ not-false q.result c.before.before.before.if7.false);
+        between = buffered_outside p (sym q.ensures ∙ not-false q.result c.before.before.before.if7.false);
       },
-      λ b. c.is-in-order.ensures ∙ is-ordered 0 (take p.cells s.args.ends.now) p.fill (b.ordered few),
+      λ b. c.is-in-order.ensures ∙ is_ordered 0 (take p.cells s.args.ends.now) p.fill (b.ordered few),
     )
 
 pub is-buffered-in-bounds-spec : {M : Type 1} → statement M

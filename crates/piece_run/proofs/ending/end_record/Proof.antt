@@ -5,8 +5,8 @@ use borrow.Author.Rules.{rules}
 use Rattle.model.specs.rules.Dialect.{into}
 use Rattle.piece_step.specs.Types.{NoRecord, CutShort}
 use Rattle.piece_step.specs.declared.CallResult.{CallResult}
-use Rattle.piece_run.proofs.EndLaws.{cut-reads, cut-reports, none_reads, none-reports, clean-reads}
-use Rattle.piece_run.proofs.EndCases.{finish-fault, finish-clean}
+use Rattle.piece_run.proofs.EndLaws.{cut_reads, cut_reports, none_reads, none_reports, clean_reads}
+use Rattle.piece_run.proofs.EndCases.{finish_fault, finish_clean}
 use Rattle.piece_run.proofs.ending.end_record.Statement.{statement}
 use Rattle.piece_run.proofs.ending.end_record.Tie as tie
 
@@ -28,10 +28,10 @@ returns c =
     let a = c8.before.args in
     let f = sym c4.before.file-end.ensures ∙ c.before.before.before.enum-told2.given.1 in
     let none = ap (λ (x : CallResult). x.length) c.fault-at2.ensures in (
-      λ done k b. finish-fault a.d (into a.t) a.p done k a.out.now _ NoRecord
+      λ done k b. finish_fault a.d (into a.t) a.p done k a.out.now _ NoRecord
           (none_reads a.d (into a.t) a.p done k b.hold f c.before.if1.true)
           (ap (λ (x : CallResult). x.place) c.fault-at2.ensures)
-          (ap (λ (x : CallResult). x.report) c.fault-at2.ensures ∙ sym (none-reports a.d (into a.t) a.p done k b.hold))
+          (ap (λ (x : CallResult). x.report) c.fault-at2.ensures ∙ sym (none_reports a.d (into a.t) a.p done k b.hold))
           none,
       omega arith,
     )
@@ -42,9 +42,9 @@ returns-2 c =
     let a = c4.before.before.before.args in
     let f = sym c.before.before.before.file-end.ensures ∙ c.before.enum_told.given.1 in
     let none = ap (λ (x : CallResult). x.length) c.fault-at.ensures in (
-      λ done k b. finish-fault a.d (into a.t) a.p done k a.out.now _ CutShort (cut-reads a.d (into a.t) a.p done k b.hold f)
+      λ done k b. finish_fault a.d (into a.t) a.p done k a.out.now _ CutShort (cut_reads a.d (into a.t) a.p done k b.hold f)
           (ap (λ (x : CallResult). x.place) c.fault-at.ensures)
-          (ap (λ (x : CallResult). x.report) c.fault-at.ensures ∙ sym (cut-reports a.d (into a.t) a.p done k b.hold))
+          (ap (λ (x : CallResult). x.report) c.fault-at.ensures ∙ sym (cut_reports a.d (into a.t) a.p done k b.hold))
           none,
       omega arith,
     )
@@ -56,8 +56,8 @@ returns-3 c =
     let a = c8.before.args in
     let f = sym c4.before.file-end.ensures ∙ c.before.before.before.enum-told2.given.1 in
     let no = c.before.if1.false in (
-      λ done k b. finish-clean a.d (into a.t) a.p done k a.out.now _
-          (clean-reads a.d (into a.t) a.p done k b.hold f (omega arith)) refl c.call-report.ensures refl,
+      λ done k b. finish_clean a.d (into a.t) a.p done k a.out.now _
+          (clean_reads a.d (into a.t) a.p done k b.hold f (omega arith)) refl c.call-report.ensures refl,
       omega arith,
     )
 

@@ -9,8 +9,8 @@ use Rattle.model.specs.rules.Dialect.{into}
 use Rattle.piece_record.specs.declared.RecordResult.TheVariants.{Written, Refused, Invalid}
 use Rattle.piece_step.specs.declared.CallResult.{CallResult}
 use Rattle.piece_record.specs.Completion.{CompleteSound}
-use Rattle.piece_step.proofs.BufferedParts.{order-more}
-use Rattle.piece_run.proofs.EndCases.{last-room, last-order, finish-many, finish-kept}
+use Rattle.piece_step.proofs.BufferedParts.{order_more}
+use Rattle.piece_run.proofs.EndCases.{last_room, last_order, finish_many, finish_kept}
 use Rattle.piece_run.proofs.ending.last_record.Statement.{statement}
 use Rattle.piece_run.proofs.ending.last_record.Tie as tie
 
@@ -24,7 +24,7 @@ returns c =
     let s = c4.before in
     let a = s.args in
     let none = ap (λ (x : CallResult). x.length) c.fault-at.ensures in (
-      λ done k b. finish-many a.d (into a.t) a.p a.bytes.now a.ends.now a.out.now done k b s.requires.1
+      λ done k b. finish_many a.d (into a.t) a.p a.bytes.now a.ends.now a.out.now done k b s.requires.1
           c.before.if1.true _ (ap (λ (x : CallResult). x.place) c.fault-at.ensures) (ap (λ (x : CallResult). x.report) c.fault-at.ensures) none,
       omega arith,
     )
@@ -32,7 +32,7 @@ returns c =
 slice-reshare-prefix-complete : tie.Need-slice-reshare-prefix-complete
 slice-reshare-prefix-complete c =
     let s = c.before.before.before.before in
-    let long : length s.args.ends.now ≡ 64 = s.requires.0.long-ends in
+    let long : length s.args.ends.now ≡ 64 = s.requires.0.long_ends in
     let few : s.args.p.cells < 64 = c.if1.false in
     omega (arith, length-set s.args.ends.now s.args.p.cells s.args.p.fill)
 
@@ -41,7 +41,7 @@ slice-aggregate-complete c =
     let c4 = c.before.before.before.before in
     let s = c4.before in
     let a = s.args in
-    let long : length a.ends.now ≡ 64 = s.requires.0.long-ends in
+    let long : length a.ends.now ≡ 64 = s.requires.0.long_ends in
     let few : a.p.cells < 64 = c.before.if1.false in
     omega (arith, length-set a.ends.now a.p.cells a.p.fill, length-take (a.p.cells + 1) (set a.ends.now a.p.cells a.p.fill))
 
@@ -51,14 +51,14 @@ complete-requires c κs =
     let c8 = c4.before.before.before.before in
     let s = c8 in
     let a = s.args in
-    let long : length a.ends.now ≡ 64 = s.requires.0.long-ends in
-    let size : length a.bytes.now ≡ 4096 = s.requires.0.long-bytes in
+    let long : length a.ends.now ≡ 64 = s.requires.0.long_ends in
+    let size : length a.bytes.now ≡ 4096 = s.requires.0.long_bytes in
     let few : a.p.cells < 64 = c.before.before.before.before.if1.false in
     let fill = s.requires.0.bounds.fill in
     let most = s.requires.0.bounds.size in
     let n = length-set a.ends.now a.p.cells a.p.fill in
     let m = length-take (a.p.cells + 1) (set a.ends.now a.p.cells a.p.fill) in (
-      order-more (last-order a.ends.now a.p.cells a.p.fill (s.requires.0.bounds.ordered (omega arith)) (omega arith)) (omega arith),
+      order_more (last_order a.ends.now a.p.cells a.p.fill (s.requires.0.bounds.ordered (omega arith)) (omega arith)) (omega arith),
       (
         (omega arith, omega arith, s.requires.0.bounds.written, omega arith),
         (search rules, search rules),
@@ -85,9 +85,9 @@ returns-2 c =
     let ruling =
     subst (CompleteSound a.d (into a.t) a.p a.bytes.now (take (a.p.cells + 1) (set a.ends.now a.p.cells a.p.fill)) 0
     a.out.now _) c.before.before.end.given.1 q.ensures in (
-      λ done k b. finish-kept a.d (into a.t) a.p a.bytes.now a.ends.now a.out.now done k b s.requires.1 c12.before.if1.false
-          s.requires.0.long-ends (set a.ends.now a.p.cells a.p.fill) refl _ (Written _) _ ruling (c.call-report.ensures, refl, refl),
-      last-room ruling,
+      λ done k b. finish_kept a.d (into a.t) a.p a.bytes.now a.ends.now a.out.now done k b s.requires.1 c12.before.if1.false
+          s.requires.0.long_ends (set a.ends.now a.p.cells a.p.fill) refl _ (Written _) _ ruling (c.call-report.ensures, refl, refl),
+      last_room ruling,
     )
 
 returns-3 : tie.Need-returns-3
@@ -103,8 +103,8 @@ returns-3 c =
     let ruling =
     subst (CompleteSound a.d (into a.t) a.p a.bytes.now (take (a.p.cells + 1) (set a.ends.now a.p.cells a.p.fill)) 0
     a.out.now _) c.before.before.e.given.1 q.ensures in (
-      λ done k b. finish-kept a.d (into a.t) a.p a.bytes.now a.ends.now a.out.now done k b s.requires.1 c12.before.if1.false
-          s.requires.0.long-ends (set a.ends.now a.p.cells a.p.fill) refl _ (Refused _) _ ruling
+      λ done k b. finish_kept a.d (into a.t) a.p a.bytes.now a.ends.now a.out.now done k b s.requires.1 c12.before.if1.false
+          s.requires.0.long_ends (set a.ends.now a.p.cells a.p.fill) refl _ (Refused _) _ ruling
           (ap (λ (x : CallResult). x.report) c.fault-at2.ensures, none, ap (λ (x : CallResult). x.place) c.fault-at2.ensures),
       omega arith,
     )
@@ -121,8 +121,8 @@ returns-4 c =
     let ruling =
     subst (CompleteSound a.d (into a.t) a.p a.bytes.now (take (a.p.cells + 1) (set a.ends.now a.p.cells a.p.fill)) 0
     a.out.now _) c.before.enum_told.given.1 q.ensures in (
-      λ done k b. finish-kept a.d (into a.t) a.p a.bytes.now a.ends.now a.out.now done k b s.requires.1 c12.if1.false
-          s.requires.0.long-ends (set a.ends.now a.p.cells a.p.fill) refl _ Invalid _ ruling tt,
+      λ done k b. finish_kept a.d (into a.t) a.p a.bytes.now a.ends.now a.out.now done k b s.requires.1 c12.if1.false
+          s.requires.0.long_ends (set a.ends.now a.p.cells a.p.fill) refl _ Invalid _ ruling tt,
       omega arith,
     )
 
@@ -133,7 +133,7 @@ last-record-spec =
     fault-at-requires
     returns
     (λ c. search rules)
-    (λ c. let s = c.before.before.before.before in let long : length s.args.ends.now ≡ 64 = s.requires.0.long-ends in omega arith)
+    (λ c. let s = c.before.before.before.before in let long : length s.args.ends.now ≡ 64 = s.requires.0.long_ends in omega arith)
     (λ c. search rules)
     slice-reshare-prefix-complete
     slice-aggregate-complete

@@ -9,14 +9,14 @@ use Rattle.model.specs.rules.Dialect.{into}
 use Rattle.piece_step.specs.declared.CallResult.{CallResult}
 use Rattle.piece_step.specs.Steps.{StepReady}
 use Rattle.piece_run.specs.Runs.{StepsSound}
-use Rattle.piece_run.proofs.PieceRun.{cell-buffered, cell-nothing, still-proceeds}
+use Rattle.piece_run.proofs.PieceRun.{cell_buffered, cell_nothing, still_proceeds}
 use Rattle.piece_run.proofs.run.run_after_header.Statement.{statement}
 use Rattle.piece_run.proofs.run.run_after_header.Tie as tie
 
 step-requires : tie.Need-step-requires
 step-requires c κs =
     let c4 = c.before.before.before.before in
-    let r = c4.before.before.requires in (r.bounds, (r.long-bytes, r.long-ends))
+    let r = c4.before.before.requires in (r.bounds, (r.long_bytes, r.long_ends))
 
 returns : tie.Need-returns
 returns c =
@@ -28,7 +28,7 @@ returns c =
       λ done k entered w.
           subst (StepsSound a.d (into a.t) a.piece.now a.place done k w.done' a.out.now _ a.ends.now a.out.now)
           (sym c.call-result.ensures)
-          (cell-buffered w c4.before.before.before.step.ensures c.before.before.before.q.given.1 c.before.call-report.ensures),
+          (cell_buffered w c4.before.before.before.step.ensures c.before.before.before.q.given.1 c.before.call-report.ensures),
       omega arith,
     )
 
@@ -40,9 +40,9 @@ run-steps-requires c κs =
     let c16 = c12.before.before.before.before in
     let s = c16.before in
     let a = s.args in
-    let same = cell-nothing c8.before.before.step.ensures c4.before.before.enum_told.given.1 in (
+    let same = cell_nothing c8.before.before.step.ensures c4.before.before.enum_told.given.1 in (
       subst (λ (x : List ℕ). StepReady a.piece.now a.place.offset 0 a.place x a.ends.now a.out.now 0) (sym same) s.requires,
-      record { long-starts = search rules; long-stops = search rules; long-kinds = search rules },
+      record { long_starts = search rules; long_stops = search rules; long_kinds = search rules },
     )
 
 returns-2 : tie.Need-returns-2
@@ -54,9 +54,9 @@ returns-2 c =
     let c20 = c16.before.before.before.before in
     let c24 = c20.before.before.before.before in
     let a = c24.before.before.before.args in
-    let same = cell-nothing c20.step.ensures c16.enum_told.given.1 in
+    let same = cell_nothing c20.step.ensures c16.enum_told.given.1 in
     let r = c8.before.run-steps.ensures in
-    (λ done k entered. still-proceeds same (λ w. r.0 a.place done k a.out.now entered refl w), r.1)
+    (λ done k entered. still_proceeds same (λ w. r.0 a.place done k a.out.now entered refl w), r.1)
 
 pub run-after-header-spec : {M : Type 1} → statement M
 run-after-header-spec =

@@ -8,10 +8,10 @@ use Rattle.model.specs.rules.Dialect.{into}
 use Rattle.piece_step.specs.declared.CallResult.{CallResult}
 use Rattle.piece_step.specs.Steps.{StepInBounds, StepSound}
 use Rattle.piece_run.specs.PieceRun.{PieceRunSound}
-use Rattle.piece_step.proofs.CallStart.{begun-header, begun-later, ready-header, ready-later}
-use Rattle.piece_run.proofs.Runs.{run-begins, walk-nowhere, pended-in-bounds}
-use Rattle.piece_run.proofs.PieceRun.{begun-follows, none-current, entered_of, ready-behind, headed-begins, headed-next, took-later, took-pended}
-use Rattle.piece_run.proofs.PieceRun.{took-stopped}
+use Rattle.piece_step.proofs.CallStart.{begun_header, begun_later, ready_header, ready_later}
+use Rattle.piece_run.proofs.Runs.{run_begins, walk_nowhere, pended_in_bounds}
+use Rattle.piece_run.proofs.PieceRun.{begun_follows, none_current, entered_of, ready_behind, headed_begins, headed_next, took_later, took_pended}
+use Rattle.piece_run.proofs.PieceRun.{took_stopped}
 use Rattle.piece_run.proofs.run.run_piece.Statement.{statement}
 use Rattle.piece_run.proofs.run.run_piece.Tie as tie
 
@@ -20,7 +20,7 @@ run-after-header-requires c κs =
     let c4 = c.before.before.before.before in
     let c8 = c4.before.before.before.before in
     let s = c8.before.before.before in
-    ready-later s.requires (λ e. omega (arith, c.before.before.before.if1.true))
+    ready_later s.requires (λ e. omega (arith, c.before.before.before.if1.true))
 
 returns : tie.Need-returns
 returns c =
@@ -32,8 +32,8 @@ returns c =
     let more : 0 < a.place.records = omega (arith, c8.before.before.if1.true) in
     let r = c4.before.before.run-after-header.ensures in (
       λ before done k b.
-          let h = headed-begins b more in
-          took-later h (r.0 done k (entered_of (begun-later b (λ e. omega arith))) h.now),
+          let h = headed_begins b more in
+          took_later h (r.0 done k (entered_of (begun_later b (λ e. omega arith))) h.now),
       r.1,
     )
 
@@ -43,7 +43,7 @@ step-requires c κs =
     let c8 = c4.before.before.before.before in
     let c12 = c8.before.before.before.before in
     let none : c12.before.before.args.place.records ≤ 0 = c4.before.before.if1.false in
-    (ready-header c12.before.before.requires (omega arith), record { long-starts = search rules; long-stops = search rules; long-kinds = search rules })
+    (ready_header c12.before.before.requires (omega arith), record { long_starts = search rules; long_stops = search rules; long_kinds = search rules })
 
 run-steps-requires : tie.Need-run-steps-requires
 run-steps-requires c κs =
@@ -58,12 +58,12 @@ run-steps-requires c κs =
     let s = c32.before in
     let a = s.args in
     let t = c16.before.before.step in (
-      ready-behind (subst (StepInBounds a.piece.now a.place.offset 0 _ a.out.now) c4.before.before.before.q.given.1
-          t.ensures.0) s.requires.long-bytes s.requires.long-ends c12.before.out2.given,
+      ready_behind (subst (StepInBounds a.piece.now a.place.offset 0 _ a.out.now) c4.before.before.before.q.given.1
+          t.ensures.0) s.requires.long_bytes s.requires.long_ends c12.before.out2.given,
       record {
-        long-starts = c8.before.before.before.starts2.given;
-        long-stops = c8.before.before.stops2.given;
-        long-kinds = c8.before.kinds2.given;
+        long_starts = c8.before.before.before.starts2.given;
+        long_stops = c8.before.before.stops2.given;
+        long_kinds = c8.before.kinds2.given;
       },
     )
 
@@ -88,12 +88,12 @@ returns-2 c =
     let as_long = c20.before.before.before.out2.given in
     let room = r.1 in (
       λ before done k b.
-          let begins = begun-header b none in
+          let begins = begun_header b none in
           let turn =
           subst (StepSound a.d (into a.t) a.piece.now 0 a.place done k 0 a.out.now _ _ _) c16.before.q.given.1
           (t.ensures.1 done k begins.hold) in
-          let h = headed-next begins (begun-follows b none) none turn (none-current bounds) a.bytes.now a.ends.now in
-          took-later h (r.0 a.place done k a.out.now (entered_of begins) as_long h.now),
+          let h = headed_next begins (begun_follows b none) none turn (none_current bounds) a.bytes.now a.ends.now in
+          took_later h (r.0 a.place done k a.out.now (entered_of begins) as_long h.now),
       omega arith,
     )
 
@@ -113,13 +113,13 @@ returns-3 c =
     let bounds = subst (StepInBounds a.piece.now a.place.offset 0 _ a.out.now) c.before.before.before.q2.given.1 t.ensures.0 in
     let length-is = ap (λ (x : CallResult). x.length) c.call-result.ensures in (
       λ before done k b.
-          let begins = begun-header b none in
+          let begins = begun_header b none in
           let turn =
           subst (StepSound a.d (into a.t) a.piece.now 0 a.place done k 0 a.out.now _ _ _) c.before.before.before.q2.given.1
           (t.ensures.1 done k begins.hold) in
           subst (PieceRunSound a.d (into a.t) before a.piece.now a.place done k a.out.now _ _ a.bytes.now a.ends.now _)
           (sym c.call-result.ensures)
-          (took-pended begins (begun-follows b none) none turn (pended-in-bounds bounds) c.before.call-report.ensures a.bytes.now a.ends.now),
+          (took_pended begins (begun_follows b none) none turn (pended_in_bounds bounds) c.before.call-report.ensures a.bytes.now a.ends.now),
       omega arith,
     )
 
@@ -138,18 +138,18 @@ returns-4 c =
     let none : a.place.records ≡ 0 = omega arith in
     let length-is = ap (λ (x : CallResult). x.length) c.call-result2.ensures in (
       λ before done k b.
-          let begins = begun-header b none in
+          let begins = begun_header b none in
           let turn =
           subst (StepSound a.d (into a.t) a.piece.now 0 a.place done k 0 a.out.now _ _ _) c.before.before.e.given.1
           (t.ensures.1 done k begins.hold) in
           subst (PieceRunSound a.d (into a.t) before a.piece.now a.place done k a.out.now _ _ a.bytes.now a.ends.now _)
           (sym c.call-result2.ensures)
-          (took-stopped begins none turn a.bytes.now a.ends.now),
+          (took_stopped begins none turn a.bytes.now a.ends.now),
       omega arith,
     )
 
 returns-5 : tie.Need-returns-5
-unfolding run-begins
+unfolding run_begins
 returns-5 c =
     let c4 = c.before.before.before.before in
     let c8 = c4.before.before.before.before in
@@ -164,11 +164,11 @@ returns-5 c =
     let none : a.place.records ≡ 0 = omega arith in
     let length-is = ap (λ (x : CallResult). x.length) c.call-result3.ensures in (
       λ before done k b.
-          let begins = begun-header b none in
+          let begins = begun_header b none in
           let turn =
           subst (StepSound a.d (into a.t) a.piece.now 0 a.place done k 0 a.out.now _ _ _) c.before.before.enum_told.given.1
           (t.ensures.1 done k begins.hold) in
-          walk-nowhere (run-begins begins) (entered_of begins) refl turn,
+          walk_nowhere (run_begins begins) (entered_of begins) refl turn,
       omega arith,
     )
 

@@ -2,7 +2,7 @@
 use Prim.Native.Nat.{◌-◌, ◌≤◌}
 use native.Mathlib.Omega.{arith}
 use lib.ListN.{length, get_or}
-use Rattle.piece_state.proofs.BufferedLists.{Preserving, keeping, cell-fits, end_fits, kept_next, kept-all}
+use Rattle.piece_state.proofs.BufferedLists.{Preserving, keeping, cell_fits, end_fits, kept_next, kept_all}
 use Rattle.piece_state.proofs.cells.buffer_cells.Statement.{statement}
 use Rattle.piece_state.proofs.cells.buffer_cells.Tie as tie
 
@@ -19,16 +19,16 @@ loop-holds c =
     keeping s.requires.0 s.requires.1.0.0 s.requires.1.0.1 s.requires.1.1
 
 mul-start : tie.Need-overflow-mul-start invariant-loop decreases-loop
-mul-start c = omega (arith, c.before.loop.invariant.stand.in-starts)
+mul-start c = omega (arith, c.before.loop.invariant.stand.in_starts)
 
 shared-slice-read-start : tie.Need-shared-slice-read-start invariant-loop decreases-loop
-shared-slice-read-start c = omega (arith, c.before.before.loop.invariant.stand.in-starts)
+shared-slice-read-start c = omega (arith, c.before.before.loop.invariant.stand.in_starts)
 
 mul-stop : tie.Need-overflow-mul-stop invariant-loop decreases-loop
-mul-stop c = omega (arith, c.before.before.loop.invariant.stand.in-stops)
+mul-stop c = omega (arith, c.before.before.loop.invariant.stand.in_stops)
 
 shared-slice-read-stop : tie.Need-shared-slice-read-stop invariant-loop decreases-loop
-shared-slice-read-stop c = omega (arith, c.before.before.before.loop.invariant.stand.in-stops)
+shared-slice-read-stop c = omega (arith, c.before.before.before.loop.invariant.stand.in_stops)
 
 -- the next cell lies in the piece
 stands : (c : tie.After-copy-arg invariant-loop decreases-loop)
@@ -55,7 +55,7 @@ part-copy-end c = (stands c).1
 copy-requires : tie.Need-copy-requires invariant-loop decreases-loop
 copy-requires c κs =
     let c4 = c.before.before.before.before in
-    cell-fits c4.before.loop.invariant c.before.before.before.before.loop-test.true
+    cell_fits c4.before.loop.invariant c.before.before.before.before.loop-test.true
 
 mul-ends : tie.Need-overflow-mul-ends invariant-loop decreases-loop
 mul-ends c =
@@ -88,7 +88,7 @@ same-length-2 : tie.Need-same-length-2 invariant-loop decreases-loop
 same-length-2 c = c.before.loop.invariant.ends-go.long
 
 returns : tie.Need-returns invariant-loop decreases-loop
-returns c = let all = kept-all c.before.loop.invariant c.loop-test.false in (all.0, (all.1, all.2))
+returns c = let all = kept_all c.before.loop.invariant c.loop-test.false in (all.0, (all.1, all.2))
 
 pub buffer-cells-spec : {M : Type 1} → statement M
 buffer-cells-spec =

@@ -4,7 +4,7 @@ use mathlib.Core.Path.{ap, ◌∙◌}
 use native.Mathlib.Omega.{arith}
 use lib.ListN.{length, get_or}
 use borrow.Author.Rules.{rules}
-use Rattle.model.specs.rules.Decode.{kindNumber}
+use Rattle.model.specs.rules.Decode.{kind_number}
 use Rattle.piece_state.proofs.BufferedLists.{Sorting, sorting, kind_fits, sorted, sorted_all}
 use Rattle.piece_state.proofs.cells.kinds_of.Statement.{statement}
 use Rattle.piece_state.proofs.cells.kinds_of.Tie as tie
@@ -19,16 +19,16 @@ loop-holds : tie.Need-loop-init invariant-loop decreases-loop
 loop-holds c = sorting c.before.before.before.before.requires.0 c.before.before.before.before.requires.1
 
 mul-start : tie.Need-overflow-mul-start invariant-loop decreases-loop
-mul-start c = omega (arith, c.before.loop.invariant.stand.in-starts)
+mul-start c = omega (arith, c.before.loop.invariant.stand.in_starts)
 
 shared-slice-read-start : tie.Need-shared-slice-read-start invariant-loop decreases-loop
-shared-slice-read-start c = omega (arith, c.before.before.loop.invariant.stand.in-starts)
+shared-slice-read-start c = omega (arith, c.before.before.loop.invariant.stand.in_starts)
 
 mul-end : tie.Need-overflow-mul-end invariant-loop decreases-loop
-mul-end c = omega (arith, c.before.before.loop.invariant.stand.in-stops)
+mul-end c = omega (arith, c.before.before.loop.invariant.stand.in_stops)
 
 shared-slice-read-end : tie.Need-shared-slice-read-end invariant-loop decreases-loop
-shared-slice-read-end c = omega (arith, c.before.before.before.loop.invariant.stand.in-stops)
+shared-slice-read-end c = omega (arith, c.before.before.before.loop.invariant.stand.in_stops)
 
 -- the next cell lies in the buffered bytes
 stands : (c : tie.After-shared-slice-known5 invariant-loop decreases-loop)
@@ -72,10 +72,10 @@ loop-less c = omega arith
 loop-again : tie.Need-loop-preserved invariant-loop decreases-loop
 loop-again c =
     let c4 = c.before.before.before.before in
-    sorted c4.before.before.loop.invariant c4.before.loop-test.true (c.kind-number.ensures ∙ ap kindNumber c.before.kind-of.ensures)
+    sorted c4.before.before.loop.invariant c4.before.loop-test.true (c.kind-number.ensures ∙ ap kind_number c.before.kind-of.ensures)
 
 same_length : tie.Need-same-length invariant-loop decreases-loop
-same_length c = c.before.loop.invariant.kinds-go.long
+same_length c = c.before.loop.invariant.kinds_go.long
 
 returns : tie.Need-returns invariant-loop decreases-loop
 returns c = sorted_all c.before.loop.invariant c.loop-test.false

@@ -3,19 +3,19 @@ use Prim.Native.Nat.{◌-◌, ◌≤◌}
 use native.Mathlib.Omega.{arith}
 use mathlib.Core.Path.{◌≡◌, sym, ◌∙◌}
 use lib.ListN.{take}
-use Rattle.piece_state.specs.Sound.{inOrder}
-use Rattle.piece_state.proofs.Soundness.{orderFrom, order-begins, order-breaks, order-goes-on, order-ends}
+use Rattle.piece_state.specs.Sound.{in_order}
+use Rattle.piece_state.proofs.Soundness.{order_from, order_begins, order_breaks, order_goes_on, order_ends}
 use Rattle.piece_state.proofs.checks.is_in_order.Statement.{statement}
 use Rattle.piece_state.proofs.checks.is_in_order.Tie as tie
 
 abbrev invariant-loop : tie.invariant-loop
-invariant-loop ends n fill k₀ at₀ k at = (k ≤ n) × (inOrder 0 (take n ends) fill ≡ orderFrom ends n fill k at)
+invariant-loop ends n fill k₀ at₀ k at = (k ≤ n) × (in_order 0 (take n ends) fill ≡ order_from ends n fill k at)
 
 abbrev decreases-loop : tie.decreases-loop
 decreases-loop ends n fill k₀ at₀ k at = n - k
 
 loop-holds : tie.Need-loop-init invariant-loop decreases-loop
-loop-holds c = (omega arith, order-begins c.args.ends.now c.args.n c.args.fill 0 0)
+loop-holds c = (omega arith, order_begins c.args.ends.now c.args.n c.args.fill 0 0)
 
 mul-if1 : tie.Need-overflow-mul-if1 invariant-loop decreases-loop
 mul-if1 c = omega arith
@@ -27,7 +27,7 @@ returns : tie.Need-returns invariant-loop decreases-loop
 returns c =
     let s = c.before.before.before.before in
     let l = c.before.before.before.loop in
-    sym (l.invariant.1 ∙ order-breaks s.args.ends.now s.args.n s.args.fill l.k l.at c.before.before.loop-test.true s.requires
+    sym (l.invariant.1 ∙ order_breaks s.args.ends.now s.args.n s.args.fill l.k l.at c.before.before.loop-test.true s.requires
     c.if1.true)
 
 mul_at : tie.Need-overflow-mul-at invariant-loop decreases-loop
@@ -48,7 +48,7 @@ loop-again c =
     let s = c4.before in
     let l = c.before.before.before.before.loop in (
       omega arith,
-      l.invariant.1 ∙ order-goes-on s.args.ends.now s.args.n s.args.fill l.k l.at
+      l.invariant.1 ∙ order_goes_on s.args.ends.now s.args.n s.args.fill l.k l.at
           c.before.before.before.loop-test.true s.requires c.before.if1.false,
     )
 
@@ -56,7 +56,7 @@ returns-2 : tie.Need-returns-2 invariant-loop decreases-loop
 returns-2 c =
     let s = c.before.before in
     let l = c.before.loop in
-    sym (l.invariant.1 ∙ order-ends s.args.ends.now s.args.n s.args.fill l.k l.at c.loop-test.false)
+    sym (l.invariant.1 ∙ order_ends s.args.ends.now s.args.n s.args.fill l.k l.at c.loop-test.false)
 
 pub is-in-order-spec : {M : Type 1} → statement M
 is-in-order-spec =

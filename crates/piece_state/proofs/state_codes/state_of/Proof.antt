@@ -1,13 +1,13 @@
 -- `piece_state::state_codes::state_of` meets its contract, by its tests.
 use Rattle.model.specs.rules.Base.{if◌then◌else◌}
 use Rattle.model.proofs.Tests.{tests}
-use Rattle.piece_state.specs.Codes.{stateFrom}
+use Rattle.piece_state.specs.Codes.{state_from}
 use borrow.Author.Rules.{rules}
 use Rattle.piece_state.proofs.state_codes.state_of.Statement.{statement}
 use Rattle.piece_state.proofs.state_codes.state_of.Tie as tie
 
 pub state-of-spec : {M : Type 1} → statement M
-unfolding stateFrom if◌then◌else◌
+unfolding state_from if◌then◌else◌
 state-of-spec =
     tie.close
     (tie.spec

@@ -5,9 +5,9 @@ use mathlib.Core.Path.{refl, ◌∙◌}
 use borrow.Author.Rules.{rules}
 use borrow.Author.Tests.{not-false}
 use Rattle.model.specs.rules.Report.{MAXFILE}
-use Rattle.piece_step.specs.FastSteps.{nothing-in-bounds, nothing}
-use Rattle.piece_step.proofs.FastCells.{cells-there, clean-there}
-use Rattle.piece_step.proofs.FastSteps.{next-file, writes-bounds, writes-turns}
+use Rattle.piece_step.specs.FastSteps.{nothing_in_bounds, nothing}
+use Rattle.piece_step.proofs.FastCells.{cells_there, clean_there}
+use Rattle.piece_step.proofs.FastSteps.{next_file, writes_bounds, writes_turns}
 use Rattle.piece_step.proofs.fast.data_record.Statement.{statement}
 use Rattle.piece_step.proofs.fast.data_record.Tie as tie
 
@@ -20,7 +20,7 @@ scan-requires c κs =
     let l = u.requires.1 in
     let at = r.at in
     let offset = r.offset in
-    ((r.inside, omega arith, omega arith, omega arith), (omega (arith, l.long-starts), omega (arith, l.long-stops), omega (arith, l.long-kinds)))
+    ((r.inside, omega arith, omega arith, omega arith), (omega (arith, l.long_starts), omega (arith, l.long_stops), omega (arith, l.long_kinds)))
 
 finish-record-requires : tie.Need-finish-record-requires
 finish-record-requires c κs =
@@ -37,19 +37,19 @@ finish-record-requires c κs =
     let records : u.args.p.records ≤ u.args.p.offset = r.records in
     let offset : u.args.p.offset ≤ MAXFILE = r.offset in (
       record {
-        long-starts = c12.starts.given ∙ l.long-starts;
-        long-stops = c8.before.before.stops.given ∙ l.long-stops;
-        long-kinds = c8.kinds.given ∙ l.long-kinds;
+        long_starts = c12.starts.given ∙ l.long_starts;
+        long_stops = c8.before.before.stops.given ∙ l.long_stops;
+        long_kinds = c8.kinds.given ∙ l.long_kinds;
       },
       (
-        cells-there _ _ _ _ _ b.state u.requires.0.inside c12.before.scan.ensures u.requires.1 c4.before.cells.given.1,
+        cells_there _ _ _ _ _ b.state u.requires.0.inside c12.before.scan.ensures u.requires.1 c4.before.cells.given.1,
         (
-          clean-there _ _ _ _ _ b.state u.requires.0.inside c12.before.scan.ensures u.requires.1 c4.before.cells.given.1,
+          clean_there _ _ _ _ _ b.state u.requires.0.inside c12.before.scan.ensures u.requires.1 c4.before.cells.given.1,
           (
             (
               r.before,
               omega arith,
-              next-file u.args.t u.requires.0 (c16.before.before.is-between.ensures (not-false _ c16.before.if2.false))
+              next_file u.args.t u.requires.0 (c16.before.before.is-between.ensures (not-false _ c16.before.if2.false))
                   c12.before.scan.ensures u.requires.1 c4.before.cells.given.1,
               r.room,
             ),
@@ -70,9 +70,9 @@ returns-4 c =
     let c28 = c24.before.before.before.before in
     let u = c28 in
     let w = c.before.before.finish-record.ensures in (
-      writes-bounds u.args.t u.requires.0 (c20.before.is-between.ensures (not-false _ c20.if2.false)) c16.scan.ensures u.requires.1
+      writes_bounds u.args.t u.requires.0 (c20.before.is-between.ensures (not-false _ c20.if2.false)) c16.scan.ensures u.requires.1
           c8.cells.given.1 w,
-      λ bytes ends done k hold. writes-turns u.args.t u.requires.0
+      λ bytes ends done k hold. writes_turns u.args.t u.requires.0
           (c20.before.is-between.ensures (not-false _ c20.if2.false)) c16.scan.ensures u.requires.1 c8.cells.given.1 hold w,
     )
 
@@ -81,9 +81,9 @@ data-record-spec =
     tie.close
     (tie.spec
     (λ c. let c4 = c.before.before.before.before in let inside = c4.before.requires.0.inside in omega arith)
-    (λ c. (nothing-in-bounds refl, λ bytes ends done k hold. nothing))
+    (λ c. (nothing_in_bounds refl, λ bytes ends done k hold. nothing))
     (λ c κs. search rules)
-    (λ c. (nothing-in-bounds refl, λ bytes ends done k hold. nothing))
+    (λ c. (nothing_in_bounds refl, λ bytes ends done k hold. nothing))
     (λ c. let c4 = c.before.before.before.before in let c8 = c4.before.before.before.before in let r = c8.requires.0 in let at = r.at in
     let offset = r.offset in omega arith)
     scan-requires
@@ -93,7 +93,7 @@ data-record-spec =
     (λ c. search rules)
     (λ c. search rules)
     (λ c. search rules)
-    (λ c. (nothing-in-bounds refl, λ bytes ends done k hold. nothing))
+    (λ c. (nothing_in_bounds refl, λ bytes ends done k hold. nothing))
     (λ c. search rules)
     (λ c. search rules)
     (λ c. search rules)

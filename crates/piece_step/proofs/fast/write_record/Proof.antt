@@ -9,12 +9,12 @@ use borrow.Author.Rules.{rules}
 use Rattle.model.specs.rules.Base.{if◌then◌else◌, Bytes}
 use Rattle.model.specs.rules.Dialect.{into}
 use Rattle.model.proofs.Tests.{impossible}
-use Rattle.model.specs.rules.Text.{Value, recordText, ending}
+use Rattle.model.specs.rules.Text.{Value, record_text, ending}
 use Rattle.buffer.specs.Writes.{Room, WrittenAt, written}
 use Rattle.cell_decoder.specs.declared.source.Source.TheVariants.{File}
 use Rattle.cell_decoder.specs.Sources.{cells_in}
-use Rattle.cell_decoder.proofs.CellsIn.{cells-length}
-use Rattle.record_writer.specs.CleanRecord.{clean-data}
+use Rattle.cell_decoder.proofs.CellsIn.{cells_length}
+use Rattle.record_writer.specs.CleanRecord.{clean_data}
 use Rattle.piece_step.specs.FastSteps.{up_to, no_text}
 use Rattle.piece_step.proofs.fast.write_record.Statement.{statement}
 use Rattle.piece_step.proofs.fast.write_record.Tie as tie
@@ -23,13 +23,13 @@ abbrev cells : tie.Start → List Value
 cells c = let a = c.args in cells_in (File a.d) a.piece.now a.starts.now a.stops.now a.kinds.now
 
 abbrev text : tie.Start → Bytes
-text c = recordText (into c.args.t) false (cells c) ++ ending c.args.t
+text c = record_text (into c.args.t) false (cells c) ++ ending c.args.t
 
 check-target-requires : tie.Need-check-target-requires
 check-target-requires c κs =
     let c4 = c.before.before.before.before in
     let u = c4.before.before.before.before in
-    (u.requires.0, (λ e. clean-data (u.requires.1.0 e), u.requires.1.1.0))
+    (u.requires.0, (λ e. clean_data (u.requires.1.0 e), u.requires.1.1.0))
 
 -- there is room for it
 fits : (c : tie.After-write-line-arg) →
@@ -54,7 +54,7 @@ write-line-requires c κs =
     let c8 = c4.before.before.before.before in
     let c12 = c8.before.before.before.before in
     let u = c12.before.before in
-    (u.requires.0, (λ e. clean-data (u.requires.1.0 e), record { measured = λ z. impossible (sym z); inside = λ z. fits c }))
+    (u.requires.0, (λ e. clean_data (u.requires.1.0 e), record { measured = λ z. impossible (sym z); inside = λ z. fits c }))
 
 place_of : {old : Bytes} {o : ℕ} {w new : Bytes} {r : ℕ} → WrittenAt true old o w new r → (new ≡ written old o w) × (r ≡ o + length w)
 unfolding if◌then◌else◌
@@ -71,7 +71,7 @@ returns-4 c =
     let y = place_of c.before.before.write-line.ensures in
     up_to
     (sym (c8.before.before.before.«data».ensures (cells u)
-    (cells-length (File a.d) a.piece.now a.starts.now a.stops.now a.kinds.now u.requires.0.with-ends u.requires.0.with-kinds))
+    (cells_length (File a.d) a.piece.now a.starts.now a.stops.now a.kinds.now u.requires.0.with_ends u.requires.0.with_kinds))
     ∙ c8.before.enum-told2.given.1)
     (sym c8.check-target.ensures.0 ∙ c4.before.before.enum-told4.given.1)
     (fits c.before.before.before)

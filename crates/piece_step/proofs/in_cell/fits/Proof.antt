@@ -8,4 +8,4 @@ use Rattle.piece_step.proofs.in_cell.fits.Tie as tie
 pub fits-spec : {M : Type 1} → statement M
 fits-spec =
     tie.close (tie.spec (λ c e. impossible e) (λ c. search rules) (λ c e. impossible e) (λ c. search rules) (λ c e. impossible e)
-    (λ c e. record { columns = omega arith; in-record = omega arith; in-file = omega arith }))
+    (λ c e. record { columns = omega arith; in_record_lem = omega arith; in_file = omega arith }))

@@ -5,7 +5,7 @@ use mathlib.Core.Path.{refl, sym, ◌∙◌}
 use borrow.Author.Rules.{rules}
 use borrow.Author.Tests.{not-false}
 use Rattle.piece_step.specs.InCell.{not_found}
-use Rattle.piece_step.proofs.InCell.{piece-kept}
+use Rattle.piece_step.proofs.InCell.{piece_kept}
 use Rattle.piece_step.proofs.in_cell.step.Statement.{statement}
 use Rattle.piece_step.proofs.in_cell.step.Tie as tie
 
@@ -17,7 +17,7 @@ buffer-open-requires c κs =
     let c16 = c12.before.before.before.before in
     let s = c16 in
     let fits = c12.fits2.ensures (not-false _ c8.before.before.before.if1.false) in
-    omega (arith, fits.in-record, s.requires.0.fill, s.requires.1.0)
+    omega (arith, fits.in_record_lem, s.requires.0.fill, s.requires.1.0)
 
 add-t19 : tie.Need-overflow-add-t19
 add-t19 c =
@@ -26,7 +26,7 @@ add-t19 c =
     let c12 = c8.before.before.before.before in
     let c16 = c12.before.before.before.before in
     let fits = c16.before.fits2.ensures (not-false _ c16.if1.false) in
-    let size = fits.in-record in
+    let size = fits.in_record_lem in
     record { fits = omega arith }
 
 returns-5 : tie.Need-returns-5
@@ -43,7 +43,7 @@ returns-5 c =
     let stops = sym c12.run-stop.ensures ∙ c8.before.before.q.given.1 in
     let all = c4.before.before.before.all-ordinary.ensures (not-false _ c4.before.before.if2.false) in
     let kept = c.before.before.before.before.buffer-open.ensures in
-    piece-kept a.d a.piece.now a.p a.bytes.now a.ends.now s.requires.0 s.requires.1.0 s.requires.1.1 _ _ state stops
+    piece_kept a.d a.piece.now a.p a.bytes.now a.ends.now s.requires.0 s.requires.1.0 s.requires.1.1 _ _ state stops
     (rw c8.quote-of.ensures at all) fits _ kept.1 kept.0
 
 pub step_spec : {M : Type 1} → statement M

@@ -4,10 +4,10 @@ use Rattle.program.proofs.stream.convert.Statement.{statement}
 use Rattle.program.proofs.stream.convert.Tie as tie
 
 abbrev invariant-loop : tie.invariant-loop
-invariant-loop source target numbers₀ ends₀ name-ends₀ bytes₀ names₀ out₀ turns₀ numbers ends name-ends bytes names out turns = Unit {0}
+invariant-loop source target numbers₀ ends₀ name-ends₀ bytes₀ names₀ out₀ turns₀ numbers ends name_ends bytes names out turns = Unit {0}
 
 abbrev decreases-loop : tie.decreases-loop
-decreases-loop source target numbers₀ ends₀ name-ends₀ bytes₀ names₀ out₀ turns₀ numbers ends name-ends bytes names out turns = turns
+decreases-loop source target numbers₀ ends₀ name-ends₀ bytes₀ names₀ out₀ turns₀ numbers ends name_ends bytes names out turns = turns
 
 pub convert-spec : {M : Type 1} → statement M
 convert-spec =

@@ -5,7 +5,7 @@ use Prim.Native.Nat.{ℕ, ◌-◌, ◌≤◌}
 use native.Mathlib.Omega.{arith}
 use lib.ListN.{length}
 use Rattle.model.specs.declared.Fault.{Fault}
-use Rattle.record_check.proofs.RepeatedNames.{repeat_at, repeat-start, repeat-end, repeat-here, repeat-next}
+use Rattle.record_check.proofs.RepeatedNames.{repeat_at, repeat_start, repeat_end, repeat_here, repeat_next}
 use Rattle.record_check.proofs.names.first_repeat.Statement.{statement}
 use Rattle.record_check.proofs.names.first_repeat.Tie as tie
 
@@ -23,8 +23,8 @@ returns c fault kinds k =
     let u = c.before.before.before in
     let p = u.before.before.before.before in
     let a = p.args in
-    sym (repeat-start a.src a.rule fault a.s.now a.starts.now a.ends.now kinds ∙ u.loop.invariant.1 fault kinds k
-    ∙ repeat-here a.src a.rule fault a.s.now a.starts.now a.ends.now kinds p.requires.paired k u.loop.n
+    sym (repeat_start a.src a.rule fault a.s.now a.starts.now a.ends.now kinds ∙ u.loop.invariant.1 fault kinds k
+    ∙ repeat_here a.src a.rule fault a.s.now a.starts.now a.ends.now kinds p.requires.paired k u.loop.n
     c.before.before.loop-test.true (sym c.before.repeats.ensures ∙ c.if1.true))
 
 loop-again : tie.Need-loop-preserved invariant-loop decreases-loop
@@ -34,7 +34,7 @@ loop-again c =
     let a = p.args in (
       omega arith,
       λ fault kinds k. u.loop.invariant.1 fault kinds k
-          ∙ repeat-next a.src a.rule fault a.s.now a.starts.now a.ends.now kinds p.requires.paired k u.loop.n
+          ∙ repeat_next a.src a.rule fault a.s.now a.starts.now a.ends.now kinds p.requires.paired k u.loop.n
           c.before.before.loop-test.true (sym c.before.repeats.ensures ∙ c.if1.false),
     )
 
@@ -43,8 +43,8 @@ returns-2 c fault kinds k =
     let c4 = c.before.before.before.before in
     let p = c4.before in
     let a = p.args in
-    sym (repeat-start a.src a.rule fault a.s.now a.starts.now a.ends.now kinds ∙ c.before.loop.invariant.1 fault kinds k
-    ∙ repeat-end a.src a.rule fault a.s.now a.starts.now a.ends.now kinds p.requires.paired k c.before.loop.n c.loop-test.false)
+    sym (repeat_start a.src a.rule fault a.s.now a.starts.now a.ends.now kinds ∙ c.before.loop.invariant.1 fault kinds k
+    ∙ repeat_end a.src a.rule fault a.s.now a.starts.now a.ends.now kinds p.requires.paired k c.before.loop.n c.loop-test.false)
 
 pub first-repeat-spec : {M : Type 1} → statement M
 first-repeat-spec =

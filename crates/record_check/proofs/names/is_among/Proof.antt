@@ -5,16 +5,16 @@ use Prim.Native.Nat.{◌-◌, ◌≤◌}
 use native.Mathlib.Omega.{arith}
 use lib.ListN.{length, get_or}
 use Rattle.model.specs.rules.Report.{MAXRECORD}
-use Rattle.model.specs.rules.Records.{nameKey, among}
-use Rattle.record_check.specs.Keys.{NameIn, keysBefore}
-use Rattle.record_check.proofs.Keys.{among_none, among-last, among-before}
+use Rattle.model.specs.rules.Records.{name_key, among}
+use Rattle.record_check.specs.Keys.{NameIn, keys_before}
+use Rattle.record_check.proofs.Keys.{among_none, among_last, among_before}
 use Rattle.record_check.proofs.names.is_among.Statement.{statement}
 use Rattle.record_check.proofs.names.is_among.Tie as tie
 
 abbrev invariant-loop : tie.invariant-loop
 invariant-loop src rule name s starts ends n room₀ j₀ room j =
     (j ≤ length starts) × (length room ≡ MAXRECORD)
-    × (among (nameKey rule name) (keysBefore src rule s starts ends n) ≡ among (nameKey rule name) (keysBefore src rule s starts ends j))
+    × (among (name_key rule name) (keys_before src rule s starts ends n) ≡ among (name_key rule name) (keys_before src rule s starts ends j))
 
 abbrev decreases-loop : tie.decreases-loop
 decreases-loop src rule name s starts ends n room₀ j₀ room j = j
@@ -43,7 +43,7 @@ returns c =
     let l = c8.loop in
     sym
     (l.invariant.2
-    ∙ among-last a.src a.rule a.s.now a.starts.now a.ends.now (nameKey a.rule a.name.now) l.j
+    ∙ among_last a.src a.rule a.s.now a.starts.now a.ends.now (name_key a.rule a.name.now) l.j
     (omega arith) (sym c.before.before.is_name.ensures ∙ c.if1.true))
 
 loop-again : tie.Need-loop-preserved invariant-loop decreases-loop
@@ -56,7 +56,7 @@ loop-again c =
       omega arith,
       c.before.before.is_name.auto.1.1.1.1.0 ∙ l.invariant.1,
       l.invariant.2
-          ∙ among-before a.src a.rule a.s.now a.starts.now a.ends.now (nameKey a.rule a.name.now) l.j
+          ∙ among_before a.src a.rule a.s.now a.starts.now a.ends.now (name_key a.rule a.name.now) l.j
           (omega arith) (sym c.before.before.is_name.ensures ∙ c.if1.false),
     )
 
@@ -65,7 +65,7 @@ returns-2 c =
     let c4 = c.before.before.before.before in
     let a = c4.before.before.args in
     let none : c.before.loop.j ≡ 0 = omega arith in
-    sym (c.before.loop.invariant.2 ∙ rw none (among_none a.src a.rule a.s.now a.starts.now a.ends.now (nameKey a.rule a.name.now)))
+    sym (c.before.loop.invariant.2 ∙ rw none (among_none a.src a.rule a.s.now a.starts.now a.ends.now (name_key a.rule a.name.now)))
 
 pub is-among-spec : {M : Type 1} → statement M
 is-among-spec =

@@ -2,10 +2,10 @@
 use mathlib.Core.Path.{◌≡◌, sym, ap, ◌∙◌}
 use borrow.Author.Rules.{rules}
 use Rattle.model.specs.rules.Base.{same}
-use Rattle.model.specs.rules.Records.{nameKey}
+use Rattle.model.specs.rules.Records.{name_key}
 use Rattle.cell_decoder.specs.declared.source.Source.{Source}
-use Rattle.cell_decoder.specs.Sources.{contentBy}
-use Rattle.record_check.proofs.Keys.{short-in-file}
+use Rattle.cell_decoder.specs.Sources.{content_by}
+use Rattle.record_check.proofs.Keys.{short_in_file}
 use Rattle.record_check.proofs.names.is_name.Statement.{statement}
 use Rattle.record_check.proofs.names.is_name.Tie as tie
 
@@ -13,7 +13,7 @@ is-in-file-requires : tie.Need-is-in-file-requires
 is-in-file-requires c κs =
     let c4 = c.before.before.before.before in
     let s = c4.before.before.before in
-    (short-in-file _ c.before.before.src.given.1 s.requires.0, s.requires.1)
+    (short_in_file _ c.before.before.src.given.1 s.requires.0, s.requires.1)
 
 returns : tie.Need-returns
 returns c =
@@ -21,7 +21,7 @@ returns c =
     let c8 = c4.before.before.before.before in
     let s = c8.before.before.args in
     c.before.before.is-in-file.ensures
-    ∙ ap (λ (x : Source). same (nameKey s.rule s.name.now) (nameKey s.rule (contentBy x s.raw.now)))
+    ∙ ap (λ (x : Source). same (name_key s.rule s.name.now) (name_key s.rule (content_by x s.raw.now)))
     (sym c4.before.src.given.1)
 
 returns-2 : tie.Need-returns-2
@@ -29,7 +29,7 @@ returns-2 c =
     let c4 = c.before.before.before.before in
     let s = c4.before.before.args in
     c.same_name.ensures
-    ∙ ap (λ (x : Source). same (nameKey s.rule s.name.now) (nameKey s.rule (contentBy x s.raw.now))) (sym c.before.enum_told.given.1)
+    ∙ ap (λ (x : Source). same (name_key s.rule s.name.now) (name_key s.rule (content_by x s.raw.now))) (sym c.before.enum_told.given.1)
 
 pub is-name-spec : {M : Type 1} → statement M
 is-name-spec =

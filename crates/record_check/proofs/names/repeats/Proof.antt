@@ -6,8 +6,8 @@ use lib.ListN.{get_or}
 use borrow.Author.Rules.{rules}
 use Rattle.model.specs.rules.Records.{among}
 use Rattle.cell_decoder.specs.declared.source.Source.{Source}
-use Rattle.record_check.specs.Keys.{NameIn, key_at, keysBefore}
-use Rattle.record_check.proofs.Keys.{short-in-file, names-as}
+use Rattle.record_check.specs.Keys.{NameIn, key_at, keys_before}
+use Rattle.record_check.proofs.Keys.{short_in_file, names_as}
 use Rattle.record_check.proofs.names.repeats.Statement.{statement}
 use Rattle.record_check.proofs.names.repeats.Tie as tie
 
@@ -20,7 +20,7 @@ abbrev answer : tie.Start → Source → Bool
 answer c src =
     let a = c.args in
     among (key_at src a.rule a.s.now (get_or a.starts.now a.n 0) (get_or a.ends.now a.n 0))
-    (keysBefore src a.rule a.s.now a.starts.now a.ends.now a.n)
+    (keys_before src a.rule a.s.now a.starts.now a.ends.now a.n)
 
 repeats-in-file-requires : tie.Need-repeats-in-file-requires
 repeats-in-file-requires c κs =
@@ -28,7 +28,7 @@ repeats-in-file-requires c κs =
     let c8 = c4.before.before.before.before in
     let u = c8.before in
     let e = c.before.before.src.given.1 in
-    (short-in-file _ e (at_n u).short, (names-as e u.requires.0, omega (arith, u.requires.1)))
+    (short_in_file _ e (at_n u).short, (names_as e u.requires.0, omega (arith, u.requires.1)))
 
 returns : tie.Need-returns
 returns c =
@@ -52,7 +52,7 @@ returns-2 c =
     ∙ ap
     (λ (src : Source).
     among (key_at src a.rule a.s.now (get_or a.starts.now a.n 0) (get_or a.ends.now a.n 0))
-    (keysBefore a.src a.rule a.s.now a.starts.now a.ends.now a.n))
+    (keys_before a.src a.rule a.s.now a.starts.now a.ends.now a.n))
     (sym c.before.before.enum_told.given.1)
 
 pub repeats-spec : {M : Type 1} → statement M

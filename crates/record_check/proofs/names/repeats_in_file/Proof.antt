@@ -3,18 +3,18 @@ use mathlib.Core.Path.{ap, ◌∙◌}
 use lib.ListN.{replicate}
 use borrow.Author.Rules.{rules}
 use Rattle.model.specs.rules.Base.{Bytes}
-use Rattle.model.specs.rules.Decode.{contentOf}
-use Rattle.model.specs.rules.Records.{nameKey, among}
+use Rattle.model.specs.rules.Decode.{content_of}
+use Rattle.model.specs.rules.Records.{name_key, among}
 use Rattle.model.specs.rules.Report.{MAXRECORD}
 use Rattle.cell_decoder.specs.declared.source.Source.TheVariants.{File}
-use Rattle.record_check.specs.Keys.{keysBefore}
+use Rattle.record_check.specs.Keys.{keys_before}
 use Rattle.record_check.proofs.DecodedNames.{Holds, holds}
 use Rattle.record_check.proofs.names.repeats_in_file.Statement.{statement}
 use Rattle.record_check.proofs.names.repeats_in_file.Tie as tie
 
 -- the name, and the room before it is written
 abbrev name : tie.Start → Bytes
-name c = contentOf c.args.d c.args.raw.now
+name c = content_of c.args.d c.args.raw.now
 
 abbrev zeros : Bytes
 zeros = replicate MAXRECORD 0
@@ -34,7 +34,7 @@ returns c =
     let s = c8.before.args in
     c.is_among.ensures
     ∙ ap
-    (λ (l : Bytes). among (nameKey s.rule l) (keysBefore (File s.d) s.rule s.s.now s.starts.now s.ends.now s.n))
+    (λ (l : Bytes). among (name_key s.rule l) (keys_before (File s.d) s.rule s.s.now s.starts.now s.ends.now s.n))
     (held c.before.before).front
 
 pub repeats-in-file-spec : {M : Type 1} → statement M

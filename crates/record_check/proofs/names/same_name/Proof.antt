@@ -4,12 +4,12 @@ use Prim.Native.Nat.{◌-◌, ◌≤◌}
 use native.Mathlib.Omega.{arith}
 use lib.ListN.{length}
 use borrow.Author.Rules.{rules}
-use Rattle.record_check.proofs.Keys.{different-lengths, sameFrom, same_end, same_differs, same_next}
+use Rattle.record_check.proofs.Keys.{different_lengths, same_from, same_end, same_differs, same_next}
 use Rattle.record_check.proofs.names.same_name.Statement.{statement}
 use Rattle.record_check.proofs.names.same_name.Tie as tie
 
 abbrev invariant-loop : tie.invariant-loop
-invariant-loop rule a b i₀ i = (i ≤ length a) × (length a ≡ length b) × (sameFrom rule a b 0 ≡ sameFrom rule a b i)
+invariant-loop rule a b i₀ i = (i ≤ length a) × (length a ≡ length b) × (same_from rule a b 0 ≡ same_from rule a b i)
 
 abbrev decreases-loop : tie.decreases-loop
 decreases-loop rule a b i₀ i = length a - i
@@ -17,7 +17,7 @@ decreases-loop rule a b i₀ i = length a - i
 returns : tie.Need-returns invariant-loop decreases-loop
 returns c =
     let s = c.before.before.before.args in
-    sym (different-lengths s.rule s.a.now s.b.now (λ e. omega arith))
+    sym (different_lengths s.rule s.a.now s.b.now (λ e. omega arith))
 
 returns-2 : tie.Need-returns-2 invariant-loop decreases-loop
 returns-2 c =

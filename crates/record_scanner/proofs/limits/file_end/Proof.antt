@@ -1,12 +1,12 @@
 -- `record_scanner::limits::file_end` meets its contract: each arm is the definition's for its state.
 use Rattle.model.proofs.Tests.{tests}
-use Rattle.model.specs.rules.File.{fileEnd}
+use Rattle.model.specs.rules.File.{file_end}
 use borrow.Author.Rules.{rules}
 use Rattle.record_scanner.proofs.limits.file_end.Statement.{statement}
 use Rattle.record_scanner.proofs.limits.file_end.Tie as tie
 
 pub file-end-spec : {M : Type 1} → statement M
-unfolding fileEnd
+unfolding file_end
 file-end-spec =
     tie.close
     (tie.spec
@@ -34,6 +34,6 @@ file-end-spec =
     (λ c. search (tests, c.enum-told8.given.1))
     (λ c. search (tests, c.enum-told9.given.1))
     (λ c. search (tests, c.enum-told10.given.1))
-    (λ c. search (tests, ← c.last-cell.ensures, c.before.before.f.given.1))
+    (λ c. search (tests, ← c.last_cell_lem.ensures, c.before.before.f.given.1))
     (λ c. search (tests, c.enum-told11.given.1))
     (λ c. search (tests, c.enum-told12.given.1)))

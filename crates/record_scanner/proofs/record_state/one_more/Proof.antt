@@ -2,10 +2,10 @@
 use borrow.Author.Rules.{rules}
 use Rattle.model.proofs.Tests.{tests}
 use Rattle.model.specs.rules.Base.{if◌then◌else◌}
-use Rattle.record_scanner.specs.CurrentRecord.{oneMore}
+use Rattle.record_scanner.specs.CurrentRecord.{one_more}
 use Rattle.record_scanner.proofs.record_state.one_more.Statement.{statement}
 use Rattle.record_scanner.proofs.record_state.one_more.Tie as tie
 
 pub one-more-spec : {M : Type 1} → statement M
-unfolding oneMore if◌then◌else◌
+unfolding one_more if◌then◌else◌
 one-more-spec = tie.close (tie.spec (λ c. search rules) (λ c. search (tests, c.if1.true)) (λ c. search (tests, c.if1.false)))

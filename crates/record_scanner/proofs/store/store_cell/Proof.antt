@@ -1,6 +1,6 @@
 -- `record_scanner::store::store_cell` meets its contract: a store in each list, or none.
 use borrow.Author.Rules.{rules}
-use Rattle.record_scanner.proofs.StoreLaws.{not-stored, no_room, stored_there}
+use Rattle.record_scanner.proofs.StoreLaws.{not_stored, no_room, stored_there}
 use Rattle.record_scanner.proofs.store.store_cell.Statement.{statement}
 use Rattle.record_scanner.proofs.store.store_cell.Tie as tie
 
@@ -18,7 +18,7 @@ returns-2 c =
     (no_room _ _ _ _ _ t l, (no_room _ _ _ _ _ t l, no_room _ _ _ _ _ t l))
 
 returns-3 : tie.Need-returns-3
-returns-3 c = let l = c.if1.false in (not-stored _ _ _ _ _ l, (not-stored _ _ _ _ _ l, not-stored _ _ _ _ _ l))
+returns-3 c = let l = c.if1.false in (not_stored _ _ _ _ _ l, (not_stored _ _ _ _ _ l, not_stored _ _ _ _ _ l))
 
 pub store-cell-spec : {M : Type 1} → statement M
 store-cell-spec =

@@ -13,7 +13,7 @@ use Rattle.model.specs.declared.FileState.{FileState}
 use Rattle.model.specs.declared.FileState.TheVariants.{Top, Begin, Ended, Bom1, Bom2, PlainBom1, PlainBom2, Comment, Blanks, ExpectCell, Inside, After, Cr}
 use Rattle.model.specs.contracts.FileState.{the_type}
 use Rattle.codes.proofs.Least.{least_first, least_above}
-use Rattle.record_scanner.specs.Tokens.{commentEnd}
+use Rattle.record_scanner.specs.Tokens.{comment_end}
 use Rattle.record_scanner.proofs.token.comment_end.Statement.{statement}
 use Rattle.record_scanner.proofs.token.comment_end.Tie as tie
 
@@ -21,7 +21,7 @@ use Rattle.record_scanner.proofs.token.comment_end.Tie as tie
 abbrev others : List ℕ
 others = 0 ∷ 1 ∷ 2 ∷ 3 ∷ 4 ∷ 5 ∷ 6 ∷ 8 ∷ 9 ∷ 10 ∷ 11 ∷ 12 ∷ []
 
-no-comment : (f : FileState) (part : Bytes) (limit i : ℕ) → OneOf others (declared.tag_of the_type f) → i ≡ commentEnd f part limit i
+no-comment : (f : FileState) (part : Bytes) (limit i : ℕ) → OneOf others (declared.tag_of the_type f) → i ≡ comment_end f part limit i
 no-comment Top part limit i h = refl
 no-comment Begin part limit i h = refl
 no-comment Ended part limit i h = refl

@@ -6,7 +6,7 @@ use lib.ListN.{length, get_or}
 use borrow.Author.Rules.{rules}
 use borrow.Author.Tests.{not-false}
 use Rattle.model.proofs.Tests.{impossible}
-use Rattle.record_writer.proofs.CleanCells.{CleanBefore, clean-none, clean-next, clean_all}
+use Rattle.record_writer.proofs.CleanCells.{CleanBefore, clean_none, clean_next, clean_all}
 use Rattle.record_writer.proofs.clean.is_clean.Statement.{statement}
 use Rattle.record_writer.proofs.clean.is_clean.Tie as tie
 
@@ -28,7 +28,7 @@ at_n c =
 loop-again : tie.Need-loop-preserved invariant-loop decreases-loop
 loop-again c =
     let asked = c.before in
-    clean-next asked.before.before.before.before.before.loop.invariant λ d q b. asked.is-clean.ensures d q b
+    clean_next asked.before.before.before.before.before.loop.invariant λ d q b. asked.is-clean.ensures d q b
     (not-false asked.is-clean.result c.if2.false)
 
 returns-3 : tie.Need-returns-3 invariant-loop decreases-loop
@@ -46,14 +46,14 @@ is-clean-spec =
     (λ c κs. search rules)
     (λ c e. impossible e)
     (λ c κs. search rules)
-    (λ c. clean-none)
+    (λ c. clean_none)
     (λ c. omega arith)
     (λ c. omega arith)
     (λ c. omega arith)
     (λ c.
     let c4 = c.before.before.before.before in
     let c8 = c4.before.before.before.before in
-    omega (arith, c8.before.before.requires.with-ends))
+    omega (arith, c8.before.before.requires.with_ends))
     (λ c. (at_n c).0)
     (λ c. (at_n c).0)
     (λ c. (at_n c).1)

@@ -1,14 +1,14 @@
 -- The text and the ending are written one after the other.
 use Rattle.model.specs.rules.Base.{Bytes}
 use Rattle.model.specs.rules.Dialect.{into}
-use Rattle.model.specs.rules.Text.{recordText, ending}
+use Rattle.model.specs.rules.Text.{record_text, ending}
 use Rattle.cell_decoder.specs.Sources.{cells_in}
-use Rattle.record_writer.proofs.TextWithEnding.{room-first, room-second, put_both, long-both}
+use Rattle.record_writer.proofs.TextWithEnding.{room_first, room_second, put_both, long_both}
 use Rattle.record_writer.proofs.line.write_line.Statement.{statement}
 use Rattle.record_writer.proofs.line.write_line.Tie as tie
 
 abbrev text : tie.Start → Bytes
-text u = let a = u.args in recordText (into a.t) a.header (cells_in a.src a.s.now a.starts.now a.ends.now a.kinds.now)
+text u = let a = u.args in record_text (into a.t) a.header (cells_in a.src a.s.now a.starts.now a.ends.now a.kinds.now)
 
 abbrev start : tie.After-write-text → tie.Start
 start c =
@@ -19,20 +19,20 @@ write-text-requires : tie.Need-write-text-requires
 write-text-requires c κs =
     let c4 = c.before.before.before.before in
     let u = c4.before.before in
-    (u.requires.0, (u.requires.1.0, room-first (text u) (ending u.args.t) u.requires.1.1))
+    (u.requires.0, (u.requires.1.0, room_first (text u) (ending u.args.t) u.requires.1.1))
 
 write-ending-requires : tie.Need-write-ending-requires
 write-ending-requires c κs =
     let first = c.before.before.before in
     let u = start first in
-    room-second (text u) (ending u.args.t) u.pre.1.1 first.write-text.ensures.0
+    room_second (text u) (ending u.args.t) u.pre.1.1 first.write-text.ensures.0
 
 same_length : tie.Need-same-length
 same_length c =
     let c4 = c.before.before.before.before in
     let first = c4.before.before in
     let u = start first in
-    long-both (text u) (ending u.args.t) u.pre.1.1 first.write-text.ensures.0 c.before.before.write-ending.ensures
+    long_both (text u) (ending u.args.t) u.pre.1.1 first.write-text.ensures.0 c.before.before.write-ending.ensures
 
 returns : tie.Need-returns
 returns c =

@@ -2,7 +2,7 @@
 use mathlib.Core.Path.{sym, ap}
 use borrow.Author.Rules.{rules}
 use Rattle.model.specs.rules.Text.{ending}
-use Rattle.buffer.proofs.WriteProgress.{room_as, emitted-as}
+use Rattle.buffer.proofs.WriteProgress.{room_as, emitted_as}
 use Rattle.record_writer.proofs.record.write_ending.Statement.{statement}
 use Rattle.record_writer.proofs.record.write_ending.Tie as tie
 
@@ -18,15 +18,15 @@ emit-requires c κs =
     room_as (sym (ap ending c.before.before.enum-told3.given.1)) c4.before.requires
 
 returns : tie.Need-returns
-returns c = emitted-as (ap ending c.before.before.before.before.enum_told.given.1) c.before.before.emit-byte.ensures
+returns c = emitted_as (ap ending c.before.before.before.before.enum_told.given.1) c.before.before.emit-byte.ensures
 
 returns-2 : tie.Need-returns-2
-returns-2 c = emitted-as (ap ending c.before.before.before.before.enum-told2.given.1) c.before.before.emit-byte2.ensures
+returns-2 c = emitted_as (ap ending c.before.before.before.before.enum-told2.given.1) c.before.before.emit-byte2.ensures
 
 returns-3 : tie.Need-returns-3
 returns-3 c =
     let c4 = c.before.before.before.before in
-    emitted-as (ap ending c4.before.enum-told3.given.1) c.before.before.emit.ensures
+    emitted_as (ap ending c4.before.enum-told3.given.1) c.before.before.emit.ensures
 
 pub write-ending-spec : {M : Type 1} → statement M
 write-ending-spec =

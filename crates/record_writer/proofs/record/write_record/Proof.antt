@@ -8,22 +8,22 @@ use lib.Dec.{eqb}
 use borrow.Author.Rules.{rules}
 use Rattle.model.specs.rules.Dialect.{into}
 use Rattle.model.specs.rules.Base.{Bytes}
-use Rattle.model.specs.rules.Text.{recordText}
+use Rattle.model.specs.rules.Text.{record_text}
 use Rattle.model.specs.declared.Kind.{Kind}
 use Rattle.model.specs.declared.CheckResult.{CheckResult}
-use Rattle.model.specs.rules.Records.{◌orElse◌}
+use Rattle.model.specs.rules.Records.{◌or_else◌}
 use Rattle.model.specs.rules.Api.{slice}
-use Rattle.buffer.proofs.WriteProgress.{Emitting, same-long, room_next, put_next, put_whole}
-use Rattle.cell_decoder.specs.Sources.{kindFrom, contentBy, cells_in, CellSpan}
+use Rattle.buffer.proofs.WriteProgress.{Emitting, same_long, room_next, put_next, put_whole}
+use Rattle.cell_decoder.specs.Sources.{kind_from, content_by, cells_in, CellSpan}
 use Rattle.cell_writer.specs.Cells.{value_of}
-use Rattle.record_writer.specs.Columns.{columnText, uncarriedCell, checkOf}
-use Rattle.record_writer.proofs.Columns.{WrittenUpTo, textAt, written_none, text_at, text-end, says-next, uncarried-end, orElse-sound}
+use Rattle.record_writer.specs.Columns.{column_text, uncarried_cell, check_of}
+use Rattle.record_writer.proofs.Columns.{WrittenUpTo, text_at, written_none, text_at_lem, text_end, says_next, uncarried_end, or_else_sound}
 use Rattle.record_writer.proofs.record.write_record.Statement.{statement}
 use Rattle.record_writer.proofs.record.write_record.Tie as tie
 
 abbrev invariant-loop : tie.invariant-loop
 invariant-loop src t s starts ends kinds header out₀ at write only direct n₀ o₀ said₀ out n o said =
-    WrittenUpTo src t s starts ends kinds header out₀ at write out n o (checkOf said.column said.lone)
+    WrittenUpTo src t s starts ends kinds header out₀ at write out n o (check_of said.column said.lone)
 
 abbrev decreases-loop : tie.decreases-loop
 decreases-loop src t s starts ends kinds header out₀ at write only direct n₀ o₀ said₀ out n o said = length starts - n
@@ -45,25 +45,25 @@ at_n c =
     u.requires.0.each c.before.before.loop.n c.before.loop-test.true
 
 -- the cell at n is next
-cell-next : (c : tie.After-shared-slice-known7 invariant-loop decreases-loop)
+cell_next : (c : tie.After-shared-slice-known7 invariant-loop decreases-loop)
     → let l = c.before.before.before.before.loop in
     let a = c.before.before.before.before.before.before.before.before.before.before.before.args in
-    let v = value_of a.src (kindFrom (get_or a.kinds.now l.n 0)) (slice a.s.now (get_or a.starts.now l.n 0) (get_or a.ends.now l.n 0)) in
+    let v = value_of a.src (kind_from (get_or a.kinds.now l.n 0)) (slice a.s.now (get_or a.starts.now l.n 0) (get_or a.ends.now l.n 0)) in
     Emitting a.write a.out.now a.at
-    (recordText (into a.t) a.header (cells_in a.src a.s.now a.starts.now a.ends.now a.kinds.now)) l.out
+    (record_text (into a.t) a.header (cells_in a.src a.s.now a.starts.now a.ends.now a.kinds.now)) l.out
     l.o
-    (columnText a.t l.n (eqb (length a.starts.now) 1) a.header v ++ textAt a.src a.t a.s.now a.starts.now
+    (column_text a.t l.n (eqb (length a.starts.now) 1) a.header v ++ text_at a.src a.t a.s.now a.starts.now
     a.ends.now a.kinds.now a.header (l.n + 1))
-cell-next c =
+cell_next c =
     let c4 = c.before.before.before.before in
     let c8 = c4.before.before.before.before in
     let l = c.before.before.before.before.loop in
     let u = c8.before.before.before in
     let a = u.args in
-    let v = value_of a.src (kindFrom (get_or a.kinds.now l.n 0)) (slice a.s.now (get_or a.starts.now l.n 0) (get_or a.ends.now l.n 0)) in
+    let v = value_of a.src (kind_from (get_or a.kinds.now l.n 0)) (slice a.s.now (get_or a.starts.now l.n 0) (get_or a.ends.now l.n 0)) in
     rw
-    (text_at a.src a.t a.s.now a.starts.now a.ends.now a.kinds.now a.header u.requires.0.with-ends
-    u.requires.0.with-kinds l.n c.before.before.before.loop-test.true
+    (text_at_lem a.src a.t a.s.now a.starts.now a.ends.now a.kinds.now a.header u.requires.0.with_ends
+    u.requires.0.with_kinds l.n c.before.before.before.loop-test.true
     (eqb (length a.starts.now) 1) v refl refl refl)
     at l.invariant.going
 
@@ -73,7 +73,7 @@ next_fits c = omega (arith, c.before.before.before.loop-test.true)
 write-column-requires : tie.Need-write-column-requires invariant-loop decreases-loop
 write-column-requires c κs =
     let k = c.before.before in
-    ((at_n k.before.before).spelt, (k.before.before.before.before.before.is-direct.ensures, room_next _ _ (cell-next k)))
+    ((at_n k.before.before).spelt, (k.before.before.before.before.before.is-direct.ensures, room_next _ _ (cell_next k)))
 
 loop-again : tie.Need-loop-preserved invariant-loop decreases-loop
 loop-again c =
@@ -83,15 +83,15 @@ loop-again c =
     let l = k.before.before.before.before.loop in
     let u = k.before.before.before.before.before.before.before.before.before.before.before in
     let a = u.args in
-    let kind : Kind = kindFrom (get_or a.kinds.now l.n 0) in
-    let content : Bytes = contentBy a.src (slice a.s.now (get_or a.starts.now l.n 0) (get_or a.ends.now l.n 0)) in
+    let kind : Kind = kind_from (get_or a.kinds.now l.n 0) in
+    let content : Bytes = content_by a.src (slice a.s.now (get_or a.starts.now l.n 0) (get_or a.ends.now l.n 0)) in
     record {
-      going = put_next _ (cell-next k) x.ensures.0;
+      going = put_next _ (cell_next k) x.ensures.0;
       says =
-          says-next a.src a.t a.s.now a.starts.now a.ends.now a.kinds.now a.header u.requires.0.with-ends
-          u.requires.0.with-kinds l.n k.before.before.before.loop-test.true
-          _ (checkOf l.said.column l.said.lone) (uncarriedCell a.t (l.n + 1) kind content)
-          (checkOf c.with_cell.result.column c.with_cell.result.lone) kind refl refl
+          says_next a.src a.t a.s.now a.starts.now a.ends.now a.kinds.now a.header u.requires.0.with_ends
+          u.requires.0.with_kinds l.n k.before.before.before.loop-test.true
+          _ (check_of l.said.column l.said.lone) (uncarried_cell a.t (l.n + 1) kind content)
+          (check_of c.with_cell.result.column c.with_cell.result.lone) kind refl refl
           (c.with_cell.ensures content x.ensures.1) l.invariant.says;
       within = omega (arith, k.before.before.before.loop-test.true);
     }
@@ -101,19 +101,19 @@ returns c =
     let c4 = c.before.before.before.before in
     let c8 = c4.before.before.before.before in
     let l = c.before.before.loop in
-    let said : CheckResult = checkOf l.said.column l.said.lone in
+    let said : CheckResult = check_of l.said.column l.said.lone in
     let u = c8.before in
     let a = u.args in (
       put_whole
           (rw
-          (text-end a.src a.t a.s.now a.starts.now a.ends.now a.kinds.now a.header u.requires.0.with-ends
-          u.requires.0.with-kinds l.n c.before.loop-test.false) at l.invariant.going),
+          (text_end a.src a.t a.s.now a.starts.now a.ends.now a.kinds.now a.header u.requires.0.with_ends
+          u.requires.0.with_kinds l.n c.before.loop-test.false) at l.invariant.going),
       c.check-result.ensures
           ∙ sym
           (l.invariant.says
           ∙ ap (λ (v : CheckResult). said or_else v)
-          (uncarried-end a.src a.t a.s.now a.starts.now a.ends.now a.kinds.now a.header
-          u.requires.0.with-ends u.requires.0.with-kinds l.n c.before.loop-test.false) ∙ orElse-sound said),
+          (uncarried_end a.src a.t a.s.now a.starts.now a.ends.now a.kinds.now a.header
+          u.requires.0.with_ends u.requires.0.with_kinds l.n c.before.loop-test.false) ∙ or_else_sound said),
     )
 
 pub write-record-spec : {M : Type 1} → statement M
@@ -130,11 +130,11 @@ write-record-spec =
     (λ c.
     let c4 = c.before.before.before.before in
     let c8 = c4.before.before.before.before in
-    omega (arith, c8.before.before.requires.0.with-ends))
+    omega (arith, c8.before.before.requires.0.with_ends))
     (λ c.
     let c4 = c.before.before.before.before in
     let c8 = c4.before.before.before.before in
-    omega (arith, c8.before.before.before.requires.0.with-kinds))
+    omega (arith, c8.before.before.before.requires.0.with_kinds))
     (λ c. (at_n c.before.before).forward)
     (λ c. (at_n c.before.before).forward)
     (λ c. (at_n c.before.before).within)
@@ -149,5 +149,5 @@ write-record-spec =
     (λ c. omega arith)
     loop-again
     (λ c κs. search rules)
-    (λ c. same-long c.before.before.loop.invariant.going)
+    (λ c. same_long c.before.before.loop.invariant.going)
     returns)

@@ -2,7 +2,7 @@
 use mathlib.Core.List.{[], ◌∷◌, ◌++◌}
 use borrow.Author.Rules.{rules}
 use Rattle.model.specs.rules.Base.{QUOTE}
-use Rattle.buffer.proofs.WriteProgress.{Emitting, emitting, room_next, room-rest, put_next}
+use Rattle.buffer.proofs.WriteProgress.{Emitting, emitting, room_next, room_rest, put_next}
 use Rattle.record_writer.proofs.Columns.{written_last}
 use Rattle.record_writer.proofs.verbatim.write_between_quotes.Statement.{statement}
 use Rattle.record_writer.proofs.verbatim.write_between_quotes.Tie as tie
@@ -33,6 +33,6 @@ write-between-quotes-spec =
     (tie.spec
     (λ c κs. let u = c.before.before.before in room_next (QUOTE ∷ []) (u.args.raw.now ++ QUOTE ∷ []) (first u))
     (λ c κs. let u = c.before.before.before in room_next u.before.before.before.before.args.raw.now (QUOTE ∷ []) (second u))
-    (λ c κs. room-rest (third c.before.before.before))
+    (λ c κs. room_rest (third c.before.before.before))
     (λ c. search rules)
     λ c. written_last (third c.before.before.before.before.before.before) c.before.before.emit-byte2.ensures)

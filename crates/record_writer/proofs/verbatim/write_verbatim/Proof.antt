@@ -1,11 +1,11 @@
 -- A run of ordinary bytes is written between quotes; any other cell is decoded.
 use mathlib.Core.Path.{sym}
 use borrow.Author.Rules.{rules}
-use Rattle.buffer.proofs.WriteProgress.{room_as, emitted-as}
-use Rattle.cell_decoder.specs.Sources.{kindFrom}
+use Rattle.buffer.proofs.WriteProgress.{room_as, emitted_as}
+use Rattle.cell_decoder.specs.Sources.{kind_from}
 use Rattle.record_writer.specs.declared.verbatim.Verbatim.TheVariants.{Span}
 use Rattle.record_writer.specs.Verbatim.{Looks}
-use Rattle.record_writer.proofs.VerbatimLaws.{Passed, passed, looks-inside}
+use Rattle.record_writer.proofs.VerbatimLaws.{Passed, passed, looks_inside}
 use Rattle.record_writer.proofs.verbatim.write_verbatim.Statement.{statement}
 use Rattle.record_writer.proofs.verbatim.write_verbatim.Tie as tie
 
@@ -13,13 +13,13 @@ use Rattle.record_writer.proofs.verbatim.write_verbatim.Tie as tie
 seen : (c : tie.After-known-told)
     → let a = c.before.before.before.before.before.before.args in
     let at = c.before.from.given.0 in
-    Looks a.direct (kindFrom a.number) a.raw.now (Span at.0 at.1.0)
+    Looks a.direct (kind_from a.number) a.raw.now (Span at.0 at.1.0)
 seen c = rw c.before.from.given.1 at c.before.before.before.verbatim-span.ensures
 
 plain : (c : tie.After-known-told)
     → let a = c.before.before.before.before.before.before.args in
     let at = c.before.from.given.0 in
-    Passed a.src a.t (kindFrom a.number) a.raw.now at.0 at.1.0
+    Passed a.src a.t (kind_from a.number) a.raw.now at.0 at.1.0
 plain c =
     let c4 = c.before.before.before.before in
     let u = c4.before.before in passed u.requires.0 u.requires.1.0 (seen c)
@@ -37,7 +37,7 @@ returns c =
     let c8 = c4.before.before.before.before in
     let p = plain c4.before in
     let a = c8.before.before.before.args in
-    (emitted-as (sym (p.cell a.only a.first)) c.before.before.write-between-quotes.ensures, λ e f. p.lone)
+    (emitted_as (sym (p.cell a.only a.first)) c.before.before.write-between-quotes.ensures, λ e f. p.lone)
 
 -- the cell is decoded
 write-cell-requires : tie.Need-write-cell-requires
@@ -55,9 +55,9 @@ write-verbatim-spec =
     (tie.spec
     (λ c κs. search rules)
     (λ c. search rules)
-    (λ c. (looks-inside (seen c)).0)
-    (λ c. (looks-inside (seen c)).0)
-    (λ c. (looks-inside (seen c)).1)
+    (λ c. (looks_inside (seen c)).0)
+    (λ c. (looks_inside (seen c)).0)
+    (λ c. (looks_inside (seen c)).1)
     write-between-quotes-requires
     (λ c. search rules)
     (λ c κs. search rules)

@@ -5,15 +5,15 @@ use native.Mathlib.Omega.{arith}
 use lib.ListN.{length}
 use borrow.Author.Rules.{rules}
 use borrow.Author.Tests.{not-true, not-false}
-use Rattle.model.specs.rules.Api.{tableCells}
-use Rattle.table_writer.specs.TableParts.{isThere}
-use Rattle.table_writer.proofs.Tables.{cellsFrom, cells-here, cells-next, cells-end}
+use Rattle.model.specs.rules.Api.{table_cells}
+use Rattle.table_writer.specs.TableParts.{is_there}
+use Rattle.table_writer.proofs.Tables.{cells_from, cells_here, cells_next, cells_end}
 use Rattle.table_writer.proofs.check.are_cells.Statement.{statement}
 use Rattle.table_writer.proofs.check.are_cells.Tie as tie
 
 abbrev invariant-loop : tie.invariant-loop
 invariant-loop content starts ends kinds n₀ n =
-    (n ≤ length starts) × (isThere (tableCells content starts ends kinds) ≡ isThere (cellsFrom content starts ends kinds n))
+    (n ≤ length starts) × (is_there (table_cells content starts ends kinds) ≡ is_there (cells_from content starts ends kinds n))
 
 abbrev decreases-loop : tie.decreases-loop
 decreases-loop content starts ends kinds n₀ n = length starts - n
@@ -27,7 +27,7 @@ returns c =
     let l = at-loop.loop in
     sym
     (l.invariant.1
-    ∙ cells-here a.content.now a.starts.now a.ends.now a.kinds.now l.n s.requires.0 s.requires.1
+    ∙ cells_here a.content.now a.starts.now a.ends.now a.kinds.now l.n s.requires.0 s.requires.1
     c4.before.loop-test.true
     (sym c.before.is-cell.ensures ∙ not-true c.before.is-cell.result c.if1.true))
 
@@ -40,7 +40,7 @@ loop-again c =
     let l = at-loop.loop in (
       omega arith,
       l.invariant.1
-          ∙ cells-next a.content.now a.starts.now a.ends.now a.kinds.now l.n s.requires.0 s.requires.1
+          ∙ cells_next a.content.now a.starts.now a.ends.now a.kinds.now l.n s.requires.0 s.requires.1
           c4.before.loop-test.true
           (sym c.before.is-cell.ensures ∙ not-false c.before.is-cell.result c.if1.false),
     )
@@ -52,7 +52,7 @@ returns-2 c =
     let a = s.args in
     sym
     (at-loop.loop.invariant.1
-    ∙ cells-end a.content.now a.starts.now a.ends.now a.kinds.now at-loop.loop.n s.requires.0 s.requires.1
+    ∙ cells_end a.content.now a.starts.now a.ends.now a.kinds.now at-loop.loop.n s.requires.0 s.requires.1
     c.loop-test.false)
 
 pub are-cells-spec : {M : Type 1} → statement M

@@ -10,7 +10,7 @@ use Rattle.model.specs.declared.Dialect.TheVariants.{Csvj}
 use Rattle.model.specs.declared.Fault.{Fault}
 use Rattle.model.specs.declared.Kind.{Kind}
 use Rattle.model.specs.declared.Kind.TheVariants.{Text, Number, True, False, Null}
-use Rattle.model.specs.rules.Decode.{kind_of, validateCell}
+use Rattle.model.specs.rules.Decode.{kind_of, validate_cell}
 use Rattle.model.specs.rules.Api.{is_number}
 use Rattle.model.proofs.Tests.{impossible}
 use Rattle.table_writer.proofs.check.is_number.Statement.{statement}
@@ -37,7 +37,7 @@ by_kind c = c.is-number-kind.ensures ∙ ap (λ (k : Kind). is_number k WholeCel
 returns : tie.Need-returns
 returns c =
     let s = c.before.before.before.before.args.s.now in
-    sym (other-kind (kind_of Csvj s) (validateCell Csvj s) (sym (by_kind c.before) ∙ not-true c.before.is-number-kind.result c.if1.true))
+    sym (other-kind (kind_of Csvj s) (validate_cell Csvj s) (sym (by_kind c.before) ∙ not-true c.before.is-number-kind.result c.if1.true))
 
 returns-2 : tie.Need-returns-2
 returns-2 c =

@@ -6,7 +6,7 @@ use native.Mathlib.Omega.{arith}
 use lib.ListN.{length}
 use Rattle.model.specs.rules.Utf8.{gap}
 use Rattle.table_writer.specs.Content.{SameContentState}
-use Rattle.table_writer.proofs.Contents.{passes_none, passes-ascii}
+use Rattle.table_writer.proofs.Contents.{passes_none, passes_ascii}
 use Rattle.table_writer.proofs.content.ascii_end.Statement.{statement}
 use Rattle.table_writer.proofs.content.ascii_end.Tie as tie
 
@@ -19,7 +19,7 @@ decreases-loop s at i₀ i = length s - i
 loop-again : tie.Need-loop-preserved invariant-loop decreases-loop
 loop-again c =
     let at-loop = c.before.before.before in
-    passes-ascii at-loop.loop.invariant c.before.before.loop-test.true c.if1.false
+    passes_ascii at-loop.loop.invariant c.before.before.loop-test.true c.if1.false
 
 pub ascii-end-spec : {M : Type 1} → statement M
 ascii-end-spec =

@@ -5,20 +5,20 @@ use native.Mathlib.Omega.{arith}
 use lib.ListN.{length, drop, drop_of_length-le}
 use borrow.Author.Rules.{rules}
 use Rattle.model.specs.rules.Base.{Bytes}
-use Rattle.model.specs.rules.Utf8.{isContent}
-use Rattle.table_writer.specs.Content.{wideIn, contentFrom}
-use Rattle.table_writer.proofs.Contents.{step-passes}
+use Rattle.model.specs.rules.Utf8.{is_content}
+use Rattle.table_writer.specs.Content.{wide_in, content_from}
+use Rattle.table_writer.proofs.Contents.{step_passes}
 use Rattle.table_writer.proofs.content.is_content.Statement.{statement}
 use Rattle.table_writer.proofs.content.is_content.Tie as tie
 
 abbrev invariant-loop : tie.invariant-loop
-invariant-loop s p₀ i₀ p i = (i ≤ length s) × (isContent s ≡ contentFrom (wideIn p) (drop i s))
+invariant-loop s p₀ i₀ p i = (i ≤ length s) × (is_content s ≡ content_from (wide_in p) (drop i s))
 
 abbrev decreases-loop : tie.decreases-loop
 decreases-loop s p₀ i₀ p i = length s - i
 
 loop-holds : tie.Need-loop-init invariant-loop decreases-loop
-unfolding isContent
+unfolding is_content
 loop-holds c = (c.ascii-end.ensures.inside, c.ascii-end.ensures.same)
 
 loop-again : tie.Need-loop-preserved invariant-loop decreases-loop
@@ -27,7 +27,7 @@ loop-again c =
     let l = at-loop.loop in (
       c.run_on.ensures.inside,
       l.invariant.1
-          ∙ step-passes (wideIn l.p) c.before.before.before.loop-test.true c.before.step.ensures c.run_on.ensures,
+          ∙ step_passes (wide_in l.p) c.before.before.before.loop-test.true c.before.step.ensures c.run_on.ensures,
     )
 
 returns : tie.Need-returns invariant-loop decreases-loop
@@ -35,7 +35,7 @@ returns c =
     let at-loop = c.before.before in
     let l = at-loop.loop in
     let s : Bytes = at-loop.before.before.before.args.s.now in
-    sym (l.invariant.1 ∙ ap (contentFrom (wideIn l.p)) (drop_of_length-le s c.before.loop-test.false) ∙ sym c.may-end.ensures)
+    sym (l.invariant.1 ∙ ap (content_from (wide_in l.p)) (drop_of_length-le s c.before.loop-test.false) ∙ sym c.may-end.ensures)
 
 pub is-content-spec : {M : Type 1} → statement M
 is-content-spec =

@@ -4,10 +4,10 @@ use mathlib.Core.List.{List}
 use borrow.Author.Rules.{rules}
 use Rattle.model.specs.rules.Text.{Value}
 use Rattle.model.proofs.Tests.{impossible}
-use Rattle.model.proofs.file_laws.CheckResults.{fault-sound}
+use Rattle.model.proofs.file_laws.CheckResults.{fault_sound}
 use Rattle.cell_decoder.specs.declared.source.Source.TheVariants.{Contents}
 use Rattle.cell_decoder.specs.Sources.{cells_in}
-use Rattle.table_writer.proofs.Rows.{header-faulty, header-sound}
+use Rattle.table_writer.proofs.Rows.{header_faulty, header_sound}
 use Rattle.table_writer.proofs.records.check_record.Statement.{statement}
 use Rattle.table_writer.proofs.records.check_record.Tie as tie
 
@@ -21,7 +21,7 @@ returns c =
     let s = at-header.before.before.before.before.before in
     let a = s.args in
     let told = c.before.e.given in
-    (header-faulty a.t a.header a.written (cells s) told.0.0 (sym at-header.header-fault.ensures ∙ told.1), λ e. fault-sound e)
+    (header_faulty a.t a.header a.written (cells s) told.0.0 (sym at-header.header-fault.ensures ∙ told.1), λ e. fault_sound e)
 
 -- a record of contents is never flagged clean
 check-target-requires : tie.Need-check-target-requires
@@ -36,7 +36,7 @@ returns-2 c =
     let s = at-header.before.before.before.before.before in
     let a = s.args in (
       c.check-target.ensures.0
-          ∙ header-sound a.t a.header a.written (cells s)
+          ∙ header_sound a.t a.header a.written (cells s)
           (sym at-header.header-fault.ensures ∙ c.before.enum_told.given.1),
       c.check-target.ensures.1,
     )

@@ -1,12 +1,12 @@
 -- `utf8::multibyte::char_end` meets its contract: ASCII ends the run, and other first bytes are split by length.
 use native.Mathlib.Omega.{arith}
 use borrow.Author.Rules.{rules}
-use Rattle.utf8.proofs.MultibyteRuns.{wide-none}
+use Rattle.utf8.proofs.MultibyteRuns.{wide_none}
 use Rattle.utf8.proofs.multibyte.char_end.Statement.{statement}
 use Rattle.utf8.proofs.multibyte.char_end.Tie as tie
 
 returns : tie.Need-returns
-returns c = let a = c.before.before.before.args in wide-none a.s.now a.i a.stop (omega arith)
+returns c = let a = c.before.before.before.args in wide_none a.s.now a.i a.stop (omega arith)
 
 pub char-end-spec : {M : Type 1} → statement M
 char-end-spec =

@@ -4,7 +4,7 @@ use native.Mathlib.Omega.{arith}
 use mathlib.Core.Path.{sym, ◌∙◌}
 use borrow.Author.Rules.{rules}
 use borrow.Author.Tests.{not-false}
-use Rattle.utf8.proofs.MultibyteRuns.{wide-none, row-length, row-longest, run-three, run-four}
+use Rattle.utf8.proofs.MultibyteRuns.{wide_none, row_length, row_longest, run_three, run_four}
 use Rattle.utf8.proofs.multibyte.long_end.Statement.{statement}
 use Rattle.utf8.proofs.multibyte.long_end.Tie as tie
 
@@ -15,7 +15,7 @@ returns-6 c =
     let at-if3 = at-if4.before.before in
     let at-row-for = at-if3.before.before.before.before.before.before.before in
     let u = at-row-for.before.before.before in
-    run-three u.args.s.now u.args.i u.args.stop u.requires.1 at-row-for.row-for.ensures c.if6.true (omega arith)
+    run_three u.args.s.now u.args.i u.args.stop u.requires.1 at-row-for.row-for.ensures c.if6.true (omega arith)
     at-if3.if3.false at-if4.if4.false (sym c.before.before.before.is_later.ensures ∙ not-false _ c.before.before.if5.false)
 
 returns-8 : tie.Need-returns-8
@@ -27,8 +27,8 @@ returns-8 c =
     let at-if1 = at-if3.before.before.before.before.before in
     let at-row-for = at-if1.before.before in
     let u = at-row-for.before.before.before in
-    run-four u.args.s.now u.args.i u.args.stop u.requires.1 at-row-for.row-for.ensures
-    (row-longest at-row-for.row-for.ensures at-if1.if1.false c.before.before.before.if6.false) (omega arith)
+    run_four u.args.s.now u.args.i u.args.stop u.requires.1 at-row-for.row-for.ensures
+    (row_longest at-row-for.row-for.ensures at-if1.if1.false c.before.before.before.if6.false) (omega arith)
     at-if3.if3.false at-if4.if4.false (sym at-is-later.is_later.ensures ∙ not-false _ at-if5.if5.false)
     (sym c.before.is-later2.ensures ∙ not-false _ c.if7.false)
 
@@ -38,27 +38,27 @@ long-end-spec =
     (tie.spec
     (λ c. search rules)
     (λ c κs. search rules)
-    (λ c. let a = c.before.before.before.before.before.args in wide-none a.s.now a.i a.stop (omega arith))
+    (λ c. let a = c.before.before.before.before.before.args in wide_none a.s.now a.i a.stop (omega arith))
     (λ c. search rules)
     (λ c. search rules)
-    (λ c. let a = c.before.before.before.before.before.before.before.args in wide-none a.s.now a.i a.stop (omega arith))
+    (λ c. let a = c.before.before.before.before.before.before.before.args in wide_none a.s.now a.i a.stop (omega arith))
     (λ c. search rules)
     (λ c. let at-row-for = c.before.before.before.before.before in omega
-    (arith, row-length at-row-for.row-for.ensures c.before.before.before.if1.false))
-    (λ c. let start = c.before.before.before.before.before.before.before.before.before.before in let a = start.args in wide-none
+    (arith, row_length at-row-for.row-for.ensures c.before.before.before.if1.false))
+    (λ c. let start = c.before.before.before.before.before.before.before.before.before.before in let a = start.args in wide_none
     a.s.now a.i a.stop (omega arith))
-    (λ c. let start = c.before.before.before.before.before.before.before.before.before.before.before.before in let a = start.args in wide-none a.s.now a.i a.stop (omega arith))
+    (λ c. let start = c.before.before.before.before.before.before.before.before.before.before.before.before in let a = start.args in wide_none a.s.now a.i a.stop (omega arith))
     (λ c. search rules)
     (λ c. let at-if1 = c.before.before.before.before.before.before.before.before in let at-row-for = at-if1.before.before in omega
-    (arith, row-length at-row-for.row-for.ensures at-if1.if1.false))
+    (arith, row_length at-row-for.row-for.ensures at-if1.if1.false))
     (λ c κs. search rules)
-    (λ c. let start = c.before.before.before.before.before.before.before.before.before.before.before.before.before.before.before in let a = start.args in wide-none a.s.now a.i a.stop (omega arith))
+    (λ c. let start = c.before.before.before.before.before.before.before.before.before.before.before.before.before.before.before in let a = start.args in wide_none a.s.now a.i a.stop (omega arith))
     (λ c. search rules)
     returns-6
     (λ c. search rules)
     (λ c. let at-if1 = c.before.before.before.before.before.before.before.before.before.before.before.before.before in let at-row-for = at-if1.before.before in omega
-    (arith, row-longest at-row-for.row-for.ensures at-if1.if1.left c.before.if6.false))
+    (arith, row_longest at-row-for.row-for.ensures at-if1.if1.left c.before.if6.false))
     (λ c κs. search rules)
-    (λ c. let start = c.before.before.before.before.before.before.before.before.before.before.before.before.before.before.before.before.before.before.before.before in let a = start.args in wide-none a.s.now a.i a.stop (omega arith))
+    (λ c. let start = c.before.before.before.before.before.before.before.before.before.before.before.before.before.before.before.before.before.before.before.before in let a = start.args in wide_none a.s.now a.i a.stop (omega arith))
     (λ c. search rules)
     returns-8)

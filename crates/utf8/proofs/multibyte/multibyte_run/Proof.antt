@@ -2,7 +2,7 @@
 use Prim.Native.Nat.{◌-◌}
 use native.Mathlib.Omega.{arith}
 use Rattle.utf8.specs.Multibyte.{WideRun}
-use Rattle.utf8.proofs.MultibyteRuns.{wide-none, wide-join}
+use Rattle.utf8.proofs.MultibyteRuns.{wide_none, wide_join}
 use Rattle.utf8.proofs.multibyte.multibyte_run.Statement.{statement}
 use Rattle.utf8.proofs.multibyte.multibyte_run.Tie as tie
 
@@ -13,7 +13,7 @@ abbrev decreases-loop : tie.decreases-loop
 decreases-loop s at stop i₀ i = stop - i
 
 loop-holds : tie.Need-loop-init invariant-loop decreases-loop
-loop-holds c = let u = c.before in wide-none u.args.s.now u.args.at u.args.stop u.requires.0
+loop-holds c = let u = c.before in wide_none u.args.s.now u.args.at u.args.stop u.requires.0
 
 char-end-requires : tie.Need-char-end-requires invariant-loop decreases-loop
 char-end-requires c κs = (c.loop-test.true, c.before.before.before.requires.1)
@@ -31,5 +31,5 @@ multibyte-run-spec =
     char-end-requires
     (λ c. c.before.before.before.loop.invariant)
     loop-less
-    (λ c. wide-join c.before.before.before.loop.invariant c.before.char-end.ensures)
+    (λ c. wide_join c.before.before.before.loop.invariant c.before.char-end.ensures)
     (λ c. c.before.loop.invariant))

@@ -2,7 +2,7 @@
 -- row.
 use borrow.Author.Rules.{rules}
 use Rattle.utf8.specs.Multibyte.{no_row}
-use Rattle.utf8.proofs.MultibyteRuns.{row-e0, row-e1, row-ed, row-ee, row-f0, row-f1, row-f4}
+use Rattle.utf8.proofs.MultibyteRuns.{row_e0, row_e1, row_ed, row_ee, row_f0, row_f1, row_f4}
 use Rattle.utf8.proofs.multibyte.row_for.Statement.{statement}
 use Rattle.utf8.proofs.multibyte.row_for.Tie as tie
 
@@ -14,35 +14,35 @@ row-for-spec =
     (λ c. search rules)
     (λ c. search rules)
     (λ c. search rules)
-    (λ c. row-e0 c.before.args.b c.before.requires c.if1.true)
+    (λ c. row_e0 c.before.args.b c.before.requires c.if1.true)
     (λ c. search rules)
     (λ c. search rules)
     (λ c. search rules)
     (λ c. search rules)
-    (λ c. row-e1 c.before.before.args.b c.before.if1.false c.if2.true)
+    (λ c. row_e1 c.before.before.args.b c.before.if1.false c.if2.true)
     (λ c. search rules)
     (λ c. search rules)
     (λ c. search rules)
     (λ c. search rules)
-    (λ c. row-ed c.before.before.before.args.b c.before.if2.false c.if3.true)
+    (λ c. row_ed c.before.before.before.args.b c.before.if2.false c.if3.true)
     (λ c. search rules)
     (λ c. search rules)
     (λ c. search rules)
     (λ c. search rules)
-    (λ c. row-ee c.before.before.before.before.args.b c.before.if3.false c.if4.true)
+    (λ c. row_ee c.before.before.before.before.args.b c.before.if3.false c.if4.true)
     (λ c. search rules)
     (λ c. search rules)
     (λ c. search rules)
     (λ c. search rules)
-    (λ c. let start = c.before.before.before.before.before in row-f0 start.args.b c.before.if4.false c.if5.true)
+    (λ c. let start = c.before.before.before.before.before in row_f0 start.args.b c.before.if4.false c.if5.true)
     (λ c. search rules)
     (λ c. search rules)
     (λ c. search rules)
     (λ c. search rules)
-    (λ c. let start = c.before.before.before.before.before.before in row-f1 start.args.b c.before.if5.false c.if6.true)
+    (λ c. let start = c.before.before.before.before.before.before in row_f1 start.args.b c.before.if5.false c.if6.true)
     (λ c. search rules)
     (λ c. search rules)
     (λ c. search rules)
     (λ c. search rules)
-    (λ c. let start = c.before.before.before.before.before.before.before in row-f4 start.args.b c.before.if6.false c.if7.true)
+    (λ c. let start = c.before.before.before.before.before.before.before in row_f4 start.args.b c.before.if6.false c.if7.true)
     (λ c. no_row))

@@ -1,6 +1,6 @@
 -- The decoder refuses nothing here, and returns the content.
 use borrow.Author.Rules.{rules}
-use Rattle.record_check.proofs.DecodedNames.{never-refused, decoded}
+use Rattle.record_check.proofs.DecodedNames.{never_refused, decoded}
 use Rattle.record_check.proofs.names.content.write_content.Statement.{statement}
 use Rattle.record_check.proofs.names.content.write_content.Tie as tie
 
@@ -8,7 +8,7 @@ returns : tie.Need-returns
 returns c =
     let at-decode-sound = c.before.before.before.before in
     let s = at-decode-sound.before.before.before.before in
-    never-refused s.args.d s.args.raw.now s.args.room.now s.requires at-decode-sound.decode-sound.result _
+    never_refused s.args.d s.args.raw.now s.args.room.now s.requires at-decode-sound.decode-sound.result _
     c.enum_told.given.1 at-decode-sound.decode-sound.ensures.0
 
 returns-2 : tie.Need-returns-2

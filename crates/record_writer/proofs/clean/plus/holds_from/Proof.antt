@@ -5,7 +5,7 @@ use native.Mathlib.Omega.{arith}
 use lib.ListN.{length, drop}
 use Rattle.model.specs.rules.Base.{holds}
 use Rattle.swar.specs.Words.{is_byte}
-use Rattle.record_writer.proofs.ByteMembership.{held-here, held_on, held-end}
+use Rattle.record_writer.proofs.ByteMembership.{held_here, held_on, held_end}
 use Rattle.record_writer.proofs.clean.plus.holds_from.Statement.{statement}
 use Rattle.record_writer.proofs.clean.plus.holds_from.Tie as tie
 
@@ -19,7 +19,7 @@ returns : tie.Need-returns invariant-loop decreases-loop
 returns c =
     let u = c.before.before.before in
     let a = u.before.args in
-    sym (u.loop.invariant.1 ∙ held-here a.p a.bs.now u.loop.i c.before.before.loop-test.true c.if1.true)
+    sym (u.loop.invariant.1 ∙ held_here a.p a.bs.now u.loop.i c.before.before.loop-test.true c.if1.true)
 
 loop-again : tie.Need-loop-preserved invariant-loop decreases-loop
 loop-again c =
@@ -28,7 +28,7 @@ loop-again c =
     (omega arith, u.loop.invariant.1 ∙ held_on a.p a.bs.now u.loop.i c.before.before.loop-test.true c.if1.false)
 
 returns-2 : tie.Need-returns-2 invariant-loop decreases-loop
-returns-2 c = let u = c.before in let a = u.before.args in sym (u.loop.invariant.1 ∙ held-end a.p a.bs.now u.loop.i c.loop-test.false)
+returns-2 c = let u = c.before in let a = u.before.args in sym (u.loop.invariant.1 ∙ held_end a.p a.bs.now u.loop.i c.loop-test.false)
 
 pub holds-from-spec : {M : Type 1} → statement M
 holds-from-spec =

@@ -3,15 +3,15 @@ use Prim.Native.Nat.{◌-◌}
 use native.Mathlib.Omega.{arith}
 use lib.Dec.{eqb}
 use lib.ListN.{length, get_or}
-use Rattle.buffer.proofs.WriteProgress.{same-long}
+use Rattle.buffer.proofs.WriteProgress.{same_long}
 use Rattle.record_writer.specs.Joined.{Lies}
-use Rattle.record_writer.specs.CleanCellText.{plusCell}
-use Rattle.record_writer.proofs.Joined.{WrittenUpTo, written_none, room-cell, put-cell, put_all}
+use Rattle.record_writer.specs.CleanCellText.{plus_cell}
+use Rattle.record_writer.proofs.Joined.{WrittenUpTo, written_none, room_cell, put_cell, put_all}
 use Rattle.record_writer.proofs.clean.plus.write_csv_plus.Statement.{statement}
 use Rattle.record_writer.proofs.clean.plus.write_csv_plus.Tie as tie
 
 abbrev invariant-loop : tie.invariant-loop
-invariant-loop s starts ends p out₀ at write only n₀ o₀ out n o = WrittenUpTo p (plusCell p (eqb (length starts) 1)) s starts ends write out₀ at out n o
+invariant-loop s starts ends p out₀ at write only n₀ o₀ out n o = WrittenUpTo p (plus_cell p (eqb (length starts) 1)) s starts ends write out₀ at out n o
 
 abbrev decreases-loop : tie.decreases-loop
 decreases-loop s starts ends p out₀ at write only n₀ o₀ out n o = length starts - n
@@ -30,7 +30,7 @@ write-column-requires c κs =
     let c4 = c.before.before.before.before in
     let l = c4.before in (
       (at_n c.before.before).closed,
-      room-cell l.before.before.before.before.before.requires.0.with-ends l.loop.invariant
+      room_cell l.before.before.before.before.before.requires.0.with_ends l.loop.invariant
           c.before.before.before.before.loop-test.true,
     )
 
@@ -39,12 +39,12 @@ loop-again c =
     let c4 = c.before.before.before.before in
     let t = c4.before.before.before in
     let l = t.before in
-    put-cell l.before.before.before.before.before.requires.0.with-ends l.loop.invariant t.loop-test.true c.before.before.write-column.ensures
+    put_cell l.before.before.before.before.before.requires.0.with_ends l.loop.invariant t.loop-test.true c.before.before.write-column.ensures
 
 returns : tie.Need-returns invariant-loop decreases-loop
 returns c =
     let c4 = c.before.before.before.before in
-    put_all c4.before.before.requires.0.with-ends c.before.loop.invariant c.loop-test.false
+    put_all c4.before.before.requires.0.with_ends c.before.loop.invariant c.loop-test.false
 
 pub write-csv-plus-spec : {M : Type 1} → statement M
 write-csv-plus-spec =
@@ -59,7 +59,7 @@ write-csv-plus-spec =
     (λ c.
     let c4 = c.before.before.before.before in
     let c8 = c4.before.before.before.before in
-    omega (arith, c8.requires.0.with-ends))
+    omega (arith, c8.requires.0.with_ends))
     (λ c. (at_n c).forward)
     (λ c. (at_n c).forward)
     (λ c. (at_n c).inside)
@@ -67,5 +67,5 @@ write-csv-plus-spec =
     (λ c. omega arith)
     (λ c. omega arith)
     loop-again
-    (λ c. same-long c.before.loop.invariant.going)
+    (λ c. same_long c.before.loop.invariant.going)
     returns)

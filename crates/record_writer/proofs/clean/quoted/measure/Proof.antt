@@ -8,16 +8,16 @@ use lib.ListN.{length, get_or}
 use Rattle.model.specs.rules.Base.{COMMA, if◌then◌else◌}
 use Rattle.model.proofs.Tests.{impossible}
 use Rattle.buffer.specs.Writes.{measure}
-use Rattle.buffer.proofs.WriteProgress.{put-measured}
+use Rattle.buffer.proofs.WriteProgress.{put_measured}
 use Rattle.record_writer.specs.Joined.{Lies}
-use Rattle.record_writer.specs.CleanCellText.{quotedCell}
-use Rattle.record_writer.proofs.Joined.{WrittenUpTo, written_none, room-cell, put-cell, put_all}
+use Rattle.record_writer.specs.CleanCellText.{quoted_cell}
+use Rattle.record_writer.proofs.Joined.{WrittenUpTo, written_none, room_cell, put_cell, put_all}
 use Rattle.record_writer.proofs.clean.quoted.measure.Statement.{statement}
 use Rattle.record_writer.proofs.clean.quoted.measure.Tie as tie
 
 -- nothing is written, so any buffer serves
 abbrev invariant-loop : tie.invariant-loop
-invariant-loop s starts ends at n₀ o₀ n o = WrittenUpTo COMMA quotedCell s starts ends false [] at [] n o
+invariant-loop s starts ends at n₀ o₀ n o = WrittenUpTo COMMA quoted_cell s starts ends false [] at [] n o
 
 abbrev decreases-loop : tie.decreases-loop
 decreases-loop s starts ends at n₀ o₀ n o = length starts - n
@@ -35,21 +35,21 @@ measured-requires : tie.Need-measured-requires invariant-loop decreases-loop
 measured-requires c κs =
     let c4 = c.before.before.before.before in
     let l = c4.before in
-    (room-cell l.before.before.before.before.requires.0.with-ends l.loop.invariant c.before.before.before.before.loop-test.true).decreases refl
+    (room_cell l.before.before.before.before.requires.0.with_ends l.loop.invariant c.before.before.before.before.loop-test.true).decreases refl
 
 loop-again : tie.Need-loop-preserved invariant-loop decreases-loop
 loop-again c =
     let c4 = c.before.before.before.before in
     let t = c4.before in
     let l = t.before in
-    put-cell l.before.before.before.before.requires.0.with-ends l.loop.invariant t.loop-test.true
-    (put-measured refl (c.measured.ensures ∙ ap (λ (k : ℕ). measure (l.loop.o + k)) c.before.column-length.ensures) refl)
+    put_cell l.before.before.before.before.requires.0.with_ends l.loop.invariant t.loop-test.true
+    (put_measured refl (c.measured.ensures ∙ ap (λ (k : ℕ). measure (l.loop.o + k)) c.before.column-length.ensures) refl)
 
 returns : tie.Need-returns invariant-loop decreases-loop
 unfolding if◌then◌else◌
 returns c =
     let c4 = c.before.before.before.before in
-    (put_all c4.before.requires.0.with-ends c.before.loop.invariant c.loop-test.false).place
+    (put_all c4.before.requires.0.with_ends c.before.loop.invariant c.loop-test.false).place
 
 pub measure-spec : {M : Type 1} → statement M
 measure-spec =
@@ -63,7 +63,7 @@ measure-spec =
     (λ c. omega arith)
     (λ c.
     let c4 = c.before.before.before.before in
-    omega (arith, c4.before.before.before.requires.0.with-ends))
+    omega (arith, c4.before.before.before.requires.0.with_ends))
     (λ c. (at_n c).forward)
     (λ c. (at_n c).forward)
     (λ c. (at_n c).inside)

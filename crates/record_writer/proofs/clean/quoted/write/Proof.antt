@@ -4,15 +4,15 @@ use mathlib.Core.Bool.{true}
 use native.Mathlib.Omega.{arith}
 use lib.ListN.{length, get_or}
 use Rattle.model.specs.rules.Base.{COMMA}
-use Rattle.buffer.proofs.WriteProgress.{same-long}
+use Rattle.buffer.proofs.WriteProgress.{same_long}
 use Rattle.record_writer.specs.Joined.{Lies}
-use Rattle.record_writer.specs.CleanCellText.{quotedCell}
-use Rattle.record_writer.proofs.Joined.{WrittenUpTo, written_none, room-cell, put-cell, put_all}
+use Rattle.record_writer.specs.CleanCellText.{quoted_cell}
+use Rattle.record_writer.proofs.Joined.{WrittenUpTo, written_none, room_cell, put_cell, put_all}
 use Rattle.record_writer.proofs.clean.quoted.write.Statement.{statement}
 use Rattle.record_writer.proofs.clean.quoted.write.Tie as tie
 
 abbrev invariant-loop : tie.invariant-loop
-invariant-loop s starts ends out₀ at n₀ o₀ out n o = WrittenUpTo COMMA quotedCell s starts ends true out₀ at out n o
+invariant-loop s starts ends out₀ at n₀ o₀ out n o = WrittenUpTo COMMA quoted_cell s starts ends true out₀ at out n o
 
 abbrev decreases-loop : tie.decreases-loop
 decreases-loop s starts ends out₀ at n₀ o₀ out n o = length starts - n
@@ -30,19 +30,19 @@ write-column-requires : tie.Need-write-column-requires invariant-loop decreases-
 write-column-requires c κs =
     let c4 = c.before.before.before.before in
     let l = c4.before in
-    room-cell l.before.before.before.before.before.requires.0.with-ends l.loop.invariant c.before.before.before.before.loop-test.true
+    room_cell l.before.before.before.before.before.requires.0.with_ends l.loop.invariant c.before.before.before.before.loop-test.true
 
 loop-again : tie.Need-loop-preserved invariant-loop decreases-loop
 loop-again c =
     let c4 = c.before.before.before.before in
     let t = c4.before.before.before in
     let l = t.before in
-    put-cell l.before.before.before.before.before.requires.0.with-ends l.loop.invariant t.loop-test.true c.before.before.write-column.ensures
+    put_cell l.before.before.before.before.before.requires.0.with_ends l.loop.invariant t.loop-test.true c.before.before.write-column.ensures
 
 returns : tie.Need-returns invariant-loop decreases-loop
 returns c =
     let c4 = c.before.before.before.before in
-    put_all c4.before.before.requires.0.with-ends c.before.loop.invariant c.loop-test.false
+    put_all c4.before.before.requires.0.with_ends c.before.loop.invariant c.loop-test.false
 
 pub write_spec : {M : Type 1} → statement M
 write_spec =
@@ -57,7 +57,7 @@ write_spec =
     (λ c.
     let c4 = c.before.before.before.before in
     let c8 = c4.before.before.before.before in
-    omega (arith, c8.requires.0.with-ends))
+    omega (arith, c8.requires.0.with_ends))
     (λ c. (at_n c).forward)
     (λ c. (at_n c).forward)
     (λ c. (at_n c).inside)
@@ -65,5 +65,5 @@ write_spec =
     (λ c. omega arith)
     (λ c. omega arith)
     loop-again
-    (λ c. same-long c.before.loop.invariant.going)
+    (λ c. same_long c.before.loop.invariant.going)
     returns)

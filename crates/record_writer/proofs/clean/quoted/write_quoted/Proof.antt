@@ -1,7 +1,7 @@
 -- `record_writer::clean::quoted::write_quoted` meets its contract: it writes, or only measures.
 use mathlib.Core.Path.{refl}
 use borrow.Author.Rules.{rules}
-use Rattle.buffer.proofs.WriteProgress.{put-measured}
+use Rattle.buffer.proofs.WriteProgress.{put_measured}
 use Rattle.record_writer.proofs.clean.quoted.write_quoted.Statement.{statement}
 use Rattle.record_writer.proofs.clean.quoted.write_quoted.Tie as tie
 
@@ -23,5 +23,5 @@ measure-requires c κs =
 pub write-quoted-spec : {M : Type 1} → statement M
 write-quoted-spec =
     tie.close
-    (tie.spec write-requires (λ c. search rules) returns measure-requires λ c. put-measured c.before.if1.false c.measure.ensures
+    (tie.spec write-requires (λ c. search rules) returns measure-requires λ c. put_measured c.before.if1.false c.measure.ensures
     refl)
