@@ -3,6 +3,8 @@
 //
 // `emit` and `emit_byte` measure if `write` is false and leave the buffer alone, so that measuring and writing a text are one loop with
 // one proof. A measure stops at the limit of a file: every text has one, and no sum overflows.
+#![tactic(auto)]
+
 ghost use Rattle.std.specs.Prelude.{◌≡◌, ◌+◌, ◌≤◌, length, [], ◌∷◌};
 ghost use Rattle.model.specs.rules.Report.{MAXFILE};
 ghost use Rattle.buffer.specs.Writes.{written, measure, Room, WrittenAt};

@@ -5,6 +5,8 @@
 // It is a crate of its own, apart from those for whole files, so that each has a copy of the lexer: where both called the same one, it
 // would not be inlined into the reader's loop, which would lose a third of its speed. The writer is here since it uses the lexer to see
 // whether a content is a number.
+#![tactic(auto)]
+
 ghost use Rattle.std.specs.Prelude.{◌≡◌, length};
 ghost use Rattle.model.specs.rules.Api.{decoder, decoder_leaves, writer, writer_leaves};
 ghost use Rattle.cell_decoder.specs.Answer.{decoder_answer, given_answer};
@@ -18,7 +20,7 @@ use model::Report;
 
 // What the decoder returns: a report, and the content's length and kind, which are 0 on refusal.
 #[repr(C)]
-#[derive(Drop)]
+#[derive(Clone, Copy)]
 pub struct DecodeAnswer {
     pub report: Report,
     pub length: usize,

@@ -1,5 +1,7 @@
 // The C boundary for conversion: the converter's call under its C name, with no logic of its own. `include/hemakuliwi.h` declares it for
 // C. Its contract is the converter's. It is a crate of its own, so that it has its own copy of the scanner and the reader loses no speed.
+#![tactic(auto)]
+
 ghost use Rattle.std.specs.Prelude.{◌≡◌, length};
 ghost use Rattle.model.specs.rules.Api.{converter, converter_leaves};
 ghost use Rattle.codes.specs.Named.{text_answer};

@@ -1,5 +1,7 @@
 // The C boundary for the end of a file that came in pieces: the calls of piece_converter under their C names, with their contracts and no
 // logic. `include/hemakuliwi.h` declares them for C. c_pieces says why this is a crate of its own.
+#![tactic(auto)]
+
 ghost use Rattle.std.specs.Prelude.{length};
 ghost use Rattle.model.specs.rules.Ledger.{finish};
 ghost use Rattle.piece_converter.specs.Contract.{converter_of, CallContract};

@@ -1,5 +1,7 @@
 // The C boundary for whole files: the reader's call under its C name, with no logic of its own. A slice is passed as a pointer and a
 // length; `include/hemakuliwi.h` declares the call for C. Its contract is the reader's.
+#![tactic(auto)]
+
 ghost use Rattle.std.specs.Prelude.{◌≡◌};
 ghost use Rattle.model.specs.rules.Api.{read_call};
 ghost use Rattle.file_reader.specs.Answers.{call_answer};

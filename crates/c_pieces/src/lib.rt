@@ -1,6 +1,8 @@
 // The C boundary for conversion in pieces: the calls of piece_converter under their C names, with their contracts and no logic.
 // `include/hemakuliwi.h` declares them for C. The end calls are a crate of their own (c_ends), so that the code that completes a record
 // has one caller here and is inlined into the loop over the steps.
+#![tactic(auto)]
+
 ghost use Rattle.std.specs.Prelude.{◌≡◌, length};
 ghost use Rattle.model.specs.rules.Ledger.{piece};
 ghost use Rattle.piece_converter.specs.Contract.{converter_of, new_converter, CallContract};

@@ -6,6 +6,8 @@
 // it on the stack again.
 //
 // One computed test holds the table against the rule (proofs/Table.antt): where both change, no proof does.
+#![tactic(auto)]
+
 ghost use Rattle.std.specs.Prelude.{◌≡◌, true, ◌<◌, ◌≤◌, ◌∷◌, length, get_or, eqb};
 ghost use Rattle.model.specs.rules.Base.{same};
 ghost use Rattle.model.specs.rules.Names.{fold_point, is_pair, pair_point, fold_byte, fold_name};
@@ -230,7 +232,7 @@ fn byte_at(table: &[u16; 1280], s: &[u8], i: usize) -> u8
 // ---- two names
 
 // Two names of the same length in ASCII, or that a byte of ASCII distinguishes; of others it claims nothing.
-#[derive(Drop)]
+#[derive(Clone, Copy)]
 enum AsciiNames {
     Same,
     Different,

@@ -85,7 +85,7 @@ fn string_length(raw: &[u8]) -> usize
 }
 
 // The offsets at which a string is read and written next.
-#[derive(Drop)]
+#[derive(Clone, Copy)]
 struct Cursor {
     read: usize,
     write: usize,

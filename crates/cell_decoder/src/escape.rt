@@ -9,7 +9,7 @@ ghost use Rattle.cell_decoder.specs.Strings.{unit_at, UnitThere, LowAt, Proceeds
 ghost use Rattle.utf8.specs.Codes.{Packs};
 
 // The bytes of a part of a string, the first `size` of `bytes`, and where the string continues.
-#[derive(Drop)]
+#[derive(Clone, Copy)]
 pub struct Unescaped {
     pub bytes: [u8; 4],
     pub size: usize,

@@ -8,7 +8,7 @@ ghost use Rattle.cell_decoder.specs.declared.first_byte.Spelling.TheVariants.{Do
 use model::Dialect;
 
 // How the content of a cell is encoded.
-#[derive(Drop)]
+#[derive(Clone, Copy)]
 pub enum Spelling {
     // There is no content.
     Nothing,

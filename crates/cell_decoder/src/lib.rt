@@ -7,6 +7,8 @@
 //
 // source.rt says what the bytes of a cell are, first_byte.rt how they are encoded, validate.rt checks them by the automaton, escape.rt
 // reads an escape of CSVJ, and content.rt measures and writes.
+#![tactic(auto)]
+
 ghost use Rattle.std.specs.Prelude.{◌≡◌, ◌≤◌, length};
 ghost use Rattle.model.specs.rules.Base.{over};
 ghost use Rattle.model.specs.rules.Decode.{content_of};
@@ -23,7 +25,7 @@ pub mod source;
 pub mod validate;
 
 // What the decoder returns.
-#[derive(Drop)]
+#[derive(Clone, Copy)]
 pub enum Decoded {
     // The content is in the room and has this length.
     Content { size: usize, kind: Kind },

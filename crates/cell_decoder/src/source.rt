@@ -10,7 +10,7 @@ use crate::first_byte::Spelling;
 use codes::{NamedKind, cell};
 use model::{Dialect, Kind};
 
-#[derive(Drop)]
+#[derive(Clone, Copy)]
 pub enum Source {
     File(Dialect),
     Contents,

@@ -6,6 +6,8 @@
 // before it are tested beside that: tables of short cells take a sixth less time.
 //
 // runs.rt skips clean ASCII, text.rt text inside quotes and outside, value.rt the values of CSVJ and TDIF.
+#![tactic(auto)]
+
 ghost use Rattle.std.specs.Prelude.{◌≡◌, true, ℕ, ◌+◌, ◌≤◌, ◌<◌, length, get_or};
 ghost use Rattle.model.specs.declared.Dialect.{Dialect as TheDialect};
 ghost use Rattle.model.specs.rules.Dialect.{delimiter_of, quote_of};
@@ -22,7 +24,7 @@ pub mod text;
 pub mod value;
 
 // The end of a cell, and whether it is verbatim: its content is its bytes.
-#[derive(Drop)]
+#[derive(Clone, Copy)]
 pub struct FoundEnd {
     pub at: usize,
     pub clean: bool,

@@ -89,7 +89,7 @@ fn pass(d: Dialect, q: u8, s: &[u8], i: usize, stop: usize) -> usize
 }
 
 // The end of a text, and whether it is verbatim.
-#[derive(Drop)]
+#[derive(Clone, Copy)]
 pub struct TextEnd {
     pub end: usize,
     pub clean: bool,

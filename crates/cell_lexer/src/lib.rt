@@ -4,6 +4,8 @@
 //
 // `ByteClass` leaves most functions on the path of a byte with one call site, so that the compiler inlines them into the loop that calls
 // them; `make benchmark` measures the effect.
+#![tactic(auto)]
+
 ghost use Rattle.std.specs.Prelude.{◌≡◌, ◌||◌};
 ghost use Rattle.model.specs.rules.Base.{◌is◌, CR, LF};
 ghost use Rattle.model.specs.rules.Dialect.{delimiter_of, quote_of};
@@ -63,7 +65,7 @@ fn is_separator(d: Dialect, b: u8) -> bool
 }
 
 // What a byte does to a cell, or the text whose UTF-8 state decides it.
-#[derive(Drop)]
+#[derive(Clone, Copy)]
 enum ByteClass {
     Is(CellStep),
     InQuotes(Char),

@@ -1,6 +1,8 @@
 // The rest of a cell or of a comment, by the automaton and by runs of ordinary ASCII bytes, eight to a step. A state and a slice go in;
 // where the cell stops or is refused comes out, or the state in which it is still open. The definitions are `cell_run` and `leading` of
 // specs/Run.antt; specs/RunLaw.antt says why a reader may skip a run. A new stop of a run needs `run_step` of proofs/Runs.antt again.
+#![tactic(auto)]
+
 ghost use Rattle.std.specs.Prelude.{◌≡◌, ◌+◌, ◌/◌, ◌%◌, ◌≤◌, ◌<◌, length};
 ghost use Rattle.model.specs.rules.Api.{slice};
 ghost use Rattle.cell_scanner.specs.Run.{leading, comment_run, text_stop, run_stop, run_length, cell_run};
@@ -33,7 +35,7 @@ fn single_steps(s: &[u8], at: usize, stop: usize, p: u8, q: u8) -> usize
 }
 
 // The number of whole words of ordinary bytes in a run, and of its bytes after them.
-#[derive(Drop)]
+#[derive(Clone, Copy)]
 struct RunSteps {
     words: usize,
     rest: usize,
@@ -85,7 +87,7 @@ pub fn comment_run(s: &[u8], at: usize, stop: usize) -> usize
 }
 
 // Where the rest of a cell ends.
-#[derive(Drop)]
+#[derive(Clone, Copy)]
 pub enum CellEnd {
     // The byte at this offset is not part of the cell, which is whole without it.
     Stopped(Cell, usize),
@@ -95,7 +97,7 @@ pub enum CellEnd {
 }
 
 // The byte beside the quote at which a run ends in this state, if ordinary bytes leave the state unchanged.
-#[derive(Drop)]
+#[derive(Clone, Copy)]
 pub enum RunStop {
     At(u8),
     Fallback,

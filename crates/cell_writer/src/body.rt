@@ -18,7 +18,7 @@ use model::Dialect;
 // ---- what stops a run
 
 // The text of what stops a run, the first `size` of `bytes`, where the content continues, and whether it begins with a lone surrogate.
-#[derive(Drop)]
+#[derive(Clone, Copy)]
 struct Stop {
     bytes: [u8; 6],
     size: usize,
@@ -121,7 +121,7 @@ fn stop_text(c: Spelling, t: Dialect, raw: &[u8], i: usize) -> Stop
 }
 
 // The offsets at which a content is read and written next, and whether a lone surrogate was read.
-#[derive(Drop)]
+#[derive(Clone, Copy)]
 struct Cursor {
     read: usize,
     write: usize,
@@ -155,7 +155,7 @@ fn write_stop(
 
 // ---- a content
 
-#[derive(Drop)]
+#[derive(Clone, Copy)]
 pub struct Body {
     // The end of the text.
     pub end: usize,

@@ -82,7 +82,7 @@ fn write_number(c: Spelling, raw: &[u8], out: &mut [u8], o: usize, write: bool) 
 // ---- words
 
 // The first `size` of `bytes`.
-#[derive(Drop)]
+#[derive(Clone, Copy)]
 struct Word {
     bytes: [u8; 5],
     size: usize,
@@ -144,7 +144,7 @@ fn write_word(t: Dialect, kind: Kind, out: &mut [u8], o: usize, write: bool) -> 
 // ---- cells
 
 // How a target writes a cell of a kind.
-#[derive(Drop)]
+#[derive(Clone, Copy)]
 pub enum WrittenForm {
     AsText,
     // A number of CSVJ, verbatim.

@@ -11,7 +11,7 @@ ghost use Rattle.cell_writer.specs.Units.{Spells, is_lone, body_text};
 use model::Dialect;
 
 // The first `size` of `bytes`.
-#[derive(Drop)]
+#[derive(Clone, Copy)]
 pub struct UnitText {
     pub bytes: [u8; 6],
     pub size: usize,

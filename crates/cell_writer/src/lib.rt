@@ -5,6 +5,8 @@
 // decides whether CSV+ quotes a content, and cell.rt writes a cell by its kind. Each writer only measures if `write` is false.
 //
 // The definitions are model's specs/rules/Text.antt. A rule that changes there changes a law of proofs/, and no loop.
+#![tactic(auto)]
+
 pub mod body;
 pub mod cell;
 pub mod escape;

@@ -3,6 +3,8 @@
 //
 // The definitions are model's specs/rules/Report.antt, `dialect_of`, `kind_number` and `kind_named`; specs/Named.antt says what a result
 // means. They are tables: a number that changes there changes its arm here, and no other proof.
+#![tactic(auto)]
+
 ghost use Rattle.std.specs.Prelude.{◌≡◌};
 ghost use Rattle.model.specs.rules.Dialect.{dialect_of};
 ghost use Rattle.model.specs.rules.Decode.{kind_number};
@@ -42,7 +44,7 @@ pub fn min_of(a: usize, b: usize) -> usize
 
 // ---- dialects
 
-#[derive(Drop)]
+#[derive(Clone, Copy)]
 pub enum NamedDialect {
     Known(Dialect),
     Unknown,
@@ -81,7 +83,7 @@ pub fn kind_number(k: Kind) -> u8
     }
 }
 
-#[derive(Drop)]
+#[derive(Clone, Copy)]
 pub enum NamedKind {
     Known(Kind),
     Unknown,
@@ -202,7 +204,7 @@ pub fn call_report(number: usize) -> Report
 // What a call that writes a text returns: the report and the length of the text, 0 on refusal (§9.2). Its layout is C's, so that the C
 // boundary returns it unchanged.
 #[repr(C)]
-#[derive(Drop)]
+#[derive(Clone, Copy)]
 pub struct TextAnswer {
     pub report: Report,
     pub length: usize,

@@ -3,6 +3,8 @@
 // file: the first pass checks and measures, the second writes, so that nothing is written before the whole file is known to be accepted
 // and to have room. The second pass checks nothing for the target. The definition is `converter` of model's specs/rules/Api.antt; the
 // invariants of the passes are in proofs/Passes.antt.
+#![tactic(auto)]
+
 ghost use Rattle.std.specs.Prelude.{◌≡◌, true, ◌++◌, length};
 ghost use Rattle.model.specs.rules.Base.{over};
 ghost use Rattle.model.specs.rules.Dialect.{into};
@@ -22,7 +24,7 @@ use model::{Dialect, Report};
 use record_writer::record;
 
 // The result of the first pass.
-#[derive(Drop)]
+#[derive(Clone, Copy)]
 pub enum Measurement {
     // The length of the text.
     Accepted { length: usize },

@@ -21,7 +21,7 @@ use record_fast::FastScan;
 use record_target::TargetCheck;
 
 // The order of the variants is measured: with `Fallback` last, conversions of short cells take up to 0.8% more instructions.
-#[derive(Drop)]
+#[derive(Clone, Copy)]
 pub enum FastNext {
     Fallback,
     // The place after the record; and whether each of its cells is a text whose content is in it verbatim.

@@ -3,6 +3,8 @@
 // source, and then for its target where the file is converted. A last record that the file's end completes is returned as any other, and
 // the next call returns the end. The definition is reading itself, `read_from` and `read_end` of model's specs/rules/Records.antt;
 // specs/NextRecord.antt has the contract. Proved again with it: proofs/RecordChecks.antt and NextRecords.antt, and the loops above.
+#![tactic(auto)]
+
 ghost use Rattle.std.specs.Prelude.{◌≡◌, true, List, ◌+◌, ◌≤◌, length, take};
 ghost use Rattle.model.specs.rules.Text.{Value};
 ghost use Rattle.model.specs.rules.Report.{MAXFILE, MAXCOLUMNS};
@@ -23,7 +25,7 @@ pub mod fast;
 pub mod scan;
 
 // What the records are read for.
-#[derive(Drop)]
+#[derive(Clone, Copy)]
 pub enum Aim {
     // Nothing more.
     Reading,
@@ -34,7 +36,7 @@ pub enum Aim {
 // A place between two records of a file, and what was read before it: how many records, how many cells each of them has, and how long
 // their text in the target is; 0 where there is no target. The order of the fields is measured: with the state first, a conversion of
 // short cells takes 1.5% more instructions.
-#[derive(Drop)]
+#[derive(Clone, Copy)]
 pub struct Cursor {
     pub done: usize,
     pub columns: usize,
@@ -43,7 +45,7 @@ pub struct Cursor {
     pub state: FileState,
 }
 
-#[derive(Drop)]
+#[derive(Clone, Copy)]
 pub enum NextRecord {
     // The place after the record, which has as many cells as the place has columns.
     Record(Cursor),

@@ -17,7 +17,7 @@ use record_scanner::token::ScanOutcome;
 use record_scanner::{limits, store};
 
 // The next event of reading.
-#[derive(Drop)]
+#[derive(Clone, Copy)]
 pub enum FileScan {
     // A record is complete: its start, its number of cells, and the state and the offset after it.
     Completed {

@@ -4,6 +4,8 @@
 //
 // `Dispatched` leaves the cell to the caller, so that most functions on the path of a byte have one call site and the compiler inlines
 // them into the loop that calls them; `make benchmark` measures the effect.
+#![tactic(auto)]
+
 ghost use Rattle.std.specs.Prelude.{◌≡◌};
 ghost use Rattle.model.specs.rules.Utf8.{char_step};
 ghost use Rattle.model.specs.rules.File.{begin_record, begin_file, commented, file_step};
@@ -16,7 +18,7 @@ pub mod counted;
 pub mod separators;
 
 // The step of a byte, or the cell that decides it.
-#[derive(Drop)]
+#[derive(Clone, Copy)]
 pub enum Dispatched {
     Is(Step),
     InCell(Cell),

@@ -3,6 +3,8 @@
 // data records: the first checks and counts them, the second fills the lists, so that nothing is stored before the whole file is known to
 // be accepted and to have room. The definition is `read_call` of model's specs/rules/Api.antt; proofs/ReaderAnswers.antt is proved again
 // with this file.
+#![tactic(auto)]
+
 ghost use Rattle.std.specs.Prelude.{◌≡◌, ◌≤◌, length};
 ghost use Rattle.model.specs.rules.Base.{over};
 ghost use Rattle.model.specs.rules.Api.{no_answer, least, starts_of, ends_of, kinds_of, read_call};
@@ -18,7 +20,7 @@ pub mod pass;
 
 // The reader's answer: on refusal all is 0 but the report. It is laid out for C, so that the C boundary returns it as it is.
 #[repr(C)]
-#[derive(Drop)]
+#[derive(Clone, Copy)]
 pub struct Answer {
     pub report: Report,
     pub columns: usize,

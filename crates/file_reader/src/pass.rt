@@ -14,7 +14,7 @@ use file_cursor::scan::FileScan;
 use model::{CheckResult, Dialect, Fault, FileState, Report};
 use record_fast::FastScan;
 
-#[derive(Drop)]
+#[derive(Clone, Copy)]
 pub enum PassResult {
     // The numbers of records and cells up to the file's end.
     Accepted { records: usize, cells: usize },
@@ -22,7 +22,7 @@ pub enum PassResult {
 }
 
 // The next data record, or what comes in its place.
-#[derive(Drop)]
+#[derive(Clone, Copy)]
 pub enum DataScan {
     // Its start, its number of cells, the state and the offset after it, and whether the file's end completed it.
     Record {

@@ -3,3 +3,5 @@
 // texts, numbers, strings and files that are derived, with the same cells, contents and places, and that a file is accepted exactly
 // when it is derived and satisfies the rules. If an equation of model's specs/rules/Cell.antt, File.antt or Decode.antt changes,
 // prove them again.
+#![tactic(auto)]
+

@@ -4,6 +4,8 @@
 // The calls take the state by value and return the next one, or work on a state that is lent field by field (`lent`). No call requires
 // anything of the state: it may be any numbers and bytes. A new field of the state is also one of state.rt, of `converter_of` in
 // specs/Contract.antt, of include/hemakuliwi.h and of rust/hemakuliwi/src/raw.rs.
+#![tactic(auto)]
+
 ghost use Rattle.std.specs.Prelude.{◌≡◌, length};
 ghost use Rattle.model.specs.rules.Ledger.{piece, finish};
 ghost use Rattle.piece_converter.specs.Contract.{new_converter, CallContract};

@@ -4,6 +4,8 @@
 // A state that calls made has only cells that can be written and room for them (piece_step, piece_run). A state from elsewhere may hold any
 // bytes: they are checked for what writing requires (cell_decoder's specs/Followed.antt), so that the call stays in bounds, and a record
 // that fails this check is dropped.
+#![tactic(auto)]
+
 ghost use Rattle.std.specs.Prelude.{◌≡◌, true, false, ◌≤◌, length, take};
 ghost use Rattle.model.specs.rules.Dialect.{into};
 ghost use Rattle.model.specs.rules.Report.{MAXFILE, MAXRECORD, MAXCOLUMNS};
@@ -19,7 +21,7 @@ use piece_state::cells;
 use piece_state::place::Place;
 
 // The result for a complete record.
-#[derive(Drop)]
+#[derive(Clone, Copy)]
 pub enum RecordResult {
     // It is written, and ends at this place.
     Written(usize),

@@ -3,6 +3,8 @@
 //
 // run.rt takes a piece, inside a cell or step by step (steps.rt), if a run from the given state stays in bounds (bounds.rt); ending.rt
 // takes the end of the file. The header's cells are buffered in the arrays of its names, those of other records in arrays of their own.
+#![tactic(auto)]
+
 pub mod bounds;
 pub mod ending;
 pub mod run;

@@ -13,7 +13,7 @@ use model::{Dialect, FileState, Report};
 
 // The result of the checks before anything is read: a refusal, which may repeat an earlier fault; or the call proceeds, between these two
 // dialects.
-#[derive(Drop)]
+#[derive(Clone, Copy)]
 pub enum CallCheck {
     Refused(Report),
     Proceed(Dialect, Dialect),

@@ -5,7 +5,7 @@ ghost use Rattle.piece_state.specs.Sound.{at_start};
 
 use model::FileState;
 
-#[derive(Drop)]
+#[derive(Clone, Copy)]
 pub struct Place {
     pub state: FileState,
     // How many bytes have been consumed.

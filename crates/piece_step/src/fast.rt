@@ -22,7 +22,7 @@ use record_fast::FastScan;
 use record_writer::line;
 
 // The result of the fast path.
-#[derive(Drop)]
+#[derive(Clone, Copy)]
 pub enum FastStep {
     // A record was written, up to `end` of the output. The next step begins at `place`, which is index `at` of the piece.
     Next { place: Place, at: usize, end: usize },
@@ -32,7 +32,7 @@ pub enum FastStep {
 // ---- the text of a record
 
 // Where the text ends in the output.
-#[derive(Drop)]
+#[derive(Clone, Copy)]
 pub enum FastText {
     To(usize),
     Fallback,

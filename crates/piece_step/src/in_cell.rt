@@ -14,7 +14,7 @@ use piece_state::cells;
 use piece_state::place::Place;
 
 // The result of the fast path.
-#[derive(Drop)]
+#[derive(Clone, Copy)]
 pub enum InCellStep {
     // All bytes are buffered. The next call begins at this place.
     Buffered(Place),

@@ -4,6 +4,8 @@
 // scanner finds the cells, and their bytes are buffered one after another, from whichever calls they came. A complete record is checked
 // and written from the buffer. Definition: `StepSound` (specs/Steps.antt), what reading results in by a step; proofs/Steps.antt has a law
 // for each outcome of the scanner.
+#![tactic(auto)]
+
 ghost use Rattle.std.specs.Prelude.{◌≡◌, List, ◌+◌, ◌≤◌, ◌^◌, ◌<◌, length};
 ghost use Rattle.model.specs.rules.Dialect.{into};
 ghost use Rattle.model.specs.rules.Report.{MAXFILE, MAXCOLUMNS};
@@ -162,7 +164,7 @@ fn buffer_rest(
 // ---- a step
 
 // The result of a step.
-#[derive(Drop)]
+#[derive(Clone, Copy)]
 pub enum PieceStep {
     // A record was written, up to `end` of the output. The next step begins at `place`, which is index `at` of the piece.
     Next { place: Place, at: usize, end: usize },
@@ -174,7 +176,7 @@ pub enum PieceStep {
 }
 
 // The result of a call over a piece or at the end.
-#[derive(Drop)]
+#[derive(Clone, Copy)]
 pub struct CallResult {
     pub place: Place,
     pub report: Report,

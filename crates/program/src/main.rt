@@ -3,6 +3,8 @@
 //
 // It returns no status. A file was converted as a whole exactly if standard error is empty. What is proved is that it is safe and ends;
 // the bytes it writes are those of the piece calls.
+#![tactic(auto)]
+
 mod stream;
 
 // The dialect that an argument names, 0 if it names none. The longest name has four bytes.

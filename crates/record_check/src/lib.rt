@@ -4,6 +4,8 @@
 //
 // The definitions are `header_fault` and `data_fault` of model's specs/rules/Records.antt, over the cells of the lists (cell_decoder's
 // specs/Sources.antt). A check that changes there changes its function here and its law in proofs/Records.antt.
+#![tactic(auto)]
+
 ghost use Rattle.std.specs.Prelude.{◌≡◌, List, length};
 ghost use Rattle.model.specs.rules.Text.{Value};
 ghost use Rattle.model.specs.rules.Records.{header_fault, data_fault};

@@ -151,7 +151,7 @@ fn repeats(src: Source, rule: Dialect, s: &[u8], starts: &[usize], ends: &[usize
 }
 
 // Whether a name repeats an earlier one, and the column of the first that does.
-#[derive(Drop)]
+#[derive(Clone, Copy)]
 pub enum Repeat {
     NoRepeat,
     AtColumn(usize),

@@ -3,6 +3,8 @@
 //
 // The loop holds numbers alone and finds each cell's end by `cell_fast`: no state of the file is built for a cell, which in the scanner
 // takes twice the time. The proof uses the scanner's own laws, one step for each cell (proofs/FastScanInvariant.antt).
+#![tactic(auto)]
+
 ghost use Rattle.std.specs.Prelude.{◌≡◌, true, ◌&&◌, ◌≤◌, ◌<◌, length, get_or};
 ghost use Rattle.model.specs.declared.Dialect.{Dialect};
 ghost use Rattle.model.specs.declared.FileState.TheVariants.{Cr, Ended};
@@ -18,7 +20,7 @@ use model::{Dialect, FileState};
 use record_scanner::store;
 
 // The result of the fast path.
-#[derive(Drop)]
+#[derive(Clone, Copy)]
 pub enum FastScan {
     // The record is complete: its start, the number of its cells, the file's state after it, the next offset, and whether each cell is
     // verbatim: a text whose content is its bytes.
@@ -64,7 +66,7 @@ fn record_start(first: FileState, part: &[u8], from: usize) -> usize
 // ---- the end of a record
 
 // The ending after the last cell of a record, with the file's state and the offset after it, or fallback.
-#[derive(Drop)]
+#[derive(Clone, Copy)]
 pub enum RecordEnd {
     After(FileState, usize),
     Fallback,

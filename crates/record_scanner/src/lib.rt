@@ -6,6 +6,8 @@
 // The loop holds numbers and an offset; `token` finds the next token, mostly a whole cell. Each function on this path has one call site,
 // or its result would go through memory, at half the speed. For the same reason the code after a step is there twice: a shared copy costs
 // an eighth more instructions.
+#![tactic(auto)]
+
 ghost use Rattle.std.specs.Prelude.{◌≡◌, ◌≤◌, length, drop};
 ghost use Rattle.model.specs.rules.Report.{MAXFILE, MAXRECORD};
 ghost use Rattle.model.specs.laws.Scans.{fresh};

@@ -5,7 +5,7 @@ ghost use Rattle.record_scanner.specs.CurrentRecord.{closes_cell, ends_record, o
 use model::ByteRole;
 
 // The record that is being read, or the next one.
-#[derive(Drop)]
+#[derive(Clone, Copy)]
 pub struct RecordState {
     // Where it starts.
     pub start: usize,

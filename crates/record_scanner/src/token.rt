@@ -12,7 +12,7 @@ use file_lexer::Dispatched;
 use model::{ByteFault, Cell, Char, Dialect, Fault, FileState, Step};
 
 // The outcome of scanning a part of a file. All offsets are those of the part.
-#[derive(Drop)]
+#[derive(Clone, Copy)]
 pub enum ScanOutcome {
     // A record is complete: its start, the number of its cells that end in the part, the file's state after it, and the next offset.
     Completed {
@@ -34,7 +34,7 @@ pub enum ScanOutcome {
 }
 
 // The next token.
-#[derive(Drop)]
+#[derive(Clone, Copy)]
 pub enum Token {
     // The next byte takes this step.
     Is(Step),

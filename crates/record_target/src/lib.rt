@@ -4,6 +4,8 @@
 //
 // The definition is `target_fault` of model's specs/rules/Records.antt, over the cells of the lists (cell_decoder's specs/Sources.antt). A
 // reason that changes there changes its function here and its law in proofs/Reasons.antt.
+#![tactic(auto)]
+
 ghost use Rattle.std.specs.Prelude.{◌≡◌, not, ◌&&◌, List, ◌++◌, ℕ, ◌+◌, ◌≤◌, length, true, false};
 ghost use Rattle.model.specs.declared.CheckResult.TheVariants.{Sound, Faulty};
 ghost use Rattle.model.specs.rules.Base.{Bytes, is_empty};
@@ -26,7 +28,7 @@ use record_check::names::Repeat;
 use record_writer::record::RecordText;
 use record_writer::{line, record};
 
-#[derive(Drop)]
+#[derive(Clone, Copy)]
 pub struct TargetCheck {
     pub verdict: CheckResult,
     // Where there is no fault, how long the record's text is with its ending.
@@ -34,7 +36,7 @@ pub struct TargetCheck {
 }
 
 // The records of a file or a table, checked and measured.
-#[derive(Drop)]
+#[derive(Clone, Copy)]
 pub enum Measurement {
     // How long their text is.
     Accepted { length: usize },

@@ -5,6 +5,8 @@
 // measures where `write` is false.
 //
 // The definitions are model's specs/rules/Text.antt. A rule that changes there changes a law of proofs/, and no loop.
+#![tactic(auto)]
+
 pub mod clean;
 pub mod line;
 pub mod quotes;

@@ -21,7 +21,7 @@ use cell_writer::body::Body;
 use cell_writer::escape;
 use model::{CheckResult, Dialect, Fault, Kind};
 
-#[derive(Drop)]
+#[derive(Clone, Copy)]
 pub struct RecordText {
     // Where the text ends, without the record's ending.
     pub end: usize,
@@ -56,7 +56,7 @@ fn has_kind(t: Dialect, k: Kind) -> bool
 
 // The check result so far: sound where the column is 0, else the first cell that the target can't represent, and whether it holds a lone
 // surrogate or is of a kind that the target lacks. Two numbers, since an enum in the loop would go through memory.
-#[derive(Drop)]
+#[derive(Clone, Copy)]
 struct FirstFault {
     column: usize,
     lone: bool,

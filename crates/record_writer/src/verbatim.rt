@@ -43,7 +43,7 @@ pub fn is_direct(src: Source, t: Dialect) -> bool
 // ---- what a cell is
 
 // The part of a cell that is copied.
-#[derive(Drop)]
+#[derive(Clone, Copy)]
 pub enum Verbatim {
     // The bytes from the first place up to the second, between two quotes.
     Span(usize, usize),

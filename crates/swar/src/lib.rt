@@ -4,6 +4,8 @@
 //
 // The tests are exact, since no operation carries or borrows across a byte: each byte of a sum is at most FF hex, and each byte of a
 // difference subtracts no more than it has. A new test needs the values on one byte and the laws of proofs/Bytewise.antt.
+#![tactic(auto)]
+
 ghost use Rattle.std.specs.Prelude.{◌≡◌, ◌+◌, ◌*◌, ◌≤◌, ◌<◌, [], ◌∷◌, ◌++◌, length, get_or};
 ghost use Rattle.model.specs.rules.Base.{QUOTE};
 ghost use Rattle.model.specs.rules.Cell.{is_digit};

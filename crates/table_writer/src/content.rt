@@ -8,7 +8,7 @@ ghost use Rattle.table_writer.specs.Content.{wide_in, step_in, content_from, Sam
 use model::{Advance, Char, Inner};
 
 // The state. `high`: directly after a high surrogate, or in one.
-#[derive(Drop)]
+#[derive(Clone, Copy)]
 pub enum ContentState {
     Gap { high: bool },
     AfterEd { high: bool },

@@ -3,6 +3,8 @@
 // written only where it has room (records.rt).
 //
 // The definition is `writer` of model's specs/rules/Api.antt. proofs/Answers.antt has the laws that a new answer would change.
+#![tactic(auto)]
+
 ghost use Rattle.std.specs.Prelude.{◌≡◌, ◌*◌, length};
 ghost use Rattle.model.specs.rules.Base.{over};
 ghost use Rattle.model.specs.rules.Dialect.{into};

@@ -4,6 +4,8 @@
 //
 // The prover compares the table with the definition's rows entry by entry (proofs/Table.antt): a row that changes in both needs no new
 // proof. A return is proved from the tests before it, so a changed test needs the proof of its function again.
+#![tactic(auto)]
+
 ghost use Rattle.std.specs.Prelude.{◌≡◌, ◌+◌, ◌%◌, ◌<◌, get_or};
 ghost use Rattle.model.specs.rules.Base.{if◌then◌else◌, within};
 ghost use Rattle.model.specs.rules.Utf8.{leads, lead_byte, inner_step, char_step};
@@ -142,7 +144,7 @@ pub fn char_step(c: Char, b: u8) -> Advance
 // ---- code points
 
 // The bytes of a code point: the first `size` of `bytes`, with zeros after them.
-#[derive(Drop)]
+#[derive(Clone, Copy)]
 pub struct Packed {
     pub bytes: [u8; 4],
     pub size: usize,

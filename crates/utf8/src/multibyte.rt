@@ -9,7 +9,7 @@ ghost use Rattle.utf8.specs.Multibyte.{RowFor, WideRun};
 use crate::{FIRST, HIGH, LAST, LATER, LENGTH, LOW};
 
 // What a row says of the bytes after the first. Length 0: no row.
-#[derive(Drop)]
+#[derive(Clone, Copy)]
 struct Row {
     length: u8,
     low: u8,

@@ -35,18 +35,21 @@ record ToGap (w : Wide) (bs : Bytes) : Type 0 where
 calm_gap : (w : Wide) → Near Whole w → Calm w → w ≡ gap false
 calm_gap (gap true) near_gap c = absurd c
 calm_gap (gap false) near_gap c = refl
+calm_gap (ed high) x'' c = elim x'' [ ]
+calm_gap (lone high) x3 c = elim x3 [ ]
+calm_gap (inner _) x5 c = elim x5 [ ]
 
-near_runs : {c : Char} {w : Wide} {bs : Bytes} → Near c w → Calm w → CharRuns c bs Whole → ToGap w bs
-near_runs {w} n k c_here = record { run = λ xs. ap (λ (x : Wide). wide_from x xs) (calm_gap w n k) }
-near_runs {w} n k (c_there {c'} {b} {bs} e r) =
+near_runs : {c : Char} {w : Wide} {bs : Bytes} → CharRuns c bs Whole → Near c w → Calm w → ToGap w bs
+near_runs {w} c_here n k = record { run = λ xs. ap (λ (x : Wide). wide_from x xs) (calm_gap w n k) }
+near_runs {w} (c_there {c'} {b} {bs} e r) n k =
     let s = near_step b c' n e in
-    let i = near_runs s.near s.calm r in
+    let i = near_runs r s.near s.calm in
     record { run = λ xs. wide_on w s.wide b (bs ++ xs) s.step ∙ i.run xs }
 
 char_runs : (h : Bool) (b : ℕ) (c : Char) (bs : Bytes) → char_step Whole b ≡ On c → CharRuns c bs Whole → ToGap (gap h) (b ∷ bs)
 char_runs h b c bs e r =
     let s = near_step b c near_gap e in
-    let i = near_runs s.near s.calm r in
+    let i = near_runs r s.near s.calm in
     record { run = λ xs. wide_on (gap h) s.wide b (bs ++ xs) s.step ∙ i.run xs }
 
 -- the rows of the table that have more than one first byte

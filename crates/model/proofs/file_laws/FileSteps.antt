@@ -250,6 +250,8 @@ module _ {f : FileState} (b : ℕ) where
       go false Stop t s (takes_stop w) = after_transition d true t (stops h s w)
       go true (Refuse e) t s takes_two = refuses {e = Encoding} (rw t reports_two)
       go false (Refuse e) t s takes_three = refuses {e = Syntax} (rw t reports_three)
+      go true (More e) t s x4 = elim x4 [ ]
+      go true Stop t s x5 = elim x5 [ ]
 
   -- where a record may begin: outside records, or after blanks, which TDIF and CSV+ never read
   record_transition : Around Tdif f → Starts f → ((d : Dialect) → text_at d f ≡ fresh_text d) → (d : Dialect) → Transition d f b (begin_record d b)

@@ -121,6 +121,7 @@ row_of_three a lo hi (b ∷ bs) h k l m x (second_on p q e) = three_bytes {b = b
     far : 0x20 ≤ (a - 0xE0) * 0x40 + (b - 0x80)
     far = split_on (leb a 0xE0) (λ t. let u : a ≤ 0xE0 = leb-true a 0xE0 t in let v : 0xA0 ≤ lo = x (omega arith) in
         omega arith) λ t. let u : 0xE0 < a = leb-false a 0xE0 t in omega arith
+row_of_three a lo hi [] h k l m x x7 = elim x7 [ ]
 
 row_of_four : (a : ℕ) (lo hi : ℕ) (bs : Bytes) → 0xF0 ≤ a → a ≤ 0xF4 → 0x80 ≤ lo → hi ≤ 0xBF → (a ≡ 0xF0 → 0x90 ≤ lo) → (a ≡ 0xF4 → hi ≤ 0x8F)
     → SecondOn lo hi (inner LastTwo) bs → Begins (a ∷ bs)
@@ -133,6 +134,7 @@ row_of_four a lo hi (b ∷ bs) h k l m x y (second_on p q e) = four_bytes {b = b
     near : (a - 0xF0) * 0x40 + (b - 0x80) ≤ 0x10F
     near = split_on (leb 0xF4 a) (λ t. let u : 0xF4 ≤ a = leb-true 0xF4 a t in let v : hi ≤ 0x8F = y (omega arith) in
         omega arith) λ t. let u : a < 0xF4 = leb-false 0xF4 a t in omega arith
+row_of_four a lo hi [] h k l m x y x8 = elim x8 [ ]
 
 row_begins : (l : Lead) (a : ℕ) (bs : Bytes) → (row_of l).lo ≤ a → a ≤ (row_of l).hi → wide_from (inner (Second l)) bs ≡ true → Begins (a ∷ bs)
 unfolding row_of if◌then◌else◌
@@ -140,6 +142,7 @@ row_begins C2ToDf a bs h k e = two_bytes h k (go bs (second_byte C2ToDf bs e))
   where
     go : (bs : Bytes) → SecondOn 0x80 0xBF (gap false) bs → Later 1 bs
     go (b ∷ bs) (second_on p q f) = later p q (then_content false f)
+    go [] x4 = elim x4 [ ]
 row_begins E0 a bs h k e = row_of_three a 0xA0 0xBF bs (omega arith) (omega arith) (omega arith) (omega arith) (λ _. omega arith) (second_byte E0 bs e)
 row_begins E1ToEc a bs h k e = row_of_three a 0x80 0xBF bs (omega arith) (omega arith) (omega arith) (omega arith) (λ z. absurd (omega arith))
     (second_byte E1ToEc bs e)
@@ -221,6 +224,7 @@ four n ih a b c (d ∷ bs) l h x y far near v w (later i j (then_content g e)) =
     let s : 0x80 + ((a - 0xF0) * 0x40000 + (b - 0x80) * 0x1000 + (c - 0x80) * 0x40 + (d - 0x80)) % 0x40 ≡ d = omega arith in
     more_points u (a ∷ b ∷ c ∷ d ∷ bs) bs (omega arith)
     (rw (pack_four ((a - 0xF0) * 0x40000 + (b - 0x80) * 0x1000 + (c - 0x80) * 0x40 + (d - 0x80)) (omega arith), p, q, r, s)) (ih g bs (omega arith) e)
+four n ih a b c [] l h x y far near v w x10 = elim x10 [ ]
 
 begun : (n : ℕ) → ((h : Bool) (bs : Bytes) → length bs ≤ n → wide_from (gap h) bs ≡ true → PointsOf bs) → (bs : Bytes) → length bs ≤ suc n → Begins bs
     → PointsOf bs
@@ -238,6 +242,10 @@ begun n ih (a ∷ b ∷ c ∷ bs) l (three_bytes h k x y far (later v w (then_co
     more_points u (a ∷ b ∷ c ∷ bs) bs (omega arith)
     (rw (pack_three ((a - 0xE0) * 0x1000 + (b - 0x80) * 0x40 + (c - 0x80)) (omega arith) (omega arith), p, q, r)) (ih g bs (omega arith) e)
 begun n ih (a ∷ b ∷ c ∷ bs) l (four_bytes h x y far near (later v w q)) = four n ih a b c bs l h x y far near v w q
+begun n ih [] l x'' = elim x'' [ ]
+begun n ih (a ∷ []) l (two_bytes h k x8) = elim x8 [ ]
+begun n ih (a ∷ (_ ∷ _)) l (three_bytes {b = b} {bs = []} h k x y far x14) = elim x14 [ ]
+begun n ih (a ∷ (_ ∷ _)) l (four_bytes {b = b} {bs = []} h x y far near x15) = elim x15 [ ]
 
 points_within : (n : ℕ) (h : Bool) (bs : Bytes) → length bs ≤ n → wide_from (gap h) bs ≡ true → PointsOf bs
 unfolding packed

@@ -164,6 +164,8 @@ module _ (d : Dialect) (limit : ℕ) (k : Buffered) (began : ℕ) where
     stays_seen (To f (Between c)) (y_between h) = between_seen f c (current h)
     stays_seen (To f (Tail c)) (y_tail h) = tail_seen f c (current h)
     stays_seen (To f (Ends c)) y_ends = ends_seen f c
+    stays_seen (To f Outside) x4 = elim x4 [ ]
+    stays_seen (To f Passed) x5 = elim x5 [ ]
 
     none_kept : k.cells ≡ [] → k.cells ++ [] ≡ []
     none_kept q = append-nil k.cells ∙ q

@@ -199,7 +199,7 @@ module _ (d : Dialect) (T : Option Target) (ds : List Rec) (s p : ℕ) (vs : Lis
   run_cell {f} l here n o z raw h k = record { state = f; like = l; run = none_read f o z raw }
   run_cell {f} l (there {c'} {b} {bs} e r) n o z raw h k =
       let x = like_step b c' bs l e n in
-      let y = run_cell x.like r x.clear (suc o) (suc z) (raw ++ (b ∷ [])) (omega arith) (omega arith) in
+      let y = run_cell {f = x.state} x.like r x.clear (suc o) (suc z) (raw ++ (b ∷ [])) (omega arith) (omega arith) in
       record {
         state = y.state;
         like = y.like;

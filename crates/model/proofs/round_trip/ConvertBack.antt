@@ -220,6 +220,8 @@ rows_count : (ds es : List Rec) → SameRows (rows ds) (rows es) → length ds �
 unfolding rows
 rows_count [] [] s = refl
 rows_count (x ∷ ds) (y ∷ es) (and_row c s) = ap suc (rows_count ds es s)
+rows_count [] (y ∷ es) s = elim s [ ]
+rows_count (x ∷ ds) [] s = elim s [ ]
 
 answered_alike :
     (ds es : List Rec) (room : ℕ) → SameRows (rows ds) (rows es) →
@@ -232,6 +234,8 @@ answered_alike (x ∷ ds) (y ∷ es) room (and_row c s) =
     split_on (ltb room (length (concat (y.cells ∷ rows es))))
     (λ p. rw (k, p) (record { report = refl; columns = refl; records = refl; cells = refl })) λ p.
     rw (k, p) (record { report = refl; columns = same_length c; records = rows_count ds es s; cells = cells_meaning (concat_same all) })
+answered_alike [] (y ∷ es) room s = elim s [ ]
+answered_alike (x ∷ ds) [] room s = elim s [ ]
 
 reads_alike :
     (m n : ℕ) (d t : Dialect) (file text : Bytes) (end : Read) (places : ℕ) → dialect_of m ≡ some d → dialect_of n ≡ some t →

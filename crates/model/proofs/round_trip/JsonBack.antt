@@ -258,6 +258,7 @@ json_back w (a ∷ b ∷ c ∷ bs) e =
         ((v : Wide) → wide_from v (b ∷ c ∷ bs) ≡ true → text_of (units between (json_body (b ∷ c ∷ bs) ++ close)) ≡ b ∷ c ∷ bs) →
         text_of (units between (json_body (b ∷ c ∷ bs) ++ close)) ≡ b ∷ c ∷ bs
     next (some v) (onward k) ih = ih v k
+    next none x6 ih = elim x6 [ ]
 
     first :
         (h : Bool) → Lone h b c bs → ((v : Wide) → wide_from v bs ≡ true → text_of (units between (json_body bs ++ close)) ≡ bs) →

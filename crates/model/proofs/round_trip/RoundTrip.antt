@@ -158,6 +158,7 @@ rows_answer (x ∷ ds) h rs room (and_row c s) l =
     let k : length (concat (x.cells ∷ rows ds)) ≡ length (concat (h ∷ rs)) = same_length (concat_same all) in
     let fit : ltb room (length (concat (x.cells ∷ rows ds))) ≡ false = le-ltb room (length (concat (x.cells ∷ rows ds))) (omega arith) in
     rw fit (record { report = refl; columns = same_length c; records = ap suc (rows_count ds ∙ rows_length s); cells = cells_meaning (concat_same all) })
+rows_answer [] h rs room x'' l = elim x'' [ ]
 
 pub reader_answers :
     (n : ℕ) (d : Dialect) (h : List Value) (rs : List (List Value)) (room : ℕ) (text : Bytes) → dialect_of n ≡ some d →
