@@ -1,0 +1,102 @@
+-- `cell_writer::cell::write_cell` meets its contract, by the written form of the kind in the target.
+use mathlib.Core.Path.{◌≡◌, sym, ap, ◌∙◌}
+use borrow.Author.Rules.{rules}
+use Rattle.model.specs.rules.Base.{Bytes}
+use Rattle.model.specs.rules.Utf8.{holds_lone}
+use Rattle.model.specs.rules.Text.{cell_text}
+use Rattle.buffer.proofs.WriteProgress.{room_as, emitted_as}
+use Rattle.cell_decoder.specs.FirstByte.{content_in}
+use Rattle.cell_decoder.specs.declared.first_byte.Spelling.{Spelling}
+use Rattle.cell_writer.specs.declared.cell.WrittenForm.TheVariants.{AsNumber}
+use Rattle.cell_writer.specs.Cells.{value_of, text_cell, number_in, written_as, word_for}
+use Rattle.cell_writer.proofs.Cells.{
+  encoded_legible,
+  encoded_number,
+  legible_as,
+  number_way,
+  text_way,
+  cell_as_text,
+  cell_as_number,
+  cell_as_word,
+  number_no_text,
+  word_no_text,
+  written_long,
+}
+
+use Rattle.cell_writer.proofs.cell.write_cell.Goals as goal
+
+-- look: cites tie
+abbrev cell : tie.Start → Bytes
+cell c = let a = c.args in cell_text a.t a.only a.first (value_of a.src a.kind a.raw.now)
+
+pub write_text-requires : goal.write_text-requires
+write_text-requires c =
+    let as-text : (let a = c.args in text_cell a.t a.only a.first (content_in c.spelling_in-c.result a.raw.now) ≡ cell c) =
+        let a = c.args in
+    ap (text_cell a.t a.only a.first) c.spelling_in-c.ensures.raw_value
+    ∙ sym (cell_as_text a.only a.first a.t (value_of a.src a.kind a.raw.now) (sym c.in-AsText.is ∙ c.form_in.ensures)) in
+    (legible_as c.spelling_in-c.ensures.value (encoded_legible c.requires.encoded), room_as (as-text) c.requires.room)
+
+pub write_number-end-requires : goal.write_number-end-requires
+write_number-end-requires c =
+    let as_number : number_in c.spelling_in-c-in-AsNumber.result c.args.raw.now ≡ cell c =
+        let a = c.args in
+    let way : AsNumber ≡ written_as a.t a.kind = sym c.in-AsNumber.is ∙ c.form_in.ensures in
+    ap (λ (s : Spelling). number_in s a.raw.now) c.spelling_in-c-in-AsNumber.ensures.value
+    ∙ sym (cell_as_number a.only a.first a.t (value_of a.src a.kind a.raw.now) way ∙ encoded_number c.requires.encoded
+    (number_way a.t a.kind way)) in
+    room_as (as_number) c.requires.room
+
+pub write_word-end-requires : goal.write_word-end-requires
+write_word-end-requires c =
+    let as-word : word_for c.args.t c.args.kind ≡ cell c =
+        let a = c.args in
+    sym (cell_as_word a.only a.first a.t (value_of a.src a.kind a.raw.now) (sym c.in-AsWord.is ∙ c.form_in.ensures)) in
+    room_as (as-word) c.requires.room
+
+pub shape_of-out-in-AsText : goal.shape_of-out-in-AsText
+shape_of-out-in-AsText c =
+    written_long c.args.write
+    c.requires.room (returns c).0
+
+pub returns-in-AsText : goal.returns-in-AsText
+returns-in-AsText c =
+    let as-text : (let a = c.args in text_cell a.t a.only a.first (content_in c.spelling_in-c.result a.raw.now) ≡ cell c) =
+        let a = c.args in
+    ap (text_cell a.t a.only a.first) c.spelling_in-c.ensures.raw_value
+    ∙ sym (cell_as_text a.only a.first a.t (value_of a.src a.kind a.raw.now) (sym c.in-AsText.is ∙ c.form_in.ensures)) in
+    let x = c.write_text in
+    (emitted_as (sym (as-text)) x.ensures.0, λ e f. x.ensures.1 ∙ ap holds_lone c.spelling_in-c.ensures.raw_value)
+
+pub shape_of-out-in-AsNumber : goal.shape_of-out-in-AsNumber
+shape_of-out-in-AsNumber c =
+    written_long c.args.write
+    c.requires.room (returns-2 c).0
+
+pub returns-in-AsNumber : goal.returns-in-AsNumber
+returns-in-AsNumber c =
+    let as_number : number_in c.spelling_in-c-in-AsNumber.result c.args.raw.now ≡ cell c =
+        let a = c.args in
+    let way : AsNumber ≡ written_as a.t a.kind = sym c.in-AsNumber.is ∙ c.form_in.ensures in
+    ap (λ (s : Spelling). number_in s a.raw.now) c.spelling_in-c-in-AsNumber.ensures.value
+    ∙ sym (cell_as_number a.only a.first a.t (value_of a.src a.kind a.raw.now) way ∙ encoded_number c.requires.encoded
+    (number_way a.t a.kind way)) in
+    let a = c.args in (
+      emitted_as (sym (as_number)) c.write_number-end.ensures,
+      λ e f. number_no_text (sym c.in-AsNumber.is ∙ text_way a.t a.kind c.form_in.result c.form_in.ensures e f),
+    )
+
+pub shape_of-out-in-AsWord : goal.shape_of-out-in-AsWord
+shape_of-out-in-AsWord c =
+    written_long c.args.write
+    c.requires.room (returns-3 c).0
+
+pub returns-in-AsWord : goal.returns-in-AsWord
+returns-in-AsWord c =
+    let as-word : word_for c.args.t c.args.kind ≡ cell c =
+        let a = c.args in
+    sym (cell_as_word a.only a.first a.t (value_of a.src a.kind a.raw.now) (sym c.in-AsWord.is ∙ c.form_in.ensures)) in
+    let a = c.args in (
+      emitted_as (sym (as-word)) c.write_word-end.ensures,
+      λ e f. word_no_text (sym c.in-AsWord.is ∙ text_way a.t a.kind c.form_in.result c.form_in.ensures e f),
+    )
