@@ -1,6 +1,6 @@
--- None of the mistakes is made: at the productions by the laws of their files, and beside them by case analysis of what is required.
--- No automaton takes part. It is checked before the theorems of this crate, so that a wider requirement is refused here, at the law
--- of that name.
+-- None of the mistakes is made: at the productions by the laws of their files, in where cells lie by computation, and beside them by
+-- case analysis of what is required. No automaton takes part. It is checked before the theorems of this crate, so that a wider
+-- requirement is refused here, at the law of that name.
 use Prim.Native.Nat.{ℕ, ◌+◌, ◌≤◌}
 use native.Mathlib.Omega.{arith}
 use mathlib.Core.Path.{◌≡◌, refl, ap}

@@ -1,6 +1,6 @@
--- The productions make none of the mistakes (`FileMistakes`, `Misplacements`), by case analysis of each production; no automaton
--- takes part. It is checked before the theorems of this crate, so that a production that is widened to make one is refused here, at
--- the law of that name.
+-- The productions make none of the mistakes (`FileMistakes`), by case analysis of each production; no automaton takes part. It is
+-- checked before the theorems of this crate, so that a production that is widened to make one is refused here, at the law of that
+-- name, or in `Terminators.antt`. `Absent.antt` puts the laws together, so nothing here rests on one of them.
 use Prim.Native.Nat.{ℕ, ◌+◌, ◌≤◌}
 use native.Mathlib.Omega.{arith}
 use mathlib.Core.Path.{◌≡◌, refl, ap, ◌∙◌}

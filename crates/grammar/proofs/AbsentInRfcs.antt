@@ -1,6 +1,6 @@
 -- The productions make none of the mistakes (`RfcMistakes`), by case analysis of each production; no automaton takes part. It is
 -- checked before the theorems of this crate, so that a production that is widened to make one is refused here, at the law of that
--- name.
+-- name. `Absent.antt` puts the laws together, so nothing here rests on one of them.
 use Prim.Native.Nat.{◌≤◌}
 use native.Mathlib.Omega.{arith}
 use mathlib.Core.Path.{◌≡◌, refl, ◌∙◌}
