@@ -2,7 +2,7 @@
 use mathlib.Core.Path.{◌≡◌, refl, sym, ◌∙◌}
 use native.Mathlib.Omega.{arith}
 use borrow.Author.Rules.{rules}
-use Rattle.model.specs.rules.Base.{if◌then◌else◌}
+use Rattle.model.specs.rules.Base.{choose◌then◌else◌}
 use Rattle.model.specs.rules.Names.{fold_point}
 use Rattle.model.proofs.name_laws.Folding.{table_follows}
 use Rattle.case_fold.proofs.FoldedNames.{different_lengths, found_same, found_different}
@@ -15,7 +15,7 @@ returns c =
     sym (different_lengths s.a.now s.b.now c.if1.true)
 
 same-by-table-requires : tie.Need-same-by-table-requires
-unfolding fold_point if◌then◌else◌
+unfolding fold_point choose◌then◌else◌
 same-by-table-requires c κs = (table_follows _ refl tt, omega arith)
 
 returns-2 : tie.Need-returns-2

@@ -1,6 +1,6 @@
 -- `cell_lexer::classify_plain` meets its contract, by its tests in the definition's order.
 use native.Mathlib.Omega.{arith}
-use Rattle.model.specs.rules.Base.{if◌then◌else◌}
+use Rattle.model.specs.rules.Base.{choose◌then◌else◌}
 use Rattle.model.specs.rules.Cell.{plain_byte}
 use Rattle.model.proofs.Tests.{tests}
 use Rattle.model.proofs.cell_laws.Utf8.{ascii_whole}
@@ -9,7 +9,7 @@ use Rattle.cell_lexer.proofs.classify_plain.Statement.{statement}
 use Rattle.cell_lexer.proofs.classify_plain.Tie as tie
 
 pub classify-plain-spec : {M : Type 1} → statement M
-unfolding plain_byte if◌then◌else◌
+unfolding plain_byte choose◌then◌else◌
 classify-plain-spec =
     tie.close
     (tie.spec

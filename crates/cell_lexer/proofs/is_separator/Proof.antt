@@ -1,12 +1,12 @@
 -- `cell_lexer::is_separator` meets its contract, by its tests.
-use Rattle.model.specs.rules.Base.{if◌then◌else◌}
+use Rattle.model.specs.rules.Base.{choose◌then◌else◌}
 use Rattle.model.proofs.Tests.{tests}
 use borrow.Author.Rules.{rules}
 use Rattle.cell_lexer.proofs.is_separator.Statement.{statement}
 use Rattle.cell_lexer.proofs.is_separator.Tie as tie
 
 pub is-separator-spec : {M : Type 1} → statement M
-unfolding if◌then◌else◌
+unfolding choose◌then◌else◌
 is-separator-spec =
     tie.close
     (tie.spec

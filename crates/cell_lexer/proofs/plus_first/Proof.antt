@@ -1,6 +1,6 @@
 -- `cell_lexer::plus_first` meets its contract, by its tests in the definition's order.
 use native.Mathlib.Omega.{arith}
-use Rattle.model.specs.rules.Base.{if◌then◌else◌}
+use Rattle.model.specs.rules.Base.{choose◌then◌else◌}
 use Rattle.model.specs.rules.Cell.{first_byte}
 use Rattle.model.proofs.Tests.{tests}
 use Rattle.model.proofs.cell_laws.Utf8.{ascii_whole}
@@ -9,7 +9,7 @@ use Rattle.cell_lexer.proofs.plus_first.Statement.{statement}
 use Rattle.cell_lexer.proofs.plus_first.Tie as tie
 
 pub plus-first-spec : {M : Type 1} → statement M
-unfolding first_byte if◌then◌else◌
+unfolding first_byte choose◌then◌else◌
 plus-first-spec =
     tie.close
     (tie.spec

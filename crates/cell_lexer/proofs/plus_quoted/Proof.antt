@@ -1,5 +1,5 @@
 -- `cell_lexer::plus_quoted` meets its contract, by its test.
-use Rattle.model.specs.rules.Base.{if◌then◌else◌}
+use Rattle.model.specs.rules.Base.{choose◌then◌else◌}
 use Rattle.model.specs.rules.Cell.{quoted_byte}
 use Rattle.model.proofs.Tests.{tests}
 use borrow.Author.Rules.{rules}
@@ -7,7 +7,7 @@ use Rattle.cell_lexer.proofs.plus_quoted.Statement.{statement}
 use Rattle.cell_lexer.proofs.plus_quoted.Tie as tie
 
 pub plus-quoted-spec : {M : Type 1} → statement M
-unfolding quoted_byte if◌then◌else◌
+unfolding quoted_byte choose◌then◌else◌
 plus-quoted-spec =
     tie.close
     (tie.spec

@@ -1,5 +1,5 @@
 -- `file_lexer::begin_file` meets its contract, dialect by dialect.
-use Rattle.model.specs.rules.Base.{if◌then◌else◌}
+use Rattle.model.specs.rules.Base.{choose◌then◌else◌}
 use Rattle.model.specs.rules.File.{begin_file}
 use Rattle.model.proofs.Tests.{tests}
 use borrow.Author.Rules.{rules}
@@ -7,7 +7,7 @@ use Rattle.file_lexer.proofs.begin_file.Statement.{statement}
 use Rattle.file_lexer.proofs.begin_file.Tie as tie
 
 pub begin-file-spec : {M : Type 1} → statement M
-unfolding begin_file if◌then◌else◌
+unfolding begin_file choose◌then◌else◌
 begin-file-spec =
     tie.close
     (tie.spec

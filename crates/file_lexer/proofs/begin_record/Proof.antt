@@ -1,5 +1,5 @@
 -- `file_lexer::begin_record` meets its contract, dialect by dialect, by its tests in the definition's order.
-use Rattle.model.specs.rules.Base.{if◌then◌else◌}
+use Rattle.model.specs.rules.Base.{choose◌then◌else◌}
 use Rattle.model.specs.rules.File.{begin_record}
 use Rattle.model.proofs.Tests.{tests}
 use borrow.Author.Rules.{rules}
@@ -7,7 +7,7 @@ use Rattle.file_lexer.proofs.begin_record.Statement.{statement}
 use Rattle.file_lexer.proofs.begin_record.Tie as tie
 
 pub begin-record-spec : {M : Type 1} → statement M
-unfolding begin_record if◌then◌else◌
+unfolding begin_record choose◌then◌else◌
 begin-record-spec =
     tie.close
     (tie.spec

@@ -1,12 +1,12 @@
 -- `file_lexer::comment_text` meets its contract: the UTF-8 step decides.
-use Rattle.model.specs.rules.Base.{if◌then◌else◌}
+use Rattle.model.specs.rules.Base.{choose◌then◌else◌}
 use Rattle.model.proofs.Tests.{tests}
 use borrow.Author.Rules.{rules}
 use Rattle.file_lexer.proofs.comment_text.Statement.{statement}
 use Rattle.file_lexer.proofs.comment_text.Tie as tie
 
 pub comment-text-spec : {M : Type 1} → statement M
-unfolding if◌then◌else◌
+unfolding choose◌then◌else◌
 comment-text-spec =
     tie.close
     (tie.spec

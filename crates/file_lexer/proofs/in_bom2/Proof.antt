@@ -1,10 +1,10 @@
 -- `file_lexer::in_bom2` meets its contract, by its test.
-use Rattle.model.specs.rules.Base.{if◌then◌else◌}
+use Rattle.model.specs.rules.Base.{choose◌then◌else◌}
 use Rattle.model.specs.rules.File.{file_step}
 use Rattle.model.proofs.Tests.{tests}
 use Rattle.file_lexer.proofs.in_bom2.Statement.{statement}
 use Rattle.file_lexer.proofs.in_bom2.Tie as tie
 
 pub in-bom2-spec : {M : Type 1} → statement M
-unfolding file_step if◌then◌else◌
+unfolding file_step choose◌then◌else◌
 in-bom2-spec = tie.close (tie.spec (λ c. search tests) (λ c. search tests))

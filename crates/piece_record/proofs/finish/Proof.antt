@@ -6,7 +6,7 @@ use mathlib.Core.List.{List}
 use lib.ListN.{length}
 use borrow.Author.Rules.{rules}
 use Rattle.model.specs.declared.CheckResult.TheVariants.{Sound}
-use Rattle.model.specs.rules.Base.{if◌then◌else◌, Bytes}
+use Rattle.model.specs.rules.Base.{choose◌then◌else◌, Bytes}
 use Rattle.model.specs.rules.Dialect.{into}
 use Rattle.model.specs.rules.Text.{Value}
 use Rattle.cell_decoder.specs.declared.source.Source.TheVariants.{File}
@@ -80,7 +80,7 @@ returns-2 c =
     is_refused (sym (fault checked) ∙ c.before.v.given.1) refl
 
 returns-3 : tie.Need-returns-3
-unfolding if◌then◌else◌
+unfolding choose◌then◌else◌
 returns-3 c =
     let p = c.before.before.write-line.ensures in
     let left = c.before.before.before.before in
@@ -89,7 +89,7 @@ returns-3 c =
     is_written (sym (fault checked) ∙ sound) (fits left) p.text p.place
 
 same_length : tie.Need-same-length
-unfolding if◌then◌else◌
+unfolding choose◌then◌else◌
 same_length c =
     let p = c.before.before.write-line.ensures in
     let left = c.before.before.before.before in

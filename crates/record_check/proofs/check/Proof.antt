@@ -1,17 +1,17 @@
 -- A header gets a header's checks, and any other record those of a data record, which need only the number of its cells.
 use borrow.Author.Rules.{rules}
-use Rattle.model.specs.rules.Base.{if◌then◌else◌}
+use Rattle.model.specs.rules.Base.{choose◌then◌else◌}
 use Rattle.cell_decoder.specs.Sources.{cells_in}
 use Rattle.cell_decoder.proofs.CellsIn.{cells_length}
 use Rattle.record_check.proofs.check.Statement.{statement}
 use Rattle.record_check.proofs.check.Tie as tie
 
 returns : tie.Need-returns
-unfolding if◌then◌else◌
+unfolding choose◌then◌else◌
 returns c = rw c.before.if1.true c.header.ensures
 
 returns-2 : tie.Need-returns-2
-unfolding if◌then◌else◌
+unfolding choose◌then◌else◌
 returns-2 c =
     let if-data = c.before in
     let start = if-data.before.before.before.before.before in

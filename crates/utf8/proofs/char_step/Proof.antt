@@ -4,7 +4,7 @@ use Prim.Native.Nat.{zero-le}
 use native.Mathlib.Omega.{arith}
 use borrow.Author.Rules.{rules}
 use borrow.Author.Tests.{le-leb, lt-leb}
-use Rattle.model.specs.rules.Base.{if◌then◌else◌}
+use Rattle.model.specs.rules.Base.{choose◌then◌else◌}
 use Rattle.model.specs.rules.Utf8.{inner_step, char_step}
 use Rattle.model.proofs.cell_laws.Utf8.{ascii_whole}
 use Rattle.utf8.proofs.char_step.Statement.{statement}
@@ -15,7 +15,7 @@ unfolding char_step
 returns c = sym (rw c.before.enum_told.given.1 (ascii_whole c.before.before.before.args.b (omega arith)))
 
 returns-2 : tie.Need-returns-2
-unfolding char_step if◌then◌else◌
+unfolding char_step choose◌then◌else◌
 returns-2 c = c.lead-byte.ensures ∙ rw (c.before.before.enum_told.given.1, le-leb 0 _ zero-le, lt-leb _ 0x7F c.before.if1.false)
 
 returns-3 : tie.Need-returns-3

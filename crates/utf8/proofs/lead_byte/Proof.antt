@@ -6,7 +6,7 @@ use native.Mathlib.Omega.{arith}
 use native.Mathlib.Numerals.{add-one}
 use lib.ListN.{get_or, drop, drop_of_length-le}
 use borrow.Author.Tests.{le-leb, lt-leb}
-use Rattle.model.specs.rules.Base.{if◌then◌else◌}
+use Rattle.model.specs.rules.Base.{choose◌then◌else◌}
 use Rattle.model.specs.rules.Utf8.{row_of, leads, lead_byte}
 use Rattle.utf8.proofs.Table.{firsts, lasts, lead_at}
 use Rattle.utf8.proofs.lead_byte.Statement.{statement}
@@ -22,7 +22,7 @@ loop-holds : tie.Need-loop-init invariant-loop decreases-loop
 loop-holds c = (omega arith, refl)
 
 returns : tie.Need-returns invariant-loop decreases-loop
-unfolding row_of leads if◌then◌else◌
+unfolding row_of leads choose◌then◌else◌
 returns c =
     let l = c.before.before.before.before in
     let from_First = le-leb (get_or firsts l.loop.row 0) l.before.args.b c.before.before.if1.true in
@@ -30,7 +30,7 @@ returns c =
     sym (l.loop.invariant.1 ∙ lead_at l.loop.row l.before.args.b (omega arith) ∙ simp (from_First, to_last))
 
 loop-again : tie.Need-loop-preserved invariant-loop decreases-loop
-unfolding row_of leads if◌then◌else◌
+unfolding row_of leads choose◌then◌else◌
 loop-again c =
     let l = c.before.before in
     let at = lead_at l.loop.row l.before.args.b (omega arith) in (

@@ -1,21 +1,21 @@
 -- `cell_decoder::escape::hex_of` meets its contract, by its two tests; a byte that is no digit has a value too, at most 168.
 use native.Mathlib.Omega.{arith}
 use borrow.Author.Rules.{rules}
-use Rattle.model.specs.rules.Base.{if◌then◌else◌}
+use Rattle.model.specs.rules.Base.{choose◌then◌else◌}
 use Rattle.model.proofs.Tests.{tests}
 use Rattle.cell_decoder.proofs.escape.hex_of.Statement.{statement}
 use Rattle.cell_decoder.proofs.escape.hex_of.Tie as tie
 
 returns : tie.Need-returns
-unfolding if◌then◌else◌
+unfolding choose◌then◌else◌
 returns c = (search tests, omega arith)
 
 returns-2 : tie.Need-returns-2
-unfolding if◌then◌else◌
+unfolding choose◌then◌else◌
 returns-2 c = (search tests, omega arith)
 
 returns-3 : tie.Need-returns-3
-unfolding if◌then◌else◌
+unfolding choose◌then◌else◌
 returns-3 c = (search tests, omega arith)
 
 pub hex-of-spec : {M : Type 1} → statement M

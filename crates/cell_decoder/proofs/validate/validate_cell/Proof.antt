@@ -2,13 +2,13 @@
 use mathlib.Core.Path.{sym, ap, ◌∙◌}
 use lib.ListN.{length}
 use borrow.Author.Rules.{rules}
-use Rattle.model.specs.rules.Base.{if◌then◌else◌}
+use Rattle.model.specs.rules.Base.{choose◌then◌else◌}
 use Rattle.cell_decoder.proofs.CellValidation.{validated_by, validated}
 use Rattle.cell_decoder.proofs.validate.validate_cell.Statement.{statement}
 use Rattle.cell_decoder.proofs.validate.validate_cell.Tie as tie
 
 returns : tie.Need-returns
-unfolding if◌then◌else◌
+unfolding choose◌then◌else◌
 returns c =
     let at_c = c.before.before.before in
     let at-cell-end = at_c.before.before in
@@ -31,7 +31,7 @@ returns-3 c =
     ap (validated_by a.d (length a.raw.now)) c.before.e.given.1)
 
 returns-4 : tie.Need-returns-4
-unfolding if◌then◌else◌
+unfolding choose◌then◌else◌
 returns-4 c =
     let at_c = c.before.before.before in
     let at-cell-end = at_c.before.before in

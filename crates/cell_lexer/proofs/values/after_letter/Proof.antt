@@ -1,12 +1,12 @@
 -- `cell_lexer::values::after_letter` meets its contract, arm by arm.
-use Rattle.model.specs.rules.Base.{if◌then◌else◌}
+use Rattle.model.specs.rules.Base.{choose◌then◌else◌}
 use Rattle.model.proofs.Tests.{tests}
 use borrow.Author.Rules.{rules}
 use Rattle.cell_lexer.proofs.values.after_letter.Statement.{statement}
 use Rattle.cell_lexer.proofs.values.after_letter.Tie as tie
 
 pub after-letter-spec : {M : Type 1} → statement M
-unfolding if◌then◌else◌
+unfolding choose◌then◌else◌
 after-letter-spec =
     tie.close
     (tie.spec

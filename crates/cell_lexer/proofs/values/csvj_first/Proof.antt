@@ -1,5 +1,5 @@
 -- `cell_lexer::values::csvj_first` meets its contract, by its tests in the definition's order.
-use Rattle.model.specs.rules.Base.{if◌then◌else◌}
+use Rattle.model.specs.rules.Base.{choose◌then◌else◌}
 use Rattle.model.specs.rules.Cell.{first_byte}
 use Rattle.model.proofs.Tests.{tests}
 use borrow.Author.Rules.{rules}
@@ -7,7 +7,7 @@ use Rattle.cell_lexer.proofs.values.csvj_first.Statement.{statement}
 use Rattle.cell_lexer.proofs.values.csvj_first.Tie as tie
 
 pub csvj-first-spec : {M : Type 1} → statement M
-unfolding first_byte if◌then◌else◌
+unfolding first_byte choose◌then◌else◌
 csvj-first-spec =
     tie.close
     (tie.spec

@@ -1,12 +1,12 @@
 -- `cell_lexer::values::is_hex` meets its contract: the disjunction of its three ranges.
-use Rattle.model.specs.rules.Base.{if◌then◌else◌}
+use Rattle.model.specs.rules.Base.{choose◌then◌else◌}
 use Rattle.model.proofs.Tests.{tests}
 use borrow.Author.Rules.{rules}
 use Rattle.cell_lexer.proofs.values.is_hex.Statement.{statement}
 use Rattle.cell_lexer.proofs.values.is_hex.Tie as tie
 
 pub is-hex-spec : {M : Type 1} → statement M
-unfolding if◌then◌else◌
+unfolding choose◌then◌else◌
 is-hex-spec =
     tie.close
     (tie.spec

@@ -1,5 +1,5 @@
 -- `cell_lexer::values::numeral_step` meets its contract: each arm tests as the definition does in its state.
-use Rattle.model.specs.rules.Base.{if◌then◌else◌}
+use Rattle.model.specs.rules.Base.{choose◌then◌else◌}
 use Rattle.model.specs.rules.Cell.{numeral_step}
 use Rattle.model.proofs.Tests.{tests}
 use borrow.Author.Rules.{rules}
@@ -7,7 +7,7 @@ use Rattle.cell_lexer.proofs.values.numeral_step.Statement.{statement}
 use Rattle.cell_lexer.proofs.values.numeral_step.Tie as tie
 
 pub numeral-step-spec : {M : Type 1} → statement M
-unfolding numeral_step if◌then◌else◌
+unfolding numeral_step choose◌then◌else◌
 numeral-step-spec =
     tie.close
     (tie.spec

@@ -1,5 +1,5 @@
 -- `file_lexer::separators::csvj_after` meets its contract, by its tests in the definition's order.
-use Rattle.model.specs.rules.Base.{if◌then◌else◌}
+use Rattle.model.specs.rules.Base.{choose◌then◌else◌}
 use Rattle.model.specs.rules.File.{after_cell}
 use Rattle.model.proofs.Tests.{tests}
 use borrow.Author.Rules.{rules}
@@ -7,7 +7,7 @@ use Rattle.file_lexer.proofs.separators.csvj_after.Statement.{statement}
 use Rattle.file_lexer.proofs.separators.csvj_after.Tie as tie
 
 pub csvj-after-spec : {M : Type 1} → statement M
-unfolding after_cell if◌then◌else◌
+unfolding after_cell choose◌then◌else◌
 csvj-after-spec =
     tie.close
     (tie.spec

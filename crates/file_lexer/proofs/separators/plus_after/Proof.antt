@@ -1,5 +1,5 @@
 -- `file_lexer::separators::plus_after` meets its contract, by its tests in the definition's order.
-use Rattle.model.specs.rules.Base.{if◌then◌else◌}
+use Rattle.model.specs.rules.Base.{choose◌then◌else◌}
 use Rattle.model.specs.rules.File.{after_cell}
 use Rattle.model.proofs.Tests.{tests}
 use borrow.Author.Rules.{rules}
@@ -7,7 +7,7 @@ use Rattle.file_lexer.proofs.separators.plus_after.Statement.{statement}
 use Rattle.file_lexer.proofs.separators.plus_after.Tie as tie
 
 pub plus-after-spec : {M : Type 1} → statement M
-unfolding after_cell if◌then◌else◌
+unfolding after_cell choose◌then◌else◌
 plus-after-spec =
     tie.close
     (tie.spec

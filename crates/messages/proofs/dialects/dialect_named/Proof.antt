@@ -1,24 +1,24 @@
 -- `messages::dialects::dialect_named` meets its contract: its tests are the definition's.
 use mathlib.Core.Path.{sym, ◌∙◌}
 use borrow.Author.Rules.{rules}
-use Rattle.model.specs.rules.Base.{if◌then◌else◌}
+use Rattle.model.specs.rules.Base.{choose◌then◌else◌}
 use Rattle.model.specs.laws.Ascii.{ascii}
 use Rattle.messages.specs.Words.{dialect_named}
 use Rattle.messages.proofs.dialects.dialect_named.Statement.{statement}
 use Rattle.messages.proofs.dialects.dialect_named.Tie as tie
 
 returns : tie.Need-returns
-unfolding dialect_named ascii if◌then◌else◌
+unfolding dialect_named ascii choose◌then◌else◌
 returns c = rw (sym c.before.names.ensures ∙ c.if1.true)
 
 returns-2 : tie.Need-returns-2
-unfolding dialect_named ascii if◌then◌else◌
+unfolding dialect_named ascii choose◌then◌else◌
 returns-2 c =
     let first = c.before.before.before.before in
     rw (sym first.before.names.ensures ∙ first.if1.false, sym c.before.names2.ensures ∙ c.if2.true)
 
 returns-3 : tie.Need-returns-3
-unfolding dialect_named ascii if◌then◌else◌
+unfolding dialect_named ascii choose◌then◌else◌
 returns-3 c =
     let second = c.before.before.before.before in
     let first = second.before.before.before.before in
@@ -29,7 +29,7 @@ returns-3 c =
     )
 
 returns-4 : tie.Need-returns-4
-unfolding dialect_named ascii if◌then◌else◌
+unfolding dialect_named ascii choose◌then◌else◌
 returns-4 c =
     let second = c.before.before.before.before in
     let first = second.before.before.before.before in

@@ -1,6 +1,6 @@
 -- `messages::refusal::sentence` meets its contract: each arm is one law at the fault's number, and its form is the same bytes.
 use borrow.Author.Rules.{rules}
-use Rattle.model.specs.rules.Base.{if◌then◌else◌}
+use Rattle.model.specs.rules.Base.{choose◌then◌else◌}
 use Rattle.model.specs.laws.Ascii.{ascii}
 use Rattle.messages.specs.Sentences.{form_of}
 use Rattle.messages.proofs.SentenceLaws.{other_form, sentence_as, sentence_of_lem}
@@ -8,7 +8,7 @@ use Rattle.messages.proofs.refusal.sentence.Statement.{statement}
 use Rattle.messages.proofs.refusal.sentence.Tie as tie
 
 returns-10 : tie.Need-returns-10
-unfolding form_of ascii if◌then◌else◌
+unfolding form_of ascii choose◌then◌else◌
 returns-10 c =
     let u = c.before.before.before in
     let a = u.before.args in
@@ -21,7 +21,7 @@ returns-10 c =
     c.fill9.ensures
 
 pub sentence-spec : {M : Type 1} → statement M
-unfolding form_of ascii if◌then◌else◌
+unfolding form_of ascii choose◌then◌else◌
 sentence-spec =
     tie.close
     (tie.spec

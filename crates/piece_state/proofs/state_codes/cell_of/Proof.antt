@@ -1,5 +1,5 @@
 -- `piece_state::state_codes::cell_of` meets its contract, by its tests.
-use Rattle.model.specs.rules.Base.{if◌then◌else◌}
+use Rattle.model.specs.rules.Base.{choose◌then◌else◌}
 use Rattle.model.proofs.Tests.{tests}
 use Rattle.piece_state.specs.Codes.{cell_from}
 use borrow.Author.Rules.{rules}
@@ -7,7 +7,7 @@ use Rattle.piece_state.proofs.state_codes.cell_of.Statement.{statement}
 use Rattle.piece_state.proofs.state_codes.cell_of.Tie as tie
 
 pub cell-of-spec : {M : Type 1} → statement M
-unfolding cell_from if◌then◌else◌
+unfolding cell_from choose◌then◌else◌
 cell-of-spec =
     tie.close
     (tie.spec

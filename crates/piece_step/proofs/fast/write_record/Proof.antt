@@ -6,7 +6,7 @@ use mathlib.Core.Bool.{true, false}
 use mathlib.Core.List.{List, ◌++◌}
 use lib.ListN.{length}
 use borrow.Author.Rules.{rules}
-use Rattle.model.specs.rules.Base.{if◌then◌else◌, Bytes}
+use Rattle.model.specs.rules.Base.{choose◌then◌else◌, Bytes}
 use Rattle.model.specs.rules.Dialect.{into}
 use Rattle.model.proofs.Tests.{impossible}
 use Rattle.model.specs.rules.Text.{Value, record_text, ending}
@@ -57,7 +57,7 @@ write-line-requires c κs =
     (u.requires.0, (λ e. clean_data (u.requires.1.0 e), record { measured = λ z. impossible (sym z); inside = λ z. fits c }))
 
 place_of : {old : Bytes} {o : ℕ} {w new : Bytes} {r : ℕ} → WrittenAt true old o w new r → (new ≡ written old o w) × (r ≡ o + length w)
-unfolding if◌then◌else◌
+unfolding choose◌then◌else◌
 place_of p = (p.text, p.place)
 
 returns-4 : tie.Need-returns-4

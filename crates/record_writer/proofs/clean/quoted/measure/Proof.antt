@@ -5,7 +5,7 @@ use mathlib.Core.Bool.{false}
 use mathlib.Core.List.{[]}
 use native.Mathlib.Omega.{arith}
 use lib.ListN.{length, get_or}
-use Rattle.model.specs.rules.Base.{COMMA, if◌then◌else◌}
+use Rattle.model.specs.rules.Base.{COMMA, choose◌then◌else◌}
 use Rattle.model.proofs.Tests.{impossible}
 use Rattle.buffer.specs.Writes.{measure}
 use Rattle.buffer.proofs.WriteProgress.{put_measured}
@@ -46,7 +46,7 @@ loop-again c =
     (put_measured refl (c.measured.ensures ∙ ap (λ (k : ℕ). measure (l.loop.o + k)) c.before.column-length.ensures) refl)
 
 returns : tie.Need-returns invariant-loop decreases-loop
-unfolding if◌then◌else◌
+unfolding choose◌then◌else◌
 returns c =
     let c4 = c.before.before.before.before in
     (put_all c4.before.requires.0.with_ends c.before.loop.invariant c.loop-test.false).place
