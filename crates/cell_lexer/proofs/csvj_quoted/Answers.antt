@@ -1,9 +1,4 @@
 -- `cell_lexer::csvj_quoted` meets its contract, by its tests in the definition's order.
-<<<<<<< HEAD
-use native.Mathlib.Omega.{arith}
-use borrow.Author.Tests.{lt-ltb, le-ltb}
-=======
->>>>>>> 58a9a5e764b7db25a650afe4fa04065d439617c2
 use Rattle.model.specs.rules.Base.{choose◌then◌else◌}
 use Rattle.model.specs.rules.Cell.{quoted_byte}
 use Rattle.model.proofs.Tests.{tests}
@@ -19,16 +14,8 @@ returns-then-b-eq92 c = search tests
 
 pub returns-then-b-lt32 : goal.returns-then-b-lt32
 unfolding quoted_byte choose◌then◌else◌
-<<<<<<< HEAD
-returns-then-b-lt32 c = search (tests, lt-ltb c.args.b 0x20 (omega arith))
-
-pub returns : goal.returns
-unfolding quoted_byte choose◌then◌else◌
-returns c = search (tests, le-ltb c.args.b 0x20 (omega arith))
-=======
 returns-then-b-lt32 c = search tests
 
 pub returns : goal.returns
 unfolding quoted_byte choose◌then◌else◌
 returns c = search tests
->>>>>>> 58a9a5e764b7db25a650afe4fa04065d439617c2

@@ -8,11 +8,7 @@ use mathlib.Core.Bool.{Bool, true, false}
 use mathlib.Core.List.{List, [], ◌∷◌, ◌++◌, map, append_assoc}
 use borrow.Author.Tests.{ne_eqb}
 use Rattle.grammar.specs.rfc.Types.{Tdif, Char, Whole, Cell, Fresh, More}
-<<<<<<< HEAD
-use Rattle.grammar.specs.rfc.Types.{FileState, Top, Begin, Ended, Comment, Inside, Outside, Ends, Step, To}
-=======
 use Rattle.grammar.specs.rfc.Types.{FileState, Top, Begin, Ended, Comment, Inside, Outside, Ends, Step, To, Clean}
->>>>>>> 58a9a5e764b7db25a650afe4fa04065d439617c2
 use Rattle.model.specs.rules.Base.{Bytes, COMMA, ◌is◌, choose◌then◌else◌}
 use Rattle.model.specs.rules.Utf8.{char_step}
 use Rattle.model.specs.rules.Cell.{first_byte, cell_step, is_whole}

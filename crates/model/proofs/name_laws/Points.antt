@@ -9,12 +9,7 @@ use mathlib.Core.List.{List, [], ◌∷◌, ◌++◌, map}
 use lib.ListN.{length, drop, get_or}
 use lib.Dec.{leb}
 use borrow.Author.Tests.{leb-true, leb-false}
-<<<<<<< HEAD
-use Rattle.model.specs.rules.Types.{Lead, C2ToDf, E0, E1ToEc, Ed, EeToEf, F0, F1ToF3, F4, Inner, Second, LastTwo, Last, Char, Whole}
-use Rattle.model.specs.rules.Types.{Within, Advance, On, Broken}
-=======
 use Rattle.model.specs.rules.Types.{Lead, C2ToDf, E0, E1ToEc, Ed, EeToEf, F0, F1ToF3, F4, Second, LastTwo, Last}
->>>>>>> 58a9a5e764b7db25a650afe4fa04065d439617c2
 use Rattle.model.specs.rules.Base.{choose◌then◌else◌, ◌is◌, within, Bytes}
 use Rattle.model.specs.rules.Utf8.{row_of, leads, lead_byte, after_second, inner_step, char_step, pack, packed, Wide, gap, ed, lone, inner, settled}
 use Rattle.model.specs.rules.Utf8.{settle, wide_step, wide_from, is_content}

@@ -1,10 +1,6 @@
 -- `utf8::later_byte` meets its contract, by its two tests.
 use borrow.Author.Tests.{le-leb, lt-leb}
 use Rattle.model.specs.rules.Base.{choose◌then◌else◌}
-<<<<<<< HEAD
-
-=======
->>>>>>> 58a9a5e764b7db25a650afe4fa04065d439617c2
 use Rattle.utf8.proofs.later_byte.Goals as goal
 
 pub returns-then-b : goal.returns-then-b

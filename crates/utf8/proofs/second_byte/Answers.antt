@@ -15,22 +15,14 @@ pub returns-then-b-row : goal.returns-then-b-row
 unfolding leads row_of choose◌then◌else◌
 returns-then-b-row c =
     let at_row : inner_step (Second c.args.l) c.args.b ≡ (choose within (get_or lows c.row_of-row.result 0) (get_or highs c.row_of-row.result 0) c.args.b then On (after_second (get_or sizes c.row_of-row.result 0)) else Broken) =
-<<<<<<< HEAD
-        second_at c.row_of-row.result c.args.b c.row_of-row.ensures.0 c.row_of-row.ensures.1 in
-=======
     second_at c.row_of-row.result c.args.b c.row_of-row.ensures.0 c.row_of-row.ensures.1 in
->>>>>>> 58a9a5e764b7db25a650afe4fa04065d439617c2
     sym (at_row ∙ simp (lt-leb (get_or lows c.row_of-row.result 0) c.args.b c.if-b-row.true))
 
 pub returns-then-row-b : goal.returns-then-row-b
 unfolding leads row_of choose◌then◌else◌
 returns-then-row-b c =
     let at_row : inner_step (Second c.args.l) c.args.b ≡ (choose within (get_or lows c.row_of-row.result 0) (get_or highs c.row_of-row.result 0) c.args.b then On (after_second (get_or sizes c.row_of-row.result 0)) else Broken) =
-<<<<<<< HEAD
-        second_at c.row_of-row.result c.args.b c.row_of-row.ensures.0 c.row_of-row.ensures.1 in
-=======
     second_at c.row_of-row.result c.args.b c.row_of-row.ensures.0 c.row_of-row.ensures.1 in
->>>>>>> 58a9a5e764b7db25a650afe4fa04065d439617c2
     let from_low : leb (get_or lows c.row_of-row.result 0) c.args.b ≡ true =
     le-leb _ _ c.if-b-row.false in
     let high = lt-leb c.args.b (get_or highs c.row_of-row.result 0) c.if-row-b.true in
@@ -40,11 +32,7 @@ pub returns-then-size-eq2 : goal.returns-then-size-eq2
 unfolding leads row_of choose◌then◌else◌
 returns-then-size-eq2 c =
     let at_row : inner_step (Second c.args.l) c.args.b ≡ (choose within (get_or lows c.row_of-row.result 0) (get_or highs c.row_of-row.result 0) c.args.b then On (after_second (get_or sizes c.row_of-row.result 0)) else Broken) =
-<<<<<<< HEAD
-        second_at c.row_of-row.result c.args.b c.row_of-row.ensures.0 c.row_of-row.ensures.1 in
-=======
     second_at c.row_of-row.result c.args.b c.row_of-row.ensures.0 c.row_of-row.ensures.1 in
->>>>>>> 58a9a5e764b7db25a650afe4fa04065d439617c2
     let from_low : leb (get_or lows c.row_of-row.result 0) c.args.b ≡ true =
     le-leb _ _ c.if-b-row.false in
     let to_high : leb c.args.b (get_or highs c.row_of-row.result 0) ≡ true =
@@ -56,11 +44,7 @@ pub returns-then-size-eq3 : goal.returns-then-size-eq3
 unfolding leads row_of choose◌then◌else◌
 returns-then-size-eq3 c =
     let at_row : inner_step (Second c.args.l) c.args.b ≡ (choose within (get_or lows c.row_of-row.result 0) (get_or highs c.row_of-row.result 0) c.args.b then On (after_second (get_or sizes c.row_of-row.result 0)) else Broken) =
-<<<<<<< HEAD
-        second_at c.row_of-row.result c.args.b c.row_of-row.ensures.0 c.row_of-row.ensures.1 in
-=======
     second_at c.row_of-row.result c.args.b c.row_of-row.ensures.0 c.row_of-row.ensures.1 in
->>>>>>> 58a9a5e764b7db25a650afe4fa04065d439617c2
     let from_low : leb (get_or lows c.row_of-row.result 0) c.args.b ≡ true =
     le-leb _ _ c.if-b-row.false in
     let to_high : leb c.args.b (get_or highs c.row_of-row.result 0) ≡ true =
@@ -79,11 +63,7 @@ pub returns : goal.returns
 unfolding leads row_of choose◌then◌else◌
 returns c =
     let at_row : inner_step (Second c.args.l) c.args.b ≡ (choose within (get_or lows c.row_of-row.result 0) (get_or highs c.row_of-row.result 0) c.args.b then On (after_second (get_or sizes c.row_of-row.result 0)) else Broken) =
-<<<<<<< HEAD
-        second_at c.row_of-row.result c.args.b c.row_of-row.ensures.0 c.row_of-row.ensures.1 in
-=======
     second_at c.row_of-row.result c.args.b c.row_of-row.ensures.0 c.row_of-row.ensures.1 in
->>>>>>> 58a9a5e764b7db25a650afe4fa04065d439617c2
     let from_low : leb (get_or lows c.row_of-row.result 0) c.args.b ≡ true =
     le-leb _ _ c.if-b-row.false in
     let to_high : leb c.args.b (get_or highs c.row_of-row.result 0) ≡ true =
