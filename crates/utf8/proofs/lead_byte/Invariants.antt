@@ -6,7 +6,7 @@ use native.Mathlib.Omega.{arith}
 use native.Mathlib.Numerals.{add-one}
 use lib.ListN.{get_or, drop, drop_of_length-le}
 use borrow.Author.Tests.{le-leb, lt-leb}
-use Rattle.model.specs.rules.Base.{if◌then◌else◌}
+use Rattle.model.specs.rules.Base.{choose◌then◌else◌}
 use Rattle.model.specs.rules.Utf8.{row_of, leads, lead_byte}
 use Rattle.utf8.proofs.Table.{firsts, lasts, lead_at}
 
