@@ -9,7 +9,7 @@ use native.Mathlib.Omega.{arith}
 use lib.ListN.{length, length-append}
 use lib.Dec.{leb}
 use borrow.Author.Tests.{le-leb, leb-true, leb-false}
-use Rattle.model.specs.rules.Base.{Bytes, if◌then◌else◌}
+use Rattle.model.specs.rules.Base.{Bytes, choose◌then◌else◌}
 use Rattle.model.specs.rules.Report.{MAXFILE}
 use Rattle.model.proofs.Tests.{split, impossible}
 use Rattle.buffer.proofs.BlockProgress.{written_more}
@@ -38,7 +38,7 @@ unfolding measure
 measure_within n h = split (λ (r : ℕ). r ≡ n) (leb MAXFILE n) (λ e. omega (arith, leb-true MAXFILE n e)) λ _. refl
 
 pub measure_beyond : (n : ℕ) → MAXFILE ≤ n → measure n ≡ MAXFILE
-unfolding measure if◌then◌else◌
+unfolding measure choose◌then◌else◌
 measure_beyond n h = rw (le-leb MAXFILE n h) refl
 
 pub measure_least : (n : ℕ) → measure n ≤ MAXFILE
@@ -56,11 +56,11 @@ measure_more n k =
 
 module _ {write : Bool} {old : Bytes} {o : ℕ} {w new : Bytes} {r : ℕ} where
   pub put_written : write ≡ true → (r ≡ o + length w) × (new ≡ written old o w) → WrittenAt write old o w new r
-  unfolding if◌then◌else◌
+  unfolding choose◌then◌else◌
   put_written e p = record { place = rw e p.0; text = rw e p.1 }
 
   pub put_measured : write ≡ false → r ≡ measure (o + length w) → new ≡ old → WrittenAt write old o w new r
-  unfolding if◌then◌else◌
+  unfolding choose◌then◌else◌
   put_measured e p q = record { place = rw e p; text = rw e q }
 
 -- the same text by an equation
@@ -73,14 +73,14 @@ emitted_as e p = rw e p
 -- ---- a text in parts, written or only measured
 
 length_emitted : (write : Bool) {old : Bytes} {o : ℕ} {w new : Bytes} {r : ℕ} → Room write o w old → WrittenAt write old o w new r → length new ≡ length old
-unfolding if◌then◌else◌
+unfolding choose◌then◌else◌
 length_emitted true {old} {o} {w} h p = ap length p.text ∙ length_written old o w (h.inside refl)
 length_emitted false h p = ap length p.text
 
 -- w was written or measured, then v
 written_then : (write : Bool) {old : Bytes} {at : ℕ} {w mid : Bytes} {o : ℕ} {v new : Bytes} {r : ℕ}
     → Room write at (w ++ v) old → WrittenAt write old at w mid o → WrittenAt write mid o v new r → WrittenAt write old at (w ++ v) new r
-unfolding if◌then◌else◌
+unfolding choose◌then◌else◌
 written_then true {old} {at} {w} {mid} {o} {v} {new} {r} h p q =
     let fits : at + (length w + length v) ≤ length old = rw length-append at (h.inside refl) in
     record {
@@ -103,7 +103,7 @@ pub record Emitting (write : Bool) (old : Bytes) (at : ℕ) (whole out : Bytes) 
   pub room : Room write at whole old
 
 pub emitting : (write : Bool) {old : Bytes} {at : ℕ} {whole : Bytes} → Room write at whole old → Emitting write old at whole old at whole
-unfolding if◌then◌else◌
+unfolding choose◌then◌else◌
 emitting true {old} {at} h = record { w = []; so_far = record { place = omega arith; text = sym (written_nil old at) }; left = refl; room = h }
 emitting false {old} {at} h =
     let same : at + 0 ≡ at = omega arith in
@@ -111,13 +111,13 @@ emitting false {old} {at} h =
 
 -- a measured offset is within the limit
 written_within : (write : Bool) {old : Bytes} {o : ℕ} {w new : Bytes} {r : ℕ} → WrittenAt write old o w new r → write ≡ false → r ≤ MAXFILE
-unfolding if◌then◌else◌
+unfolding choose◌then◌else◌
 written_within true p e = impossible (sym e)
 written_within false {old} {o} {w} p e = rw p.place (measure_least (o + length w))
 
 -- the offset after a written text
 written_place : (write : Bool) {old : Bytes} {o : ℕ} {w new : Bytes} {r : ℕ} → WrittenAt write old o w new r → write ≡ true → r ≡ o + length w
-unfolding if◌then◌else◌
+unfolding choose◌then◌else◌
 written_place true p e = p.place
 written_place false p e = impossible e
 

@@ -1,6 +1,6 @@
 -- What writers leave in a lent buffer.
 use Rattle.std.specs.Prelude.{ℕ, ◌+◌, ◌≤◌, ◌≡◌, Bool, true, false, length}
-use Rattle.model.specs.rules.Base.{Bytes, if◌then◌else◌}
+use Rattle.model.specs.rules.Base.{Bytes, choose◌then◌else◌}
 use Rattle.model.specs.rules.Report.{MAXFILE}
 use Rattle.model.specs.rules.Api.{least}
 pub use Rattle.buffer.specs.Written.{written}
@@ -16,5 +16,5 @@ pub record Room (write : Bool) (o : ℕ) (w out : Bytes) : Type 0 where
 
 -- a text w was written over old from o on if `write` is set, and otherwise only measured: new is the buffer now, r the offset after w
 pub record WrittenAt (write : Bool) (old : Bytes) (o : ℕ) (w new : Bytes) (r : ℕ) : Type 0 where
-  pub place : r ≡ (if write then o + length w else measure (o + length w))
-  pub text : new ≡ (if write then written old o w else old)
+  pub place : r ≡ (choose write then o + length w else measure (o + length w))
+  pub text : new ≡ (choose write then written old o w else old)

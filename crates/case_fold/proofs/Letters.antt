@@ -8,7 +8,7 @@ use native.Mathlib.Omega.{arith}
 use lib.ListN.{get_or}
 use lib.Dec.{leb}
 use borrow.Author.Tests.{ne_eqb, le-leb, lt-leb, leb-true, leb-false}
-use Rattle.model.specs.rules.Base.{if◌then◌else◌, within}
+use Rattle.model.specs.rules.Base.{choose◌then◌else◌, within}
 use Rattle.model.specs.rules.Names.{fold_point, is_pair, pair_point, fold_byte, fold_name}
 use Rattle.model.specs.laws.Folding.{first_of, second_of, fold_at, byte_before}
 use Rattle.model.proofs.Tests.{split_on}
@@ -18,7 +18,7 @@ below : (lo hi u : ℕ) → u < lo → within lo hi u ≡ false
 below lo hi u h = rw (lt-leb lo u h)
 
 pub low_stays : (u : ℕ) → u < 0x41 → fold_byte u ≡ u
-unfolding fold_point if◌then◌else◌
+unfolding fold_point choose◌then◌else◌
 low_stays u h =
     rw (
       le-leb u 0x7F (omega arith),
@@ -33,11 +33,11 @@ low_stays u h =
     )
 
 pub letter_falls : (u : ℕ) → 0x41 ≤ u → u ≤ 0x5A → fold_byte u ≡ u + 0x20
-unfolding fold_point if◌then◌else◌
+unfolding fold_point choose◌then◌else◌
 letter_falls u h k = rw (le-leb u 0x7F (omega arith), le-leb 0x41 u h, le-leb u 0x5A k)
 
 pub high_stays : (u : ℕ) → 0x5A < u → fold_byte u ≡ u
-unfolding if◌then◌else◌
+unfolding choose◌then◌else◌
 high_stays u h =
     split_on (leb u 0x7F) (λ p. let k : u ≤ 0x7F = leb-true u 0x7F p in rw p (small_stays u (latin h (omega arith)))) λ p. byte_stays u (leb-false u 0x7F p)
 
@@ -45,15 +45,15 @@ high_stays u h =
 
 module _ (a b c : ℕ) where
   pub at_second : is_pair a b ≡ true → fold_at a b c ≡ second_of (fold_point (pair_point a b))
-  unfolding fold_at if◌then◌else◌
+  unfolding fold_at choose◌then◌else◌
   at_second e = rw e
 
   pub at_first : is_pair a b ≡ false → is_pair b c ≡ true → fold_at a b c ≡ first_of (fold_point (pair_point b c))
-  unfolding fold_at if◌then◌else◌
+  unfolding fold_at choose◌then◌else◌
   at_first e k = rw (e, k)
 
   pub at_alone : is_pair a b ≡ false → is_pair b c ≡ false → fold_at a b c ≡ fold_byte b
-  unfolding fold_at if◌then◌else◌
+  unfolding fold_at choose◌then◌else◌
   at_alone e k = rw (e, k)
 
 pub before_place : (s : List ℕ) (i : ℕ) → (i ≡ 0 → ⊥) → get_or s (i - 1) 0 ≡ get_or (0 ∷ s) i 0

@@ -15,7 +15,7 @@ use Rattle.model.specs.declared.Fault.{Fault}
 use Rattle.model.specs.declared.Fault.TheVariants.{Byte, CutShort}
 use Rattle.model.specs.declared.CellCheck.{CellCheck}
 use Rattle.model.specs.declared.CellCheck.TheVariants.{WholeCell, Unsound}
-use Rattle.model.specs.rules.Base.{if◌then◌else◌, Bytes}
+use Rattle.model.specs.rules.Base.{choose◌then◌else◌, Bytes}
 use Rattle.model.specs.rules.Cell.{cell_step, is_whole}
 use Rattle.model.specs.rules.Report.{column_of}
 use Rattle.model.specs.rules.Decode.{validate_from, validate_cell}
@@ -29,7 +29,7 @@ use Rattle.model.specs.rules.Api.{slice}
 abbrev pub validated_by : Dialect → (n : ℕ) → CellEnd → CellCheck
 validated_by d n (Stopped c i) = Unsound (Byte Syntax) i
 validated_by d n (Refused e i) = Unsound (Byte e) i
-validated_by d n (Open c) = if is_whole d c then WholeCell else Unsound CutShort n
+validated_by d n (Open c) = choose is_whole d c then WholeCell else Unsound CutShort n
 
 run_validated : (d : Dialect) (c : Cell) (i : ℕ) (bs : Bytes) (n : ℕ) → n ≡ i + length bs → validate_from d c i bs ≡ validated_by d n (cell_run d c i bs)
 unfolding validate_from cell_run

@@ -9,7 +9,7 @@ use Rattle.model.specs.declared.Dialect.{Dialect}
 use Rattle.model.specs.declared.Kind.{Kind}
 use Rattle.model.specs.declared.Kind.TheVariants.{Text, Number, True, False, Null}
 use Rattle.model.specs.declared.CellCheck.TheVariants.{WholeCell}
-use Rattle.model.specs.rules.Base.{Bytes, if◌then◌else◌}
+use Rattle.model.specs.rules.Base.{Bytes, choose◌then◌else◌}
 use Rattle.model.specs.rules.Decode.{kind_number, kind_of, content_of, validate_cell}
 use Rattle.model.specs.rules.Text.{Value}
 use Rattle.model.specs.laws.Laws.{All, all_none, all_cons}
@@ -54,7 +54,7 @@ module _ (src : Source) (s : Bytes) (starts ends kinds : List ℕ) where
 
 -- the number of a kind names it
 number_kind : (k : Kind) → kind_from (kind_number k) ≡ k
-unfolding kind_named if◌then◌else◌
+unfolding kind_named choose◌then◌else◌
 number_kind Text = refl
 number_kind Number = refl
 number_kind True = refl

@@ -9,7 +9,7 @@ use Rattle.model.specs.declared.Kind.{Kind}
 use Rattle.model.specs.declared.Dialect.{Dialect}
 use Rattle.model.specs.declared.Fault.{Fault}
 use Rattle.model.specs.declared.CellCheck.TheVariants.{WholeCell, Unsound}
-use Rattle.model.specs.rules.Base.{if◌then◌else◌, Bytes, over}
+use Rattle.model.specs.rules.Base.{choose◌then◌else◌, Bytes, over}
 use Rattle.model.specs.rules.Dialect.{dialect_of}
 use Rattle.model.specs.rules.Report.{report, refusal, number_of, column_of}
 use Rattle.model.specs.rules.Decode.{kind_of, content_of, validate_cell}
@@ -31,13 +31,13 @@ module _ (d : Dialect) (raw old : Bytes) where
   -- ---- a sound cell
 
   pub too_long : (e : Report) → length old < length (content_of d raw) → e ≡ refusal 10 → Decodes (sound_cell d raw (length old)) (Refused e) old old
-  unfolding if◌then◌else◌
+  unfolding choose◌then◌else◌
   too_long e h f = rw (lt-ltb (length old) (length (content_of d raw)) h) (refused e (refusal 10) old f)
 
   pub fits : (n : ℕ) (k : Kind) (new : Bytes) → length (content_of d raw) ≤ length old → n ≡ length (content_of d raw) → k ≡ kind_of d raw
       → new ≡ over (content_of d raw) old
       → Decodes (sound_cell d raw (length old)) (Content n k) old new
-  unfolding if◌then◌else◌
+  unfolding choose◌then◌else◌
   fits n k new h en ek eo = rw (le-ltb (length old) (length (content_of d raw)) h) (rw (en, ek) refl, eo)
 
   -- ---- any raw bytes

@@ -5,7 +5,7 @@ use mathlib.Core.List.{[], ◌∷◌}
 use Prim.Native.Nat.{ℕ, ◌+◌, ◌<◌, ◌≤◌}
 use lib.ListN.{length, drop, get_or, drop_of_length-le}
 use borrow.Author.Tests.{eq-eqb, ne_eqb}
-use Rattle.model.specs.rules.Base.{if◌then◌else◌, Bytes}
+use Rattle.model.specs.rules.Base.{choose◌then◌else◌, Bytes}
 use Rattle.model.specs.rules.Decode.{undouble}
 use Rattle.buffer.proofs.WriteProgress.{drop_next}
 
@@ -15,17 +15,17 @@ at_end q seen raw i h = rw (drop_of_length-le raw h)
 
 module _ (q : ℕ) (raw : Bytes) (i : ℕ) (h : i < length raw) where
   pub at_other : (get_or raw i 0 ≡ q → ⊥) → undouble q false (drop i raw) ≡ get_or raw i 0 ∷ undouble q false (drop (i + 1) raw)
-  unfolding undouble if◌then◌else◌
+  unfolding undouble choose◌then◌else◌
   at_other e = rw (drop_next raw i (i + 1) h refl, ne_eqb (get_or raw i 0) q e)
 
   at_first : get_or raw i 0 ≡ q → undouble q false (drop i raw) ≡ undouble q true (drop (i + 1) raw)
-  unfolding undouble if◌then◌else◌
+  unfolding undouble choose◌then◌else◌
   at_first e = rw (drop_next raw i (i + 1) h refl, eq-eqb (get_or raw i 0) q e)
 
   -- a second quote follows
   pub at_double : get_or raw i 0 ≡ q → i + 1 < length raw → get_or raw (i + 1) 0 ≡ q
       → undouble q false (drop i raw) ≡ get_or raw i 0 ∷ undouble q false (drop (i + 1 + 1) raw)
-  unfolding undouble if◌then◌else◌
+  unfolding undouble choose◌then◌else◌
   at_double e k f =
       at_first e
       ∙ rw (drop_next raw (i + 1) (i + 1 + 1) k refl, eq-eqb (get_or raw (i + 1) 0) q f)
@@ -33,7 +33,7 @@ module _ (q : ℕ) (raw : Bytes) (i : ℕ) (h : i < length raw) where
 
   -- no second quote follows
   pub at_close : get_or raw i 0 ≡ q → i + 1 < length raw → (get_or raw (i + 1) 0 ≡ q → ⊥) → undouble q false (drop i raw) ≡ []
-  unfolding undouble if◌then◌else◌
+  unfolding undouble choose◌then◌else◌
   at_close e k f = at_first e ∙ rw (drop_next raw (i + 1) (i + 1 + 1) k refl, ne_eqb (get_or raw (i + 1) 0) q f)
 
   pub at_last : get_or raw i 0 ≡ q → length raw ≤ i + 1 → undouble q false (drop i raw) ≡ []

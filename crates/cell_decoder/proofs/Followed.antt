@@ -22,7 +22,7 @@ use Rattle.model.specs.declared.CellStep.{CellStep}
 use Rattle.model.specs.declared.CellStep.TheVariants.{More, Stop, Refuse}
 use Rattle.model.specs.declared.ByteFault.{ByteFault}
 use Rattle.model.specs.declared.CellCheck.TheVariants.{WholeCell}
-use Rattle.model.specs.rules.Base.{Bytes, if◌then◌else◌, ◌is◌, within}
+use Rattle.model.specs.rules.Base.{Bytes, choose◌then◌else◌, ◌is◌, within}
 use Rattle.model.specs.rules.Dialect.{quote_of, delimiter_of}
 use Rattle.model.specs.rules.Utf8.{row_of, leads, lead_byte, inner_step, char_step}
 use Rattle.model.specs.rules.Cell.{numeral_step, first_byte, quoted_byte, plain_byte, cell_step, is_whole}
@@ -45,11 +45,11 @@ data EdStep : CellStep → Type 0 where
   ed_refuse : {e : ByteFault} → EdStep (Refuse e)
 
 ed_char : char_step Whole 0xED ≡ On (Within (Second Ed))
-unfolding char_step lead_byte leads row_of if◌then◌else◌
+unfolding char_step lead_byte leads row_of choose◌then◌else◌
 ed_char = refl
 
 ed_inner : (i : Inner) → char_step (Within i) 0xED ≡ Broken
-unfolding char_step inner_step row_of if◌then◌else◌
+unfolding char_step inner_step row_of choose◌then◌else◌
 ed_inner (Second C2ToDf) = refl
 ed_inner (Second E0) = refl
 ed_inner (Second E1ToEc) = refl
@@ -68,7 +68,7 @@ ed_delimiter : (d : Dialect) → (0xED is delimiter_of d) ≡ false
 ed_delimiter d = let h : delimiter_of d ≤ 0x7F = delimiter_ascii d in ne_eqb 0xED (delimiter_of d) λ e. omega arith
 
 ed_step : (d : Dialect) (c : Cell) → EdStep (cell_step d c 0xED)
-unfolding cell_step first_byte quoted_byte plain_byte numeral_step if◌then◌else◌
+unfolding cell_step first_byte quoted_byte plain_byte numeral_step choose◌then◌else◌
 ed_step Csvj Fresh = ed_refuse
 ed_step Tdif Fresh = ed_refuse
 ed_step (CsvPlus s) Fresh = rw (ed_quote (CsvPlus s), ed_delimiter (CsvPlus s), ed_char) (ed_more in_plain)
@@ -109,7 +109,7 @@ after_ed ed_refuse e = no_more e
 
 -- the byte after ED
 ed_low : (b : ℕ) (c : Char) → char_step (Within (Second Ed)) b ≡ On c → (0x80 ≤ b) × (b ≤ 0x9F)
-unfolding char_step inner_step row_of if◌then◌else◌
+unfolding char_step inner_step row_of choose◌then◌else◌
 ed_low b c e = split_on (within 0x80 0x9F b) (λ p. within_true 0x80 0x9F b p) λ p. broken_on (rw p at e)
 
 -- the rest of a cell begins with such a byte

@@ -6,7 +6,7 @@ use Prim.Native.Nat.{ℕ, ◌+◌, ◌-◌, ◌*◌, ◌<◌, ◌≤◌}
 use native.Mathlib.Omega.{arith}
 use lib.ListN.{length, take, drop, get_or, drop_of_length-le, length-append, length-drop}
 use borrow.Author.Tests.{ne_eqb, le-leb, lt-leb}
-use Rattle.model.specs.rules.Base.{if◌then◌else◌, Bytes, ◌is◌, within, QUOTE, BACKSLASH}
+use Rattle.model.specs.rules.Base.{choose◌then◌else◌, Bytes, ◌is◌, within, QUOTE, BACKSLASH}
 use Rattle.model.specs.rules.Utf8.{pack, joined, is_high, is_low}
 use Rattle.model.specs.rules.Decode.{Unit16, byte, unit, short_of, hex_of, InString, between, escape, digits, units, text_of}
 use Rattle.model.specs.declared.HexLeft.TheVariants.{Four}
@@ -23,23 +23,23 @@ use Rattle.cell_decoder.proofs.Units.{packed_unit, packed_single, short_ed}
 
 module _ (raw : Bytes) (i j : ℕ) (h : i < length raw) (n : i + 1 ≡ j) where
   pub at_quote : get_or raw i 0 ≡ QUOTE → units between (drop i raw) ≡ []
-  unfolding units if◌then◌else◌
+  unfolding units choose◌then◌else◌
   at_quote e = rw (drop_next raw i j h n, e)
 
   pub at_backslash : get_or raw i 0 ≡ BACKSLASH → units between (drop i raw) ≡ units escape (drop j raw)
-  unfolding units if◌then◌else◌
+  unfolding units choose◌then◌else◌
   at_backslash e = rw (drop_next raw i j h n, e)
 
   pub at_byte : (get_or raw i 0 ≡ QUOTE → ⊥) → (get_or raw i 0 ≡ BACKSLASH → ⊥) → units between (drop i raw) ≡ byte (get_or raw i 0) ∷ units between (drop j raw)
-  unfolding units if◌then◌else◌
+  unfolding units choose◌then◌else◌
   at_byte q b = rw (drop_next raw i j h n, ne_eqb (get_or raw i 0) QUOTE q, ne_eqb (get_or raw i 0) BACKSLASH b)
 
   pub at_short : (get_or raw i 0 ≡ 0x75 → ⊥) → units escape (drop i raw) ≡ byte (short_of (get_or raw i 0)) ∷ units between (drop j raw)
-  unfolding units if◌then◌else◌
+  unfolding units choose◌then◌else◌
   at_short e = rw (drop_next raw i j h n, ne_eqb (get_or raw i 0) 0x75 e)
 
   pub at_u : get_or raw i 0 ≡ 0x75 → units escape (drop i raw) ≡ units (digits Four 0) (drop j raw)
-  unfolding units if◌then◌else◌
+  unfolding units choose◌then◌else◌
   at_u e = rw (drop_next raw i j h n, e)
 
 pub at_end : (e : InString) (raw : Bytes) (i : ℕ) → length raw ≤ i → units e (drop i raw) ≡ []
@@ -85,18 +85,18 @@ unfolding text_of
 lone_byte b us h = refl
 
 pub lone_unit : (l : ℕ) (us : List Unit16) → is_low l ≡ false → Lone (unit l ∷ us)
-unfolding text_of if◌then◌else◌
+unfolding text_of choose◌then◌else◌
 lone_unit l us e h = rw (e, and-false (is_high h))
 
 -- a unit that is no high surrogate joins no other
 pub calm : (h : ℕ) (us : List Unit16) → is_high h ≡ false → text_of (unit h ∷ us) ≡ pack h ++ text_of us
-unfolding text_of if◌then◌else◌
+unfolding text_of choose◌then◌else◌
 calm h [] e = sym (append-nil (pack h))
 calm h (byte b ∷ us) e = refl
 calm h (unit l ∷ us) e = rw e
 
 pub pair : (h l : ℕ) (us : List Unit16) → is_high h ≡ true → is_low l ≡ true → text_of (unit h ∷ unit l ∷ us) ≡ pack (joined h l) ++ text_of us
-unfolding text_of if◌then◌else◌
+unfolding text_of choose◌then◌else◌
 pair h l us eh el = rw (eh, el)
 
 -- too few bytes are left for an escape of a code unit

@@ -6,7 +6,7 @@ use native.Mathlib.Omega.{arith}
 use lib.Dec.{leb}
 use lib.ListN.{length, take, get_or}
 use borrow.Author.Tests.{leb-true, leb-false}
-use Rattle.model.specs.rules.Base.{Bytes, if◌then◌else◌, ◌is◌}
+use Rattle.model.specs.rules.Base.{Bytes, choose◌then◌else◌, ◌is◌}
 use Rattle.model.specs.rules.Decode.{short_of}
 use Rattle.model.proofs.Tests.{split_on}
 use Rattle.utf8.specs.Codes.{packed, Packs}
@@ -55,7 +55,7 @@ packed_single u bytes size most p e =
 
 -- only ED is the short escape of ED
 pub short_ed : (b : ℕ) → short_of b ≡ 0xED → b ≡ 0xED
-unfolding if◌then◌else◌
+unfolding choose◌then◌else◌
 short_ed b e =
     split_on (b is 0x62) (λ p. absurd (let z : 0x08 ≡ 0xED = rw p at e in omega arith)) λ p.
     split_on (b is 0x66) (λ q. absurd (let z : 0x0C ≡ 0xED = rw (p, q) at e in omega arith)) λ q.

@@ -2,7 +2,7 @@
 use Rattle.std.specs.Prelude.{ℕ, false, ◌||◌, [], drop}
 use Rattle.model.specs.declared.Dialect.{Dialect}
 use Rattle.model.specs.declared.Dialect.TheVariants.{Csvj, Tdif, CsvPlus}
-use Rattle.model.specs.rules.Base.{if◌then◌else◌, ◌is◌, Bytes, QUOTE}
+use Rattle.model.specs.rules.Base.{choose◌then◌else◌, ◌is◌, Bytes, QUOTE}
 use Rattle.model.specs.rules.Dialect.{quote_of}
 use Rattle.model.specs.rules.Cell.{is_digit}
 use Rattle.model.specs.rules.Decode.{undouble}
@@ -12,11 +12,11 @@ use Rattle.cell_decoder.specs.Strings.{string_from}
 
 unfoldable pub spelling_by : Dialect → ℕ → Spelling
 spelling_by Csvj b =
-    if b is QUOTE then Escaped
-    else if b is 0x2D || is_digit b then AsItStands
+    choose b is QUOTE then Escaped
+    else choose b is 0x2D || is_digit b then AsItStands
     else Nothing
-spelling_by Tdif b = if b is QUOTE then Doubled QUOTE else Nothing
-spelling_by (CsvPlus s) b = if b is quote_of (CsvPlus s) then Doubled (quote_of (CsvPlus s)) else AsItStands
+spelling_by Tdif b = choose b is QUOTE then Doubled QUOTE else Nothing
+spelling_by (CsvPlus s) b = choose b is quote_of (CsvPlus s) then Doubled (quote_of (CsvPlus s)) else AsItStands
 
 -- the content of a cell in this encoding
 abbrev pub content_in : Spelling → Bytes → Bytes

@@ -1,6 +1,6 @@
 // The encoding of a cell's content, from its first byte. The definition is `spelling_by` of specs/FirstByte.antt.
 ghost use Rattle.std.specs.Prelude.{◌≡◌};
-ghost use Rattle.model.specs.rules.Base.{if◌then◌else◌, ◌is◌};
+ghost use Rattle.model.specs.rules.Base.{choose◌then◌else◌, ◌is◌};
 ghost use Rattle.cell_decoder.specs.FirstByte.{spelling_by};
 ghost use Rattle.model.specs.declared.Dialect.TheVariants.{Csvj};
 ghost use Rattle.cell_decoder.specs.declared.first_byte.Spelling.TheVariants.{Doubled};
@@ -40,7 +40,7 @@ fn csvj_spelling(b: u8) -> Spelling
 
 // Doubled after a quote, and otherwise as the dialect encodes it.
 fn doubled_or(q: u8, b: u8, other: Spelling) -> Spelling
-    ensures { result ≡ (if b is q then Doubled q else other) }
+    ensures { result ≡ (choose b is q then Doubled q else other) }
 {
     if b == q {
         return Spelling::Doubled(q);

@@ -15,7 +15,7 @@ use Rattle.model.specs.declared.Word.TheVariants.{T, Tr, Tru, F, Fa, Fal, Fals, 
 use Rattle.model.specs.declared.Cell.{Cell}
 use Rattle.model.specs.declared.Cell.TheVariants.{Fresh, InNumber, InWord, Complete}
 use Rattle.model.specs.declared.CellStep.TheVariants.{More}
-use Rattle.model.specs.rules.Base.{Bytes, if◌then◌else◌, ◌is◌, QUOTE}
+use Rattle.model.specs.rules.Base.{Bytes, choose◌then◌else◌, ◌is◌, QUOTE}
 use Rattle.model.specs.rules.Cell.{is_digit, numeral_step, letter_of, after_letter, first_byte, cell_step}
 use Rattle.model.specs.rules.Api.{slice}
 use Rattle.model.proofs.Tests.{and_true, within_true, split_on}
@@ -40,7 +40,7 @@ data Proceeds : Numeral → Type 0 where
   fraction_proceeds : Proceeds Fraction
 
 proceeds_on : {n : Numeral} → Proceeds n → (b : ℕ) → is_digit b ≡ true → cell_step Csvj (InNumber n) b ≡ More (InNumber n)
-unfolding cell_step numeral_step if◌then◌else◌
+unfolding cell_step numeral_step choose◌then◌else◌
 proceeds_on integer_proceeds b e = rw e
 proceeds_on fraction_proceeds b e = rw e
 
@@ -64,18 +64,18 @@ module _ {s : Bytes} {stop at r : ℕ} (x : Digits s at stop r) (k : stop ≤ le
 -- ---- numbers
 
 zero_first : {c : Cell} → BeginsNumber c → (b : ℕ) → b ≡ 0x30 → cell_step Csvj c b ≡ More (InNumber Zero)
-unfolding cell_step first_byte numeral_step if◌then◌else◌
+unfolding cell_step first_byte numeral_step choose◌then◌else◌
 zero_first unsigned b e = rw e
 zero_first negative b e = rw e
 
 digit_first : {c : Cell} → BeginsNumber c → (b : ℕ) → ¬ (b ≡ 0x30) → is_digit b ≡ true → cell_step Csvj c b ≡ More (InNumber Integer)
-unfolding cell_step first_byte numeral_step if◌then◌else◌
+unfolding cell_step first_byte numeral_step choose◌then◌else◌
 digit_first unsigned b n e =
     let w = digit_range b e in let l : 0x30 ≤ b = w.0 in rw (ne_eqb b QUOTE (omega arith), ne_eqb b 0x2D (omega arith), ne_eqb b 0x30 n, e)
 digit_first negative b n e = rw (ne_eqb b 0x30 n, e)
 
 point_first : (b : ℕ) → is_digit b ≡ true → cell_step Csvj (InNumber Point) b ≡ More (InNumber Fraction)
-unfolding cell_step numeral_step if◌then◌else◌
+unfolding cell_step numeral_step choose◌then◌else◌
 point_first b e = rw e
 
 module _ (s : Bytes) (stop at : ℕ) (k : stop ≤ length s) where
@@ -93,7 +93,7 @@ module _ (s : Bytes) (stop at : ℕ) (k : stop ≤ length s) where
       }
 
   pub integer_digits : (r : ℕ) → ¬ (get_or s at 0 ≡ 0x30) → Digits s at stop r → IntegerEnd s stop at r
-  unfolding numeral_step after_integer if◌then◌else◌
+  unfolding numeral_step after_integer choose◌then◌else◌
   integer_digits r n x =
       record {
         from = x.from;
@@ -117,7 +117,7 @@ module _ (s : Bytes) (stop at : ℕ) (k : stop ≤ length s) where
   -- a number ends after its integer
   pub number_integer : (i : ℕ) → IntegerEnd s stop at i → i < stop → ¬ (i ≡ at) → ¬ (get_or s i 0 ≡ 0x2E) → is_letter_e (get_or s i 0) ≡ false
       → (c : Cell) → BeginsNumber c → EndsFrom Csvj s stop c at i
-  unfolding cell_step after_integer if◌then◌else◌
+  unfolding cell_step after_integer choose◌then◌else◌
   number_integer i x h n p e c b =
       let f : at ≤ i = x.from in
       let y = x.integer (omega arith) in
@@ -127,7 +127,7 @@ module _ (s : Bytes) (stop at : ℕ) (k : stop ≤ length s) where
   pub number_fraction : (i r : ℕ) → IntegerEnd s stop at i → i < stop → ¬ (i ≡ at) → get_or s i 0 ≡ 0x2E → FractionEnd s stop (i + 1) r
       → r < stop → is_letter_e (get_or s r 0) ≡ false
       → (c : Cell) → BeginsNumber c → EndsFrom Csvj s stop c at r
-  unfolding cell_step numeral_step after_integer if◌then◌else◌
+  unfolding cell_step numeral_step after_integer choose◌then◌else◌
   number_fraction i r x h n p z l e c b =
       let f : at ≤ i = x.from in
       let y = x.integer (omega arith) in
@@ -135,7 +135,7 @@ module _ (s : Bytes) (stop at : ℕ) (k : stop ≤ length s) where
       ends_here (results_on point (z.comes l)) l k (rw (z.next l, e))
 
   pub minus_ends : (r : ℕ) → at < stop → get_or s at 0 ≡ 0x2D → EndsFrom Csvj s stop (InNumber Minus) (at + 1) r → EndsFrom Csvj s stop Fresh at r
-  unfolding cell_step first_byte if◌then◌else◌
+  unfolding cell_step first_byte choose◌then◌else◌
   minus_ends r h e x = results_ends (comes_byte (results_none Csvj s stop Fresh at (omega arith)) h k (InNumber Minus) (at + 1) refl (rw e)) x
 
 -- ---- numbers before a comma
@@ -168,7 +168,7 @@ module _ (s : Bytes) (stop at : ℕ) (k : stop ≤ length s) (i : ℕ) (h : i < 
 -- ---- words
 
 letter : (d : Dialect) (w : Word) (b : ℕ) → b ≡ letter_of w → cell_step d (InWord w) b ≡ More (after_letter w)
-unfolding cell_step if◌then◌else◌
+unfolding cell_step choose◌then◌else◌
 letter d w b e = rw (eq-eqb b (letter_of w) e)
 
 module _ {s : Bytes} {stop at : ℕ} (k : stop ≤ length s) where
@@ -184,22 +184,22 @@ module _ {s : Bytes} {stop at : ℕ} (k : stop ≤ length s) where
       comes_byte c3 (omega arith) k t r (omega arith) (letter d w2 (get_or s (at + 3) 0) x.letter_fourth ∙ ap More e3)
 
   pub true_ends : {r : ℕ} → get_or s at 0 ≡ 0x74 → r < stop → FourLetters s at 0x72 0x75 0x65 r → EndsFrom Csvj s stop Fresh at r
-  unfolding cell_step first_byte if◌then◌else◌
+  unfolding cell_step first_byte choose◌then◌else◌
   true_ends {r} e h x = ends_here (letters_come Csvj T Tr Tru Complete refl refl refl (rw e) x (omega arith)) h k (complete_ends Csvj (get_or s r 0))
 
   pub null_ends : {r : ℕ} → get_or s at 0 ≡ 0x6E → r < stop → FourLetters s at 0x75 0x6C 0x6C r → EndsFrom Csvj s stop Fresh at r
-  unfolding cell_step first_byte if◌then◌else◌
+  unfolding cell_step first_byte choose◌then◌else◌
   null_ends {r} e h x = ends_here (letters_come Csvj N Nu Nul Complete refl refl refl (rw e) x (omega arith)) h k (complete_ends Csvj (get_or s r 0))
 
   pub false_ends : {r : ℕ} → get_or s at 0 ≡ 0x66 → FourLetters s at 0x61 0x6C 0x73 r → get_or s r 0 ≡ 0x65 → r + 1 < stop → EndsFrom Csvj s stop Fresh at (r + 1)
-  unfolding cell_step first_byte if◌then◌else◌
+  unfolding cell_step first_byte choose◌then◌else◌
   false_ends {r} e x f h =
       let four = letters_come Csvj F Fa Fal (InWord Fals) refl refl refl (rw e) x (omega arith) in
       let five = comes_byte four (omega arith) k Complete (r + 1) refl (letter Csvj Fals (get_or s r 0) f) in
       ends_here five h k (complete_ends Csvj (get_or s (r + 1) 0))
 
   pub tdif_null_ends : get_or s at 0 ≡ 0x5C → get_or s (at + 1) 0 ≡ 0x4E → at + 2 < stop → EndsFrom Tdif s stop Fresh at (at + 2)
-  unfolding cell_step first_byte if◌then◌else◌
+  unfolding cell_step first_byte choose◌then◌else◌
   tdif_null_ends e f h =
       let one = comes_byte (results_none Tdif s stop Fresh at (omega arith)) (omega arith) k (InWord Backslash) (at + 1) refl (rw e) in
       let two = comes_byte one (omega arith) k Complete (at + 2) (omega arith) (letter Tdif Backslash (get_or s (at + 1) 0) f) in

@@ -7,7 +7,7 @@ use mathlib.Core.List.{[], ◌∷◌}
 use lib.ListN.{length, take, drop, get_or}
 use lib.Seq.{take-take}
 use borrow.Author.Tests.{ne_eqb, le-leb, eqb-true, eqb-false}
-use Rattle.model.specs.rules.Base.{Bytes, if◌then◌else◌, ◌is◌}
+use Rattle.model.specs.rules.Base.{Bytes, choose◌then◌else◌, ◌is◌}
 use Rattle.model.specs.rules.Api.{slice}
 use Rattle.model.proofs.Tests.{split_on}
 use Rattle.swar.specs.Words.{clean_ascii, bytes_of, Word, all_pass, Flags, zero_bytes, passing}
@@ -55,7 +55,7 @@ module _ {passes : ℕ → Bool} {s : Bytes} {at i stop w flags : ℕ} (x : Pass
 
   -- the bytes before the first flag, whether there is one or not
   pub pass_zeros : (n : ℕ) → n ≡ zero_bytes (bytes_of 8 flags) → (n ≤ 8) × PassRun passes s at stop (i + n)
-  unfolding zero_bytes bytes_of if◌then◌else◌
+  unfolding zero_bytes bytes_of choose◌then◌else◌
   pass_zeros n z =
       split_on (flags is 0)
       (λ t. let e : flags ≡ 0 = eqb-true flags 0 t in let m : n ≡ 8 = rw e at z in (omega arith, rw m (pass_word e)))

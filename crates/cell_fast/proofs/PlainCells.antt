@@ -17,7 +17,7 @@ use Rattle.model.specs.declared.Cell.{Cell}
 use Rattle.model.specs.declared.Cell.TheVariants.{Fresh, Plain}
 use Rattle.model.specs.declared.CellStep.{CellStep}
 use Rattle.model.specs.declared.CellStep.TheVariants.{More, Stop, Refuse}
-use Rattle.model.specs.rules.Base.{Bytes, if◌then◌else◌, ◌is◌, CR, LF}
+use Rattle.model.specs.rules.Base.{Bytes, choose◌then◌else◌, ◌is◌, CR, LF}
 use Rattle.model.specs.rules.Dialect.{quote_of, delimiter_of, quote_byte, delimiter_byte}
 use Rattle.model.specs.rules.Cell.{may_be_empty, first_byte, plain_byte, cell_step}
 use Rattle.model.proofs.Tests.{impossible}
@@ -46,7 +46,7 @@ same_end {d} {s} {stop} {at} {end} c t h k same x = go (cell_step d t (get_or s 
         absurd (omega arith)
 
 first_same : (d : Dialect) (b : ℕ) → may_be_empty d ≡ true → ¬ (b ≡ quote_of d) → cell_step d Fresh b ≡ cell_step d (Plain Whole) b
-unfolding cell_step first_byte plain_byte if◌then◌else◌
+unfolding cell_step first_byte plain_byte choose◌then◌else◌
 first_same Csvj b m n = impossible m
 first_same Tdif b m n = impossible m
 first_same (CsvPlus s) b m n = rw (ne_eqb b (quote_of (CsvPlus s)) n)
@@ -67,7 +67,7 @@ end_no_quote (CsvPlus s) b m e = ne_eqb b (quote_byte s.quote) (go s.delimiter s
     go Bar Single f h = impossible (rw h at f)
 
 end_stops : (d : Dialect) (b : ℕ) → may_be_empty d ≡ true → is_end (delimiter_of d) b ≡ true → cell_step d (Plain Whole) b ≡ Stop
-unfolding cell_step plain_byte if◌then◌else◌
+unfolding cell_step plain_byte choose◌then◌else◌
 end_stops d b m e = rw (end_no_quote d b m e, go (b is delimiter_of d) (b is LF) (b is CR) e)
   where
     go : (x y z : Bool) → (x || y || z) ≡ true → (x || z || y) ≡ true

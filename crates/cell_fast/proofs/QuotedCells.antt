@@ -13,7 +13,7 @@ use Rattle.model.specs.declared.HexLeft.TheVariants.{Four, Three, Two, One}
 use Rattle.model.specs.declared.Char.TheVariants.{Whole}
 use Rattle.model.specs.declared.Cell.TheVariants.{Fresh, Quoted, Closed, Escape, Hex, Complete}
 use Rattle.model.specs.declared.CellStep.TheVariants.{More, Stop}
-use Rattle.model.specs.rules.Base.{Bytes, if◌then◌else◌, ◌is◌, QUOTE}
+use Rattle.model.specs.rules.Base.{Bytes, choose◌then◌else◌, ◌is◌, QUOTE}
 use Rattle.model.specs.rules.Dialect.{quote_of, is_csvj}
 use Rattle.model.specs.rules.Cell.{is_hex, is_short, after_hex, first_byte, quoted_byte, cell_step}
 use Rattle.model.specs.rules.Api.{slice}
@@ -29,31 +29,31 @@ use Rattle.cell_fast.proofs.CellOutcomes.{results_none, comes_byte, results_ends
 -- ---- steps
 
 opening : (d : Dialect) (b : ℕ) → b ≡ quote_of d → cell_step d Fresh b ≡ More (Quoted Whole)
-unfolding cell_step first_byte if◌then◌else◌
+unfolding cell_step first_byte choose◌then◌else◌
 opening Csvj b e = rw (eq-eqb b (quote_of Csvj) e)
 opening Tdif b e = rw (eq-eqb b (quote_of Tdif) e)
 opening (CsvPlus s) b e = rw (eq-eqb b (quote_of (CsvPlus s)) e)
 
 backslash : (b : ℕ) → b ≡ 0x5C → cell_step Csvj (Quoted Whole) b ≡ More Escape
-unfolding cell_step quoted_byte if◌then◌else◌
+unfolding cell_step quoted_byte choose◌then◌else◌
 backslash b e = rw e
 
 short : (b : ℕ) → is_short b ≡ true → cell_step Csvj Escape b ≡ More (Quoted Whole)
-unfolding cell_step if◌then◌else◌
+unfolding cell_step choose◌then◌else◌
 short b e = rw e
 
 long : (b : ℕ) → b ≡ 0x75 → cell_step Csvj Escape b ≡ More (Hex Four)
-unfolding cell_step if◌then◌else◌
+unfolding cell_step choose◌then◌else◌
 long b e = rw e
 
 hex : (n : HexLeft) (b : ℕ) → is_hex b ≡ true → cell_step Csvj (Hex n) b ≡ More (after_hex n)
-unfolding cell_step if◌then◌else◌
+unfolding cell_step choose◌then◌else◌
 hex n b e = rw e
 
 -- dialects that double quotes
 module _ (d : Dialect) (n : is_csvj d ≡ false) (b : ℕ) where
   quote_first : b ≡ quote_of d → cell_step d (Quoted Whole) b ≡ More Closed
-  unfolding cell_step quoted_byte if◌then◌else◌
+  unfolding cell_step quoted_byte choose◌then◌else◌
   quote_first e = go d n e
     where
       go : (x : Dialect) → is_csvj x ≡ false → b ≡ quote_of x → quoted_byte x b ≡ More Closed
@@ -62,7 +62,7 @@ module _ (d : Dialect) (n : is_csvj d ≡ false) (b : ℕ) where
       go (CsvPlus s) k h = rw (eq-eqb b (quote_of (CsvPlus s)) h)
 
   other_byte : ¬ (b ≡ quote_of d) → b < 0x80 → cell_step d (Quoted Whole) b ≡ More (Quoted Whole)
-  unfolding cell_step quoted_byte if◌then◌else◌
+  unfolding cell_step quoted_byte choose◌then◌else◌
   other_byte e l = go d n e
     where
       go : (x : Dialect) → is_csvj x ≡ false → ¬ (b ≡ quote_of x) → quoted_byte x b ≡ More (Quoted Whole)
@@ -71,15 +71,15 @@ module _ (d : Dialect) (n : is_csvj d ≡ false) (b : ℕ) where
       go (CsvPlus s) k h = rw (ne_eqb b (quote_of (CsvPlus s)) h, ascii_whole b (omega arith))
 
 quote_second : (d : Dialect) (b : ℕ) → b ≡ quote_of d → cell_step d Closed b ≡ More (Quoted Whole)
-unfolding cell_step if◌then◌else◌
+unfolding cell_step choose◌then◌else◌
 quote_second d b e = rw (eq-eqb b (quote_of d) e)
 
 quote_single : (d : Dialect) (b : ℕ) → ¬ (b ≡ quote_of d) → cell_step d Closed b ≡ Stop
-unfolding cell_step if◌then◌else◌
+unfolding cell_step choose◌then◌else◌
 quote_single d b e = rw (ne_eqb b (quote_of d) e)
 
 string_ends : (b : ℕ) → b ≡ QUOTE → cell_step Csvj (Quoted Whole) b ≡ More Complete
-unfolding cell_step quoted_byte if◌then◌else◌
+unfolding cell_step quoted_byte choose◌then◌else◌
 string_ends b e = rw (eq-eqb b QUOTE e)
 
 pub complete_ends : (d : Dialect) (b : ℕ) → cell_step d Complete b ≡ Stop

@@ -15,7 +15,7 @@ use Rattle.model.specs.declared.Char.TheVariants.{Whole, Within}
 use Rattle.model.specs.declared.Advance.TheVariants.{On}
 use Rattle.model.specs.declared.Cell.TheVariants.{Quoted, Plain}
 use Rattle.model.specs.declared.CellStep.TheVariants.{More}
-use Rattle.model.specs.rules.Base.{Bytes, if◌then◌else◌, ◌is◌, within, CR, LF, BACKSLASH}
+use Rattle.model.specs.rules.Base.{Bytes, choose◌then◌else◌, ◌is◌, within, CR, LF, BACKSLASH}
 use Rattle.model.specs.rules.Dialect.{quote_of, delimiter_of}
 use Rattle.model.specs.rules.Utf8.{char_step}
 use Rattle.model.specs.rules.Cell.{quoted_byte, plain_byte, cell_step}
@@ -106,7 +106,7 @@ text_clean p q x = text_weaker (is_clean q) (open_clean p q) x
 -- ---- they leave a cell's state unchanged
 
 quoted_step : (d : Dialect) (c c' : Char) (b : ℕ) → is_clean (quote_of d) b ≡ true → char_step c b ≡ On c' → cell_step d (Quoted c) b ≡ More (Quoted c')
-unfolding cell_step quoted_byte if◌then◌else◌
+unfolding cell_step quoted_byte choose◌then◌else◌
 quoted_step Csvj Whole c' b e h =
     let k = clean_is (quote_of Csvj) b e in
     rw (k.no_quote, k.no_backslash, le-ltb b 0x20 k.least, h)
@@ -115,7 +115,7 @@ quoted_step (CsvPlus s) Whole c' b e h = let k = clean_is (quote_of (CsvPlus s))
 quoted_step d (Within i) c' b e h = rw h
 
 plain_step : (d : Dialect) (c c' : Char) (b : ℕ) → is_open (delimiter_of d) (quote_of d) b ≡ true → char_step c b ≡ On c' → cell_step d (Plain c) b ≡ More (Plain c')
-unfolding cell_step plain_byte is_open if◌then◌else◌
+unfolding cell_step plain_byte is_open choose◌then◌else◌
 plain_step d Whole c' b e h =
     let x = and_true (is_clean (quote_of d) b) (not (b is delimiter_of d)) e in
     let k = clean_is (quote_of d) b x.0 in

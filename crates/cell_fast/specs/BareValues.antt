@@ -7,7 +7,7 @@ use Rattle.model.specs.declared.Cell.{Cell}
 use Rattle.model.specs.declared.Cell.TheVariants.{Fresh, InNumber}
 use Rattle.model.specs.declared.CellStep.{CellStep}
 use Rattle.model.specs.declared.CellStep.TheVariants.{More, Stop}
-use Rattle.model.specs.rules.Base.{Bytes, if◌then◌else◌, ◌is◌}
+use Rattle.model.specs.rules.Base.{Bytes, choose◌then◌else◌, ◌is◌}
 use Rattle.model.specs.rules.Cell.{is_digit, numeral_step}
 use Rattle.model.specs.rules.Api.{slice}
 use Rattle.swar.specs.Words.{all_pass}
@@ -31,7 +31,7 @@ pub data BeginsNumber : Cell → Type 0 where
 
 -- the step of the byte after an integer
 unfoldable pub after_integer : ℕ → CellStep
-after_integer b = if b is 0x2E then More (InNumber Point) else if is_letter_e b then More (InNumber E) else Stop
+after_integer b = choose b is 0x2E then More (InNumber Point) else choose is_letter_e b then More (InNumber E) else Stop
 
 pub record Integer (s : Bytes) (stop at r : ℕ) : Type 0 where
   pub numeral : Numeral

@@ -23,7 +23,7 @@ use Rattle.model.specs.declared.FileState.TheVariants.{Top, Begin, Ended, Bom1, 
 use Rattle.model.specs.declared.ByteRole.TheVariants.{Outside, OfCell}
 use Rattle.model.specs.declared.Step.{Step}
 use Rattle.model.specs.declared.Step.TheVariants.{To}
-use Rattle.model.specs.rules.Base.{Bytes, if◌then◌else◌}
+use Rattle.model.specs.rules.Base.{Bytes, choose◌then◌else◌}
 use Rattle.model.specs.rules.Dialect.{quote_of}
 use Rattle.model.specs.rules.File.{in_cell, file_step}
 use Rattle.model.specs.rules.Report.{MAXFILE, MAXRECORD}
@@ -99,17 +99,17 @@ ran_state elsewhere r xs = refl
 -- ---- a byte, and all of them
 
 all_ordinary : (p q b : ℕ) (xs : Bytes) → leading p q (b ∷ xs) ≡ suc (length xs) → (ordinary p q b ≡ true) × (leading p q xs ≡ length xs)
-unfolding leading if◌then◌else◌
+unfolding leading choose◌then◌else◌
 all_ordinary p q b xs e = go (ordinary p q b) e
   where
-    go : (t : Bool) → (if t then suc (leading p q xs) else 0) ≡ suc (length xs) → (t ≡ true) × (leading p q xs ≡ length xs)
+    go : (t : Bool) → (choose t then suc (leading p q xs) else 0) ≡ suc (length xs) → (t ≡ true) × (leading p q xs ≡ length xs)
     go true h = (refl, omega arith)
     go false h = absurd (omega arith)
 
 module _ (d : Dialect) (target : Option Target) where
   of_cell : (c : Cell) (r : Read) (b : ℕ) → file_step d r.state b ≡ To r.state OfCell → r.offset < MAXFILE → r.size < MAXRECORD
       → read_byte d target r b ≡ going (ran_at (in_cell_lem c) r (b ∷ []))
-  unfolding read_byte file_full record_full move ran_at if◌then◌else◌
+  unfolding read_byte file_full record_full move ran_at choose◌then◌else◌
   of_cell c r b e h k =
       let n : suc r.offset ≡ r.offset + 1 = omega arith in
       let m : suc r.size ≡ r.size + 1 = omega arith in
@@ -117,7 +117,7 @@ module _ (d : Dialect) (target : Option Target) where
 
   of_comment : (t : Char) (r : Read) (b : ℕ) → file_step d r.state b ≡ To r.state Outside → r.offset < MAXFILE → r.size < MAXRECORD
       → read_byte d target r b ≡ going (ran_at (in_comment t) r (b ∷ []))
-  unfolding read_byte file_full record_full move ran_at if◌then◌else◌
+  unfolding read_byte file_full record_full move ran_at choose◌then◌else◌
   of_comment t r b e h k =
       let n : suc r.offset ≡ r.offset + 1 = omega arith in
       rw (lt-leb MAXFILE r.offset h, lt-leb MAXRECORD r.size k, e) (cc)
@@ -191,13 +191,13 @@ module _ (d : Dialect) (target : Option Target) where
 -- ---- prefixes of a run
 
 leading_take : (p q n : ℕ) (bs : Bytes) → n ≤ leading p q bs → leading p q (take n bs) ≡ length (take n bs)
-unfolding leading if◌then◌else◌
+unfolding leading choose◌then◌else◌
 leading_take p q zero bs h = refl
 leading_take p q (suc n) [] h = refl
 leading_take p q (suc n) (b ∷ bs) h = go (ordinary p q b) h (leading_take p q n bs)
   where
-    go : (t : Bool) → suc n ≤ (if t then suc (leading p q bs) else 0) → (n ≤ leading p q bs → leading p q (take n bs) ≡ length (take n bs))
-        → (if t then suc (leading p q (take n bs)) else 0) ≡ suc (length (take n bs))
+    go : (t : Bool) → suc n ≤ (choose t then suc (leading p q bs) else 0) → (n ≤ leading p q bs → leading p q (take n bs) ≡ length (take n bs))
+        → (choose t then suc (leading p q (take n bs)) else 0) ≡ suc (length (take n bs))
     go true k ih = ap suc (ih (omega arith))
     go false k ih = absurd (omega arith)
 
@@ -228,12 +228,12 @@ module _ (d : Dialect) (target : Option Target) where
 -- ---- the run that a function finds in a part of a slice
 
 leading_fewer : (p q n : ℕ) (bs : Bytes) → leading p q (take n bs) ≤ leading p q bs
-unfolding leading if◌then◌else◌
+unfolding leading choose◌then◌else◌
 leading_fewer p q zero bs = omega arith
 leading_fewer p q (suc n) [] = omega arith
 leading_fewer p q (suc n) (b ∷ bs) = go (ordinary p q b) (leading_fewer p q n bs)
   where
-    go : (t : Bool) → leading p q (take n bs) ≤ leading p q bs → (if t then suc (leading p q (take n bs)) else 0) ≤ (if t then suc (leading p q bs) else 0)
+    go : (t : Bool) → leading p q (take n bs) ≤ leading p q bs → (choose t then suc (leading p q (take n bs)) else 0) ≤ (choose t then suc (leading p q bs) else 0)
     go true h = omega arith
     go false h = omega arith
 

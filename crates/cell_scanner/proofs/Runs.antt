@@ -19,7 +19,7 @@ use Rattle.model.specs.declared.ByteFault.{ByteFault}
 use Rattle.model.specs.declared.FileState.TheVariants.{Comment}
 use Rattle.model.specs.declared.ByteRole.TheVariants.{Outside}
 use Rattle.model.specs.declared.Step.TheVariants.{To}
-use Rattle.model.specs.rules.Base.{Bytes, if◌then◌else◌, within, ◌is◌, QUOTE, CR, LF}
+use Rattle.model.specs.rules.Base.{Bytes, choose◌then◌else◌, within, ◌is◌, QUOTE, CR, LF}
 use Rattle.model.specs.rules.Dialect.{quote_of, delimiter_of}
 use Rattle.model.specs.rules.Cell.{quoted_byte, plain_byte, cell_step}
 use Rattle.model.specs.rules.File.{file_step}
@@ -46,11 +46,11 @@ part_end s i = let n : i - i ≡ 0 = omega arith in rw n
 
 module _ (s : Bytes) (i stop p q : ℕ) (h : i < stop) (k : stop ≤ length s) where
   pub leading_on : ordinary p q (get_or s i 0) ≡ true → i + leading p q (slice s i stop) ≡ (i + 1) + leading p q (slice s (i + 1) stop)
-  unfolding leading if◌then◌else◌
+  unfolding leading choose◌then◌else◌
   leading_on e = rw (part_next s i stop h k, e) (omega arith)
 
   pub leading_ends : ordinary p q (get_or s i 0) ≡ false → i + leading p q (slice s i stop) ≡ i
-  unfolding leading if◌then◌else◌
+  unfolding leading choose◌then◌else◌
   leading_ends e = rw (part_next s i stop h k, e) (omega arith)
 
 pub leading_none : (s : Bytes) (i p q : ℕ) → i + leading p q (slice s i i) ≡ i
@@ -85,7 +85,7 @@ plainly p q b e =
     record { low = w.0; high = w.1; not_first = x.1; not_second = x.2 }
 
 quoted_runs : (d : Dialect) (b : ℕ) → ordinary (quote_of d) 0x5C b ≡ true → cell_step d (Quoted Whole) b ≡ More (Quoted Whole)
-unfolding cell_step quoted_byte if◌then◌else◌
+unfolding cell_step quoted_byte choose◌then◌else◌
 quoted_runs Csvj b e =
     let k = plainly QUOTE 0x5C b e in
     let l : 0x20 ≤ b = k.low in
@@ -101,7 +101,7 @@ quoted_runs (CsvPlus s) b e =
     rw (k.not_first, ascii_whole b (omega arith))
 
 plain_runs : (d : Dialect) (b : ℕ) → ordinary (quote_of d) (delimiter_of d) b ≡ true → cell_step d (Plain Whole) b ≡ More (Plain Whole)
-unfolding cell_step plain_byte if◌then◌else◌
+unfolding cell_step plain_byte choose◌then◌else◌
 plain_runs d b e =
     let k = plainly (quote_of d) (delimiter_of d) b e in
     let l : 0x20 ≤ b = k.low in
@@ -124,7 +124,7 @@ run_step d Complete q b e h = no_run e
 
 -- in a comment every ordinary byte leaves the state unchanged
 pub comment_step : (d : Dialect) (b : ℕ) → ordinary 0 0 b ≡ true → file_step d (Comment Whole) b ≡ To (Comment Whole) Outside
-unfolding file_step if◌then◌else◌
+unfolding file_step choose◌then◌else◌
 comment_step d b e =
     let k = plainly 0 0 b e in
     let l : 0x20 ≤ b = k.low in
@@ -135,7 +135,7 @@ comment_step d b e =
 
 run_list : (d : Dialect) (c : Cell) (q : ℕ) → run_stop d c ≡ At q → (i : ℕ) (bs : Bytes)
     → cell_run d c i bs ≡ cell_run d c (i + leading (quote_of d) q bs) (drop (leading (quote_of d) q bs) bs)
-unfolding leading cell_run if◌then◌else◌
+unfolding leading cell_run choose◌then◌else◌
 run_list d c q e i [] = refl
 run_list d c q e i (b ∷ bs) = go (ordinary (quote_of d) q b) refl (run_list d c q e (suc i) bs)
   where

@@ -9,7 +9,7 @@ use lib.ListN.{length, take, drop, get_or, length-drop}
 use borrow.Author.Tests.{leb-true}
 use Rattle.model.specs.declared.Dialect.{Dialect}
 use Rattle.model.specs.declared.Dialect.TheVariants.{Csvj, Tdif, CsvPlus}
-use Rattle.model.specs.rules.Base.{Bytes, if◌then◌else◌, ◌is◌, QUOTE}
+use Rattle.model.specs.rules.Base.{Bytes, choose◌then◌else◌, ◌is◌, QUOTE}
 use Rattle.model.specs.rules.Dialect.{quote_of, is_csvj}
 use Rattle.model.specs.rules.Utf8.{is_surrogate, holds_lone}
 use Rattle.model.specs.rules.Text.{surrogate, json_body, doubled}
@@ -55,7 +55,7 @@ begins_long (a ∷ b ∷ []) e = impossible e
 begins_long (a ∷ b ∷ c ∷ bs) e = omega arith
 
 first_reports : (b : ℕ) (bs : Bytes) → holds_lone (b ∷ bs) ≡ (paired (b ∷ bs) || holds_lone bs)
-unfolding holds_lone if◌then◌else◌
+unfolding holds_lone choose◌then◌else◌
 first_reports b [] = refl
 first_reports b (a ∷ bs) = split_on (is_surrogate b a) (λ e. rw e) (λ e. rw e)
 

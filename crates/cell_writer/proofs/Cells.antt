@@ -10,7 +10,7 @@ use Rattle.model.specs.declared.Dialect.{Dialect}
 use Rattle.model.specs.declared.Dialect.TheVariants.{Csvj, Tdif, CsvPlus}
 use Rattle.model.specs.declared.Kind.{Kind}
 use Rattle.model.specs.declared.Kind.TheVariants.{Text, Number, True, False, Null}
-use Rattle.model.specs.rules.Base.{Bytes, if◌then◌else◌, ◌is◌, holds, is_empty, QUOTE}
+use Rattle.model.specs.rules.Base.{Bytes, choose◌then◌else◌, ◌is◌, holds, is_empty, QUOTE}
 use Rattle.model.specs.rules.Dialect.{quote_of, is_csvj}
 use Rattle.model.specs.rules.Report.{MAXRECORD}
 use Rattle.model.specs.rules.Cell.{is_digit}
@@ -47,7 +47,7 @@ second_false false y e = e
 
 -- content that needs no quotes holds no quote
 nothing_doubled : (s : Settings) (bs : Bytes) → holds (special s) bs ≡ false → doubled (quote_of (CsvPlus s)) bs ≡ bs
-unfolding holds doubled if◌then◌else◌
+unfolding holds doubled choose◌then◌else◌
 nothing_doubled s [] e = refl
 nothing_doubled s (b ∷ bs) e =
     let f : special s b ≡ false = first_false (special s b) (holds (special s) bs) e in
@@ -55,8 +55,8 @@ nothing_doubled s (b ∷ bs) e =
     rw g (ap (λ (l : Bytes). b ∷ l) (nothing_doubled s bs (second_false (special s b) (holds (special s) bs) e)))
 
 plus_parts : (s : Settings) (bs : Bytes) (q only first : Bool) → has_quotes s only first bs ≡ q
-    → (if q then quoted_text (quote_of (CsvPlus s)) bs else bs) ≡ quote_by (CsvPlus s) q ++ (doubled (quote_of (CsvPlus s)) bs ++ quote_by (CsvPlus s) q)
-unfolding quoted_text if◌then◌else◌
+    → (choose q then quoted_text (quote_of (CsvPlus s)) bs else bs) ≡ quote_by (CsvPlus s) q ++ (doubled (quote_of (CsvPlus s)) bs ++ quote_by (CsvPlus s) q)
+unfolding quoted_text choose◌then◌else◌
 plus_parts s bs true only first e = refl
 plus_parts s bs false only first e =
     let f : holds (special s) bs ≡ false =
@@ -96,7 +96,7 @@ no_number_tdif Null e = let z : ◌≡◌ {A = ℕ} 0 1 = cc in omega arith
 
 module _ (only first : Bool) where
   pub cell_as_text : (t : Dialect) (v : Value) → AsText ≡ written_as t v.kind → cell_text t only first v ≡ text_cell t only first v.content
-  unfolding cell_text json_cell if◌then◌else◌
+  unfolding cell_text json_cell choose◌then◌else◌
   cell_as_text Csvj v e = go v.kind e
     where
       go : (k : Kind) → AsText ≡ written_as Csvj k → json_cell k v.content ≡ json_cell Text v.content
@@ -107,7 +107,7 @@ module _ (only first : Bool) where
       go Null e = let z : ◌≡◌ {A = ℕ} 0 1 = cc in absurd (omega arith)
   cell_as_text Tdif v e = go v.kind e
     where
-      go : (k : Kind) → AsText ≡ written_as Tdif k → (if is_text k then quoted_text QUOTE v.content else word_for Tdif k) ≡ quoted_text QUOTE v.content
+      go : (k : Kind) → AsText ≡ written_as Tdif k → (choose is_text k then quoted_text QUOTE v.content else word_for Tdif k) ≡ quoted_text QUOTE v.content
       go Text e = refl
       go Number e = let z : ◌≡◌ {A = ℕ} 0 1 = cc in absurd (omega arith)
       go True e = let z : ◌≡◌ {A = ℕ} 0 1 = cc in absurd (omega arith)
@@ -129,7 +129,7 @@ module _ (only first : Bool) where
   cell_as_number (CsvPlus s) v e = let z : ◌≡◌ {A = ℕ} 0 1 = cc in absurd (omega arith)
 
   pub cell_as_word : (t : Dialect) (v : Value) → AsWord ≡ written_as t v.kind → cell_text t only first v ≡ word_for t v.kind
-  unfolding cell_text json_cell if◌then◌else◌
+  unfolding cell_text json_cell choose◌then◌else◌
   cell_as_word Csvj v e = go v.kind e
     where
       go : (k : Kind) → AsWord ≡ written_as Csvj k → json_cell k v.content ≡ word_for Csvj k
@@ -140,7 +140,7 @@ module _ (only first : Bool) where
       go Null e = refl
   cell_as_word Tdif v e = go v.kind e
     where
-      go : (k : Kind) → AsWord ≡ written_as Tdif k → (if is_text k then quoted_text QUOTE v.content else word_for Tdif k) ≡ word_for Tdif k
+      go : (k : Kind) → AsWord ≡ written_as Tdif k → (choose is_text k then quoted_text QUOTE v.content else word_for Tdif k) ≡ word_for Tdif k
       go Text e = let z : ◌≡◌ {A = ℕ} 0 1 = cc in absurd (omega arith)
       go Number e = refl
       go True e = refl
@@ -219,7 +219,7 @@ no_text : {A : Type 0} → Number ≡ Text → A
 no_text e = let z : ◌≡◌ {A = ℕ} 0 1 = cc in absurd (omega arith)
 
 number_in_csvj : (raw : Bytes) → Number ≡ kind_of Csvj raw → content_of Csvj raw ≡ number_in (spelling_by Csvj (get_or raw 0 0)) raw
-unfolding content_of kind_of spelling_by if◌then◌else◌
+unfolding content_of kind_of spelling_by choose◌then◌else◌
 number_in_csvj [] e = refl
 number_in_csvj (b ∷ bs) e = split_on (b is QUOTE) (λ p. no_text (rw p at e)) λ p. split_on (b is 0x2D || is_digit b) (λ q. rw (p, q)) λ q. rw (p, q)
 

@@ -5,7 +5,7 @@ use mathlib.Core.List.{[], ◌∷◌, ◌++◌}
 use Prim.Native.Nat.{ℕ, ◌≤◌}
 use lib.Dec.{leb}
 use lib.ListN.{length, take, drop}
-use Rattle.model.specs.rules.Base.{Bytes, if◌then◌else◌, ◌is◌, QUOTE, BACKSLASH}
+use Rattle.model.specs.rules.Base.{Bytes, choose◌then◌else◌, ◌is◌, QUOTE, BACKSLASH}
 use Rattle.model.specs.declared.Dialect.{Dialect}
 use Rattle.model.specs.declared.Dialect.TheVariants.{Csvj, Tdif, CsvPlus}
 use Rattle.model.specs.rules.Dialect.{quote_of}
@@ -59,18 +59,18 @@ plain_is p q r b e =
 
 -- in a string
 escaped_plain : {p q r b : ℕ} → (b is QUOTE) ≡ false → Plain p q r b → escaped b ≡ b ∷ []
-unfolding if◌then◌else◌
+unfolding choose◌then◌else◌
 escaped_plain e t = rw (e, t.no_backslash, t.least)
 
 body_plain : {p q r b : ℕ} (bs : Bytes) → (b is QUOTE) ≡ false → Plain p q r b → json_body (b ∷ bs) ≡ b ∷ json_body bs
-unfolding json_body if◌then◌else◌
+unfolding json_body choose◌then◌else◌
 body_plain [] e t = escaped_plain e t
 body_plain (c ∷ []) e t = rw (escaped_plain e t)
 body_plain (c ∷ d ∷ bs) e t = rw (t.no_lone, escaped_plain e t)
 
 -- in text with doubled quotes
 doubled_plain : (u b : ℕ) (bs : Bytes) → (b is u) ≡ false → doubled u (b ∷ bs) ≡ b ∷ doubled u bs
-unfolding doubled if◌then◌else◌
+unfolding doubled choose◌then◌else◌
 doubled_plain u b bs e = rw e
 
 text_byte : (t : Dialect) {p q r b : ℕ} (bs : Bytes) → p ≡ quote_of t → Plain p q r b → body_text t (b ∷ bs) ≡ b ∷ body_text t bs
@@ -79,12 +79,12 @@ text_byte Tdif {b} bs e h = doubled_plain QUOTE b bs (rw e at h.no_first)
 text_byte (CsvPlus s) {b} bs e h = doubled_plain (quote_of (CsvPlus s)) b bs (rw e at h.no_first)
 
 lone_byte : (b : ℕ) (bs : Bytes) → (b is 0xED) ≡ false → holds_lone (b ∷ bs) ≡ holds_lone bs
-unfolding holds_lone if◌then◌else◌
+unfolding holds_lone choose◌then◌else◌
 lone_byte b [] e = refl
 lone_byte b (c ∷ bs) e = rw e
 
 content_byte : (c : Spelling) {p q r b : ℕ} (bs : Bytes) → q ≡ source_quote c → Plain p q r b → content_on c (b ∷ bs) ≡ b ∷ content_on c bs
-unfolding undouble units text_of if◌then◌else◌
+unfolding undouble units text_of choose◌then◌else◌
 content_byte Nothing bs e h = refl
 content_byte AsItStands bs e h = refl
 content_byte (Doubled u) {b} bs e h = let f : (b is u) ≡ false = rw e at h.no_second in rw f
@@ -93,7 +93,7 @@ content_byte Escaped {b} bs e h = let f : (b is QUOTE) ≡ false = rw e at h.no_
 module _ (p q r : ℕ) where
   -- the content of a run is the run, in a source whose quote stops it
   pub content_run : (c : Spelling) → q ≡ source_quote c → (bs : Bytes) → let n = plain_run p q r bs in content_on c bs ≡ take n bs ++ content_on c (drop n bs)
-  unfolding plain_run if◌then◌else◌
+  unfolding plain_run choose◌then◌else◌
   content_run c e [] = refl
   content_run c e (b ∷ bs) =
       split_on (is_plain p q r b)
@@ -102,7 +102,7 @@ module _ (p q r : ℕ) where
 
   -- its text is the run, before the text of the rest, in a target whose quote stops it
   pub text_run : (t : Dialect) → p ≡ quote_of t → (bs ys : Bytes) → let w = take (plain_run p q r bs) bs in body_text t (w ++ ys) ≡ w ++ body_text t ys
-  unfolding plain_run if◌then◌else◌
+  unfolding plain_run choose◌then◌else◌
   text_run t e [] ys = refl
   text_run t e (b ∷ bs) ys =
       split_on (is_plain p q r b)
@@ -111,7 +111,7 @@ module _ (p q r : ℕ) where
 
   -- it holds no part of a lone surrogate
   pub lone_run : (bs ys : Bytes) → holds_lone (take (plain_run p q r bs) bs ++ ys) ≡ holds_lone ys
-  unfolding plain_run if◌then◌else◌
+  unfolding plain_run choose◌then◌else◌
   lone_run [] ys = refl
   lone_run (b ∷ bs) ys =
       split_on (is_plain p q r b)

@@ -9,7 +9,7 @@ use lib.Dec.{ltb, leb}
 use lib.ListN.{length, drop, get_or, drop_of_length-le}
 use borrow.Author.Tests.{le-leb, lt-leb, ltb-true, ltb-false}
 use Rattle.model.specs.rules.Api.{slice}
-use Rattle.model.specs.rules.Base.{Bytes, if◌then◌else◌, ◌is◌, BACKSLASH}
+use Rattle.model.specs.rules.Base.{Bytes, choose◌then◌else◌, ◌is◌, BACKSLASH}
 use Rattle.model.proofs.Tests.{split_on}
 use Rattle.swar.specs.Words.{bytes_of, Word, Flags, zero_bytes, is_byte, is_below}
 use Rattle.swar.proofs.Flags.{flags_same, flags_both, flags_other}
@@ -60,11 +60,11 @@ same_run p r (b ∷ bs) = rw (plain_same p r b, same_run p r bs)
 
 module _ (p q r : ℕ) (s : Bytes) (i : ℕ) where
   pub run_on : i < length s → is_plain p q r (get_or s i 0) ≡ true → i + plain_run p q r (drop i s) ≡ (i + 1) + plain_run p q r (drop (i + 1) s)
-  unfolding plain_run if◌then◌else◌
+  unfolding plain_run choose◌then◌else◌
   run_on h e = rw (drop_next s i (i + 1) h refl, e) (omega arith)
 
   pub run_stops : i < length s → is_plain p q r (get_or s i 0) ≡ false → i + plain_run p q r (drop i s) ≡ i
-  unfolding plain_run if◌then◌else◌
+  unfolding plain_run choose◌then◌else◌
   run_stops h e = rw (drop_next s i (i + 1) h refl, e) (omega arith)
 
   pub run_ends : length s ≤ i → i + plain_run p q r (drop i s) ≡ i

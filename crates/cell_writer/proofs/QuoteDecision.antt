@@ -10,7 +10,7 @@ use lib.Seq.{take_at}
 use borrow.Author.Tests.{eq-eqb, ne_eqb, leb-true, leb-false}
 use Rattle.model.specs.declared.Settings.{Settings}
 use Rattle.model.specs.declared.Dialect.TheVariants.{CsvPlus}
-use Rattle.model.specs.rules.Base.{Bytes, if◌then◌else◌, ◌is◌, CR, LF, holds, is_empty, over}
+use Rattle.model.specs.rules.Base.{Bytes, choose◌then◌else◌, ◌is◌, CR, LF, holds, is_empty, over}
 use Rattle.model.specs.rules.Dialect.{quote_of, delimiter_of}
 use Rattle.model.specs.rules.Text.{special, begins_bom, quoted_text, csv_plus_cell, has_quotes}
 use Rattle.model.proofs.Tests.{split_on, impossible, is→eq}
@@ -44,7 +44,7 @@ module _ (s : Settings) where
 
   -- a run may be skipped
   special_run : (q : ℕ) (bs ys : Bytes) → holds (special s) (take (plain_run Q q P bs) bs ++ ys) ≡ holds (special s) ys
-  unfolding holds plain_run if◌then◌else◌
+  unfolding holds plain_run choose◌then◌else◌
   special_run q [] ys = refl
   special_run q (b ∷ bs) ys =
       split_on (is_plain Q q P b)
@@ -180,6 +180,6 @@ module _ (s : Settings) (only first : Bool) (c : Bytes) where
 
 -- by this test CSV+ writes a cell in quotes
 pub cell_by : (s : Settings) (only first : Bool) (c : Bytes)
-    → csv_plus_cell s only first c ≡ (if has_quotes s only first c then quoted_text (quote_of (CsvPlus s)) c else c)
+    → csv_plus_cell s only first c ≡ (choose has_quotes s only first c then quoted_text (quote_of (CsvPlus s)) c else c)
 unfolding csv_plus_cell
 cell_by s only first c = refl

@@ -11,7 +11,7 @@ use borrow.Author.Tests.{eq-eqb, ne_eqb, le-leb, lt-leb}
 use Rattle.model.specs.declared.Dialect.{Dialect}
 use Rattle.model.specs.declared.Dialect.TheVariants.{Csvj, Tdif, CsvPlus}
 use Rattle.model.specs.rules.Dialect.{quote_of, is_csvj}
-use Rattle.model.specs.rules.Base.{Bytes, if◌then◌else◌, ◌is◌, QUOTE, BACKSLASH}
+use Rattle.model.specs.rules.Base.{Bytes, choose◌then◌else◌, ◌is◌, QUOTE, BACKSLASH}
 use Rattle.model.specs.rules.Utf8.{is_surrogate, holds_lone}
 use Rattle.model.specs.rules.Text.{hex_digit, escaped, surrogate, json_body, doubled}
 use Rattle.model.proofs.Tests.{split_on, impossible}
@@ -27,20 +27,20 @@ spells_as e p = rw e p
 
 module _ (b : ℕ) where
   pub escaped_quote : b ≡ QUOTE → escaped b ≡ BACKSLASH ∷ b ∷ []
-  unfolding if◌then◌else◌
+  unfolding choose◌then◌else◌
   escaped_quote e = rw e
 
   pub escaped_backslash : b ≡ BACKSLASH → escaped b ≡ BACKSLASH ∷ b ∷ []
-  unfolding if◌then◌else◌
+  unfolding choose◌then◌else◌
   escaped_backslash e = rw e
 
   pub escaped_itself : (b ≡ QUOTE → ⊥) → (b ≡ BACKSLASH → ⊥) → 0x20 ≤ b → escaped b ≡ b ∷ []
-  unfolding if◌then◌else◌
+  unfolding choose◌then◌else◌
   escaped_itself q s h = rw (ne_eqb b QUOTE q, ne_eqb b BACKSLASH s, le-leb 0x20 b h)
 
   pub escaped_code : b < 0x20 → (b ≡ 0x08 → ⊥) → (b ≡ 0x09 → ⊥) → (b ≡ 0x0A → ⊥) → (b ≡ 0x0C → ⊥) → (b ≡ 0x0D → ⊥)
       → escaped b ≡ BACKSLASH ∷ 0x75 ∷ 0x30 ∷ 0x30 ∷ hex_digit (b / 0x10) ∷ hex_digit (b % 0x10) ∷ []
-  unfolding if◌then◌else◌
+  unfolding choose◌then◌else◌
   escaped_code h k l m n o =
       rw (
         ne_eqb b QUOTE (λ e. omega arith),
@@ -57,11 +57,11 @@ module _ (b : ℕ) where
 
 module _ (q b : ℕ) where
   pub doubled_quote : b ≡ q → doubled q (b ∷ []) ≡ b ∷ b ∷ []
-  unfolding doubled if◌then◌else◌
+  unfolding doubled choose◌then◌else◌
   doubled_quote e = rw (eq-eqb b q e, e)
 
   pub doubled_itself : (b ≡ q → ⊥) → doubled q (b ∷ []) ≡ b ∷ []
-  unfolding doubled if◌then◌else◌
+  unfolding doubled choose◌then◌else◌
   doubled_itself e = rw (ne_eqb b q e)
 
 -- ---- digits
@@ -111,7 +111,7 @@ last_two : {a b c : ℕ} → Unit (a ∷ b ∷ c ∷ []) → (0x80 ≤ b) × (0x
 last_two (three a b c h k m) = (k.least, m.least)
 
 three_lone : (a b c : ℕ) → is_surrogate a b ≡ true → json_body (a ∷ b ∷ c ∷ []) ≡ surrogate b c
-unfolding json_body if◌then◌else◌
+unfolding json_body choose◌then◌else◌
 three_lone a b c e = rw e
 
 in_csvj : (t : Dialect) (u : Bytes) → is_csvj t ≡ true → body_text t u ≡ json_body u
@@ -157,7 +157,7 @@ high_escaped : (b : ℕ) → 0x80 ≤ b → escaped b ≡ b ∷ []
 high_escaped b h = escaped_itself b (λ e. omega arith) (λ e. omega arith) (omega arith)
 
 string_lies : (u : Bytes) → Unit u → (length u ≡ 1 → ⊥) → is_lone u ≡ false → json_body u ≡ u
-unfolding json_body if◌then◌else◌
+unfolding json_body choose◌then◌else◌
 string_lies u (one b) h e = absurd (h refl)
 string_lies u (two a b g k) h e = rw (high_escaped a g.least, high_escaped b k.least)
 string_lies u (three a b c g k m) h e = rw (e, high_escaped a g, high_escaped b k.least, high_escaped c m.least)
@@ -172,7 +172,7 @@ string_lies u (four a b c d g k m n) h e =
     )
 
 doubled_lies : (q : ℕ) (u : Bytes) → q ≤ 0x7F → Unit u → (length u ≡ 1 → ⊥) → doubled q u ≡ u
-unfolding doubled if◌then◌else◌
+unfolding doubled choose◌then◌else◌
 doubled_lies q u l (one b) h = absurd (h refl)
 doubled_lies q u l (two a b g k) h = rw (ne_eqb a q (λ z. omega (arith, g.least)), ne_eqb b q (λ z. omega (arith, k.least)))
 doubled_lies q u l (three a b c g k m) h =
@@ -202,7 +202,7 @@ four_spell (a ∷ b ∷ c ∷ d ∷ f ∷ l) n e h = absurd (omega arith)
 -- ---- the text of a unit, and then of the rest
 
 pub doubled_append : (q : ℕ) (u bs : Bytes) → doubled q (u ++ bs) ≡ doubled q u ++ doubled q bs
-unfolding doubled if◌then◌else◌
+unfolding doubled choose◌then◌else◌
 doubled_append q [] bs = refl
 doubled_append q (b ∷ u) bs =
     split_on (b is q)
@@ -211,7 +211,7 @@ doubled_append q (b ∷ u) bs =
 
 -- a byte that begins no lone surrogate
 body_byte : (b : ℕ) (bs : Bytes) → begins_lone (b ∷ bs) ≡ false → json_body (b ∷ bs) ≡ escaped b ++ json_body bs
-unfolding json_body if◌then◌else◌
+unfolding json_body choose◌then◌else◌
 body_byte b [] e = sym (append-nil (escaped b))
 body_byte b (c ∷ []) e = refl
 body_byte b (c ∷ d ∷ bs) e = rw e
@@ -228,7 +228,7 @@ body_lead : (a : ℕ) (bs : Bytes) → Lead a → json_body (a ∷ bs) ≡ escap
 body_lead a bs h = body_byte a bs (begins_none a bs h.other)
 
 pub surrogate_append : (a b c : ℕ) (bs : Bytes) → is_surrogate a b ≡ true → json_body (a ∷ b ∷ c ∷ bs) ≡ surrogate b c ++ json_body bs
-unfolding json_body if◌then◌else◌
+unfolding json_body choose◌then◌else◌
 surrogate_append a b c bs e = rw e
 
 alone : (b : ℕ) → json_body (b ∷ []) ≡ escaped b
@@ -269,7 +269,7 @@ text_append (CsvPlus s) u bs x h = doubled_append (quote_of (CsvPlus s)) u bs
 
 -- a byte that begins none
 pub lone_skip : (b : ℕ) (bs : Bytes) → paired (b ∷ bs) ≡ false → holds_lone (b ∷ bs) ≡ holds_lone bs
-unfolding holds_lone if◌then◌else◌
+unfolding holds_lone choose◌then◌else◌
 lone_skip b [] e = refl
 lone_skip b (c ∷ bs) e = rw e
 
@@ -284,7 +284,7 @@ skip_lead : (a : ℕ) (bs : Bytes) → Lead a → holds_lone (a ∷ bs) ≡ hold
 skip_lead a bs h = lone_skip a bs (paired_not a bs h.other)
 
 pub lone_found : (a b : ℕ) (bs : Bytes) → is_surrogate a b ≡ true → holds_lone (a ∷ b ∷ bs) ≡ true
-unfolding holds_lone if◌then◌else◌
+unfolding holds_lone choose◌then◌else◌
 lone_found a b bs e = rw e
 
 pub lone_append : (u bs : Bytes) → Unit u → (length u ≡ 1 → paired (u ++ bs) ≡ false) → holds_lone (u ++ bs) ≡ (is_lone u || holds_lone bs)

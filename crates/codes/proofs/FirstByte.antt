@@ -5,12 +5,12 @@ use native.Mathlib.Omega.{arith}
 use lib.ListN.{length, get_or}
 use Rattle.model.specs.declared.Dialect.{Dialect}
 use Rattle.model.specs.declared.Dialect.TheVariants.{Csvj, Tdif, CsvPlus}
-use Rattle.model.specs.rules.Base.{if◌then◌else◌, Bytes}
+use Rattle.model.specs.rules.Base.{choose◌then◌else◌, Bytes}
 use Rattle.model.specs.rules.Decode.{kind_of}
 use Rattle.codes.specs.FirstByte.{kind_by}
 
 pub kind_first : (d : Dialect) (raw : Bytes) → kind_by d (get_or raw 0 0) ≡ kind_of d raw
-unfolding kind_by kind_of if◌then◌else◌
+unfolding kind_by kind_of choose◌then◌else◌
 kind_first Csvj [] = refl
 kind_first Csvj (b ∷ bs) = refl
 kind_first Tdif [] = refl

@@ -4,14 +4,14 @@ use Rattle.model.specs.declared.Kind.{Kind}
 use Rattle.model.specs.declared.Kind.TheVariants.{Text, Number, True, False, Null}
 use Rattle.model.specs.declared.Dialect.{Dialect}
 use Rattle.model.specs.declared.Dialect.TheVariants.{Csvj, Tdif, CsvPlus}
-use Rattle.model.specs.rules.Base.{if◌then◌else◌, ◌is◌, QUOTE}
+use Rattle.model.specs.rules.Base.{choose◌then◌else◌, ◌is◌, QUOTE}
 
 unfoldable pub kind_by : Dialect → ℕ → Kind
 kind_by Csvj b =
-    if b is QUOTE then Text
-    else if b is 0x74 then True
-    else if b is 0x66 then False
-    else if b is 0x6E then Null
+    choose b is QUOTE then Text
+    else choose b is 0x74 then True
+    else choose b is 0x66 then False
+    else choose b is 0x6E then Null
     else Number
-kind_by Tdif b = if b is QUOTE then Text else Null
+kind_by Tdif b = choose b is QUOTE then Text else Null
 kind_by (CsvPlus s) b = Text

@@ -7,7 +7,7 @@ use lib.ListN.{length, drop, length-append, length-drop}
 use borrow.Author.Tests.{lt-ltb, le-ltb}
 use Rattle.model.specs.declared.Dialect.{Dialect}
 use Rattle.model.specs.declared.Report.{Report}
-use Rattle.model.specs.rules.Base.{Bytes, over, if◌then◌else◌}
+use Rattle.model.specs.rules.Base.{Bytes, over, choose◌then◌else◌}
 use Rattle.model.specs.rules.Dialect.{dialect_of}
 use Rattle.model.specs.rules.Report.{accepted, refusal}
 use Rattle.model.specs.rules.Records.{fault_report}
@@ -46,7 +46,7 @@ module _ (d t : Dialect) (file old : Bytes) {m : Measurement} (y : MeasureSound 
   pub conversion_crowded :
       (n : ℕ) → m ≡ Accepted n → length old < n → (x : Report) → x ≡ refusal 10 → (r : TextAnswer) → r ≡ text_answer (unwritten x) →
       Leaves d t file old r old
-  unfolding if◌then◌else◌
+  unfolding choose◌then◌else◌
   conversion_crowded n q h x ex r e =
       let a : answer_in d t file (length old) ≡ unwritten (refusal 10) = go m y q in
       record { answer = e ∙ ap (λ (x : Report). text_answer (unwritten x)) ex ∙ ap text_answer (sym a); left = rw a refl }
@@ -67,7 +67,7 @@ module _ (d t : Dialect) (file old : Bytes) {m : Measurement} (y : MeasureSound 
   pub conversion_roomy :
       (n : ℕ) → m ≡ Accepted n → n ≤ length old → (x : Report) → x ≡ refusal 0 →
       record { report = x; length = n } ≡ text_answer (answer_in d t file (length old))
-  unfolding if◌then◌else◌
+  unfolding choose◌then◌else◌
   conversion_roomy n q h x e = go m y q
     where
       go : (s : Measurement) → MeasureSound d t file s → s ≡ Accepted n → record { report = x; length = n } ≡ text_answer (answer_in d t file (length old))

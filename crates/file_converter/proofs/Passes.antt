@@ -10,7 +10,7 @@ use lib.Dec.{eqb}
 use borrow.Author.Tests.{le-ltb}
 use Rattle.model.specs.declared.Dialect.{Dialect}
 use Rattle.model.specs.declared.Report.{Report}
-use Rattle.model.specs.rules.Base.{Bytes, is_empty, over, if◌then◌else◌}
+use Rattle.model.specs.rules.Base.{Bytes, is_empty, over, choose◌then◌else◌}
 use Rattle.model.specs.rules.Dialect.{into}
 use Rattle.model.specs.laws.Laws.{Grows}
 use Rattle.model.specs.rules.Text.{Value, record_text, table_text, ending}
@@ -56,11 +56,11 @@ module _ {d t : Dialect} {file : Bytes} {c : Cursor} (y : Walking d (Into t) fil
 
 -- the text of a file that is accepted and has room
 pub answer_text : {d t : Dialect} {file : Bytes} {room : ℕ} (a : Accepts d t file room) → (answer_in d t file room).text ≡ text_in t a.r
-unfolding if◌then◌else◌
+unfolding choose◌then◌else◌
 answer_text {t = t} {room = room} a = rw (a.reads, le-ltb room (length (text_in t a.r)) a.fits)
 
 written_text : {old : Bytes} {o : ℕ} {w new : Bytes} {r : ℕ} → WrittenAt true old o w new r → new ≡ written old o w
-unfolding if◌then◌else◌
+unfolding choose◌then◌else◌
 written_text p = p.text
 
 -- the records so far are written

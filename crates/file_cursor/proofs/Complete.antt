@@ -11,7 +11,7 @@ use Rattle.model.specs.declared.FileState.{FileState}
 use Rattle.model.specs.declared.Fault.{Fault}
 use Rattle.model.specs.declared.CheckResult.{CheckResult}
 use Rattle.model.specs.declared.CheckResult.TheVariants.{Sound, Faulty}
-use Rattle.model.specs.rules.Base.{if◌then◌else◌}
+use Rattle.model.specs.rules.Base.{choose◌then◌else◌}
 use Rattle.model.specs.rules.Text.{Value}
 use Rattle.model.specs.rules.Report.{report, number_of, column_of, is_at_byte}
 use Rattle.model.specs.rules.Records.{Rec, Read, between_records, going, stopped, complete, record_fault, header_fault, data_fault, ◌or_else◌, fault_report}
@@ -22,14 +22,14 @@ use Rattle.model.proofs.file_laws.RecordFaults.{fault_record, fault_start}
 pub report_byte :
     (e : Fault) (r : Read) (n : ℕ) → is_at_byte e ≡ true → length r.done ≡ n →
     report (number_of e) (suc n) (column_of e) r.offset ≡ fault_report e r
-unfolding if◌then◌else◌
+unfolding choose◌then◌else◌
 report_byte e r n q l = rw (q, l)
 
 -- the place of a record's fault is its start
 pub report_start :
     (d : Dialect) (target : Option Target) (r : Read) (vs : List Value) (e : Fault) (n : ℕ) → record_fault d target r.done vs ≡ Faulty e →
     length r.done ≡ n → report (number_of e) (suc n) (column_of e) r.start ≡ fault_report e r
-unfolding if◌then◌else◌
+unfolding choose◌then◌else◌
 report_start d target r vs e n q l =
     let s : is_at_byte e ≡ false = fault_start (record_fault d target r.done vs) q (fault_record d target r.done vs) in
     rw (s, l)

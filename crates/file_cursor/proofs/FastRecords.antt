@@ -12,7 +12,7 @@ use Rattle.model.specs.declared.FileState.{FileState}
 use Rattle.model.specs.declared.Step.{Step}
 use Rattle.model.specs.declared.Step.TheVariants.{To, Reject}
 use Rattle.model.specs.declared.ByteRole.TheVariants.{Outside, Passed, OfCell, Between, Tail, Ends}
-use Rattle.model.specs.rules.Base.{if◌then◌else◌, Bytes}
+use Rattle.model.specs.rules.Base.{choose◌then◌else◌, Bytes}
 use Rattle.model.specs.rules.File.{file_step, file_end, counts}
 use Rattle.model.specs.rules.Report.{MAXFILE, MAXRECORD}
 use Rattle.model.specs.declared.Ending.{Ending}
@@ -52,21 +52,21 @@ set_apart (a ∷ xs) (suc j) zero x y l = absurd (omega arith)
 set_apart (a ∷ xs) (suc j) (suc k) x y l = ap (λ (zs : List ℕ). a ∷ zs) (set_apart xs j k x y (omega arith))
 
 stored_anew : (room k x y : ℕ) (old : List ℕ) → store_at room k x (store_at room k y old) ≡ store_at room k x old
-unfolding store_at if◌then◌else◌
+unfolding store_at choose◌then◌else◌
 stored_anew room k x y old = go (ltb k room)
   where
-    go : (t : Bool) → (if t then set (if t then set old k y else old) k x else (if t then set old k y else old)) ≡ (if t then set old k x else old)
+    go : (t : Bool) → (choose t then set (choose t then set old k y else old) k x else (choose t then set old k y else old)) ≡ (choose t then set old k x else old)
     go true = set_again old k x y
     go false = refl
 
 stored_apart : (room j k x y : ℕ) (old : List ℕ) → j < k → store_at room j x (store_at room k y old) ≡ store_at room k y (store_at room j x old)
-unfolding store_at if◌then◌else◌
+unfolding store_at choose◌then◌else◌
 stored_apart room j k x y old l = go (ltb j room) (ltb k room)
   where
     go :
         (s t : Bool) →
-        (if s then set (if t then set old k y else old) j x else (if t then set old k y else old))
-        ≡ (if t then set (if s then set old j x else old) k y else (if s then set old j x else old))
+        (choose s then set (choose t then set old k y else old) j x else (choose t then set old k y else old))
+        ≡ (choose t then set (choose s then set old j x else old) k y else (choose s then set old j x else old))
     go true true = set_apart old j k x y l
     go true false = refl
     go false true = refl

@@ -9,7 +9,7 @@ use mathlib.Core.List.{List, [], ◌∷◌}
 use lib.ListN.{length, drop, length-drop}
 use lib.Seq.{drop-drop}
 use lib.Dec.{leb}
-use Rattle.model.specs.rules.Base.{if◌then◌else◌, Bytes}
+use Rattle.model.specs.rules.Base.{choose◌then◌else◌, Bytes}
 use Rattle.model.specs.rules.File.{file_step, file_end, counts}
 use Rattle.model.specs.rules.Report.{MAXFILE, MAXRECORD, is_at_byte}
 use Rattle.model.specs.rules.Records.{Rec, Read, between_records, Progress, going, stopped, closing, move, file_full, record_full, read_byte, read_from}
@@ -74,7 +74,7 @@ module _ (d : Dialect) (target : Option Target) (file : Bytes) (rs : List Rec) w
       (r : Read) (b : ℕ) (f : FileState) (k : Bool) (bs : Bytes) → bs ≡ drop (r.offset + 1) file →
       ReadsAs d target file rs (stepped d r b (λ r'. next_record d r' bs) (To f (Ends k)))
       (Rest (move d target (redone rs r) b (To f (Ends k))) bs)
-  unfolding stepped move if◌then◌else◌
+  unfolding stepped move choose◌then◌else◌
   at_ending r b f true bs e =
       rw (e, ← add-one r.offset) (after_record (redone rs r) (closing d true r) f (r.offset + 1) refl)
   at_ending r b f false bs e =
@@ -88,7 +88,7 @@ module _ (d : Dialect) (target : Option Target) (file : Bytes) (rs : List Rec) w
   on_byte :
       (r : Read) (b : ℕ) (bs : Bytes) → bs ≡ drop (r.offset + 1) file → r.offset + 1 + length bs ≡ length file → Ih bs → (s : Step) →
       ReadsAs d target file rs (stepped d r b (λ r'. next_record d r' bs) s) (Rest (move d target (redone rs r) b s) bs)
-  unfolding stepped if◌then◌else◌ move
+  unfolding stepped choose◌then◌else◌ move
   on_byte r b bs e l ih (Reject x) = faulty (Byte x) r bs refl
   on_byte r b bs e l ih (To f Outside) = rw (within_record r b f Outside refl) (ih (read_after d r b f Outside) e l)
   on_byte r b bs e l ih (To f Passed) = rw (within_record r b f Passed refl) (ih (read_after d r b f Passed) e l)
@@ -97,18 +97,18 @@ module _ (d : Dialect) (target : Option Target) (file : Bytes) (rs : List Rec) w
   on_byte r b bs e l ih (To f (Tail k)) = rw (within_record r b f (Tail k) refl) (ih (read_after d r b f (Tail k)) e l)
   on_byte r b bs e l ih (To f (Ends k)) = at_ending r b f k bs e
 
-  choose :
+  by_limits :
       (r : Read) (b : ℕ) (bs : Bytes) → bs ≡ drop (r.offset + 1) file → r.offset + 1 + length bs ≡ length file → Ih bs →
       (x y : Bool) (s : Step) →
       ReadsAs d target file rs
-      (if x then failed FileTooLong r else if y then failed RecordTooLong r else stepped d r b (λ r'. next_record d r' bs) s)
+      (choose x then failed FileTooLong r else choose y then failed RecordTooLong r else stepped d r b (λ r'. next_record d r' bs) s)
       (Rest
-      (if x then stopped FileTooLong (redone rs r)
-      else if y then stopped RecordTooLong (redone rs r) else move d target (redone rs r) b s) bs)
-  unfolding if◌then◌else◌
-  choose r b bs e l ih true y s = faulty FileTooLong r bs refl
-  choose r b bs e l ih false true s = faulty RecordTooLong r bs refl
-  choose r b bs e l ih false false s = on_byte r b bs e l ih s
+      (choose x then stopped FileTooLong (redone rs r)
+      else choose y then stopped RecordTooLong (redone rs r) else move d target (redone rs r) b s) bs)
+  unfolding choose◌then◌else◌
+  by_limits r b bs e l ih true y s = faulty FileTooLong r bs refl
+  by_limits r b bs e l ih false true s = faulty RecordTooLong r bs refl
+  by_limits r b bs e l ih false false s = on_byte r b bs e l ih s
 
   -- after the records rs, the next event and the result of reading on
   pub reads_as : (bs : Bytes) → Ih bs

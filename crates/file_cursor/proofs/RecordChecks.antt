@@ -16,7 +16,7 @@ use Rattle.model.specs.declared.Fault.TheVariants.{NoRecord, TooManyColumns}
 use Rattle.model.specs.declared.Report.{Report}
 use Rattle.model.specs.declared.CheckResult.{CheckResult}
 use Rattle.model.specs.declared.CheckResult.TheVariants.{Sound, Faulty}
-use Rattle.model.specs.rules.Base.{Bytes, is_empty, if◌then◌else◌}
+use Rattle.model.specs.rules.Base.{Bytes, is_empty, choose◌then◌else◌}
 use Rattle.model.specs.rules.Dialect.{into}
 use Rattle.model.specs.rules.Text.{Value, record_text, table_text, ending}
 use Rattle.model.specs.rules.Report.{report, number_of, column_of, MAXFILE, MAXCOLUMNS}
@@ -40,7 +40,7 @@ use Rattle.record_fast.specs.CellLists.{Shows}
 pub source_checked :
     (d : Dialect) (vs : List Value) (done columns : ℕ) (rs : List Rec) → length rs ≡ done → Columns rs columns →
     source_fault d (eqb done 0) columns vs ≡ record_fault d none rs vs
-unfolding if◌then◌else◌
+unfolding choose◌then◌else◌
 source_checked d vs done columns [] l c = rw (sym l) (sym (header_fault_lem d vs))
 source_checked d vs done columns (h ∷ rs) l c = rw (ne_eqb done 0 (λ z. omega arith)) (ap (λ (m : ℕ). data_fault m vs) (sym c) ∙ sym (data_fault_lem d h rs vs))
 

@@ -8,7 +8,7 @@ use lib.ListN.{length, drop, get_or, length-drop}
 use lib.Seq.{drop-cons}
 use lib.Dec.{leb}
 use borrow.Author.Tests.{leb-false}
-use Rattle.model.specs.rules.Base.{if◌then◌else◌, Bytes}
+use Rattle.model.specs.rules.Base.{choose◌then◌else◌, Bytes}
 use Rattle.model.specs.rules.Decode.{kind_of, content_of, validate_cell}
 use Rattle.model.specs.rules.File.{file_step, file_end, counts}
 use Rattle.model.specs.rules.Report.{MAXRECORD}
@@ -110,7 +110,7 @@ module _ (d : Dialect) (file : Bytes) where
   on_byte :
       (r : Read) (b : ℕ) (bs : Bytes) → b ∷ bs ≡ drop r.offset file → Ih bs → Standing r → record_full r b ≡ false → (t : Step) →
       Calm r.state b t → Fits d (cell_at r.state) b t → All (LiesIn d file) (stepped d r b (λ r'. next_record d r' bs) t).cells
-  unfolding stepped if◌then◌else◌ record_full
+  unfolding stepped choose◌then◌else◌ record_full
   on_byte r b bs e ih s full t refuses y = s.cells
   on_byte r b bs e ih s full t (leaves {g = g} o) (cell.leaves y) =
       let l : r.offset < length file = next_inside file r.offset b bs e in
@@ -200,7 +200,7 @@ module _ (d : Dialect) where
   step_outer :
       (r : Read) (b : ℕ) (bs : Bytes) → Outside-after bs → (t : Step) → Calm r.state b t →
       EndsOuter (stepped d r b (λ r'. next_record d r' bs) t).event
-  unfolding stepped if◌then◌else◌
+  unfolding stepped choose◌then◌else◌
   step_outer r b bs ih t refuses = tt
   step_outer r b bs ih t (leaves {g = g} o) = ih (read_after d r b g Outside)
   step_outer r b bs ih t (passes {g = g} o) = ih (read_after d r b g Passed)

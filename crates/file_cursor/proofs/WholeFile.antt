@@ -8,7 +8,7 @@ use mathlib.Core.Option.{none}
 use mathlib.Core.List.{List, [], ◌∷◌, map}
 use lib.ListN.{length, drop, length-append, length-map}
 use lib.Dec.{leb}
-use Rattle.model.specs.rules.Base.{if◌then◌else◌, Bytes}
+use Rattle.model.specs.rules.Base.{choose◌then◌else◌, Bytes}
 use Rattle.model.specs.rules.Cell.{is_whole}
 use Rattle.model.specs.rules.Decode.{kind_number, kind_of}
 use Rattle.model.specs.rules.File.{file_step, file_end, last_cell, counts}
@@ -59,7 +59,7 @@ module _ (d : Dialect) where
   step_comes :
       (s : Scan) (b : ℕ) (bs : Bytes) → Comes bs → (x : Step) →
       stepped d (read_of d [] s) b (λ r. next_record d r bs) x ≡ next_of (scan_step s b bs (λ s'. scan d MAXFILE s' bs) x)
-  unfolding stepped scan_step if◌then◌else◌
+  unfolding stepped scan_step choose◌then◌else◌
   step_comes s b bs ih (Reject e) = refl
   step_comes s b bs ih (To f Outside) = rw (add-one s.offset) (ih _)
   step_comes s b bs ih (To f Passed) = rw (add-one s.offset) (ih _)
@@ -70,10 +70,10 @@ module _ (d : Dialect) where
 
   choose_comes :
       (s : Scan) (b : ℕ) (bs : Bytes) → Comes bs → (u v : Bool) (x : Step) →
-      (if u then failed FileTooLong (read_of d [] s)
-      else if v then failed RecordTooLong (read_of d [] s) else stepped d (read_of d [] s) b (λ r. next_record d r bs) x)
-      ≡ next_of (if u then fails FileTooLong s else if v then fails RecordTooLong s else scan_step s b bs (λ s'. scan d MAXFILE s' bs) x)
-  unfolding if◌then◌else◌
+      (choose u then failed FileTooLong (read_of d [] s)
+      else choose v then failed RecordTooLong (read_of d [] s) else stepped d (read_of d [] s) b (λ r. next_record d r bs) x)
+      ≡ next_of (choose u then fails FileTooLong s else choose v then fails RecordTooLong s else scan_step s b bs (λ s'. scan d MAXFILE s' bs) x)
+  unfolding choose◌then◌else◌
   choose_comes s b bs ih true v x = refl
   choose_comes s b bs ih false true x = refl
   choose_comes s b bs ih false false x = step_comes s b bs ih x
@@ -93,9 +93,9 @@ last_unclean Csvj c e = let z : ◌≡◌ {A = ℕ} 0 1 = cc in absurd (omega ar
 last_unclean Tdif c e = let z : ◌≡◌ {A = ℕ} 0 1 = cc in absurd (omega arith)
 last_unclean (CsvPlus s) c e = go (is_whole (CsvPlus s) c) e
   where
-    go : {A : Type 0} (t : Bool) → (if t then Final else Cut) ≡ Clean → A
-    go true q = let k : Final ≡ Clean = unfold if◌then◌else◌ in q in let z : ◌≡◌ {A = ℕ} 0 1 = cc in absurd (omega arith)
-    go false q = let k : Cut ≡ Clean = unfold if◌then◌else◌ in q in let z : ◌≡◌ {A = ℕ} 0 1 = cc in absurd (omega arith)
+    go : {A : Type 0} (t : Bool) → (choose t then Final else Cut) ≡ Clean → A
+    go true q = let k : Final ≡ Clean = unfold choose◌then◌else◌ in q in let z : ◌≡◌ {A = ℕ} 0 1 = cc in absurd (omega arith)
+    go false q = let k : Cut ≡ Clean = unfold choose◌then◌else◌ in q in let z : ◌≡◌ {A = ℕ} 0 1 = cc in absurd (omega arith)
 
 cut_unclean : {A : Type 0} → Cut ≡ Clean → A
 cut_unclean e = let z : ◌≡◌ {A = ℕ} 0 1 = cc in absurd (omega arith)
@@ -168,7 +168,7 @@ module _ (d : Dialect) where
         (s : Scan) (x : Ending) → (x ≡ Clean → length s.cells ≡ 0) →
         stored_from room base (map φ (ended d (read_of d [] s) x).cells) old
         ≡ store_if (is_final x) room (base + length s.cells) (φ (value_of d (cell_here s))) (At s.cells)
-    unfolding store_if if◌then◌else◌
+    unfolding store_if choose◌then◌else◌
     end_stored s Clean e = ap At (sym (none_left s (e refl)))
     end_stored s Final e =
         ap (λ vs. stored_from room base (map φ vs) old) (values_closing d none [] true s)

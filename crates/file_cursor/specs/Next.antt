@@ -1,7 +1,7 @@
 -- The next record of a file. A byte moves reading as `move` of model's Records says, but a complete record is returned before it is
 -- checked, so that reading a file is a sequence of next records.
 use Rattle.std.specs.Prelude.{ℕ, ◌+◌, ◌≤◌, ◌<◌, true, List, [], ◌∷◌, ◌++◌, length}
-use Rattle.model.specs.rules.Base.{if◌then◌else◌, Bytes}
+use Rattle.model.specs.rules.Base.{choose◌then◌else◌, Bytes}
 use Rattle.model.specs.rules.File.{file_step, file_end}
 use Rattle.model.specs.rules.Text.{Value}
 use Rattle.model.specs.rules.Report.{MAXFILE}
@@ -77,7 +77,7 @@ completed r vs f o = record { event = Completed r.start (length vs) f o; cells =
 unfoldable pub stepped : Dialect → Read → (b : ℕ) → (rest : Read → Next) → Step → Next
 stepped d r b rest (Reject e) = failed (Byte e) r
 stepped d r b rest (To f p) =
-    if ends_record p then completed r (closing d (closes_cell p) r) f (r.offset + 1) else rest (read_after d r b f p)
+    choose ends_record p then completed r (closing d (closes_cell p) r) f (r.offset + 1) else rest (read_after d r b f p)
 
 -- the file ends here; between records there is no current cell
 abbrev pub ended : Dialect → Read → Ending → Next
@@ -88,8 +88,8 @@ ended d r Cut = failed CutShort r
 unfoldable pub next_record : Dialect → Read → Bytes → Next
 next_record d r [] = ended d r (file_end d r.state)
 next_record d r (b ∷ bs) =
-    if file_full r then failed FileTooLong r
-    else if record_full r b then failed RecordTooLong r
+    choose file_full r then failed FileTooLong r
+    else choose record_full r b then failed RecordTooLong r
     else stepped d r b (λ r'. next_record d r' bs) (file_step d r.state b)
 
 -- ---- how far an event lies

@@ -15,7 +15,7 @@ use Rattle.model.specs.declared.Dialect.{Dialect}
 use Rattle.model.specs.declared.FileState.{FileState}
 use Rattle.model.specs.declared.FileState.TheVariants.{Top}
 use Rattle.model.specs.declared.Report.{Report}
-use Rattle.model.specs.rules.Base.{if◌then◌else◌, Bytes, concat, over}
+use Rattle.model.specs.rules.Base.{choose◌then◌else◌, Bytes, concat, over}
 use Rattle.model.specs.rules.Dialect.{dialect_of}
 use Rattle.model.specs.rules.Text.{Value}
 use Rattle.model.specs.rules.Report.{accepted, refusal, MAXFILE}
@@ -65,7 +65,7 @@ records_answer h ds r room e = ap (λ (l : List Rec). api.answered l (concat (ro
 pub crowded :
     (d : Dialect) (file : Bytes) (room n : ℕ) (h : Rec) (ds : List Rec) (r : Read) → read_file d none file ≡ going r → r.done ≡ h ∷ ds →
     length (concat (rows (h ∷ ds))) ≡ n → room < n → answer_in d file room ≡ api.no_answer (refusal 10)
-unfolding if◌then◌else◌
+unfolding choose◌then◌else◌
 crowded d file room n h ds r p q c l =
     let t : ltb room (length (concat (rows (h ∷ ds)))) ≡ true = lt-ltb room (length (concat (rows (h ∷ ds)))) (omega arith) in
     ap (λ (g : Progress). api.read_answer g room) p ∙ records_answer h ds r room q ∙ rw t
@@ -75,7 +75,7 @@ pub roomy :
     (d : Dialect) (file : Bytes) (room n : ℕ) (h : Rec) (ds : List Rec) (r : Read) → read_file d none file ≡ going r → r.done ≡ h ∷ ds →
     length (concat (rows (h ∷ ds))) ≡ n → n ≤ room →
     answer_in d file room ≡ record { report = accepted; columns = length h.cells; records = length ds; cells = concat (rows (h ∷ ds)) }
-unfolding if◌then◌else◌
+unfolding choose◌then◌else◌
 roomy d file room n h ds r p q c l =
     let t : ltb room (length (concat (rows (h ∷ ds)))) ≡ false = le-ltb room (length (concat (rows (h ∷ ds)))) (omega arith) in
     ap (λ (g : Progress). api.read_answer g room) p ∙ records_answer h ds r room q ∙ rw t

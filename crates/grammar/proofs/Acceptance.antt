@@ -14,7 +14,7 @@ use borrow.Author.Tests.{ltb-false, le-ltb}
 use Rattle.grammar.specs.rfc.Types.{Dialect, Encoding, Syntax}
 use Rattle.grammar.specs.rfc.Types as types
 use Rattle.model.specs.declared.Report.{Report}
-use Rattle.model.specs.rules.Base.{Bytes, if◌then◌else◌, concat}
+use Rattle.model.specs.rules.Base.{Bytes, choose◌then◌else◌, concat}
 use Rattle.model.specs.rules.Dialect.{dialect_of}
 use Rattle.model.specs.rules.Text.{Value}
 use Rattle.model.specs.rules.Api.{answered, read_answer, reader}
@@ -198,7 +198,7 @@ ten e = let k : ◌≡◌ {A = ℕ} 10 0 = ap (λ (z : Report). z.number) e in a
 roomy :
     {file : Bytes} {rs : List Rec} {ls : List (Line Derived)} (vs : List Value) (room : ℕ) → Each (ShowsRecord file) rs ls → Some ls →
     (answered rs vs room).report ≡ accepted → length vs ≤ room
-unfolding if◌then◌else◌
+unfolding choose◌then◌else◌
 roomy vs room (each_cons {x = h} {xs = rs} s k) some e = go (ltb room (length vs)) refl
   where
     go : (t : Bool) → ltb room (length vs) ≡ t → length vs ≤ room
@@ -209,7 +209,7 @@ roomy vs room each_none x e = elim x [ ]
 has_room :
     {file : Bytes} {rs : List Rec} {ls : List (Line Derived)} (vs : List Value) (room : ℕ) → Each (ShowsRecord file) rs ls →
     length vs ≤ room → (answered rs vs room).report ≡ accepted
-unfolding if◌then◌else◌
+unfolding choose◌then◌else◌
 has_room vs room each_none h = refl
 has_room vs room (each_cons s k) h = rw (le-ltb room (length vs) h)
 

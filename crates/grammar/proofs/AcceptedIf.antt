@@ -9,7 +9,7 @@ use lib.ListN.{length, length-append}
 use lib.Dec.{leb}
 use borrow.Author.Tests.{lt-leb}
 use Rattle.grammar.specs.rfc.Types.{Dialect, FileState, Begin, OfCell, Outside, Passed, Between, Tail, Ends, Step, To, Clean, Final, Sound}
-use Rattle.model.specs.rules.Base.{Bytes, if◌then◌else◌}
+use Rattle.model.specs.rules.Base.{Bytes, choose◌then◌else◌}
 use Rattle.model.specs.rules.File.{file_step, file_end, counts}
 use Rattle.model.specs.rules.Text.{Value}
 use Rattle.model.specs.rules.Report.{MAXFILE, MAXRECORD}
@@ -52,7 +52,7 @@ module _ (d : Dialect) (r : Read) (b : ℕ) where
   break_free e = rw e (and-false (leb MAXRECORD r.size))
 
   free_byte : (s : Step) → r.offset < MAXFILE → record_full r b ≡ false → file_step d r.state b ≡ s → read_byte d none r b ≡ move d none r b s
-  unfolding read_byte if◌then◌else◌
+  unfolding read_byte choose◌then◌else◌
   free_byte s h k e = rw (file_free h, k, e)
 
 module _ (d : Dialect) (file : Bytes) (total : List (Line Derived)) (limit : length file ≤ MAXFILE) (has_record : Some total) where

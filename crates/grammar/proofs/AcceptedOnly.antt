@@ -12,7 +12,7 @@ use borrow.Author.Tests.{leb-false}
 use Rattle.grammar.specs.rfc.Types.{Dialect, Csvj, Tdif, CsvPlus, Cell, Fault, FileState, Top, Begin, Ended, Bom1, Bom2, PlainBom1, PlainBom2}
 use Rattle.grammar.specs.rfc.Types.{Comment, Blanks, ExpectCell, Inside, After, Cr, OfCell, Outside, Passed, Between, Tail, Ends, Step, To}
 use Rattle.grammar.specs.rfc.Types.{Reject, Ending, Clean, Final, Cut, CheckResult, Sound, Faulty}
-use Rattle.model.specs.rules.Base.{Bytes, if◌then◌else◌}
+use Rattle.model.specs.rules.Base.{Bytes, choose◌then◌else◌}
 use Rattle.model.specs.rules.Cell.{is_whole}
 use Rattle.model.specs.rules.File.{file_step, file_end, last_cell, counts}
 use Rattle.model.specs.rules.Text.{Value}
@@ -407,7 +407,7 @@ module _ (d : Dialect) (file : Bytes) (end : Read) where
     step_comes (To h (Ends true)) s e f q = ends_closing_comes h s e q
 
   byte_comes : (b : ℕ) (bs : Bytes) → Comes bs → Comes (b ∷ bs)
-  unfolding read_from read_byte file_full if◌then◌else◌
+  unfolding read_from read_byte file_full choose◌then◌else◌
   byte_comes b bs ih r seen pre text raw cells s place q = go (leb MAXFILE r.offset) (record_full r b) refl refl
     where
       go : (x y : Bool) → leb MAXFILE r.offset ≡ x → record_full r b ≡ y → Outcome r (b ∷ bs) pre text raw cells

@@ -12,7 +12,7 @@ use lib.Dec.{ltb, eqb}
 use borrow.Author.Tests.{ltb-false, le-ltb, eqb-true, eq-eqb, not-false}
 use Rattle.grammar.specs.rfc.Types.{Kind, Text, Number, True, False, Null, Dialect, Fault, TooManyColumns, HeaderKind, RepeatedName, CellCount}
 use Rattle.grammar.specs.rfc.Types.{CheckResult, Sound, Faulty}
-use Rattle.model.specs.rules.Base.{Bytes, if◌then◌else◌, same}
+use Rattle.model.specs.rules.Base.{Bytes, choose◌then◌else◌, same}
 use Rattle.model.specs.rules.Text.{Value, is_text}
 use Rattle.model.specs.rules.Report.{MAXCOLUMNS}
 use Rattle.model.specs.rules.Records.{Rec, ◌or_else◌, when, name_key, among, repeat_from, repeat_fault, header_kind_from, header_fault, data_fault, record_fault}
@@ -93,7 +93,7 @@ not_same x y p e = impossible (sym p ∙ (rw e (same_refl y)))
 
 -- among the names seen
 pub among_cons : (x y : Bytes) (ys : List Bytes) → among x (y ∷ ys) ≡ false → (x ≢ y) × (among x ys ≡ false)
-unfolding among if◌then◌else◌
+unfolding among choose◌then◌else◌
 among_cons x y ys p = go (same x y) refl
   where
     go : (t : Bool) → same x y ≡ t → (x ≢ y) × (among x ys ≡ false)
@@ -101,7 +101,7 @@ among_cons x y ys p = go (same x y) refl
     go false q = (not_same x y q, rw q at p)
 
 pub cons_among : (x y : Bytes) (ys : List Bytes) → x ≢ y → among x ys ≡ false → among x (y ∷ ys) ≡ false
-unfolding among if◌then◌else◌
+unfolding among choose◌then◌else◌
 cons_among x y ys n p = rw (same_not x y n, p)
 
 module _ (d : Dialect) where
@@ -125,7 +125,7 @@ module _ (d : Dialect) where
     distinct :
         {vs : List Value} {cs : List Derived} (seen : List Bytes) (n : ℕ) → Each (ShowsCell file) vs cs →
         repeat_from d RepeatedName seen n vs ≡ Sound → Unseen seen cs × Distinct d cs
-    unfolding repeat_from if◌then◌else◌
+    unfolding repeat_from choose◌then◌else◌
     distinct seen n each_none p = (every_none, no_names)
     distinct seen n (each_cons {x = v} {xs = vs} {y = c} {ys = cs} s k) p = go (among key seen) refl (λ q. distinct (key ∷ seen) (suc n) k q)
       where
@@ -149,7 +149,7 @@ module _ (d : Dialect) where
     all_distinct :
         {vs : List Value} {cs : List Derived} (seen : List Bytes) (n : ℕ) → Each (ShowsCell file) vs cs → Unseen seen cs → Distinct d cs →
         repeat_from d RepeatedName seen n vs ≡ Sound
-    unfolding repeat_from if◌then◌else◌
+    unfolding repeat_from choose◌then◌else◌
     all_distinct seen n each_none u m = refl
     all_distinct seen n (each_cons {x = v} {xs = vs} {y = c} {ys = cs} s k) (every_cons p u) (a_name w m) =
         let key : Bytes = name_key d v.content in

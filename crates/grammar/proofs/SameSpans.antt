@@ -10,7 +10,7 @@ use lib.Dec.{ltb}
 use Rattle.grammar.specs.rfc.Types.{Dialect, FileState, Begin, OfCell, Outside, Passed, Between, Tail, Ends, Step, To, Clean, Final}
 use Rattle.grammar.specs.rfc.Types.{CheckResult, Sound, Faulty}
 use Rattle.grammar.specs.rfc.Types as types
-use Rattle.model.specs.rules.Base.{Bytes, if◌then◌else◌, concat}
+use Rattle.model.specs.rules.Base.{Bytes, choose◌then◌else◌, concat}
 use Rattle.model.specs.rules.Dialect.{dialect_of}
 use Rattle.model.specs.rules.File.{file_step, file_end}
 use Rattle.model.specs.rules.Report.{accepted}
@@ -52,7 +52,7 @@ module _ (d : Dialect) (end : Read) where
   byte_read :
       (r : Read) (b : ℕ) (bs : Bytes) (s : Step) → file_step d r.state b ≡ s → Comes r (b ∷ bs) →
       read_end d none (read_from d none (move d none r b s) bs) ≡ going end
-  unfolding read_from read_byte if◌then◌else◌
+  unfolding read_from read_byte choose◌then◌else◌
   byte_read r b bs s e q = go (file_full r) (record_full r b) refl refl
     where
       go : (x y : Bool) → file_full r ≡ x → record_full r b ≡ y → read_end d none (read_from d none (move d none r b s) bs) ≡ going end
@@ -172,7 +172,7 @@ rows_spans (r ∷ rs) = map-append span_of r.cells (concat (rows rs)) ∙ ap (λ
 answered_cells :
     (rs : List Rec) (room : ℕ) → (answered rs (concat (rows rs)) room).report ≡ accepted →
     (answered rs (concat (rows rs)) room).cells ≡ concat (rows rs)
-unfolding rows concat if◌then◌else◌
+unfolding rows concat choose◌then◌else◌
 answered_cells [] room e = refl
 answered_cells (h ∷ rs) room e = go (ltb room (length (concat (rows (h ∷ rs))))) refl
   where

@@ -13,7 +13,7 @@ use borrow.Author.Tests.{ltb-true, ltb-false, ne_eqb}
 use Rattle.io.specs.Counts.{IsPrefixLen}
 use Rattle.io.specs.Digits.{last_digits, IsDigitCount}
 use Rattle.model.specs.declared.Report.{Report}
-use Rattle.model.specs.rules.Base.{Bytes, over, if◌then◌else◌, ◌is◌}
+use Rattle.model.specs.rules.Base.{Bytes, over, choose◌then◌else◌, ◌is◌}
 use Rattle.model.proofs.Tests.{split}
 use Rattle.buffer.specs.Writes.{written}
 use Rattle.buffer.proofs.WriteProgress.{drop_next, Writing, put, room_left, done, filled as filled-out}
@@ -117,7 +117,7 @@ module _ (e : Report) (form : Bytes) (i : ℕ) {old out : Bytes} {o : ℕ} (w : 
 pub other_form :
     (n column : ℕ) → (n ≡ 1 → ⊥) → (n ≡ 2 → ⊥) → (n ≡ 3 → ⊥) → (n ≡ 4 → ⊥) → (n ≡ 5 → ⊥) → (n ≡ 6 → ⊥) → (n ≡ 7 → ⊥) → (n ≡ 8 → ⊥) →
     (n ≡ 9 → ⊥) → form_of n column ≡ form_of 10 column
-unfolding form_of if◌then◌else◌
+unfolding form_of choose◌then◌else◌
 other_form n column a b c d e f g h i =
     rw (ne_eqb n 1 a, ne_eqb n 2 b, ne_eqb n 3 c, ne_eqb n 4 d, ne_eqb n 5 e, ne_eqb n 6 f, ne_eqb n 7 g, ne_eqb n 8 h, ne_eqb n 9 i)
 

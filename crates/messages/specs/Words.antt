@@ -1,7 +1,7 @@
 -- The words by which the command line names a dialect.
 use Rattle.std.specs.Prelude.{ℕ, Bool, ◌||◌}
 use Rattle.model.specs.declared.Dialect.TheVariants.{Tdif}
-use Rattle.model.specs.rules.Base.{Bytes, same, if◌then◌else◌}
+use Rattle.model.specs.rules.Base.{Bytes, same, choose◌then◌else◌}
 use Rattle.model.specs.laws.Ascii.{ascii}
 use Rattle.model.specs.rules.Records.{name_key}
 
@@ -12,7 +12,7 @@ spells word name = same (name_key Tdif word) (name_key Tdif name)
 -- the number of the dialect that a word names, by its name or its number; 0 if it names none (§1.1 §1.2 §1.3 §1.4)
 unfoldable pub dialect_named : Bytes → ℕ
 dialect_named word =
-    if spells word (ascii "csvj") || spells word (ascii "1") then 1
-    else if spells word (ascii "tdif") || spells word (ascii "2") then 2
-    else if spells word (ascii "csv+") || spells word (ascii "3") then 3
+    choose spells word (ascii "csvj") || spells word (ascii "1") then 1
+    else choose spells word (ascii "tdif") || spells word (ascii "2") then 2
+    else choose spells word (ascii "csv+") || spells word (ascii "3") then 3
     else 0

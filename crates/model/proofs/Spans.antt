@@ -13,7 +13,7 @@ use lib.Dec.{ltb}
 use borrow.Author.Tests.{le-ltb}
 use Rattle.model.specs.rules.Types.{Dialect, Target, Fresh, FileState, Outside, Passed, OfCell, Between, Tail, Ends, Step, To, Reject, Ending}
 use Rattle.model.specs.rules.Types.{Clean, Final, Cut, Fault, CheckResult, Sound, Faulty, WholeCell}
-use Rattle.model.specs.rules.Base.{Bytes, concat, if◌then◌else◌}
+use Rattle.model.specs.rules.Base.{Bytes, concat, choose◌then◌else◌}
 use Rattle.model.specs.rules.Dialect.{dialect_of}
 use Rattle.model.specs.rules.File.{file_step, file_end}
 use Rattle.model.specs.rules.Decode.{kind_of, content_of, validate_cell}
@@ -215,7 +215,7 @@ cells_sound_file d target xs = sound_records (stretches d target xs)
 -- ---- the decoder on a span
 
 decodes : (n : ℕ) (d : Dialect) (file : Bytes) (v : Value) → dialect_of n ≡ some d → Stretched d file v → Decodes n file v
-unfolding decoder if◌then◌else◌
+unfolding decoder choose◌then◌else◌
 decodes n d file v e s =
     rw (e, decoder) (rw (s.sound, ← s.kind, ← s.content, le-ltb (length v.content) (length v.content) (omega arith)))
 

@@ -5,13 +5,13 @@ use mathlib.Core.Path.{◌≡◌, refl, sym, subst}
 use mathlib.Core.Bool.{Bool, true, false, ◌&&◌}
 use lib.Dec.{leb, T, eqb→eq}
 use borrow.Author.Tests.{eq-eqb, ne_eqb, lt-ltb, le-ltb, le-leb, lt-leb, leb-true}
-use Rattle.model.specs.rules.Base.{if◌then◌else◌, ◌is◌, within}
+use Rattle.model.specs.rules.Base.{choose◌then◌else◌, ◌is◌, within}
 
 pub ruleset tests = (eq-eqb, ne_eqb, lt-ltb, le-ltb, le-leb, lt-leb)
 
 -- a choice has a property if each side has it, given the result of the test
-pub split {ℓ κ} : {A : Type ℓ} (P : A → Type κ) {x y : A} (t : Bool) → (t ≡ true → P x) → (t ≡ false → P y) → P (if t then x else y)
-unfolding if◌then◌else◌
+pub split {ℓ κ} : {A : Type ℓ} (P : A → Type κ) {x y : A} (t : Bool) → (t ≡ true → P x) → (t ≡ false → P y) → P (choose t then x else y)
+unfolding choose◌then◌else◌
 split P true f g = f refl
 split P false f g = g refl
 

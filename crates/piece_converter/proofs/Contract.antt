@@ -10,7 +10,7 @@ use lib.ListN.{length}
 use Rattle.model.specs.declared.Report.{Report}
 use Rattle.model.specs.declared.Dialect.{Dialect}
 use Rattle.model.specs.declared.Target.{Target}
-use Rattle.model.specs.rules.Base.{if◌then◌else◌, Bytes}
+use Rattle.model.specs.rules.Base.{choose◌then◌else◌, Bytes}
 use Rattle.model.specs.rules.Dialect.{dialect_of, into}
 use Rattle.model.specs.rules.Text.{table_text}
 use Rattle.model.specs.rules.Report.{refusal, MAXRECORD, MAXCOLUMNS}
@@ -46,14 +46,14 @@ use Rattle.piece_converter.proofs.Representation.{Says, state_then, call_answer,
 
 -- after a call at this stage
 abbrev consumed_then : ConverterStage → Call → Bytes → Bytes
-consumed_then w c bs = if checked_at w c then bs else bs ++ bytes_of c
+consumed_then w c bs = choose checked_at w c then bs else bs ++ bytes_of c
 
 abbrev entry : Call → Written → List Entry
 entry c a = record { call = c; answer = a } ∷ []
 
 -- a call with a number that is no dialect's consumes nothing
 consumed_unknown : (past : List Entry) (c : Call) → consumed_in (past ++ entry c (unwritten (refusal 11))) ≡ consumed_in past
-unfolding consumed_in if◌then◌else◌
+unfolding consumed_in choose◌then◌else◌
 consumed_unknown past c = go (ledger.fault_in past) refl
   where
     go : (x : Option Report) → ledger.fault_in past ≡ x → consumed_in (past ++ entry c (unwritten (refusal 11))) ≡ consumed_in past
@@ -62,14 +62,14 @@ consumed_unknown past c = go (ledger.fault_in past) refl
 
 -- a call that is taken consumes its bytes, also where it meets a fault
 consumed_last : (t : Target) (text : Bytes) (c : Call) (q : Progress) → consumed_in (entry c (taken t text q)) ≡ bytes_of c
-unfolding consumed_in if◌then◌else◌
+unfolding consumed_in choose◌then◌else◌
 consumed_last t text c (going r) = append-nil (bytes_of c)
 consumed_last t text c (stopped f r) = rw (fault_number f)
 
 consumed_then_lem :
     (d : Dialect) (t : Target) (past : List Entry) (w : ConverterStage) (c : Call) → LiesAt d t past w →
     consumed_in (past ++ entry c (answer_at d t w c)) ≡ consumed_then w c (consumed_in past)
-unfolding answer_at consumed_in if◌then◌else◌
+unfolding answer_at consumed_in choose◌then◌else◌
 consumed_then_lem d t past (taking r) c (stood_taking k e b x) =
     split_on (too_small c) (λ s. rw s (consumed_none (entry c (unwritten (refusal 10))) past k ∙ append-nil (consumed_in past))) λ s.
     rw s
@@ -221,7 +221,7 @@ module _ (s : Converter) (c : Call) (out : List ℕ) (e : Report) (h : check_of 
   stays_models :
       (m n : ℕ) (d t : Dialect) (w : ConverterStage) (consumed : Bytes) → Refuses d t w c e → Models consumed m n w s →
       Models (consumed_then w c consumed) m n (stage_after d (into t) w c) s
-  unfolding if◌then◌else◌
+  unfolding choose◌then◌else◌
   stays_models m n d t w consumed x k =
       let y : Models consumed m n (stage_after d (into t) w c) s = subst (λ (y : ConverterStage). Models consumed m n y s) (sym x.stays) k in
       rw x.by_check y
@@ -319,7 +319,7 @@ module _ (s : Converter) (c : Call) (d t : Dialect) (h : check_of s c ≡ checks
     comes :
         (m n : ℕ) (consumed : Bytes) (done : List Rec) (k : Buffered) → dialect_of m ≡ some d → dialect_of n ≡ some t → s.source ≡ m →
         s.target ≡ n → Takes d t consumed s done k → too_small c ≡ false → Comes m n d t consumed (taking (stood done k))
-    unfolding answer_at stage_after if◌then◌else◌
+    unfolding answer_at stage_after choose◌then◌else◌
     comes m n consumed done k p q e f takes small =
         let x = step m n consumed done k p q takes small in
         let model : Models (consumed ++ bytes_of c) m n (stage_then (is_finish c) (seen_from d (into t) (stood done k) c)) next =

@@ -14,7 +14,7 @@ use Rattle.model.specs.declared.Dialect.{Dialect}
 use Rattle.model.specs.declared.Fault.{Fault}
 use Rattle.model.specs.declared.Target.{Target}
 use Rattle.model.specs.declared.FileState.{FileState}
-use Rattle.model.specs.rules.Base.{if◌then◌else◌, Bytes}
+use Rattle.model.specs.rules.Base.{choose◌then◌else◌, Bytes}
 use Rattle.model.specs.rules.Dialect.{dialect_of, into}
 use Rattle.model.specs.rules.Text.{table_text}
 use Rattle.model.specs.rules.Report.{number_of, MAXRECORD, MAXCOLUMNS, MAXPIECE, LEASTOUTPUT}
@@ -213,7 +213,7 @@ module _ (d t : Dialect) (consumed : Bytes) (s : Converter) (done : List Rec) (k
 -- ---- a new converter
 
 first_place : place_in (replicate 14 0) ≡ at_start
-unfolding state_from fixed_state if◌then◌else◌
+unfolding state_from fixed_state choose◌then◌else◌
 first_place = refl
 
 zeros : (n : ℕ) → length (replicate {A = ℕ} n 0) ≡ n

@@ -8,7 +8,7 @@ use lib.ListN.{length, take, drop, get_or, length-take, length-drop}
 use lib.Dec.{ltb}
 use borrow.Author.Tests.{ltb-true, ltb-false}
 use lib.Seq.{take_at, take-length, get_or-take, get_or-drop}
-use Rattle.model.specs.rules.Base.{if◌then◌else◌, Bytes, over}
+use Rattle.model.specs.rules.Base.{choose◌then◌else◌, Bytes, over}
 use Rattle.model.specs.rules.Decode.{kind_number, kind_of}
 use Rattle.model.specs.rules.Report.{MAXRECORD}
 use Rattle.model.specs.rules.Api.{slice, kinds_of, kind_named}
@@ -29,7 +29,7 @@ use Rattle.piece_record.specs.Completion.{starts_by, end_of, HoldsNoEd}
 -- ---- kinds
 
 pub kind_back : (k : Kind) → kind_from (kind_number k) ≡ k
-unfolding kind_named if◌then◌else◌
+unfolding kind_named choose◌then◌else◌
 kind_back Text = refl
 kind_back Number = refl
 kind_back True = refl

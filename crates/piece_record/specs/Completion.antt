@@ -1,7 +1,7 @@
 -- A complete record from the buffered bytes of its cells, in which each cell's end is the next one's start; and the result of completing
 -- it.
 use Rattle.std.specs.Prelude.{ℕ, ◌+◌, ◌≤◌, ◌<◌, ◌≡◌, List, [], ◌∷◌, ◌++◌, length, take, get_or}
-use Rattle.model.specs.rules.Base.{if◌then◌else◌, ◌is◌, Bytes}
+use Rattle.model.specs.rules.Base.{choose◌then◌else◌, ◌is◌, Bytes}
 use Rattle.model.specs.rules.Text.{Value, record_text, ending}
 use Rattle.model.specs.laws.Places.{values_in}
 use Rattle.model.specs.rules.Records.{◌or_else◌, header_fault, data_fault, target_fault}
@@ -37,7 +37,7 @@ HoldsNoEd bs = (i : ℕ) → i < length bs → get_or bs i 0 ≡ 0xED → ⊥
 -- the checks of a record at a place, with its records, columns and bytes so far: the source's in dialect d, and then the target's
 unfoldable pub fault_at : Dialect → Target → Place → List Value → CheckResult
 fault_at d t p vs =
-    (if p.records is 0 then header_fault d vs else data_fault p.columns vs) or_else target_fault t (p.records is 0) p.written vs
+    (choose p.records is 0 then header_fault d vs else data_fault p.columns vs) or_else target_fault t (p.records is 0) p.written vs
 
 -- the text of a record at this place, with its ending
 abbrev pub text_at : Target → Place → List Value → Bytes

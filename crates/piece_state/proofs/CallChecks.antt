@@ -7,7 +7,7 @@ use lib.ListN.{length}
 use borrow.Author.Tests.{lt-ltb}
 use Rattle.model.specs.declared.Report.{Report}
 use Rattle.model.specs.declared.Dialect.{Dialect}
-use Rattle.model.specs.rules.Base.{if◌then◌else◌}
+use Rattle.model.specs.rules.Base.{choose◌then◌else◌}
 use Rattle.model.specs.rules.Dialect.{dialect_of}
 use Rattle.model.specs.rules.Report.{refusal}
 use Rattle.model.specs.rules.Records.{Read}
@@ -37,15 +37,15 @@ module _ (m n : ℕ) (fault : Report) (over piece room : ℕ) where
 
 module _ (d t : Dialect) (c : Call) where
   -- a call to a converter that takes bytes
-  by_size : (r : Read) (small : Bool) → too_small c ≡ small → CallCheckSound d t (taking r) c (if small then Refused (refusal 10) else Proceed d t)
-  unfolding answer_at stage_after if◌then◌else◌
+  by_size : (r : Read) (small : Bool) → too_small c ≡ small → CallCheckSound d t (taking r) c (choose small then Refused (refusal 10) else Proceed d t)
+  unfolding answer_at stage_after choose◌then◌else◌
   by_size r true e = means_refused {e = refusal 10} (rw e) e (rw e)
   by_size r false e = means_taken r refl e
 
   between :
       (w : ConverterStage) (fault : Report) (over : ℕ) → StageEncoded w fault over →
       CallCheckSound d t w c (check_between d t fault over (length (bytes_of c)) (room_of c))
-  unfolding check_between answer_at stage_after if◌then◌else◌
+  unfolding check_between answer_at stage_after choose◌then◌else◌
   between (taking r) fault over (reports_taking e) = rw e (by_size r (too_small c) refl)
   between (faulted e) fault over (reports_faulted h) = rw (lt-ltb 0 e.number h) (means_refused refl refl refl)
   between ended fault over (reports_ended e h) = rw (e, lt-ltb 0 over h) (means_refused refl refl refl)

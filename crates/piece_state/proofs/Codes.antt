@@ -19,7 +19,7 @@ use Rattle.model.specs.declared.Word.TheVariants.{T, Tr, Tru, F, Fa, Fal, Fals, 
 use Rattle.model.specs.declared.Cell.{Cell}
 use Rattle.model.specs.declared.Cell.TheVariants.{Fresh, Quoted, Closed, Escape, Hex, InNumber, InWord, Plain, Complete}
 use Rattle.model.specs.declared.FileState.TheVariants.{Top, Begin, Ended, Bom1, Bom2, PlainBom1, PlainBom2, Comment, Blanks, ExpectCell, Inside, After, Cr}
-use Rattle.model.specs.rules.Base.{if◌then◌else◌}
+use Rattle.model.specs.rules.Base.{choose◌then◌else◌}
 use Rattle.piece_state.specs.Codes.{lead_number, lead_from, inner_number, inner_from, char_number, char_from, hex_number, hex_from, numeral_number, numeral_from}
 use Rattle.piece_state.specs.Codes.{word_number, word_from, cell_number, fixed_cell, cell_from, fixed_state, state_from, StateBack}
 
@@ -87,7 +87,7 @@ cell_small (InWord w) = omega (arith, word_small w)
 -- ---- decoding
 
 char_back : (t : Char) → char_from (char_number t) ≡ t
-unfolding char_from inner_from lead_from if◌then◌else◌
+unfolding char_from inner_from lead_from choose◌then◌else◌
 char_back Whole = refl
 char_back (Within Last) = refl
 char_back (Within LastTwo) = refl
@@ -103,38 +103,38 @@ char_back (Within (Second F4)) = refl
 -- a number of each row
 module _ (k : ℕ) (h : k < 16) where
   quoted_row : cell_from (16 + k) ≡ Quoted (char_from k)
-  unfolding cell_from if◌then◌else◌
+  unfolding cell_from choose◌then◌else◌
   quoted_row =
       let n : 16 + k - 16 ≡ k = omega arith in
       rw (le-ltb (16 + k) 16 (omega arith), lt-ltb (16 + k) 32 (omega arith), n)
 
   plain_row : cell_from (32 + k) ≡ Plain (char_from k)
-  unfolding cell_from if◌then◌else◌
+  unfolding cell_from choose◌then◌else◌
   plain_row =
       let n : 32 + k - 32 ≡ k = omega arith in
       rw (le-ltb (32 + k) 16 (omega arith), le-ltb (32 + k) 32 (omega arith), lt-ltb (32 + k) 48 (omega arith), n)
 
   comment_row : state_from (16 + k) ≡ Comment (char_from k)
-  unfolding state_from if◌then◌else◌
+  unfolding state_from choose◌then◌else◌
   comment_row =
       let n : 16 + k - 16 ≡ k = omega arith in
       rw (le-ltb (16 + k) 16 (omega arith), lt-ltb (16 + k) 32 (omega arith), n)
 
 inside_row : (k : ℕ) → state_from (32 + k) ≡ Inside (cell_from k)
-unfolding state_from if◌then◌else◌
+unfolding state_from choose◌then◌else◌
 inside_row k =
     let n : 32 + k - 32 ≡ k = omega arith in
     rw (le-ltb (32 + k) 16 (omega arith), le-ltb (32 + k) 32 (omega arith), n)
 
 hex_cell_back : (h : HexLeft) → cell_from (48 + hex_number h) ≡ Hex h
-unfolding cell_from hex_from if◌then◌else◌
+unfolding cell_from hex_from choose◌then◌else◌
 hex_cell_back Four = refl
 hex_cell_back Three = refl
 hex_cell_back Two = refl
 hex_cell_back One = refl
 
 number_back : (m : Numeral) → cell_from (64 + numeral_number m) ≡ InNumber m
-unfolding cell_from numeral_from if◌then◌else◌
+unfolding cell_from numeral_from choose◌then◌else◌
 number_back Minus = refl
 number_back Zero = refl
 number_back Integer = refl
@@ -145,7 +145,7 @@ number_back ESign = refl
 number_back Exponent = refl
 
 word_cell_back : (w : Word) → cell_from (80 + word_number w) ≡ InWord w
-unfolding cell_from word_from if◌then◌else◌
+unfolding cell_from word_from choose◌then◌else◌
 word_cell_back T = refl
 word_cell_back Tr = refl
 word_cell_back Tru = refl
@@ -159,7 +159,7 @@ word_cell_back Nul = refl
 word_cell_back Backslash = refl
 
 cell_back : (c : Cell) → cell_from (cell_number c) ≡ c
-unfolding cell_from fixed_cell if◌then◌else◌
+unfolding cell_from fixed_cell choose◌then◌else◌
 cell_back Fresh = refl
 cell_back Closed = refl
 cell_back Escape = refl
@@ -171,7 +171,7 @@ cell_back (InNumber m) = number_back m
 cell_back (InWord w) = word_cell_back w
 
 pub state_back : StateBack
-unfolding state_from fixed_state if◌then◌else◌
+unfolding state_from fixed_state choose◌then◌else◌
 state_back Top = refl
 state_back Begin = refl
 state_back Ended = refl

@@ -7,7 +7,7 @@ use lib.ListN.{length, take, drop, get_or, length-append, length-take, take-appe
 use lib.Seq.{get_or-take, get_or-drop, take_at, take-take}
 use borrow.Author.Tests.{eq-eqb, ne_eqb}
 use Rattle.model.specs.declared.Dialect.{Dialect}
-use Rattle.model.specs.rules.Base.{Bytes, over, if◌then◌else◌, ◌is◌}
+use Rattle.model.specs.rules.Base.{Bytes, over, choose◌then◌else◌, ◌is◌}
 use Rattle.model.specs.laws.Laws.{All, all_none, all_cons}
 use Rattle.model.specs.rules.Decode.{kind_number}
 use Rattle.model.specs.rules.Text.{Value}
@@ -170,12 +170,12 @@ module _ (k : Buffered) (began : ℕ) where
 
   -- a cell that began later does not change
   later_same : (cs : List RawCell) → All (λ (x : RawCell). began < x.from) cs → map (joined_cell k began) cs ≡ cs
-  unfolding joined_cell if◌then◌else◌
+  unfolding joined_cell choose◌then◌else◌
   later_same [] all_none = refl
   later_same (c ∷ cs) (all_cons h hs) = rw (ne_eqb c.from began λ e. omega arith) (ap (λ (l : List RawCell). c ∷ l) (later_same cs hs))
 
   first_joined : (c : RawCell) → c.from ≡ began → joined_cell k began c ≡ record { from = k.opened; upto = c.upto; bytes = k.raw ++ c.bytes }
-  unfolding joined_cell if◌then◌else◌
+  unfolding joined_cell choose◌then◌else◌
   first_joined c e = rw (eq-eqb c.from began e)
 
   -- the bytes of joined cells are the buffered ones of the open cell, and then theirs

@@ -3,7 +3,7 @@ use Rattle.std.specs.Prelude.{ℕ, ◌<◌, ◌≡◌, true, false, ◌||◌, le
 use Rattle.std.proofs.Math.Option.{Option, none, some}
 use Rattle.model.specs.declared.Report.{Report}
 use Rattle.model.specs.declared.Dialect.{Dialect}
-use Rattle.model.specs.rules.Base.{if◌then◌else◌}
+use Rattle.model.specs.rules.Base.{choose◌then◌else◌}
 use Rattle.model.specs.rules.Dialect.{dialect_of, into}
 use Rattle.model.specs.rules.Report.{refusal, MAXPIECE, LEASTOUTPUT}
 use Rattle.model.specs.rules.Records.{Read}
@@ -17,9 +17,9 @@ use Rattle.piece_state.specs.declared.checks.CallCheck.TheVariants.{Refused, Pro
 -- is too short is 10 (§15.5 §15.6 §15.7)
 unfoldable pub check_between : Dialect → Dialect → (fault : Report) → (ended piece room : ℕ) → CallCheck
 check_between d t fault over piece room =
-    if ltb 0 fault.number then Refused fault
-    else if ltb 0 over then Refused (refusal 11)
-    else if ltb MAXPIECE piece || ltb room LEASTOUTPUT then Refused (refusal 10)
+    choose ltb 0 fault.number then Refused fault
+    else choose ltb 0 over then Refused (refusal 11)
+    else choose ltb MAXPIECE piece || ltb room LEASTOUTPUT then Refused (refusal 10)
     else Proceed d t
 
 -- either number may be of no dialect, which is 11 (§15.4)

@@ -16,7 +16,7 @@ use Rattle.model.specs.declared.Cell.{Cell}
 use Rattle.model.specs.declared.Cell.TheVariants.{Fresh, Quoted, Closed, Escape, Hex, InNumber, InWord, Plain, Complete}
 use Rattle.model.specs.declared.FileState.{FileState}
 use Rattle.model.specs.declared.FileState.TheVariants.{Top, Begin, Ended, Bom1, Bom2, PlainBom1, PlainBom2, Comment, Blanks, ExpectCell, Inside, After, Cr}
-use Rattle.model.specs.rules.Base.{if◌then◌else◌, ◌is◌}
+use Rattle.model.specs.rules.Base.{choose◌then◌else◌, ◌is◌}
 
 -- ---- characters
 
@@ -32,13 +32,13 @@ lead_number F4 = 7
 
 unfoldable pub lead_from : ℕ → Lead
 lead_from n =
-    if n is 0 then C2ToDf
-    else if n is 1 then E0
-    else if n is 2 then E1ToEc
-    else if n is 3 then Ed
-    else if n is 4 then EeToEf
-    else if n is 5 then F0
-    else if n is 6 then F1ToF3
+    choose n is 0 then C2ToDf
+    else choose n is 1 then E0
+    else choose n is 2 then E1ToEc
+    else choose n is 3 then Ed
+    else choose n is 4 then EeToEf
+    else choose n is 5 then F0
+    else choose n is 6 then F1ToF3
     else F4
 
 abbrev pub inner_number : Inner → ℕ
@@ -48,8 +48,8 @@ inner_number (Second l) = 2 + lead_number l
 
 unfoldable pub inner_from : ℕ → Inner
 inner_from n =
-    if n is 0 then Last
-    else if n is 1 then LastTwo
+    choose n is 0 then Last
+    else choose n is 1 then LastTwo
     else Second (lead_from (n - 2))
 
 abbrev pub char_number : Char → ℕ
@@ -57,7 +57,7 @@ char_number Whole = 0
 char_number (Within i) = 1 + inner_number i
 
 unfoldable pub char_from : ℕ → Char
-char_from n = if n is 0 then Whole else Within (inner_from (n - 1))
+char_from n = choose n is 0 then Whole else Within (inner_from (n - 1))
 
 -- ---- cells
 
@@ -69,9 +69,9 @@ hex_number One = 3
 
 unfoldable pub hex_from : ℕ → HexLeft
 hex_from n =
-    if n is 0 then Four
-    else if n is 1 then Three
-    else if n is 2 then Two
+    choose n is 0 then Four
+    else choose n is 1 then Three
+    else choose n is 2 then Two
     else One
 
 abbrev pub numeral_number : Numeral → ℕ
@@ -86,13 +86,13 @@ numeral_number Exponent = 7
 
 unfoldable pub numeral_from : ℕ → Numeral
 numeral_from n =
-    if n is 0 then Minus
-    else if n is 1 then Zero
-    else if n is 2 then Integer
-    else if n is 3 then Point
-    else if n is 4 then Fraction
-    else if n is 5 then E
-    else if n is 6 then ESign
+    choose n is 0 then Minus
+    else choose n is 1 then Zero
+    else choose n is 2 then Integer
+    else choose n is 3 then Point
+    else choose n is 4 then Fraction
+    else choose n is 5 then E
+    else choose n is 6 then ESign
     else Exponent
 
 abbrev pub word_number : Word → ℕ
@@ -110,16 +110,16 @@ word_number Backslash = 10
 
 unfoldable pub word_from : ℕ → Word
 word_from n =
-    if n is 0 then T
-    else if n is 1 then Tr
-    else if n is 2 then Tru
-    else if n is 3 then F
-    else if n is 4 then Fa
-    else if n is 5 then Fal
-    else if n is 6 then Fals
-    else if n is 7 then N
-    else if n is 8 then Nu
-    else if n is 9 then Nul
+    choose n is 0 then T
+    else choose n is 1 then Tr
+    else choose n is 2 then Tru
+    else choose n is 3 then F
+    else choose n is 4 then Fa
+    else choose n is 5 then Fal
+    else choose n is 6 then Fals
+    else choose n is 7 then N
+    else choose n is 8 then Nu
+    else choose n is 9 then Nul
     else Backslash
 
 -- a state with an argument has a row of sixteen numbers
@@ -136,18 +136,18 @@ cell_number (InWord w) = 80 + word_number w
 
 unfoldable pub fixed_cell : ℕ → Cell
 fixed_cell n =
-    if n is 0 then Fresh
-    else if n is 1 then Closed
-    else if n is 2 then Escape
+    choose n is 0 then Fresh
+    else choose n is 1 then Closed
+    else choose n is 2 then Escape
     else Complete
 
 unfoldable pub cell_from : ℕ → Cell
 cell_from n =
-    if ltb n 16 then fixed_cell n
-    else if ltb n 32 then Quoted (char_from (n - 16))
-    else if ltb n 48 then Plain (char_from (n - 32))
-    else if ltb n 64 then Hex (hex_from (n - 48))
-    else if ltb n 80 then InNumber (numeral_from (n - 64))
+    choose ltb n 16 then fixed_cell n
+    else choose ltb n 32 then Quoted (char_from (n - 16))
+    else choose ltb n 48 then Plain (char_from (n - 32))
+    else choose ltb n 64 then Hex (hex_from (n - 48))
+    else choose ltb n 80 then InNumber (numeral_from (n - 64))
     else InWord (word_from (n - 80))
 
 -- ---- files
@@ -169,22 +169,22 @@ state_number (Inside c) = 32 + cell_number c
 
 unfoldable pub fixed_state : ℕ → FileState
 fixed_state n =
-    if n is 0 then Top
-    else if n is 1 then Begin
-    else if n is 2 then Ended
-    else if n is 3 then Bom1
-    else if n is 4 then Bom2
-    else if n is 5 then PlainBom1
-    else if n is 6 then PlainBom2
-    else if n is 7 then Blanks
-    else if n is 8 then ExpectCell
-    else if n is 9 then After
+    choose n is 0 then Top
+    else choose n is 1 then Begin
+    else choose n is 2 then Ended
+    else choose n is 3 then Bom1
+    else choose n is 4 then Bom2
+    else choose n is 5 then PlainBom1
+    else choose n is 6 then PlainBom2
+    else choose n is 7 then Blanks
+    else choose n is 8 then ExpectCell
+    else choose n is 9 then After
     else Cr
 
 unfoldable pub state_from : ℕ → FileState
 state_from n =
-    if ltb n 16 then fixed_state n
-    else if ltb n 32 then Comment (char_from (n - 16))
+    choose ltb n 16 then fixed_state n
+    else choose ltb n 32 then Comment (char_from (n - 16))
     else Inside (cell_from (n - 32))
 
 -- the number of a state decodes to that state

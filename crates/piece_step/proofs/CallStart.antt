@@ -4,7 +4,7 @@ use native.Mathlib.Omega.{arith}
 use mathlib.Core.Path.{◌≡◌}
 use mathlib.Core.List.{List}
 use borrow.Author.Tests.{eq-eqb, ne_eqb}
-use Rattle.model.specs.rules.Base.{if◌then◌else◌, Bytes}
+use Rattle.model.specs.rules.Base.{choose◌then◌else◌, Bytes}
 use Rattle.model.specs.rules.Records.{Rec}
 use Rattle.model.specs.laws.Scans.{Buffered}
 use Rattle.piece_state.specs.declared.place.Place.{Place}
@@ -13,11 +13,11 @@ use Rattle.piece_step.specs.Steps.{current_in, StepReady}
 use Rattle.piece_step.specs.Calls.{CallStart, ReadyPiece, Begun}
 
 pub first_current : (p : Place) (a b : List ℕ) → p.records ≡ 0 → current_in p a b ≡ a
-unfolding if◌then◌else◌
+unfolding choose◌then◌else◌
 first_current p a b e = rw (eq-eqb p.records 0 e)
 
 pub second_current : (p : Place) (a b : List ℕ) → (p.records ≡ 0 → ⊥) → current_in p a b ≡ b
-unfolding if◌then◌else◌
+unfolding choose◌then◌else◌
 second_current p a b e = rw (ne_eqb p.records 0 e)
 
 module _ {d : Dialect} {t : Target} {before piece : Bytes} {p : Place} {names name_ends bytes ends out : List ℕ} {done : List Rec} {k : Buffered}

@@ -11,7 +11,7 @@ use Rattle.model.specs.declared.Dialect.{Dialect}
 use Rattle.model.specs.declared.FileState.{FileState}
 use Rattle.model.specs.declared.CheckResult.{CheckResult}
 use Rattle.model.specs.declared.CheckResult.TheVariants.{Sound}
-use Rattle.model.specs.rules.Base.{if◌then◌else◌, ◌is◌, Bytes, is_empty}
+use Rattle.model.specs.rules.Base.{choose◌then◌else◌, ◌is◌, Bytes, is_empty}
 use Rattle.model.specs.rules.Dialect.{into}
 use Rattle.model.specs.rules.Decode.{kind_of, content_of}
 use Rattle.model.specs.rules.Text.{Value, record_text, ending}
@@ -68,7 +68,7 @@ later p h = ne_eqb p.records 0 h
 sound_at :
     (d t : Dialect) (p : Place) (vs : List Value) → (p.records ≡ 0 → ⊥) → data_fault p.columns vs ≡ Sound →
     target_fault (into t) false p.written vs ≡ Sound → fault_at d (into t) p vs ≡ Sound
-unfolding fault_at if◌then◌else◌ ◌or_else◌
+unfolding fault_at choose◌then◌else◌ ◌or_else◌
 sound_at d t p vs l a b = rw (later p l, a, b)
 
 text_at_lem : (t : Dialect) (p : Place) (vs : List Value) → (p.records ≡ 0 → ⊥) → text_at (into t) p vs ≡ record_text (into t) false vs ++ ending t

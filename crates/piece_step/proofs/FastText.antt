@@ -9,7 +9,7 @@ use borrow.Author.Tests.{ne_eqb}
 use Rattle.model.specs.declared.Dialect.{Dialect}
 use Rattle.model.specs.declared.FileState.{FileState}
 use Rattle.model.specs.declared.CheckResult.TheVariants.{Sound}
-use Rattle.model.specs.rules.Base.{if◌then◌else◌, ◌is◌}
+use Rattle.model.specs.rules.Base.{choose◌then◌else◌, ◌is◌}
 use Rattle.model.specs.rules.Dialect.{into}
 use Rattle.model.specs.rules.Text.{Value, record_text, ending}
 use Rattle.model.specs.rules.Report.{MAXFILE, MAXCOLUMNS}
@@ -71,7 +71,7 @@ pub written_place :
       records = p.records + 1;
       written = p.written + (end - o);
     }) next end)
-unfolding if◌then◌else◌
+unfolding choose◌then◌else◌
 written_place {t} {p} {vs} {o} {out} {out'} {end} n next f cells l few y =
     let c : columns_with p (length vs) ≡ p.columns = rw (ne_eqb p.records 0 l) in
     subst (λ (m : ℕ). FastStepWrites t p n next f cells vs o out out'

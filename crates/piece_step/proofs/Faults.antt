@@ -8,7 +8,7 @@ use mathlib.Core.List.{List, [], ◌∷◌, ◌++◌}
 use lib.ListN.{length}
 use lib.Dec.{ltb, eqb}
 use borrow.Author.Tests.{ne_eqb}
-use Rattle.model.specs.rules.Base.{if◌then◌else◌, ◌is◌, Bytes, is_empty}
+use Rattle.model.specs.rules.Base.{choose◌then◌else◌, ◌is◌, Bytes, is_empty}
 use Rattle.model.specs.rules.Text.{Value, is_text, carried, record_text, table_text, ending}
 use Rattle.model.specs.rules.Report.{report, number_of, column_of, is_at_byte, MAXCOLUMNS}
 use Rattle.model.specs.rules.Records.{Rec, rows, Read, fault_report, ◌or_else◌, when, name_key, among, repeat_from, repeat_fault, header_kind_from, header_fault}
@@ -94,21 +94,21 @@ fault_start d t p vs e q = start_of e (at_start d t p vs) q
 
 pub report_start :
     (e : Fault) (r : Read) (n : ℕ) → is_at_byte e ≡ false → length r.done ≡ n → fault_report e r ≡ report (number_of e) (n + 1) (column_of e) r.start
-unfolding if◌then◌else◌
+unfolding choose◌then◌else◌
 report_start e r n q l = let z : suc n ≡ n + 1 = omega arith in rw (q, l, z)
 
 pub report_byte :
     (e : Fault) (r : Read) (n : ℕ) → is_at_byte e ≡ true → length r.done ≡ n → fault_report e r ≡ report (number_of e) (n + 1) (column_of e) r.offset
-unfolding if◌then◌else◌
+unfolding choose◌then◌else◌
 report_byte e r n q l = let z : suc n ≡ n + 1 = omega arith in rw (q, l, z)
 
 -- ---- by the numbers of a place
 
 by_records :
     (d : Dialect) (t : Target) (done : List Rec) (vs : List Value) →
-    ((if is_empty done then header_fault d vs else data_fault (columns_of done) vs) or_else target_fault t (is_empty done)
+    ((choose is_empty done then header_fault d vs else data_fault (columns_of done) vs) or_else target_fault t (is_empty done)
     (length (table_text t (rows done))) vs) ≡ record_fault d (some t) done vs
-unfolding record_fault rows if◌then◌else◌
+unfolding record_fault rows choose◌then◌else◌
 by_records d t [] vs = refl
 by_records d t (x ∷ xs) vs = refl
 

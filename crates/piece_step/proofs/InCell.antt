@@ -13,7 +13,7 @@ use Rattle.model.specs.declared.FileState.{FileState}
 use Rattle.model.specs.declared.FileState.TheVariants.{Inside}
 use Rattle.model.specs.declared.Step.TheVariants.{To}
 use Rattle.model.specs.declared.ByteRole.TheVariants.{OfCell}
-use Rattle.model.specs.rules.Base.{Bytes, if◌then◌else◌}
+use Rattle.model.specs.rules.Base.{Bytes, choose◌then◌else◌}
 use Rattle.model.specs.rules.Dialect.{quote_of}
 use Rattle.model.specs.rules.File.{in_cell, file_step}
 use Rattle.model.specs.rules.Report.{MAXFILE, MAXRECORD, MAXCOLUMNS}
@@ -59,7 +59,7 @@ module _ (d : Dialect) (limit : ℕ) (c : Cell) (q : ℕ) (stops : run_stop d c 
   scan_run :
       (xs : Bytes) (s : Scan) → s.state ≡ Inside c → all_pass (ordinary (quote_of d) q) xs ≡ true → s.offset + length xs ≤ limit →
       s.size + length xs ≤ MAXRECORD → scan d limit s xs ≡ pends (behind s xs)
-  unfolding scan scan_step all_pass if◌then◌else◌
+  unfolding scan scan_step all_pass choose◌then◌else◌
   scan_run [] s e all l m = rw (sym e, add-zero s.offset, add-zero s.size, append-nil s.raw) refl
   scan_run (b ∷ xs) s e all l m =
       let x = and_true (ordinary (quote_of d) q b) (all_pass (ordinary (quote_of d) q) xs) all in
@@ -111,7 +111,7 @@ module _ (d : Dialect) (piece : Bytes) (p : Place) (bytes ends : List ℕ) (boun
   place_is :
       place_behind (p.fill + length piece) ≡ place_at_piece_end p p.offset 0 (length piece) (Inside c) hand
       (p.fill + length (buffered_bytes []) + length (drop 0 piece))
-  unfolding buffered_bytes if◌then◌else◌
+  unfolding buffered_bytes choose◌then◌else◌
   place_is = rw (add-zero p.cells, add-zero p.fill) refl
 
   keeps : RecordBuffered p p.offset 0 (Inside c) hand piece [] (p.cells + hand.cells) bytes ends bytes' ends (place_behind (p.fill + length piece))

@@ -8,7 +8,7 @@ use mathlib.Core.List.{List, [], ◌∷◌, ◌++◌, map, append_assoc, append-
 use lib.ListN.{length, take, drop, length-append, length-map, take-append-drop}
 use lib.Seq.{take-append_seam}
 use borrow.Author.Tests.{eq-eqb, ne_eqb}
-use Rattle.model.specs.rules.Base.{if◌then◌else◌, ◌is◌, Bytes}
+use Rattle.model.specs.rules.Base.{choose◌then◌else◌, ◌is◌, Bytes}
 use Rattle.model.specs.rules.Report.{MAXRECORD, MAXCOLUMNS}
 use Rattle.model.specs.laws.Laws.{All, all_none, all_cons}
 use Rattle.model.specs.laws.RoundTrips.{SameCells}
@@ -304,7 +304,7 @@ module _ {bytes : Bytes} {fill : ℕ} {ends : List ℕ} (k : Buffered) (h : Curr
   none_then z = closed_then (nothing_open z) (split (λ (x : Bytes). x ≡ s.raw) ((n + s.opened) is (n + i)) (λ _. ap (λ (x : Bytes). x ++ s.raw) z) λ _. refl)
 
   open_then : First i s → HandThen
-  unfolding joined_raw buffered_bytes buffered_ends if◌then◌else◌
+  unfolding joined_raw buffered_bytes buffered_ends choose◌then◌else◌
   open_then (still_open u o c) =
       let z : fill + 0 ≡ fill = omega arith in
       rw (c, moved_is n s.opened i o, append-nil k.cells, none_written bytes fill, none_written ends (length k.cells), z) (buffered_open s.raw h)

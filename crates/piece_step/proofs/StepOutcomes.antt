@@ -8,7 +8,7 @@ use mathlib.Core.Option.{some}
 use mathlib.Core.List.{List, [], ◌∷◌, ◌++◌, map, append-nil}
 use lib.ListN.{length, drop, length-append, length-map}
 use borrow.Author.Tests.{eq-eqb, ne_eqb, eqb-true, eqb-false}
-use Rattle.model.specs.rules.Base.{if◌then◌else◌, ◌is◌, Bytes, is_empty}
+use Rattle.model.specs.rules.Base.{choose◌then◌else◌, ◌is◌, Bytes, is_empty}
 use Rattle.model.specs.rules.Text.{Value, record_text, table_text, ending}
 use Rattle.model.specs.rules.Report.{report, number_of, column_of, is_at_byte, MAXFILE, MAXCOLUMNS}
 use Rattle.model.specs.rules.Records.{Rec, rows, Progress, going, stopped, nothing_read, read_from, fault_report, record_fault}
@@ -42,11 +42,11 @@ use Rattle.piece_step.proofs.ScanLaws.{scan_faults}
 -- ---- a part in its file
 
 place_buffered : (kept began : ℕ) → joined_place kept began began ≡ kept
-unfolding joined_place if◌then◌else◌
+unfolding joined_place choose◌then◌else◌
 place_buffered kept began = rw (same_byte began)
 
 raw_buffered : (k : Buffered) (began : ℕ) → joined_raw k began began [] ≡ k.raw
-unfolding joined_raw if◌then◌else◌
+unfolding joined_raw choose◌then◌else◌
 raw_buffered k began = rw (same_byte began) (append-nil k.raw)
 
 -- the scan of the whole file from the reader's position, by that of the part
@@ -296,12 +296,12 @@ module _ (u : Step) where
               ∙ ap (read_from d (some t) (going (read_at d place_then done_then (buffered_none (n + next))))) complete_in.rest
 
           columns_then : columns_with p (length ws) ≡ columns_of done_then
-          unfolding if◌then◌else◌
+          unfolding choose◌then◌else◌
           columns_then = rw (is_first_lem d t p done h.records, h.columns, same_length same) (columns_more done)
             where
               columns_more :
                   (xs : List Rec) →
-                  (if is_empty xs then length values_now else columns_of xs) ≡ columns_of
+                  (choose is_empty xs then length values_now else columns_of xs) ≡ columns_of
                   (xs ++ (record { start = (in_file s).start; size = s.size; cells = values_now } ∷ []))
               columns_more [] = refl
               columns_more (y ∷ xs) = refl

@@ -9,7 +9,7 @@ use mathlib.Core.List.{List, [], ◌∷◌, map}
 use lib.ListN.{length, take, drop, length-append, length-map, length-drop}
 use lib.Seq.{take_all}
 use borrow.Author.Tests.{lt-ltb}
-use Rattle.model.specs.rules.Base.{if◌then◌else◌, ◌is◌, Bytes}
+use Rattle.model.specs.rules.Base.{choose◌then◌else◌, ◌is◌, Bytes}
 use Rattle.model.specs.rules.File.{file_step}
 use Rattle.model.specs.rules.Text.{Value}
 use Rattle.model.specs.rules.Report.{report, number_of, column_of, MAXFILE, MAXRECORD, MAXCOLUMNS}
@@ -75,7 +75,7 @@ too_many_fault d t p ws h =
 pub sound_fits : (d : Dialect) (t : Target) (p : Place) (ws : List Value) → fault_at d t p ws ≡ Sound → p.written + length (text_at t p ws) ≤ MAXFILE
 unfolding fault_at
 sound_fits d t p ws e =
-    let s = else_sound (if p.records is 0 then header_fault d ws else data_fault p.columns ws) (target_fault t (p.records is 0) p.written ws) e in
+    let s = else_sound (choose p.records is 0 then header_fault d ws else data_fault p.columns ws) (target_fault t (p.records is 0) p.written ws) e in
     (target_sound t (p.records is 0) p.written ws s.1).fits
 
 -- a text that was written fits into the file

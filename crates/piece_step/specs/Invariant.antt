@@ -2,7 +2,7 @@
 use Rattle.std.specs.Prelude.{ℕ, ◌+◌, ◌≤◌, ◌≡◌, Bool, true, false, List, [], ◌∷◌, ◌++◌, length, take}
 use Rattle.piece_step.specs.Types.{Dialect, Target, Fresh, WholeCell, FileState, Top, Begin, Ended, Bom1, Bom2, PlainBom1, PlainBom2, Comment, Blanks}
 use Rattle.piece_step.specs.Types.{ExpectCell, Inside, After, Cr}
-use Rattle.model.specs.rules.Base.{if◌then◌else◌, ◌is◌, Bytes}
+use Rattle.model.specs.rules.Base.{choose◌then◌else◌, ◌is◌, Bytes}
 use Rattle.model.specs.rules.Cell.{Runs}
 use Rattle.model.specs.rules.File.{cell_at}
 use Rattle.model.specs.rules.Decode.{validate_cell}
@@ -85,7 +85,7 @@ pub record StateInvariant (d : Dialect) (t : Target) (p : Place) (bytes ends : L
 
 -- the columns of the table once this record is complete
 abbrev pub columns_with : Place → (cells : ℕ) → ℕ
-columns_with p cells = if p.records is 0 then cells else p.columns
+columns_with p cells = choose p.records is 0 then cells else p.columns
 
 -- the place after a record
 abbrev pub place_after : Place → (cells size : ℕ) → FileState → (offset : ℕ) → Place
@@ -109,7 +109,7 @@ buffered_none o = record { start = o; opened = o; raw = []; cells = [] }
 -- where in the file the current record starts, by where it starts in the part: one that starts where the part began may have started
 -- before
 abbrev pub start_from : Place → (before began start : ℕ) → ℕ
-start_from p n i start = if start is i then p.start else n + start
+start_from p n i start = choose start is i then p.start else n + start
 
 -- the place where a part ends
 abbrev pub place_pending : Place → (before began fill : ℕ) → Scan → Place

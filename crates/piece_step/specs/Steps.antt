@@ -1,7 +1,7 @@
 -- One step of the run over a piece: what it requires, that it stays in bounds from any state, and what reading results in by it.
 use Rattle.std.specs.Prelude.{ℕ, ◌+◌, ◌-◌, ◌≤◌, ◌<◌, ◌≡◌, false, List, [], ◌∷◌, ◌++◌, length, take, drop}
 use Rattle.std.proofs.Math.Option.{some}
-use Rattle.model.specs.rules.Base.{if◌then◌else◌, ◌is◌, Bytes, is_empty}
+use Rattle.model.specs.rules.Base.{choose◌then◌else◌, ◌is◌, Bytes, is_empty}
 use Rattle.model.specs.rules.Text.{Value, record_text, ending}
 use Rattle.model.specs.rules.Report.{report, number_of, column_of, MAXFILE, MAXRECORD, MAXCOLUMNS}
 use Rattle.model.specs.rules.Records.{Rec, Read, going, stopped, read_from, fault_report}
@@ -36,7 +36,7 @@ pub record InBounds (p : Place) (ends : List ℕ) : Type 0 where
 
 -- the arrays of the current record: the header's until it is complete, and the others after it (§15.2)
 abbrev pub current_in : Place → (header others : List ℕ) → List ℕ
-current_in p header others = if p.records is 0 then header else others
+current_in p header others = choose p.records is 0 then header else others
 
 -- lists for what the scanner finds, which each step overwrites
 pub record Scratch (starts stops kinds : List ℕ) : Type 0 where

@@ -9,7 +9,7 @@ use Rattle.model.specs.declared.Report.{Report}
 use Rattle.model.specs.declared.Kind.{Kind}
 use Rattle.model.specs.declared.Kind.TheVariants.{Text, Number, True, False, Null}
 use Rattle.model.specs.declared.Dialect.{Dialect}
-use Rattle.model.specs.rules.Base.{if◌then◌else◌, Bytes, over}
+use Rattle.model.specs.rules.Base.{choose◌then◌else◌, Bytes, over}
 use Rattle.model.specs.rules.Report.{accepted}
 use Rattle.model.specs.rules.Decode.{kind_number, kind_of, content_of}
 use Rattle.model.specs.rules.Api as api
@@ -27,7 +27,7 @@ some_kind Null e = omega arith
 
 module _ (d : Dialect) (raw old : Bytes) (h : length raw ≤ length old) where
   fits : sound_cell d raw (length old) ≡ record { report = accepted; kind = kind_number (kind_of d raw); content = content_of d raw }
-  unfolding if◌then◌else◌
+  unfolding choose◌then◌else◌
   fits =
       let k : length (content_of d raw) ≤ length old = omega (arith, content_length d raw) in
       rw (le-ltb (length old) (length (content_of d raw)) k)

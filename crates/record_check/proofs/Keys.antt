@@ -9,7 +9,7 @@ use lib.Dec.{eqb}
 use borrow.Author.Tests.{eq-eqb, ne_eqb}
 use Rattle.model.specs.declared.Dialect.{Dialect}
 use Rattle.model.specs.declared.Dialect.TheVariants.{Csvj, Tdif, CsvPlus}
-use Rattle.model.specs.rules.Base.{if◌then◌else◌, Bytes, same}
+use Rattle.model.specs.rules.Base.{choose◌then◌else◌, Bytes, same}
 use Rattle.model.specs.rules.Records.{lower, name_key, among}
 use Rattle.model.specs.rules.Report.{MAXRECORD}
 use Rattle.model.specs.declared.Kind.{Kind}
@@ -117,10 +117,10 @@ module _ (src : Source) (rule : Dialect) (s : Bytes) (starts ends : List ℕ) wh
     among_none = refl
 
     pub among_last : (n : ℕ) → 0 < n → same key (key_of (n - 1)) ≡ true → among key (keys_before src rule s starts ends n) ≡ true
-    unfolding among if◌then◌else◌
+    unfolding among choose◌then◌else◌
     among_last n h e = rw (keys_last n h, e)
 
     pub among_before : (n : ℕ) → 0 < n → same key (key_of (n - 1)) ≡ false
         → among key (keys_before src rule s starts ends n) ≡ among key (keys_before src rule s starts ends (n - 1))
-    unfolding among if◌then◌else◌
+    unfolding among choose◌then◌else◌
     among_before n h e = rw (keys_last n h, e)

@@ -9,7 +9,7 @@ use Rattle.model.specs.declared.Dialect.{Dialect}
 use Rattle.model.specs.declared.Fault.{Fault}
 use Rattle.model.specs.declared.CheckResult.{CheckResult}
 use Rattle.model.specs.declared.CheckResult.TheVariants.{Sound, Faulty}
-use Rattle.model.specs.rules.Base.{if◌then◌else◌, Bytes}
+use Rattle.model.specs.rules.Base.{choose◌then◌else◌, Bytes}
 use Rattle.model.specs.rules.Records.{among, repeat_from, repeat_fault}
 use Rattle.cell_decoder.specs.declared.source.Source.{Source}
 use Rattle.cell_decoder.specs.Sources.{cells_in}
@@ -36,11 +36,11 @@ module _ (src : Source) (rule : Dialect) (fault : ℕ → Fault) (s : Bytes) (st
 
     module _ (h : n < length starts) where
       pub repeat_here : among (key_of src rule s starts ends n) (keys_before src rule s starts ends n) ≡ true → repeat_at n ≡ Faulty (fault (n + 1))
-      unfolding repeat_from if◌then◌else◌
+      unfolding repeat_from choose◌then◌else◌
       repeat_here e = rw (cells_next src s starts ends kinds p (sym q) n h, e)
 
       pub repeat_next : among (key_of src rule s starts ends n) (keys_before src rule s starts ends n) ≡ false → repeat_at n ≡ repeat_at (n + 1)
-      unfolding repeat_from if◌then◌else◌
+      unfolding repeat_from choose◌then◌else◌
       repeat_next e =
           rw (cells_next src s starts ends kinds p (sym q) n h, e, keys_next n)
           (ap

@@ -21,7 +21,7 @@ use Rattle.model.specs.declared.FileState.TheVariants.{Begin, Ended, Comment, Ex
 use Rattle.model.specs.declared.ByteRole.TheVariants.{Passed, Between, Tail, Ends}
 use Rattle.model.specs.declared.Step.{Step}
 use Rattle.model.specs.declared.Step.TheVariants.{To}
-use Rattle.model.specs.rules.Base.{if◌then◌else◌, ◌is◌, Bytes, QUOTE, LF, CR}
+use Rattle.model.specs.rules.Base.{choose◌then◌else◌, ◌is◌, Bytes, QUOTE, LF, CR}
 use Rattle.model.specs.rules.Dialect.{quote_of, delimiter_of}
 use Rattle.model.specs.rules.Cell.{first_byte, cell_step}
 use Rattle.model.specs.rules.File.{is_blank, after_cell, in_cell, begin_record, file_step, counts}
@@ -101,22 +101,22 @@ pub data Opening (d : Dialect) (b : ℕ) : FileState → Type 0 where
 
 -- no value of CSVJ begins with a blank or a line break
 blank_refused : (b : ℕ) → is_blank b ≡ true → first_byte Csvj b ≡ Refuse Syntax
-unfolding first_byte if◌then◌else◌
+unfolding first_byte choose◌then◌else◌
 blank_refused b e =
     split_on (b is 0x20)
     (λ q. rw (eqb-true b 0x20 q))
     λ q. let r : (b is 0x09) ≡ true = rw q at e in rw (eqb-true b 0x09 r)
 
 lf_refused : (b : ℕ) → (b is LF) ≡ true → first_byte Csvj b ≡ Refuse Syntax
-unfolding first_byte if◌then◌else◌
+unfolding first_byte choose◌then◌else◌
 lf_refused b e = rw (eqb-true b LF e)
 
 cr_refused : (b : ℕ) → (b is CR) ≡ true → first_byte Csvj b ≡ Refuse Syntax
-unfolding first_byte if◌then◌else◌
+unfolding first_byte choose◌then◌else◌
 cr_refused b e = rw (eqb-true b CR e)
 
 comment_refused : (b : ℕ) → (b is 0x23) ≡ true → first_byte Tdif b ≡ Refuse Syntax
-unfolding first_byte if◌then◌else◌
+unfolding first_byte choose◌then◌else◌
 comment_refused b e = rw (eqb-true b 0x23 e)
 
 -- a byte with which a cell may begin begins the record's first cell
@@ -130,7 +130,7 @@ begins_record Tdif b n = split (λ (s : Step). in_cell Tdif Fresh b ≡ s) (b is
 begins_record (CsvPlus s) b n = refl
 
 opens : (d : Dialect) (b : ℕ) (f : FileState) → Opening d b f → (cell_step d Fresh b ≡ Refuse Syntax → ⊥) → in_cell d Fresh b ≡ file_step d f b
-unfolding file_step cell_step if◌then◌else◌
+unfolding file_step cell_step choose◌then◌else◌
 opens d b Begin at_begin n = begins_record d b n
 opens d b Ended (at_ended e) n = begins_record d b n ∙ rw e
 opens d b (Inside Fresh) at_fresh n = refl
@@ -207,7 +207,7 @@ pub record Writes (d : Dialect) (part : Bytes) (room base n at e : ℕ) (starts 
       ((ends' ≡ store_if true room (base + n) e ends) × (kinds' ≡ store_if true room (base + n) (kind_number (kind_of d (slice part at e))) kinds))
 
 stored_here : (room k x : ℕ) (old : List ℕ) → k < room → room ≤ length old → get_or (store_if true room k x old) k 0 ≡ x
-unfolding store_if store_at if◌then◌else◌
+unfolding store_if store_at choose◌then◌else◌
 stored_here room k x old l m = rw (lt-ltb k room l) (get_or-set_same old k x 0 (omega arith))
 
 stored_other : (room k x j : ℕ) (old : List ℕ) → j < k → get_or (store_if true room k x old) j 0 ≡ get_or old j 0
@@ -294,7 +294,7 @@ module _ (d : Dialect) (part : Bytes) (limit from room base : ℕ) (starts₀ en
   -- the LF of a CRLF is skipped
   after_lf : from < length part → from < limit → get_or part from 0 ≡ LF
       → Scanning (From Ended) Begin (from + 1) (hand (from + 1) (from + 1) 0) starts₀ ends₀ kinds₀
-  unfolding file_step if◌then◌else◌
+  unfolding file_step choose◌then◌else◌
   after_lf i u q =
       let k : Call = From Ended in
       let s : To Begin Passed ≡ file_step d Ended (get_or part from 0) = rw q in
@@ -355,7 +355,7 @@ module _ (d : Dialect) (part : Bytes) (limit from room base : ℕ) (starts₀ en
     pub next_cell_lem : e < stop → get_or part e 0 ≡ delimiter_of d → {tells : Bool} → (tells ≡ true → CleanCell d (slice part at e))
         → {starts' ends' kinds' : List ℕ} → Writes d part room base n at e starts ends kinds starts' ends' kinds' → at ≤ e
         → Row (clean && tells) (e + 1) (n + 1) starts' ends' kinds'
-    unfolding one_more if◌then◌else◌
+    unfolding one_more choose◌then◌else◌
     next_cell_lem before q {tells} x {starts'} {ends'} {kinds'} y l =
         let i : stop ≤ length part = r.bounds.inside in
         let f : base + n ≤ at = r.few in
@@ -423,7 +423,7 @@ module _ (d : Dialect) (part : Bytes) (limit from room base : ℕ) (starts₀ en
         → Scanning (call_of d part first limit from room base starts₀ ends₀ kinds₀) Cr (e + 1) h starts' ends' kinds' → e + 1 < length part
         → e + 1 < limit → get_or part (e + 1) 0 ≡ LF
         → Asked (call_of d part first limit from room base starts₀ ends₀ kinds₀) Cr (e + 1) h starts' ends' kinds' (Is (To Begin (Ends false)))
-    unfolding file_step counts if◌then◌else◌
+    unfolding file_step counts choose◌then◌else◌
     asked_lf first {h} w i u q =
         let s : To Begin (Ends false) ≡ file_step d Cr (get_or part (e + 1) 0) = rw q in
         record {
@@ -440,7 +440,7 @@ module _ (d : Dialect) (part : Bytes) (limit from room base : ℕ) (starts₀ en
         → (tells ≡ true → CleanCell d (slice part at e)) → {starts' ends' kinds' : List ℕ}
         → Writes d part room base n at e starts ends kinds starts' ends' kinds' → (first : FileState) → FirstCellAt first part from start
         → FastScanSound d limit part from first room base starts₀ ends₀ kinds₀ starts' ends' kinds' (Record start (n + 1) f next (clean && tells))
-    unfolding one_more if◌then◌else◌
+    unfolding one_more choose◌then◌else◌
     last_cell_lem before {f} (at_once s) {tells} x {starts'} {ends'} {kinds'} y first b =
         let k : Call = call_of d part first limit from room base starts₀ ends₀ kinds₀ in
         let i : stop ≤ length part = r.bounds.inside in
@@ -486,7 +486,7 @@ module _ (d : Dialect) (part : Bytes) (limit from room base : ℕ) (starts₀ en
 
   pub odd : {clean : Bool} {at n : ℕ} {starts ends kinds : List ℕ} → Row clean at n starts ends kinds → (first : FileState)
       → FirstCellAt first part from start → FastScanSound d limit part from first room base starts₀ ends₀ kinds₀ starts ends kinds Fallback
-  unfolding joined_place joined_raw if◌then◌else◌
+  unfolding joined_place joined_raw choose◌then◌else◌
   odd {at = at} {n = n} r first b =
       let g = r.rest first b in
       let y = g.scanning in

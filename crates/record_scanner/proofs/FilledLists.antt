@@ -6,7 +6,7 @@ use mathlib.Core.List.{List, [], ◌∷◌, ◌++◌, append_assoc}
 use lib.ListN.{length, take, drop, set, length-set, take-append-drop}
 use lib.Seq.{take-suc-set, drop-set-lt, take-append_seam}
 use borrow.Author.Tests.{lt-ltb, le-ltb}
-use Rattle.model.specs.rules.Base.{if◌then◌else◌, over}
+use Rattle.model.specs.rules.Base.{choose◌then◌else◌, over}
 use Rattle.record_scanner.specs.Stored.{store_at, stored_from}
 
 pub stored_from_append : (room k : ℕ) (xs ys old : List ℕ) → stored_from room k (xs ++ ys) old ≡ stored_from room (k + length xs) ys (stored_from room k xs old)
@@ -18,14 +18,14 @@ stored_from_append room k (x ∷ xs) ys old =
 
 -- without room nothing is stored
 pub stored_from_none : (k : ℕ) (xs old : List ℕ) → stored_from 0 k xs old ≡ old
-unfolding stored_from store_at if◌then◌else◌
+unfolding stored_from store_at choose◌then◌else◌
 stored_from_none k [] old = refl
 stored_from_none k (x ∷ xs) old = rw (le-ltb k 0 (omega arith)) (stored_from_none (suc k) xs old)
 
 -- with room for all they lie one after the other
 pub stored_from_all : (room k : ℕ) (xs old : List ℕ) → k + length xs ≤ room → room ≤ length old
     → stored_from room k xs old ≡ take k old ++ (xs ++ drop (k + length xs) old)
-unfolding stored_from store_at if◌then◌else◌
+unfolding stored_from store_at choose◌then◌else◌
 stored_from_all room k [] old h l = let e : k + 0 ≡ k = omega arith in rw e (sym (take-append-drop k old))
 stored_from_all room k (x ∷ xs) old h l =
     let e : suc k + length xs ≡ k + suc (length xs) = omega arith in

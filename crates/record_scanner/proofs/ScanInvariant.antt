@@ -9,7 +9,7 @@ use lib.ListN.{length, drop, get_or, length-append, length-map, drop_of_length-l
 use lib.Seq.{drop-cons}
 use lib.Dec.{leb}
 use borrow.Author.Tests.{le-leb, lt-leb}
-use Rattle.model.specs.rules.Base.{if◌then◌else◌, Bytes}
+use Rattle.model.specs.rules.Base.{choose◌then◌else◌, Bytes}
 use Rattle.model.specs.rules.Decode.{kind_number, kind_of}
 use Rattle.model.specs.rules.Report.{MAXFILE, MAXRECORD}
 use Rattle.model.specs.rules.File.{after_cell, counts}
@@ -75,19 +75,19 @@ number_of d c = kind_number (kind_of d c.bytes)
 -- the cell that ends is stored after the others
 pub closing_written : (φ : RawCell → ℕ) (room base n : ℕ) (old : List ℕ) (k : Bool) (s : Scan) → length s.cells ≡ n
     → store_if k room (base + n) (φ (cell_here s)) (stored_from room base (map φ s.cells) old) ≡ stored_from room base (map φ (closing_raw k s)) old
-unfolding store_if if◌then◌else◌
+unfolding store_if choose◌then◌else◌
 closing_written φ room base n old true s e =
     let l : length (map φ s.cells) ≡ n = length-map s.cells φ ∙ e in
     rw (map-append φ s.cells (cell_here s ∷ []), stored_from_snoc room base (map φ s.cells) (φ (cell_here s)) old, l)
 closing_written φ room base n old false s e = refl
 
 closing_counts : (k : Bool) (s : Scan) (n : ℕ) → length s.cells ≡ n → length (closing_raw k s) ≡ one_more k n
-unfolding one_more if◌then◌else◌
+unfolding one_more choose◌then◌else◌
 closing_counts true s n e = length-append s.cells (cell_here s ∷ []) ∙ ap (λ (m : ℕ). m + 1) e
 closing_counts false s n e = e
 
 one_more_few : (k : Bool) (a n i : ℕ) → a + n ≤ i → a + one_more k n ≤ i + 1
-unfolding one_more if◌then◌else◌
+unfolding one_more choose◌then◌else◌
 one_more_few true a n i h = omega arith
 one_more_few false a n i h = omega arith
 
@@ -235,13 +235,13 @@ module _ (call : Call) where
     put_none : {starts ends kinds : List ℕ} → cs ≡ [] → Holds cs starts ends kinds
         → Holds [] (store_if false room (base + h.cells) h.opened starts) (store_if false room (base + h.cells) i ends)
         (store_if false room (base + h.cells) (kind_number (kind_of d (slice part h.opened i))) kinds)
-    unfolding store_if if◌then◌else◌
+    unfolding store_if choose◌then◌else◌
     put_none {starts = starts} {ends = ends} {kinds = kinds} e y = subst (λ (ws : List RawCell). Holds ws starts ends kinds) e y
 
     put_same : {starts ends kinds : List ℕ} → Holds cs starts ends kinds
         → Holds cs (store_if false room (base + h.cells) h.opened starts) (store_if false room (base + h.cells) i ends)
         (store_if false room (base + h.cells) (kind_number (kind_of d (slice part h.opened i))) kinds)
-    unfolding store_if if◌then◌else◌
+    unfolding store_if choose◌then◌else◌
     put_same y = y
 
     module _ (g : FileState) (l : i < length part) (m : i < limit) where
@@ -315,14 +315,14 @@ module _ (call : Call) where
     There = scan_at part f i h y.cs
 
     pub too_long_file : i < length part → limit ≤ i → Out (reached.Failed FileTooLong i) starts ends kinds
-    unfolding scan if◌then◌else◌
+    unfolding scan choose◌then◌else◌
     too_long_file l m =
         let n : drop i part ≡ get_or part i 0 ∷ drop (i + 1) part = rw (add-one, drop-cons part i 0) in
         gives (found_of (fails FileTooLong There)) (y.same ∙ rw (n, scan, le-leb limit i m)) y.lists l
 
     pub too_long_record : i < length part → i < limit → (leb MAXRECORD h.size && counts f (get_or part i 0)) ≡ true
         → Out (reached.Failed RecordTooLong i) starts ends kinds
-    unfolding scan if◌then◌else◌
+    unfolding scan choose◌then◌else◌
     too_long_record l m e =
         let n : drop i part ≡ get_or part i 0 ∷ drop (i + 1) part = rw (add-one, drop-cons part i 0) in
         gives (found_of (fails RecordTooLong There)) (y.same ∙ rw (n, scan, lt-leb limit i m, e)) y.lists l

@@ -6,12 +6,12 @@ use mathlib.Core.Bool.{Bool, true, false}
 use mathlib.Core.List.{List, [], ◌∷◌, ◌++◌}
 use lib.ListN.{length, set, length-set}
 use borrow.Author.Tests.{lt-ltb, le-ltb}
-use Rattle.model.specs.rules.Base.{if◌then◌else◌}
+use Rattle.model.specs.rules.Base.{choose◌then◌else◌}
 use Rattle.model.proofs.Tests.{split}
 use Rattle.record_scanner.specs.Stored.{store_at, store_if, stored_from}
 
 pub not_stored : (closes : Bool) (room k x : ℕ) (old : List ℕ) → closes ≡ false → old ≡ store_if closes room k x old
-unfolding store_if if◌then◌else◌
+unfolding store_if choose◌then◌else◌
 not_stored closes room k x old e = rw e
 
 -- by equal tests
@@ -20,11 +20,11 @@ pub same_stored : (closes closes' : Bool) (room k x : ℕ) (old new : List ℕ) 
 same_stored closes closes' room k x old new e q = q ∙ ap (λ (b : Bool). store_if b room k x old) e
 
 pub no_room : (closes : Bool) (room k x : ℕ) (old : List ℕ) → closes ≡ true → room ≤ k → old ≡ store_if closes room k x old
-unfolding store_if store_at if◌then◌else◌
+unfolding store_if store_at choose◌then◌else◌
 no_room closes room k x old e h = rw (e, le-ltb k room h)
 
 pub stored_there : (closes : Bool) (room k x : ℕ) (old : List ℕ) → closes ≡ true → k < room → set old k x ≡ store_if closes room k x old
-unfolding store_if store_at if◌then◌else◌
+unfolding store_if store_at choose◌then◌else◌
 stored_there closes room k x old e h = rw (e, lt-ltb k room h)
 
 -- ---- lengths

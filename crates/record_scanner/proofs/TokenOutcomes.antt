@@ -11,7 +11,7 @@ use lib.Seq.{drop-cons, take-suc, length-take-le, get_or-drop}
 use lib.Dec.{leb}
 use borrow.Author.Tests.{lt-leb}
 use Rattle.model.proofs.Tests.{impossible}
-use Rattle.model.specs.rules.Base.{if◌then◌else◌, Bytes}
+use Rattle.model.specs.rules.Base.{choose◌then◌else◌, Bytes}
 use Rattle.model.specs.rules.Cell.{cell_step}
 use Rattle.model.specs.rules.File.{file_step, in_cell, after_cell, counts}
 use Rattle.model.specs.rules.Report.{MAXRECORD}
@@ -81,7 +81,7 @@ module _ (d : Dialect) (limit : ℕ) (part : Bytes) where
   pub next_step : (f : FileState) (i : ℕ) (h : RecordState) (cs : List RawCell) → i < length part → i < limit
       → (leb MAXRECORD h.size && counts f (get_or part i 0)) ≡ false
       → found_in d limit (scan_at part f i h cs) (drop i part) ≡ stepped_at d limit part f i h cs (file_step d f (get_or part i 0))
-  unfolding scan if◌then◌else◌
+  unfolding scan choose◌then◌else◌
   next_step f i h cs l m e =
       let n : drop i part ≡ get_or part i 0 ∷ drop (i + 1) part = rw (add-one, drop-cons part i 0) in
       let t : leb limit i ≡ false = lt-leb limit i m in

@@ -1,6 +1,6 @@
 -- The effect of a byte on the current record, which is four numbers.
 use Rattle.std.specs.Prelude.{ℕ, ◌+◌, Bool, true, false}
-use Rattle.model.specs.rules.Base.{if◌then◌else◌}
+use Rattle.model.specs.rules.Base.{choose◌then◌else◌}
 use Rattle.model.specs.declared.ByteRole.{ByteRole}
 use Rattle.model.specs.declared.ByteRole.TheVariants.{Outside, Passed, OfCell, Between, Tail, Ends}
 use Rattle.record_scanner.specs.Types.{RecordState}
@@ -25,7 +25,7 @@ ends_record (Ends closes) = true
 
 -- the number of complete cells, with the one that ends
 unfoldable pub one_more : (closes : Bool) → ℕ → ℕ
-one_more closes n = if closes then n + 1 else n
+one_more closes n = choose closes then n + 1 else n
 
 -- the current record after the byte at i
 abbrev pub state_after_byte : ByteRole → (i : ℕ) → RecordState → RecordState

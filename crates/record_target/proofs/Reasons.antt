@@ -13,7 +13,7 @@ use Rattle.model.specs.declared.Fault.{Fault}
 use Rattle.model.specs.declared.Fault.TheVariants.{NoCells, TextTooLong, OutputTooLong}
 use Rattle.model.specs.declared.CheckResult.{CheckResult}
 use Rattle.model.specs.declared.CheckResult.TheVariants.{Sound, Faulty}
-use Rattle.model.specs.rules.Base.{Bytes, if◌then◌else◌, is_empty}
+use Rattle.model.specs.rules.Base.{Bytes, choose◌then◌else◌, is_empty}
 use Rattle.model.specs.rules.Dialect.{is_csvj, into}
 use Rattle.model.specs.rules.Text.{Value, record_text, ending}
 use Rattle.model.specs.rules.Records.{◌or_else◌, when, uncarried_from, clash_fault, target_fault}
@@ -99,7 +99,7 @@ empty_header header csvj (v ∷ vs) e n = absurd (omega (arith, n))
 -- ---- what is only measured
 
 pub place_measured : {old : Bytes} {o : ℕ} {w new : Bytes} {r : ℕ} → WrittenAt false old o w new r → r ≡ measure (o + length w)
-unfolding if◌then◌else◌
+unfolding choose◌then◌else◌
 place_measured p = p.place
 
 pub room_measured : (o : ℕ) (w out : Bytes) → o ≤ MAXFILE → Room false o w out

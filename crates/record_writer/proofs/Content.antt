@@ -12,7 +12,7 @@ use Rattle.model.specs.declared.Dialect.{Dialect}
 use Rattle.model.specs.declared.Dialect.TheVariants.{Csvj, Tdif, CsvPlus}
 use Rattle.model.specs.declared.Kind.TheVariants.{Text}
 use Rattle.model.specs.declared.Settings.{Settings}
-use Rattle.model.specs.rules.Base.{Bytes, if◌then◌else◌, ◌is◌, begins, holds, QUOTE, BACKSLASH, CR, LF}
+use Rattle.model.specs.rules.Base.{Bytes, choose◌then◌else◌, ◌is◌, begins, holds, QUOTE, BACKSLASH, CR, LF}
 use Rattle.model.specs.rules.Dialect.{quote_of, delimiter_of}
 use Rattle.model.specs.rules.Cell.{may_be_empty}
 use Rattle.model.specs.rules.Decode.{kind_of, content_of, undouble, between, units, text_of}
@@ -40,7 +40,7 @@ all_clean (b ∷ bs) e = let x = and_true (is_clean QUOTE b) (all_pass (is_clean
 
 -- nothing is doubled
 doubled_clean : {bs : Bytes} → AllClean bs → doubled QUOTE bs ≡ bs
-unfolding doubled if◌then◌else◌
+unfolding doubled choose◌then◌else◌
 doubled_clean none = refl
 doubled_clean (one {b} {bs} p r) = rw p.no_quote (ap (λ (l : Bytes). b ∷ l) (doubled_clean r))
 
@@ -49,16 +49,16 @@ byte_clean : {b : ℕ} → Clean QUOTE b → escaped b ≡ b ∷ []
 byte_clean {b} p = escaped_itself b (eqb-false b QUOTE p.no_quote) (eqb-false b BACKSLASH p.no_backslash) p.least
 
 pair_lone : (a b : ℕ) (bs : Bytes) → holds_lone (a ∷ b ∷ bs) ≡ false → is_surrogate a b ≡ false
-unfolding holds_lone if◌then◌else◌
+unfolding holds_lone choose◌then◌else◌
 pair_lone a b bs e = split_on (is_surrogate a b) (λ f. impossible (sym (rw f at e))) (λ f. f)
 
 rest_lone : (a : ℕ) (bs : Bytes) → holds_lone (a ∷ bs) ≡ false → holds_lone bs ≡ false
-unfolding holds_lone if◌then◌else◌
+unfolding holds_lone choose◌then◌else◌
 rest_lone a [] e = refl
 rest_lone a (b ∷ bs) e = rw (pair_lone a b bs e) at e
 
 body_clean : {bs : Bytes} → AllClean bs → holds_lone bs ≡ false → json_body bs ≡ bs
-unfolding json_body if◌then◌else◌
+unfolding json_body choose◌then◌else◌
 body_clean none e = refl
 body_clean (one p none) e = byte_clean p
 body_clean (one p (one q none)) e = rw (byte_clean p, byte_clean q)
@@ -83,23 +83,23 @@ special_clean s h (one {b} {bs} p r) =
 -- ---- what a clean cell says
 
 string_clean : {bs : Bytes} → AllClean bs → text_of (units between (bs ++ QUOTE ∷ [])) ≡ bs
-unfolding units text_of if◌then◌else◌
+unfolding units text_of choose◌then◌else◌
 string_clean none = refl
 string_clean (one {b} {bs} p r) = rw (p.no_quote, p.no_backslash) (ap (λ (l : Bytes). b ∷ l) (string_clean r))
 
 undoubled_clean : {bs : Bytes} → AllClean bs → undouble QUOTE false (bs ++ QUOTE ∷ []) ≡ bs
-unfolding undouble if◌then◌else◌
+unfolding undouble choose◌then◌else◌
 undoubled_clean none = refl
 undoubled_clean (one {b} {bs} p r) = rw p.no_quote (ap (λ (l : Bytes). b ∷ l) (undoubled_clean r))
 
 quoted_content : (d : Dialect) {bs : Bytes} → quote_of d ≡ QUOTE → AllClean bs → content_of d (QUOTE ∷ (bs ++ QUOTE ∷ [])) ≡ bs
-unfolding content_of if◌then◌else◌
+unfolding content_of choose◌then◌else◌
 quoted_content Csvj h c = string_clean c
 quoted_content Tdif h c = undoubled_clean c
 quoted_content (CsvPlus s) h c = rw h (undoubled_clean c)
 
 quoted_kind : (d : Dialect) (bs : Bytes) → kind_of d (QUOTE ∷ bs) ≡ Text
-unfolding kind_of if◌then◌else◌
+unfolding kind_of choose◌then◌else◌
 quoted_kind Csvj bs = refl
 quoted_kind Tdif bs = refl
 quoted_kind (CsvPlus s) bs = refl
@@ -109,7 +109,7 @@ bare_begins none = refl
 bare_begins (one p r) = p.no_quote
 
 bare_content : (d : Dialect) {bs : Bytes} → may_be_empty d ≡ true → quote_of d ≡ QUOTE → AllClean bs → content_of d bs ≡ bs
-unfolding content_of if◌then◌else◌
+unfolding content_of choose◌then◌else◌
 bare_content Csvj m h c = impossible m
 bare_content Tdif m h c = impossible m
 bare_content (CsvPlus s) m h none = refl
@@ -129,7 +129,7 @@ next_followed {a} {bs} f i h e = let g : EdFollows (a ∷ bs) (suc i) = f (suc i
     record { least = rw n at g.least; most = rw n at g.most }
 
 followed_lone : (bs : Bytes) → EdFollowed bs → holds_lone bs ≡ false
-unfolding holds_lone if◌then◌else◌
+unfolding holds_lone choose◌then◌else◌
 followed_lone [] f = refl
 followed_lone (a ∷ []) f = refl
 followed_lone (a ∷ b ∷ bs) f = rw here (followed_lone (b ∷ bs) (next_followed f))
@@ -138,7 +138,7 @@ followed_lone (a ∷ b ∷ bs) f = rw here (followed_lone (b ∷ bs) (next_follo
     here = split_on (a is 0xED) (λ e. rw (e, lt-leb 0xA0 b (f 0 (omega arith) (is→eq a 0xED e)).most)) (λ e. rw e)
 
 front_lone : (bs cs : Bytes) → holds_lone (bs ++ cs) ≡ false → holds_lone bs ≡ false
-unfolding holds_lone if◌then◌else◌
+unfolding holds_lone choose◌then◌else◌
 front_lone [] cs e = refl
 front_lone (a ∷ []) cs e = refl
 front_lone (a ∷ b ∷ bs) cs e = rw (pair_lone a b (bs ++ cs) e) (front_lone (b ∷ bs) cs (rest_lone a (b ∷ (bs ++ cs)) e))

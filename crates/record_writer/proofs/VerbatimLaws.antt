@@ -10,7 +10,7 @@ use Rattle.model.specs.declared.Dialect.{Dialect}
 use Rattle.model.specs.declared.Dialect.TheVariants.{Csvj, Tdif, CsvPlus}
 use Rattle.model.specs.declared.Kind.{Kind}
 use Rattle.model.specs.declared.Kind.TheVariants.{Text, Number, True, False, Null}
-use Rattle.model.specs.rules.Base.{Bytes, if◌then◌else◌, ◌is◌, begins, QUOTE}
+use Rattle.model.specs.rules.Base.{Bytes, choose◌then◌else◌, ◌is◌, begins, QUOTE}
 use Rattle.model.specs.rules.Decode.{kind_of, content_of}
 use Rattle.model.specs.rules.Dialect.{quote_of}
 use Rattle.model.specs.rules.Text.{is_text, cell_text}
@@ -87,7 +87,7 @@ module _ (raw : Bytes) (i j : ℕ) (c : Spelling) (s : QUOTE ≡ source_quote c)
 
 -- a run does not begin with a quotation mark
 run_begins : (raw : Bytes) → plain_run QUOTE QUOTE QUOTE raw ≡ length raw → begins QUOTE raw ≡ false
-unfolding plain_run if◌then◌else◌
+unfolding plain_run choose◌then◌else◌
 run_begins [] e = refl
 run_begins (b ∷ bs) e =
     split_on (is_plain QUOTE QUOTE QUOTE b) (λ f. (plain_is QUOTE QUOTE QUOTE b f).no_first) λ f.
@@ -95,20 +95,20 @@ run_begins (b ∷ bs) e =
 
 -- so that it is no text of CSVJ or TDIF
 no_string : {A : Type 0} (raw : Bytes) → begins QUOTE raw ≡ false → is_text (kind_of Csvj raw) ≡ true → A
-unfolding kind_of if◌then◌else◌
+unfolding kind_of choose◌then◌else◌
 no_string raw f e =
     split_on (begins 0x74 raw) (λ g. impossible (rw (f, g) at e)) λ g.
     split_on (begins 0x66 raw) (λ h. impossible (rw (f, g, h) at e)) λ h.
     split_on (begins 0x6E raw) (λ k. impossible (rw (f, g, h, k) at e)) λ k. impossible (rw (f, g, h, k) at e)
 
 no_quoted : {A : Type 0} (raw : Bytes) → begins QUOTE raw ≡ false → is_text (kind_of Tdif raw) ≡ true → A
-unfolding kind_of if◌then◌else◌
+unfolding kind_of choose◌then◌else◌
 no_quoted raw f e = impossible (rw f at e)
 
 bare_content :
     (d : Dialect) (raw : Bytes) → quote_of d ≡ QUOTE → is_text (kind_of d raw) ≡ true → plain_run QUOTE QUOTE QUOTE raw ≡ length raw →
     content_of d raw ≡ raw
-unfolding content_of if◌then◌else◌
+unfolding content_of choose◌then◌else◌
 bare_content Csvj raw h x e = no_string raw (run_begins raw e) x
 bare_content Tdif raw h x e = no_quoted raw (run_begins raw e) x
 bare_content (CsvPlus s) [] h x e = refl
@@ -137,7 +137,7 @@ module _ {raw : Bytes} {j : ℕ} (o : get_or raw 0 0 ≡ QUOTE) (r : j ≡ 1 + p
       }
 
   quoted_run : (d : Dialect) → quote_of d ≡ QUOTE → Run d raw 1 j
-  unfolding spelling_by if◌then◌else◌
+  unfolding spelling_by choose◌then◌else◌
   quoted_run Csvj h =
       let spelt : spelling_by Csvj (get_or raw 0 0) ≡ Escaped = rw o in
       record {
@@ -211,7 +211,7 @@ run_none = refl
 
 -- a quotation mark is not
 quote_ends : (bs : Bytes) → passing (is_plain QUOTE QUOTE QUOTE) (QUOTE ∷ bs) ≡ 0
-unfolding passing is_plain if◌then◌else◌
+unfolding passing is_plain choose◌then◌else◌
 quote_ends bs = refl
 
 pub quotes_inner : {raw : Bytes} {n : ℕ} → Quotes raw n → AllIn plain_text raw n (length raw - n) → Inner raw n (length raw - n)
@@ -233,5 +233,5 @@ quotes_inner {raw} (a_quote h o k) x =
 
 -- 1 is the number of a text
 pub text_number : is_text (kind_from 1) ≡ true
-unfolding kind_named if◌then◌else◌
+unfolding kind_named choose◌then◌else◌
 text_number = refl

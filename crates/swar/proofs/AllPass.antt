@@ -5,7 +5,7 @@ use mathlib.Core.Bool.{Bool, true}
 use mathlib.Core.List.{[], ◌∷◌, ◌++◌}
 use lib.ListN.{take}
 use borrow.Author.Tests.{eq-eqb}
-use Rattle.model.specs.rules.Base.{Bytes, if◌then◌else◌}
+use Rattle.model.specs.rules.Base.{Bytes, choose◌then◌else◌}
 use Rattle.model.proofs.Tests.{split_on, and_true}
 use Rattle.swar.specs.Words.{Word, Flags, all_pass, passing}
 
@@ -16,7 +16,7 @@ module _ (passes : ℕ → Bool) where
   all_join (b ∷ xs) ys e h = let k = and_true (passes b) (all_pass passes xs) e in rw (k.0, all_join xs ys k.1 h)
 
   pub passing_pass : (bs : Bytes) → all_pass passes (take (passing passes bs) bs) ≡ true
-  unfolding all_pass passing if◌then◌else◌
+  unfolding all_pass passing choose◌then◌else◌
   passing_pass [] = refl
   passing_pass (b ∷ bs) = split_on (passes b) (λ t. rw (t, t, passing_pass bs)) λ t. rw t
 

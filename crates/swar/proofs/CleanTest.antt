@@ -6,7 +6,7 @@ use mathlib.Core.Bool.{Bool, true, false, not, ◌&&◌, and-true, and-false}
 use lib.Dec.{ltb, leb}
 use lib.Bits.{bit_and, bit_or, bit_xor, and_mask, and_le_r}
 use borrow.Author.Tests.{le-leb, lt-leb, ltb-true, ltb-false, leb-true, leb-false, eqb-true, eqb-false}
-use Rattle.model.specs.rules.Base.{if◌then◌else◌, ◌is◌}
+use Rattle.model.specs.rules.Base.{choose◌then◌else◌, ◌is◌}
 use Rattle.model.proofs.Tests.{split_on}
 use Rattle.swar.specs.Words.{clean_ascii, ONES, ascii_stop, Flags}
 use Rattle.swar.proofs.TopDigit.{Top}
@@ -17,7 +17,7 @@ use Rattle.swar.proofs.OrdinaryTest.{stop_hit, stop_missed, stop_bits, below_bit
 -- ---- the tests
 
 stop_top : (x c : ℕ) (t : Bool) → x < 0x80 → c < 0x80 → (x is c) ≡ t → Top (0x80 - bit_xor x c) (digit_of (not t))
-unfolding digit_of if◌then◌else◌
+unfolding digit_of choose◌then◌else◌
 stop_top x c true h k e = stop_hit x c k (eqb-true x c e)
 stop_top x c false h k e = stop_missed x c h k (eqb-false x c e)
 

@@ -8,7 +8,7 @@ use mathlib.Core.List.{[], ◌∷◌, ◌++◌, map}
 use lib.ListN.{length, drop, length-map, take-append-drop}
 use lib.Seq.{take-add, drop-drop}
 use borrow.Author.Tests.{eq-eqb, ne_eqb}
-use Rattle.model.specs.rules.Base.{Bytes, if◌then◌else◌, ◌is◌}
+use Rattle.model.specs.rules.Base.{Bytes, choose◌then◌else◌, ◌is◌}
 use Rattle.model.specs.rules.Api.{slice}
 use Rattle.model.proofs.Tests.{split, impossible}
 use Rattle.swar.specs.Words.{word_of, bytes_of, Word, flag_of, all_pass, Flags, zero_bytes, passing}
@@ -21,12 +21,12 @@ module _ (passes : ℕ → Bool) where
   flag_bytes (b ∷ bs) = and_byte (flag_byte passes b) (flag_bytes bs)
 
   zeros_pass : (bs : Bytes) → zero_bytes (map (flag_of passes) bs) ≡ passing passes bs
-  unfolding zero_bytes flag_of passing if◌then◌else◌
+  unfolding zero_bytes flag_of passing choose◌then◌else◌
   zeros_pass [] = refl
   zeros_pass (b ∷ bs) = go (passes b) (zeros_pass bs)
     where
       go : (t : Bool) → zero_bytes (map (flag_of passes) bs) ≡ passing passes bs
-          → (if (if t then 0 else 0x80) is 0 then suc (zero_bytes (map (flag_of passes) bs)) else 0) ≡ (if t then suc (passing passes bs) else 0)
+          → (choose (choose t then 0 else 0x80) is 0 then suc (zero_bytes (map (flag_of passes) bs)) else 0) ≡ (choose t then suc (passing passes bs) else 0)
       go true ih = ap suc ih
       go false ih = refl
 
@@ -41,25 +41,25 @@ module _ (passes : ℕ → Bool) where
   module _ (cs : Bytes) where
     -- it continues after bytes that all pass
     pub all_pass_lem : (bs : Bytes) → all_pass passes bs ≡ true → passing passes (bs ++ cs) ≡ length bs + passing passes cs
-    unfolding all_pass passing if◌then◌else◌
+    unfolding all_pass passing choose◌then◌else◌
     all_pass_lem [] e = omega arith
     all_pass_lem (b ∷ bs) e = go (passes b) e (all_pass_lem bs)
       where
         go : (t : Bool) → (t && all_pass passes bs) ≡ true → (all_pass passes bs ≡ true → passing passes (bs ++ cs) ≡ length bs + passing passes cs)
-            → (if t then suc (passing passes (bs ++ cs)) else 0) ≡ suc (length bs) + passing passes cs
+            → (choose t then suc (passing passes (bs ++ cs)) else 0) ≡ suc (length bs) + passing passes cs
         go true h ih = let k = ih h in omega arith
         go false h ih = impossible h
 
     -- it ends among bytes that do not all pass
     some_pass : (bs : Bytes) → all_pass passes bs ≡ false → (passing passes (bs ++ cs) ≡ passing passes bs) × (passing passes bs < length bs)
-    unfolding all_pass passing if◌then◌else◌
+    unfolding all_pass passing choose◌then◌else◌
     some_pass [] e = impossible (sym e)
     some_pass (b ∷ bs) e = go (passes b) e (some_pass bs)
       where
         go : (t : Bool) → (t && all_pass passes bs) ≡ false
             → (all_pass passes bs ≡ false → (passing passes (bs ++ cs) ≡ passing passes bs) × (passing passes bs < length bs))
-            → ((if t then suc (passing passes (bs ++ cs)) else 0) ≡ (if t then suc (passing passes bs) else 0)) ×
-            ((if t then suc (passing passes bs) else 0) < suc (length bs))
+            → ((choose t then suc (passing passes (bs ++ cs)) else 0) ≡ (choose t then suc (passing passes bs) else 0)) ×
+            ((choose t then suc (passing passes bs) else 0) < suc (length bs))
         go true h ih = let k = ih h in let l : passing passes bs < length bs = k.1 in (ap suc k.0, omega arith)
         go false h ih = (refl, omega arith)
 

@@ -7,12 +7,12 @@ use mathlib.Core.List.{[], ◌∷◌, map}
 use lib.Bits.{bit_and, bit_xor}
 use borrow.Author.Tests.{ne_eqb, eq-eqb, eqb-true, eqb-false}
 use Rattle.model.proofs.Tests.{split, split_on}
-use Rattle.model.specs.rules.Base.{Bytes, if◌then◌else◌, ◌is◌}
+use Rattle.model.specs.rules.Base.{Bytes, choose◌then◌else◌, ◌is◌}
 use Rattle.swar.specs.Words.{word_of, bytes_of, flag_of, all_pass, Flags}
 use Rattle.swar.proofs.Bytewise.{all_bytes, eight_times, same_bytes, Bytewise, and_bytes, xor_bytes}
 
 none_exact : (passes : ℕ → Bool) (bs : Bytes) → (word_of (map (flag_of passes) bs) is 0) ≡ all_pass passes bs
-unfolding word_of flag_of all_pass if◌then◌else◌
+unfolding word_of flag_of all_pass choose◌then◌else◌
 none_exact passes [] = refl
 none_exact passes (b ∷ bs) = go (passes b) (none_exact passes bs)
   where
@@ -22,7 +22,7 @@ none_exact passes (b ∷ bs) = go (passes b) (none_exact passes bs)
         λ t. let e = eqb-false n 0 t in ne_eqb (0 + 0x100 * n) 0 (omega arith) ∙ sym t
 
     go : (t : Bool) → (word_of (map (flag_of passes) bs) is 0) ≡ all_pass passes bs
-        → (((if t then 0 else 0x80) + 0x100 * word_of (map (flag_of passes) bs)) is 0) ≡ (t && all_pass passes bs)
+        → (((choose t then 0 else 0x80) + 0x100 * word_of (map (flag_of passes) bs)) is 0) ≡ (t && all_pass passes bs)
     go true ih = scaled (word_of (map (flag_of passes) bs)) ∙ ih
     go false ih = ne_eqb (0x80 + 0x100 * word_of (map (flag_of passes) bs)) 0 (omega arith)
 
@@ -46,10 +46,10 @@ flags_same {t} {u} x same = flags_from (flags_each x) λ b h. rw (same b)
 
 -- a byte flagged in both words passes neither test
 pub flags_both : {t u : ℕ → Bool} {w x y : ℕ} → Flags t w x → Flags u w y → Flags (λ b. t b || u b) w (bit_and x y)
-unfolding flag_of if◌then◌else◌
+unfolding flag_of choose◌then◌else◌
 flags_both {t} {u} {w} a b = flags_from (and_bytes (all_bytes 8 w) (flags_each a) (flags_each b)) λ c h. byte c
   where
-    bits : (p q : Bool) → bit_and (if p then 0 else 0x80) (if q then 0 else 0x80) ≡ (if p || q then 0 else 0x80)
+    bits : (p q : Bool) → bit_and (choose p then 0 else 0x80) (choose q then 0 else 0x80) ≡ (choose p || q then 0 else 0x80)
     bits true true = refl
     bits true false = refl
     bits false true = refl
@@ -60,10 +60,10 @@ flags_both {t} {u} {w} a b = flags_from (and_bytes (all_bytes 8 w) (flags_each a
 
 -- a byte that is not flagged passes
 pub flags_other : {t : ℕ → Bool} {w x : ℕ} → Flags t w x → Flags (λ b. not (t b)) w (bit_xor x 0x8080808080808080)
-unfolding flag_of if◌then◌else◌
+unfolding flag_of choose◌then◌else◌
 flags_other {t} {w} a = flags_from (xor_bytes (all_bytes 8 w) (flags_each a) (eight_times w 0x80 (omega arith))) λ c h. byte c
   where
-    bits : (p : Bool) → bit_xor (if p then 0 else 0x80) 0x80 ≡ (if not p then 0 else 0x80)
+    bits : (p : Bool) → bit_xor (choose p then 0 else 0x80) 0x80 ≡ (choose not p then 0 else 0x80)
     bits true = refl
     bits false = refl
 

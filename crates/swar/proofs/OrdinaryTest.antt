@@ -9,7 +9,7 @@ use lib.Dec.{ltb}
 use lib.Bits.{bit_and, bit_or, bit_xor, and_mask, mask_lt, and_high, and_le_r, xor_lt, xor_self}
 use borrow.Author.Tests.{ne_eqb, ltb-true, ltb-false, eqb-true, eqb-false}
 use Rattle.model.proofs.Tests.{split, split_on, within_true}
-use Rattle.model.specs.rules.Base.{if◌then◌else◌, ◌is◌, within}
+use Rattle.model.specs.rules.Base.{choose◌then◌else◌, ◌is◌, within}
 use Rattle.swar.specs.Words.{ordinary, ONES, bytes_of, ascii_stop, flag_of, Flags}
 use Rattle.swar.proofs.Ordinary.{below, above, first_stop, second_stop, proceeds_on}
 use Rattle.swar.proofs.Bytewise.{all_bytes, itself, eight_times, Bytewise, and_bytes, or_bytes, xor_bytes, add_bytes, sub_bytes}
@@ -104,7 +104,7 @@ module _ (p q b : ℕ) (h : b < 0x100) (hp : p < 0x80) (hq : q < 0x80) where
 
   -- the test of a byte gives its flag
   test_flag : test_of p q b ≡ flag_of (ordinary p q) b
-  unfolding flag_of if◌then◌else◌
+  unfolding flag_of choose◌then◌else◌
   test_flag =
       split_on (ltb b 0x20) (λ t. let l = ltb-true b 0x20 t in rw (below p q b l) (test_outside (inl l))) λ t0.
       split_on (ltb 0x7E b) (λ t. let l = ltb-true 0x7E b t in rw (above p q b l) (test_outside (inr l))) λ t1.
@@ -170,10 +170,10 @@ unfolding ascii_stop
 ascii_small p = split (λ (n : ℕ). n < 0x80) _ (λ t. ltb-true p 0x80 t) λ _. omega arith
 
 pub ascii_same : (p b : ℕ) → 0x20 ≤ b → b < 0x80 → (b is ascii_stop p) ≡ (b is p)
-unfolding ascii_stop if◌then◌else◌
+unfolding ascii_stop choose◌then◌else◌
 ascii_same p b l m = go (ltb p 0x80) refl
   where
-    go : (t : Bool) → ltb p 0x80 ≡ t → (b is (if t then p else 0)) ≡ (b is p)
+    go : (t : Bool) → ltb p 0x80 ≡ t → (b is (choose t then p else 0)) ≡ (b is p)
     go true e = refl
     go false e = let k = ltb-false p 0x80 e in ne_eqb b 0 (omega arith) ∙ sym (ne_eqb b p (omega arith))
 

@@ -6,7 +6,7 @@ use mathlib.Core.Bool.{Bool, true, not, ◌&&◌}
 use lib.Dec.{leb}
 use lib.Bits.{bit_and, bit_or, bit_xor, mask_lt, xor_lt, and_le_r}
 use borrow.Author.Tests.{eqb-true, eqb-false}
-use Rattle.model.specs.rules.Base.{if◌then◌else◌, ◌is◌, QUOTE}
+use Rattle.model.specs.rules.Base.{choose◌then◌else◌, ◌is◌, QUOTE}
 use Rattle.model.proofs.Tests.{and_true, split_on}
 use Rattle.swar.specs.Words.{ONES, bytes_of, flag_of, is_clean, plain_text, Flags}
 use Rattle.swar.proofs.Bytewise.{all_bytes, itself, eight_times, Bytewise, and_bytes, or_bytes, xor_bytes, add_bytes}
@@ -37,11 +37,11 @@ abbrev plain_of : ℕ → ℕ
 plain_of b = bit_xor (bit_and (bit_or (bit_and (bit_and (sum_of 0x02 0x5F b) (sum_of 0x5C 0x7F b)) (bit_xor b 0xFF)) (bit_and (sum_of 0x6D 0x7F b) b)) 0x80) 0x80
 
 clean_byte : (b : ℕ) → b < 0x100 → clean_of b ≡ flag_of (is_clean QUOTE) b
-unfolding flag_of is_clean if◌then◌else◌
+unfolding flag_of is_clean choose◌then◌else◌
 clean_byte b h = eqb-true (clean_of b) (flag_of (is_clean QUOTE) b) (below_at (λ b. clean_of b is flag_of (is_clean QUOTE) b) 0x100 refl b h)
 
 plain_byte_lem : (b : ℕ) → b < 0x100 → plain_of b ≡ flag_of plain_text b
-unfolding flag_of plain_text is_clean if◌then◌else◌
+unfolding flag_of plain_text is_clean choose◌then◌else◌
 plain_byte_lem b h = eqb-true (plain_of b) (flag_of plain_text b) (below_at (λ b. plain_of b is flag_of plain_text b) 0x100 refl b h)
 
 -- ---- the eight bytes of a word

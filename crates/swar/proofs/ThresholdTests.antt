@@ -7,7 +7,7 @@ use lib.Dec.{ltb}
 use lib.Bits.{bit_and, bit_or, bit_xor, and_mask, mask_lt, and_high, xor_lt, xor_self}
 use borrow.Author.Tests.{eqb-true, eqb-false, ltb-true, ltb-false}
 use Rattle.model.proofs.Tests.{split_on}
-use Rattle.model.specs.rules.Base.{if◌then◌else◌, ◌is◌}
+use Rattle.model.specs.rules.Base.{choose◌then◌else◌, ◌is◌}
 use Rattle.swar.specs.Words.{ONES, bytes_of, flag_of, Flags, is_byte, is_below}
 use Rattle.swar.proofs.Bytewise.{all_bytes, itself, eight_times, Bytewise, and_bytes, or_bytes, xor_bytes, add_bytes}
 use Rattle.swar.proofs.TopDigit.{or_top, any_top, differ_none}
@@ -32,14 +32,14 @@ module _ (k y : ℕ) (h : k ≤ 0x80) (l : y < 0x100) where
   reach_from b = let top = reach_top in omega arith
 
 below_flag : (y : ℕ) → y < 0x100 → reach_of 0x60 y ≡ flag_of (is_below 0x20) y
-unfolding flag_of if◌then◌else◌
+unfolding flag_of choose◌then◌else◌
 below_flag y l =
     split_on (ltb y 0x20)
     (λ t. rw t (reach_below 0x60 y (omega arith) l (omega (arith, ltb-true y 0x20 t))))
     λ t. rw t (reach_from 0x60 y (omega arith) l (omega (arith, ltb-false y 0x20 t)))
 
 other_flag : (c y : ℕ) → c < 0x100 → y < 0x100 → reach_of 0x7F (bit_xor y c) ≡ flag_of (is_byte c) y
-unfolding flag_of if◌then◌else◌
+unfolding flag_of choose◌then◌else◌
 other_flag c y k l =
     let x : bit_xor y c < 0x100 = xor_lt 8 y c l k in
     split_on (y is c)

@@ -9,7 +9,7 @@ use lib.Seq.{drop-cons}
 use lib.Bits.{bit_or, or_shifted_r, shifted_even, shifted_half}
 use lib.Count.{count_trailing_zeros, under}
 use borrow.Author.Tests.{eqb-true, eqb-false}
-use Rattle.model.specs.rules.Base.{Bytes, if◌then◌else◌, ◌is◌}
+use Rattle.model.specs.rules.Base.{Bytes, choose◌then◌else◌, ◌is◌}
 use Rattle.model.specs.rules.Api.{slice}
 use Rattle.model.proofs.Tests.{split_on}
 use Rattle.swar.specs.Words.{word_of, bytes_of, Word, zero_bytes}
@@ -153,7 +153,7 @@ digits_of zero = 0
 digits_of (suc n) = plus 8 (digits_of n)
 
 zeros_bytes : (n w : ℕ) → count_trailing_zeros (digits_of n) w / 8 ≡ zero_bytes (bytes_of n w)
-unfolding count_trailing_zeros zero_bytes bytes_of if◌then◌else◌
+unfolding count_trailing_zeros zero_bytes bytes_of choose◌then◌else◌
 zeros_bytes zero w = refl
 zeros_bytes (suc n) w =
     split_on ((w % 0x100) is 0)

@@ -1,6 +1,6 @@
 -- Bytes as one number, little-endian, and tests of eight bytes at once.
 use Rattle.std.specs.Prelude.{ℕ, zero, suc, ◌+◌, ◌*◌, ◌/◌, ◌%◌, ◌≤◌, ◌<◌, ◌≡◌, Bool, true, not, ◌&&◌, [], ◌∷◌, map, ltb, leb, get_or}
-use Rattle.model.specs.rules.Base.{Bytes, if◌then◌else◌, ◌is◌, within, QUOTE, BACKSLASH}
+use Rattle.model.specs.rules.Base.{Bytes, choose◌then◌else◌, ◌is◌, within, QUOTE, BACKSLASH}
 
 -- bytes as one number, the first lowest
 unfoldable pub word_of : Bytes → ℕ
@@ -42,7 +42,7 @@ plain_text b = is_clean QUOTE b && not (b is 0xED)
 
 -- the stop as it is compared: no byte from 80 hex on is ordinary or clean anyway, so such a stop is replaced by 0, which is neither
 unfoldable pub ascii_stop : ℕ → ℕ
-ascii_stop p = if ltb p 0x80 then p else 0
+ascii_stop p = choose ltb p 0x80 then p else 0
 
 abbrev pub is_byte : (c b : ℕ) → Bool
 is_byte c b = b is c
@@ -54,7 +54,7 @@ is_below n b = ltb b n
 
 -- the flag of a byte, its top bit: set if the byte does not pass
 unfoldable pub flag_of : (passes : ℕ → Bool) (b : ℕ) → ℕ
-flag_of passes b = if passes b then 0 else 0x80
+flag_of passes b = choose passes b then 0 else 0x80
 
 unfoldable pub all_pass : (passes : ℕ → Bool) → Bytes → Bool
 all_pass passes [] = true
@@ -68,12 +68,12 @@ pub record Flags (passes : ℕ → Bool) (w flags : ℕ) : Type 0 where
 -- how many bytes of 0 come first
 unfoldable pub zero_bytes : Bytes → ℕ
 zero_bytes [] = 0
-zero_bytes (b ∷ bs) = if b is 0 then suc (zero_bytes bs) else 0
+zero_bytes (b ∷ bs) = choose b is 0 then suc (zero_bytes bs) else 0
 
 -- the length of the longest prefix whose bytes all pass
 unfoldable pub passing : (passes : ℕ → Bool) → Bytes → ℕ
 passing passes [] = 0
-passing passes (b ∷ bs) = if passes b then suc (passing passes bs) else 0
+passing passes (b ∷ bs) = choose passes b then suc (passing passes bs) else 0
 
 -- ---- spans of bytes
 

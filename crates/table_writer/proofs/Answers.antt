@@ -10,7 +10,7 @@ use borrow.Author.Tests.{lt-ltb, le-ltb}
 use Rattle.model.specs.declared.Dialect.{Dialect}
 use Rattle.model.specs.declared.Report.{Report}
 use Rattle.model.specs.declared.Target.{Target}
-use Rattle.model.specs.rules.Base.{Bytes, if◌then◌else◌, over}
+use Rattle.model.specs.rules.Base.{Bytes, choose◌then◌else◌, over}
 use Rattle.model.specs.rules.Dialect.{dialect_of, into}
 use Rattle.model.specs.rules.Text.{Value, table_text}
 use Rattle.model.specs.rules.Report.{accepted, refusal}
@@ -44,11 +44,11 @@ writes old p q l t = rw (p, q, l) (refl, t)
 -- ---- a room
 
 pub too_short : (room : ℕ) (text : Bytes) → room < length text → fitted room text ≡ unwritten (refusal 10)
-unfolding if◌then◌else◌
+unfolding choose◌then◌else◌
 too_short room text h = rw (lt-ltb room (length text) h)
 
 pub long_enough : (room : ℕ) (text : Bytes) → length text ≤ room → fitted room text ≡ record { report = accepted; text = text }
-unfolding if◌then◌else◌
+unfolding choose◌then◌else◌
 long_enough room text h = rw (le-ltb room (length text) h)
 
 -- ---- all records

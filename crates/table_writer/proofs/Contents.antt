@@ -8,7 +8,7 @@ use mathlib.Core.List.{◌∷◌}
 use lib.ListN.{length, drop, get_or}
 use borrow.Author.Tests.{le-leb, lt-leb, ne_eqb}
 use Rattle.model.specs.declared.Inner.TheVariants.{Last}
-use Rattle.model.specs.rules.Base.{Bytes, if◌then◌else◌}
+use Rattle.model.specs.rules.Base.{Bytes, choose◌then◌else◌}
 use Rattle.model.specs.rules.Utf8.{Wide, gap, ed, lone, inner, settle, wide_step, wide_from}
 use Rattle.model.proofs.cell_laws.Utf8.{ascii_whole}
 use Rattle.buffer.proofs.WriteProgress.{drop_next}
@@ -17,24 +17,24 @@ use Rattle.table_writer.specs.Content.{step_in, content_from, SameContentState}
 -- ---- after ED
 
 pub ed_below : (h : Bool) (b : ℕ) → b < 0x80 → wide_step (ed h) b ≡ none
-unfolding wide_step if◌then◌else◌
+unfolding wide_step choose◌then◌else◌
 ed_below h b l = rw (lt-leb 0x80 b l, lt-leb 0xA0 b (omega arith), lt-leb 0xB0 b (omega arith))
 
 pub ed_character : (h : Bool) (b : ℕ) → 0x80 ≤ b → b < 0xA0 → wide_step (ed h) b ≡ some (inner Last)
-unfolding wide_step if◌then◌else◌
+unfolding wide_step choose◌then◌else◌
 ed_character h b l u = rw (le-leb 0x80 b l, le-leb b 0x9F (omega arith))
 
 pub ed_high : (h : Bool) (b : ℕ) → 0xA0 ≤ b → b < 0xB0 → wide_step (ed h) b ≡ some (lone true)
-unfolding wide_step if◌then◌else◌
+unfolding wide_step choose◌then◌else◌
 ed_high h b l u = rw (le-leb 0x80 b (omega arith), lt-leb b 0x9F (omega arith), le-leb 0xA0 b l, le-leb b 0xAF (omega arith))
 
-pub ed_low : (h : Bool) (b : ℕ) → 0xB0 ≤ b → b ≤ 0xBF → wide_step (ed h) b ≡ (if h then none else some (lone false))
-unfolding wide_step if◌then◌else◌
+pub ed_low : (h : Bool) (b : ℕ) → 0xB0 ≤ b → b ≤ 0xBF → wide_step (ed h) b ≡ (choose h then none else some (lone false))
+unfolding wide_step choose◌then◌else◌
 ed_low h b l u =
     rw (le-leb 0x80 b (omega arith), lt-leb b 0x9F (omega arith), le-leb 0xA0 b (omega arith), lt-leb b 0xAF (omega arith), le-leb 0xB0 b l, le-leb b 0xBF u)
 
 pub ed_above : (h : Bool) (b : ℕ) → 0xBF < b → wide_step (ed h) b ≡ none
-unfolding wide_step if◌then◌else◌
+unfolding wide_step choose◌then◌else◌
 ed_above h b l =
     rw (
       le-leb 0x80 b (omega arith),
@@ -65,7 +65,7 @@ content_next (some w) b bs = wide_next w b bs
 -- ---- runs of ASCII
 
 ascii_step : (b : ℕ) → b ≤ 0x7F → wide_step (gap false) b ≡ some (gap false)
-unfolding wide_step if◌then◌else◌
+unfolding wide_step choose◌then◌else◌
 ascii_step b h = rw (ne_eqb b 0xED λ e. omega arith) (ap settle (ascii_whole b h))
 
 pub passes_none : {o : Option Wide} {s : Bytes} {i : ℕ} → i ≤ length s → SameContentState o s i i

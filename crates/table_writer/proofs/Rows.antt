@@ -17,7 +17,7 @@ use Rattle.model.specs.declared.Report.{Report}
 use Rattle.model.specs.declared.Target.{Target}
 use Rattle.model.specs.declared.CheckResult.{CheckResult}
 use Rattle.model.specs.declared.CheckResult.TheVariants.{Sound, Faulty}
-use Rattle.model.specs.rules.Base.{Bytes, if◌then◌else◌, is_empty, over}
+use Rattle.model.specs.rules.Base.{Bytes, choose◌then◌else◌, is_empty, over}
 use Rattle.model.specs.rules.Dialect.{into}
 use Rattle.model.specs.rules.Text.{Value, record_text, data_text, table_text, ending}
 use Rattle.model.specs.rules.Report.{MAXFILE, report, number_of, column_of}
@@ -236,7 +236,7 @@ module _ {t : Dialect} {vs : List Value} {columns records : ℕ} {old room : Byt
     row_written p = record { stands_at = stands_next w.stands_at h; going = put_next row_text going_next p }
 
   pub rows_written : records ≤ n → room ≡ over (table_text (into t) (rows_of records columns vs)) old
-  unfolding if◌then◌else◌
+  unfolding choose◌then◌else◌
   rows_written h =
       let e : rest_text (into t) (eqb n 0) (rows_left vs columns records n at) ≡ []
       = ap (rest_text (into t) (eqb n 0)) (rows_end vs columns records n at h) ∙ rest_end (into t) (eqb n 0) in

@@ -9,7 +9,7 @@ use lib.Dec.{leb, ltb, eqb}
 use lib.ListN.{length, drop, get_or, drop_of_length-le}
 use borrow.Author.Tests.{le-leb, lt-leb, leb-true, lt-ltb, le-ltb, ltb-true, eqb-true}
 use Rattle.model.specs.declared.Kind.{Kind}
-use Rattle.model.specs.rules.Base.{Bytes, if◌then◌else◌}
+use Rattle.model.specs.rules.Base.{Bytes, choose◌then◌else◌}
 use Rattle.model.specs.rules.Text.{Value}
 use Rattle.model.specs.rules.Api.{kind_named, is_value, slice, table_cell, cons, table_cells, rows_of, table_rows, rows_in}
 use Rattle.model.proofs.Tests.{split_on, impossible, and_true}
@@ -28,7 +28,7 @@ fits bs s e k = leb s e && leb e (length bs) && is_value k (slice bs s e)
 -- the cell by its kind, if it has one
 abbrev cell_of : (bs : Bytes) (s e : ℕ) → Option Kind → Option Value
 cell_of bs s e none = none
-cell_of bs s e (some k) = if fits bs s e k then some (record { from = s; upto = e; kind = k; content = slice bs s e }) else none
+cell_of bs s e (some k) = choose fits bs s e k then some (record { from = s; upto = e; kind = k; content = slice bs s e }) else none
 
 cell_by : (bs : Bytes) (s e n : ℕ) → table_cell bs s e n ≡ cell_of bs s e (kind_named n)
 unfolding table_cell
@@ -38,20 +38,20 @@ cell_by bs s e n = go (kind_named n)
         (o : Option Kind) → (elim o as (λ _. Option Value) [
           | none ↦ none
           | some k ↦
-              if leb s e && leb e (length bs) && is_value k (slice bs s e) then some
+              choose leb s e && leb e (length bs) && is_value k (slice bs s e) then some
               (record { from = s; upto = e; kind = k; content = slice bs s e })
               else none
         ]) ≡ cell_of bs s e o
     go none = refl
     go (some k) = refl
 
-there_if : {A : Type 0} (t : Bool) (x : A) → is_there (if t then some x else none) ≡ t
-unfolding if◌then◌else◌
+there_if : {A : Type 0} (t : Bool) (x : A) → is_there (choose t then some x else none) ≡ t
+unfolding choose◌then◌else◌
 there_if true x = refl
 there_if false x = refl
 
-then_some : {A : Type 0} (t : Bool) (x : A) → t ≡ true → ◌≡◌ {A = Option A} (if t then some x else none) (some x)
-unfolding if◌then◌else◌
+then_some : {A : Type 0} (t : Bool) (x : A) → t ≡ true → ◌≡◌ {A = Option A} (choose t then some x else none) (some x)
+unfolding choose◌then◌else◌
 then_some true x e = refl
 then_some false x e = impossible e
 
@@ -186,7 +186,7 @@ module _ (bs : Bytes) (ss es ks : List ℕ) (columns records : ℕ) where
   by_number :
       AllThere bs ss es ks →
       rows_in (given bs ss es ks columns records)
-      ≡ (if eqb (length ss) (columns * records) && ltb 0 records then some (rows_of records columns (cells_in Contents bs ss es ks))
+      ≡ (choose eqb (length ss) (columns * records) && ltb 0 records then some (rows_of records columns (cells_in Contents bs ss es ks))
       else none)
   unfolding rows_in
   by_number a = rw (a.same, cells_length Contents bs ss es ks a.cells.with_ends a.cells.with_kinds)

@@ -15,7 +15,7 @@ use Rattle.model.specs.declared.Dialect.{Dialect}
 use Rattle.model.specs.declared.Target.{Target}
 use Rattle.model.specs.declared.CellCheck.{CellCheck}
 use Rattle.model.specs.declared.CellCheck.TheVariants.{WholeCell, Unsound}
-use Rattle.model.specs.rules.Base.{Bytes, if◌then◌else◌, over, concat}
+use Rattle.model.specs.rules.Base.{Bytes, choose◌then◌else◌, over, concat}
 use Rattle.model.specs.rules.Dialect.{dialect_of, into}
 use Rattle.model.specs.rules.Decode.{kind_number, content_of, validate_cell}
 use Rattle.model.specs.rules.Text.{Value, table_text}

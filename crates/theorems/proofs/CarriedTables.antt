@@ -18,7 +18,7 @@ use Rattle.model.specs.declared.Fault.{Fault}
 use Rattle.model.specs.declared.Fault.TheVariants.{RepeatedName, HeaderKind, TooManyColumns, NoCells, LacksKind, LoneSurrogate, Clash, TextTooLong}
 use Rattle.model.specs.declared.Fault.TheVariants.{OutputTooLong}
 use Rattle.model.specs.declared.CheckResult.TheVariants.{Sound}
-use Rattle.model.specs.rules.Base.{Bytes, is_empty, concat, if◌then◌else◌}
+use Rattle.model.specs.rules.Base.{Bytes, is_empty, concat, choose◌then◌else◌}
 use Rattle.model.specs.rules.Dialect.{dialect_of, into, is_csvj}
 use Rattle.model.specs.rules.Text.{Value, is_text, record_text, data_text, table_text, ending}
 use Rattle.model.specs.rules.Report.{accepted, MAXFILE, MAXRECORD, MAXCOLUMNS}
@@ -102,7 +102,7 @@ module _ (t : Dialect) where
 
   names_sound :
       (fault : ℕ → Fault) (seen : List Bytes) (n : ℕ) {vs : List Value} → Unseen seen vs → DistinctNames t vs → repeat_from t fault seen n vs ≡ Sound
-  unfolding repeat_from if◌then◌else◌
+  unfolding repeat_from choose◌then◌else◌
   names_sound fault seen n all_none no_names = refl
   names_sound fault seen n (all_cons {x} {xs} p ps) (a_name w m) =
       let unseen : Unseen (key_of x ∷ seen) xs = cons_unseen (key_of x) seen w ps in
@@ -195,7 +195,7 @@ module _ (t : Dialect) where
   Fresh seen vs = Unseen seen vs × DistinctNames t vs
 
   pub names_of : (fault : ℕ → Fault) (seen : List Bytes) (n : ℕ) (vs : List Value) → repeat_from t fault seen n vs ≡ Sound → Fresh seen vs
-  unfolding repeat_from if◌then◌else◌
+  unfolding repeat_from choose◌then◌else◌
   names_of fault seen n [] e = (all_none, no_names)
   names_of fault seen n (v ∷ vs) e = go (among (key_of v) seen) refl (λ q. names_of fault (key_of v ∷ seen) (suc n) vs q)
     where

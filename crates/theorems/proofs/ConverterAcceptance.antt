@@ -18,7 +18,7 @@ use Rattle.model.specs.declared.Fault.TheVariants.{Clash}
 use Rattle.model.specs.declared.Target.{Target}
 use Rattle.model.specs.declared.CheckResult.{CheckResult}
 use Rattle.model.specs.declared.CheckResult.TheVariants.{Sound}
-use Rattle.model.specs.rules.Base.{Bytes, if◌then◌else◌}
+use Rattle.model.specs.rules.Base.{Bytes, choose◌then◌else◌}
 use Rattle.model.specs.rules.Dialect.{dialect_of, into}
 use Rattle.model.specs.rules.Text.{Value, table_text}
 use Rattle.model.specs.rules.Report.{accepted, MAXCOLUMNS}
@@ -213,7 +213,7 @@ converted_exactly m n d t file room e k =
 pub converted_text :
     (m n : ℕ) (d t : Dialect) (file : Bytes) (room : ℕ) (ls : List (Line Derived)) → dialect_of m ≡ some d → dialect_of n ≡ some t → Acceptable d file ls →
     (converter m n file room).report ≡ accepted → (converter m n file room).text ≡ table_text (into t) (map row_in ls)
-unfolding if◌then◌else◌
+unfolding choose◌then◌else◌
 converted_text m n d t file room ls e k a q =
     let x = accepts_from (into t) (read_file d (some (into t)) file) (converter m n file room).report (converter_tells m n d t file room e k) q in
     let y = passes_from (into t) x.0 (target_file d (into t) file) x.1 in

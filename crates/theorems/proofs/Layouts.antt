@@ -15,7 +15,7 @@ use borrow.Author.Tests.{le-leb, lt-ltb, eq-eqb}
 use Rattle.model.specs.declared.Dialect.{Dialect}
 use Rattle.model.specs.declared.Kind.{Kind}
 use Rattle.model.specs.declared.Kind.TheVariants.{Text, Number, True, False, Null}
-use Rattle.model.specs.rules.Base.{Bytes, concat, if◌then◌else◌}
+use Rattle.model.specs.rules.Base.{Bytes, concat, choose◌then◌else◌}
 use Rattle.model.specs.rules.Dialect.{dialect_of, into}
 use Rattle.model.specs.rules.Decode.{kind_number}
 use Rattle.model.specs.rules.Text.{Value, table_text}
@@ -35,7 +35,7 @@ use Rattle.theorems.proofs.CarriedTables.{writes, carried_comes_back}
 
 -- the number of a kind names it
 kind_named_lem : (k : Kind) → kind_named (kind_number k) ≡ some k
-unfolding kind_named if◌then◌else◌
+unfolding kind_named choose◌then◌else◌
 kind_named_lem Text = refl
 kind_named_lem Number = refl
 kind_named_lem True = refl
@@ -49,7 +49,7 @@ at o v = record { from = o; upto = o + length v.content; kind = v.kind; content 
 cell_laid :
     (before after : Bytes) (v : Value) → ValueCell v →
     table_cell (before ++ (v.content ++ after)) (length before) (length before + length v.content) (kind_number v.kind) ≡ some (at (length before) v)
-unfolding table_cell if◌then◌else◌
+unfolding table_cell choose◌then◌else◌
 cell_laid before after v e =
     let bs : Bytes = before ++ (v.content ++ after) in
     let from : ℕ = length before in
@@ -142,7 +142,7 @@ module _ (h : List Value) (rs : List (List Value)) where
       }
 
   laid_rows : ValueRows h rs → TableOf h rs laid_table
-  unfolding rows_in if◌then◌else◌
+  unfolding rows_in choose◌then◌else◌
   laid_rows x =
       let even : All (λ (r : List Value). length r ≡ length h) (h ∷ rs) = all_cons refl x.counts in
       let same : SameCells cells (concat (h ∷ rs)) = laid_same 0 (concat (h ∷ rs)) in

@@ -13,7 +13,7 @@ use Rattle.model.specs.declared.Report.{Report}
 use Rattle.model.specs.declared.Dialect.{Dialect}
 use Rattle.model.specs.declared.Fault.{Fault}
 use Rattle.model.specs.declared.Target.{Target}
-use Rattle.model.specs.rules.Base.{if◌then◌else◌, within, Bytes}
+use Rattle.model.specs.rules.Base.{choose◌then◌else◌, within, Bytes}
 use Rattle.model.specs.rules.Dialect.{dialect_of, into}
 use Rattle.model.specs.rules.Text.{table_text}
 use Rattle.model.specs.rules.Report.{accepted, refusal, number_of, MAXFILE}
@@ -54,7 +54,7 @@ data AnsweredBy (m n : ℕ) (past : List Entry) (c : Call) : Type 0 where
 
 -- a fault found before is a file fault
 met_fault : (e : Report) (xs : List Entry) → fault_in xs ≡ some e → is_file_fault e ≡ true
-unfolding fault_in if◌then◌else◌
+unfolding fault_in choose◌then◌else◌
 met_fault e [] k = none_some k
 met_fault e (x ∷ xs) k =
     split_on (is_file_fault x.answer.report)
@@ -116,7 +116,7 @@ module _ (m n : ℕ) where
 
     -- a file fault that any call reports is the one found first
     pub reports_first : is_file_fault now.report ≡ true → fault_in (after m n past c) ≡ some now.report
-    unfolding fault_in if◌then◌else◌
+    unfolding fault_in choose◌then◌else◌
     reports_first h = go (answered_by past c)
       where
         entry : List Entry
@@ -139,7 +139,7 @@ module _ (m n : ℕ) where
       ((past : List Entry) (c : Call) → answer_now m n past c ≡ unwritten (refusal 11)) → (past : List Entry) (cs : List Call) →
       fault_in past ≡ none → ended_in past ≡ false →
       (fault_in (history_from m n past cs) ≡ none) × (ended_in (history_from m n past cs) ≡ false)
-  unfolding history_from fault_in ended_in if◌then◌else◌
+  unfolding history_from fault_in ended_in choose◌then◌else◌
   idle a past [] k z = (k, z)
   idle a past (c ∷ cs) k z =
       let new : List Entry = record { call = c; answer = answer_now m n past c } ∷ [] in
@@ -151,7 +151,7 @@ module _ (m n : ℕ) where
     no_end : ended_in past ≡ false → NotBoth past
 
   not_both : (past : List Entry) (c : Call) → NotBoth past → NotBoth (after m n past c)
-  unfolding fault_in ended_in if◌then◌else◌
+  unfolding fault_in ended_in choose◌then◌else◌
   not_both past c h = go h (answered_by m n past c)
     where
       new : Written → List Entry
@@ -188,7 +188,7 @@ module _ (m n : ℕ) where
   pub ended_whole :
       (cs : List Call) → ended_in (history m n cs) ≡ true →
       converter m n (consumed_in (history m n cs)) MAXFILE ≡ record { report = accepted; text = written_in (history m n cs) }
-  unfolding fault_in ended_in if◌then◌else◌
+  unfolding fault_in ended_in choose◌then◌else◌
   ended_whole cs h = go (dialect_of m) (dialect_of n) refl refl
     where
       past : List Entry
@@ -223,7 +223,7 @@ module _ (m n : ℕ) where
 
   -- a fault found is the whole converter's
   pub met_whole : (cs : List Call) (e : Report) → fault_in (history m n cs) ≡ some e → e ≡ (converter m n (consumed_in (history m n cs)) MAXFILE).report
-  unfolding fault_in ended_in if◌then◌else◌
+  unfolding fault_in ended_in choose◌then◌else◌
   met_whole cs e h = go (dialect_of m) (dialect_of n) refl refl
     where
       past : List Entry

@@ -9,7 +9,7 @@ use mathlib.Core.List.{List, [], ◌∷◌, ◌++◌, map, map-append}
 use lib.Dec.{ltb}
 use lib.ListN.{length}
 use Rattle.model.specs.declared.Dialect.{Dialect}
-use Rattle.model.specs.rules.Base.{Bytes, concat, if◌then◌else◌}
+use Rattle.model.specs.rules.Base.{Bytes, concat, choose◌then◌else◌}
 use Rattle.model.specs.rules.Dialect.{dialect_of}
 use Rattle.model.specs.rules.Text.{Value}
 use Rattle.model.specs.rules.Report.{accepted}
@@ -47,7 +47,7 @@ none_read each_none c = no_records c
 pub as_derived :
     (n : ℕ) (d : Dialect) (file : Bytes) (room : ℕ) (ls : List (Line Derived)) → dialect_of n ≡ some d → Acceptable d file ls → cell_count ls ≤ room →
     AsDerived ls (reader n file room)
-unfolding if◌then◌else◌
+unfolding choose◌then◌else◌
 as_derived n d file room ls e a k = by_reading (acceptable_read d file ls a)
   where
     reported : (reader n file room).report ≡ accepted

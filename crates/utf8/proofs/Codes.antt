@@ -7,7 +7,7 @@ use native.Mathlib.Omega.{arith}
 use lib.Bits.{bit_and, bit_or, and_mask, mask_lt, or_shifted, or_shifted_r}
 use lib.ListN.{length, take}
 use borrow.Author.Tests.{le-leb, lt-leb}
-use Rattle.model.specs.rules.Base.{if◌then◌else◌, Bytes}
+use Rattle.model.specs.rules.Base.{choose◌then◌else◌, Bytes}
 use Rattle.model.specs.rules.Utf8.{pack, joined}
 use Rattle.model.proofs.Tests.{split, within_true}
 use Rattle.utf8.specs.Codes.{packed, zeros, Packs, ten_bits, Joins}
@@ -24,29 +24,29 @@ pub packs_of : (u : ℕ) (bytes : Bytes) (size : ℕ) → packed u ≡ take size
 packs_of u bytes size e l z = record { packs = sym e; sized = l ∙ ap length (sym e); padded = z ∙ ap (λ (bs : Bytes). take 4 (bs ++ zeros)) (sym e) }
 
 pub packed_one : (u : ℕ) → u ≤ 0x7F → packed u ≡ u ∷ []
-unfolding packed pack if◌then◌else◌
+unfolding packed pack choose◌then◌else◌
 packed_one u h = rw (le-leb u 0x10FFFF (omega arith), le-leb u 0x7F h)
 
 pub packed_two : (u : ℕ) → 0x7F < u → u ≤ 0x7FF → packed u ≡ (0xC0 + u / 0x40) ∷ (0x80 + u % 0x40) ∷ []
-unfolding packed pack if◌then◌else◌
+unfolding packed pack choose◌then◌else◌
 packed_two u l h = rw (le-leb u 0x10FFFF (omega arith), lt-leb u 0x7F l, le-leb u 0x7FF h)
 
 pub packed_three : (u : ℕ) → 0x7FF < u → u ≤ 0xFFFF → packed u ≡ (0xE0 + u / 0x1000) ∷ (0x80 + u / 0x40 % 0x40) ∷ (0x80 + u % 0x40) ∷ []
-unfolding packed pack if◌then◌else◌
+unfolding packed pack choose◌then◌else◌
 packed_three u l h = rw (le-leb u 0x10FFFF (omega arith), lt-leb u 0x7F (omega arith), lt-leb u 0x7FF l, le-leb u 0xFFFF h)
 
 pub packed_four : (u : ℕ) → 0xFFFF < u → u ≤ 0x10FFFF
     → packed u ≡ (0xF0 + u / 0x40000) ∷ (0x80 + u / 0x1000 % 0x40) ∷ (0x80 + u / 0x40 % 0x40) ∷ (0x80 + u % 0x40) ∷ []
-unfolding packed pack if◌then◌else◌
+unfolding packed pack choose◌then◌else◌
 packed_four u l h = rw (le-leb u 0x10FFFF h, lt-leb u 0x7F (omega arith), lt-leb u 0x7FF (omega arith), lt-leb u 0xFFFF l)
 
 pub packed_none : (u : ℕ) → 0x10FFFF < u → packed u ≡ []
-unfolding packed if◌then◌else◌
+unfolding packed choose◌then◌else◌
 packed_none u h = rw (lt-leb u 0x10FFFF h)
 
 -- the packed bytes are the definition's
 pub packed_is : (u : ℕ) → u ≤ 0x10FFFF → packed u ≡ pack u
-unfolding packed if◌then◌else◌
+unfolding packed choose◌then◌else◌
 packed_is u h = rw (le-leb u 0x10FFFF h)
 
 pub packed_most : (u : ℕ) → length (packed u) ≤ 4

@@ -17,7 +17,7 @@ use Rattle.model.specs.declared.Char.{Char}
 use Rattle.model.specs.declared.Char.TheVariants.{Whole, Within}
 use Rattle.model.specs.declared.Advance.{Advance}
 use Rattle.model.specs.declared.Advance.TheVariants.{On, Broken}
-use Rattle.model.specs.rules.Base.{Bytes, if◌then◌else◌, within}
+use Rattle.model.specs.rules.Base.{Bytes, choose◌then◌else◌, within}
 use Rattle.model.specs.rules.Utf8.{row_of, leads, lead_byte, after_second, inner_step, char_step}
 use Rattle.model.specs.rules.Api.{slice}
 use Rattle.model.proofs.Tests.{split_on, and_true}
@@ -93,11 +93,11 @@ first_high b i e =
     λ t. omega (arith, leb-false b 0x7F t)
 
 second_step : (l : Lead) (b : ℕ) → (row_of l).lo2 ≤ b → b ≤ (row_of l).hi2 → char_step (Within (Second l)) b ≡ On (after_second (row_of l).size)
-unfolding char_step inner_step if◌then◌else◌
+unfolding char_step inner_step choose◌then◌else◌
 second_step l b h k = rw (le-leb (row_of l).lo2 b h, le-leb b (row_of l).hi2 k)
 
 later_step : (b : ℕ) → within 0x80 0xBF b ≡ true → (char_step (Within LastTwo) b ≡ On (Within Last)) × (char_step (Within Last) b ≡ On Whole)
-unfolding char_step inner_step if◌then◌else◌
+unfolding char_step inner_step choose◌then◌else◌
 later_step b e = (rw e, rw e)
 
 high_on : (b : ℕ) (bs : Bytes) → 0x80 ≤ b → all_high bs ≡ true → all_high (b ∷ bs) ≡ true
@@ -106,7 +106,7 @@ high_on b bs h e = rw (le-leb 0x80 b h, e)
 
 module _ (l : Lead) (a b : ℕ) (first : char_step Whole a ≡ On (Within (Second l))) (low : (row_of l).lo2 ≤ b) (high : b ≤ (row_of l).hi2) where
   wide_two : (row_of l).size ≡ 2 → WideText (a ∷ b ∷ [])
-  unfolding chars_from all_high if◌then◌else◌
+  unfolding chars_from all_high choose◌then◌else◌
   wide_two n =
       let second : char_step (Within (Second l)) b ≡ On Whole = second_step l b low high ∙ rw n in
       record {
@@ -115,7 +115,7 @@ module _ (l : Lead) (a b : ℕ) (first : char_step Whole a ≡ On (Within (Secon
       }
 
   wide_three : (c : ℕ) → (row_of l).size ≡ 3 → within 0x80 0xBF c ≡ true → WideText (a ∷ b ∷ c ∷ [])
-  unfolding chars_from all_high if◌then◌else◌
+  unfolding chars_from all_high choose◌then◌else◌
   wide_three c n later =
       let second : char_step (Within (Second l)) b ≡ On (Within Last) = second_step l b low high ∙ rw n in
       let last : char_step (Within Last) c ≡ On Whole = (later_step c later).1 in
@@ -129,7 +129,7 @@ module _ (l : Lead) (a b : ℕ) (first : char_step Whole a ≡ On (Within (Secon
       }
 
   wide_four : (c e : ℕ) → (row_of l).size ≡ 4 → within 0x80 0xBF c ≡ true → within 0x80 0xBF e ≡ true → WideText (a ∷ b ∷ c ∷ e ∷ [])
-  unfolding chars_from all_high if◌then◌else◌
+  unfolding chars_from all_high choose◌then◌else◌
   wide_four c e n later end =
       let second : char_step (Within (Second l)) b ≡ On (Within LastTwo) = second_step l b low high ∙ rw n in
       let third : char_step (Within LastTwo) c ≡ On (Within Last) = (later_step c later).0 in
@@ -149,15 +149,15 @@ module _ (l : Lead) (a b : ℕ) (first : char_step Whole a ≡ On (Within (Secon
 -- ---- the table row of a first byte
 
 skip_row : (l : Lead) (ls : List Lead) (b : ℕ) → (row_of l).hi < b → lead_byte (l ∷ ls) b ≡ lead_byte ls b
-unfolding lead_byte if◌then◌else◌
+unfolding lead_byte choose◌then◌else◌
 skip_row l ls b h = rw (lt-leb b (row_of l).hi h, and-false (leb (row_of l).lo b))
 
 take_row : (l : Lead) (ls : List Lead) (b : ℕ) → (row_of l).lo ≤ b → b ≤ (row_of l).hi → lead_byte (l ∷ ls) b ≡ On (Within (Second l))
-unfolding lead_byte if◌then◌else◌
+unfolding lead_byte choose◌then◌else◌
 take_row l ls b h k = rw (le-leb (row_of l).lo b h, le-leb b (row_of l).hi k)
 
 beyond_ascii : (b : ℕ) → 0x7F < b → char_step Whole b ≡ lead_byte leads b
-unfolding char_step if◌then◌else◌
+unfolding char_step choose◌then◌else◌
 beyond_ascii b h = rw (lt-leb b 0x7F h, and-false (leb 0x00 b))
 
 abbrev from_row : List Lead → ℕ → Type 0

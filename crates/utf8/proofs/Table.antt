@@ -6,7 +6,7 @@ use mathlib.Core.List.{List, [], ◌∷◌, map}
 use Prim.Native.Nat.{ℕ, zero, suc, ◌<◌}
 use native.Mathlib.Nat.{le_of_suc-le-suc, not-suc-le-zero}
 use lib.ListN.{length, get_or, drop}
-use Rattle.model.specs.rules.Base.{if◌then◌else◌, within}
+use Rattle.model.specs.rules.Base.{choose◌then◌else◌, within}
 use Rattle.model.specs.rules.Utf8.{Row, row_of, leads, lead_byte, after_second, inner_step}
 use Rattle.model.specs.declared.Lead.{Lead}
 use Rattle.model.specs.declared.Lead.TheVariants.{C2ToDf}
@@ -42,7 +42,7 @@ highs = column (λ r. r.hi2) leads
 -- the search of the table from index i on
 lead_from : (ls : List Lead) (i b : ℕ) → i < length ls
     → lead_byte (drop i ls) b
-    ≡ (if within (get_or (column (λ r. r.lo) ls) i 0) (get_or (column (λ r. r.hi) ls) i 0) b
+    ≡ (choose within (get_or (column (λ r. r.lo) ls) i 0) (get_or (column (λ r. r.hi) ls) i 0) b
     then On (Within (Second (get_or ls i C2ToDf))) else lead_byte (drop (suc i) ls) b)
 unfolding lead_byte
 lead_from [] i b h = absurd (not-suc-le-zero h)
@@ -51,12 +51,12 @@ lead_from (l ∷ ls) (suc i) b h = lead_from ls i b (le_of_suc-le-suc h)
 
 module _ (i b : ℕ) (h : i < 8) where
   pub lead_at : lead_byte (drop i leads) b
-      ≡ (if within (get_or firsts i 0) (get_or lasts i 0) b then On (Within (Second (get_or leads i C2ToDf))) else lead_byte (drop (suc i) leads) b)
+      ≡ (choose within (get_or firsts i 0) (get_or lasts i 0) b then On (Within (Second (get_or leads i C2ToDf))) else lead_byte (drop (suc i) leads) b)
   unfolding leads
   lead_at = lead_from leads i b h
 
   -- the second byte of a character whose row has index i
   pub second_at : {l : Lead} → get_or leads i C2ToDf ≡ l
-      → inner_step (Second l) b ≡ (if within (get_or lows i 0) (get_or highs i 0) b then On (after_second (get_or sizes i 0)) else Broken)
+      → inner_step (Second l) b ≡ (choose within (get_or lows i 0) (get_or highs i 0) b then On (after_second (get_or sizes i 0)) else Broken)
   unfolding leads inner_step
   second_at e = rw (← e, entry (λ r. r.lo2) leads i h, entry (λ r. r.hi2) leads i h, entry (λ r. r.size) leads i h)

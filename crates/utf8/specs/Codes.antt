@@ -1,11 +1,11 @@
 -- What the functions on code points return, also for numbers that are not code points.
 use Rattle.std.specs.Prelude.{ℕ, ◌+◌, ◌*◌, ◌%◌, ◌≡◌, true, [], ◌∷◌, ◌++◌, leb, length, take}
-use Rattle.model.specs.rules.Base.{if◌then◌else◌, Bytes}
+use Rattle.model.specs.rules.Base.{choose◌then◌else◌, Bytes}
 use Rattle.model.specs.rules.Utf8.{pack, is_high, is_low, joined}
 
 -- the bytes of a code point; a number above the last code point has none (§2.10)
 unfoldable pub packed : ℕ → Bytes
-packed u = if leb u 0x10FFFF then pack u else []
+packed u = choose leb u 0x10FFFF then pack u else []
 
 abbrev pub zeros : Bytes
 zeros = 0 ∷ 0 ∷ 0 ∷ 0 ∷ []

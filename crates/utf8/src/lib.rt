@@ -7,7 +7,7 @@
 #![tactic(auto)]
 
 ghost use Rattle.std.specs.Prelude.{◌≡◌, ◌+◌, ◌%◌, ◌<◌, get_or};
-ghost use Rattle.model.specs.rules.Base.{if◌then◌else◌, within};
+ghost use Rattle.model.specs.rules.Base.{choose◌then◌else◌, within};
 ghost use Rattle.model.specs.rules.Utf8.{leads, lead_byte, inner_step, char_step};
 ghost use Rattle.model.specs.declared.Lead.TheVariants.{C2ToDf};
 ghost use Rattle.model.specs.declared.Inner.TheVariants.{Second};
@@ -110,7 +110,7 @@ fn second_byte(l: Lead, b: u8) -> Advance
 
 // A byte after the second, and the state after it.
 fn later_byte(b: u8, after: Char) -> Advance
-    ensures { result ≡ (if within 0x80 0xBF b then On after else Broken) }
+    ensures { result ≡ (choose within 0x80 0xBF b then On after else Broken) }
 {
     if b < LATER[0] {
         return Advance::Broken;

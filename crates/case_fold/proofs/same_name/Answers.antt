@@ -2,7 +2,7 @@
 use mathlib.Core.Path.{◌≡◌, refl, sym, ◌∙◌}
 use native.Mathlib.Omega.{arith}
 use borrow.Author.Rules.{rules}
-use Rattle.model.specs.rules.Base.{if◌then◌else◌}
+use Rattle.model.specs.rules.Base.{choose◌then◌else◌}
 use Rattle.model.specs.rules.Names.{fold_point}
 use Rattle.model.proofs.name_laws.Folding.{table_follows}
 use Rattle.case_fold.proofs.FoldedNames.{different_lengths, found_same, found_different}
@@ -15,7 +15,7 @@ returns-then-a-b c =
     sym (different_lengths s.a.now s.b.now c.if-a-b.true)
 
 pub same_by_table-requires : goal.same_by_table-requires
-unfolding fold_point if◌then◌else◌
+unfolding fold_point choose◌then◌else◌
 same_by_table-requires c = (table_follows _ refl tt, omega arith)
 
 pub returns-in-Same : goal.returns-in-Same

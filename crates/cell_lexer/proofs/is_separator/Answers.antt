@@ -1,17 +1,17 @@
 -- `cell_lexer::is_separator` meets its contract, by its tests.
-use Rattle.model.specs.rules.Base.{if◌then◌else◌}
+use Rattle.model.specs.rules.Base.{choose◌then◌else◌}
 use Rattle.model.proofs.Tests.{tests}
 use borrow.Author.Rules.{rules}
 use Rattle.cell_lexer.proofs.is_separator.Goals as goal
 
 pub returns-then-b-delimiter_of : goal.returns-then-b-delimiter_of
-unfolding if◌then◌else◌
+unfolding choose◌then◌else◌
 returns-then-b-delimiter_of c = search (tests, ← c.delimiter_of.ensures, c.if-b-delimiter_of.true)
 
 pub returns-then-b-eq13 : goal.returns-then-b-eq13
-unfolding if◌then◌else◌
+unfolding choose◌then◌else◌
 returns-then-b-eq13 c = search (tests, ← c.delimiter_of.ensures, c.if-b-delimiter_of.false)
 
 pub returns : goal.returns
-unfolding if◌then◌else◌
+unfolding choose◌then◌else◌
 returns c = search (tests, ← c.delimiter_of.ensures, c.if-b-delimiter_of.false)

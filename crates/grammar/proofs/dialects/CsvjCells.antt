@@ -4,7 +4,7 @@ use mathlib.Core.Path.{◌≡◌, refl}
 use mathlib.Core.List.{◌∷◌}
 use Rattle.grammar.specs.rfc.Types.{Csvj, Zero, Integer, T, Tr, Tru, F, Fa, Fal, Fals, N, Nu, Nul, Cell, Fresh, InWord, CellStep, More}
 use Rattle.grammar.specs.rfc.Types as types
-use Rattle.model.specs.rules.Base.{Bytes, QUOTE, ◌is◌, if◌then◌else◌}
+use Rattle.model.specs.rules.Base.{Bytes, QUOTE, ◌is◌, choose◌then◌else◌}
 use Rattle.model.specs.rules.Cell.{is_digit, first_byte, cell_step, is_whole}
 use Rattle.model.specs.rules.Decode.{kind_of, content_of}
 use Rattle.model.proofs.Tests.{split, impossible, is→eq}
@@ -20,7 +20,7 @@ use Rattle.grammar.proofs.rfc.Strings.{chars_spell, spells_chars}
 use Rattle.grammar.proofs.rfc.StringContent.{string_content, string_kind, StringOf, string_of, closing_string}
 
 pub value_spells : {c : Derived} → Value c → Spells Csvj Fresh (raw_of c)
-unfolding cell_step first_byte is_whole if◌then◌else◌
+unfolding cell_step first_byte is_whole choose◌then◌else◌
 value_spells (a_false encoded_false) = byte refl (byte refl (byte refl (byte refl (byte refl (whole refl)))))
 value_spells (a_null encoded_null) = byte refl (byte refl (byte refl (byte refl (whole refl))))
 value_spells (a_true encoded_true) = byte refl (byte refl (byte refl (byte refl (whole refl))))
@@ -28,7 +28,7 @@ value_spells (a_number n) = number_spells n
 value_spells (a_string (string a_quotation_mark c a_quotation_mark k)) = byte refl (chars_spell c)
 
 pub value_content : {c : Derived} → Value c → c ≡ decoded Csvj (raw_of c)
-unfolding kind_of content_of if◌then◌else◌
+unfolding kind_of content_of choose◌then◌else◌
 value_content (a_false encoded_false) = refl
 value_content (a_null encoded_null) = refl
 value_content (a_true encoded_true) = refl

@@ -6,7 +6,7 @@ use mathlib.Core.Bool.{Bool, true, false}
 use mathlib.Core.List.{List, [], ◌∷◌, ◌++◌, map, append_assoc, append-nil}
 use Rattle.grammar.specs.rfc.Types.{Csvj, Cell, Fresh, More}
 use Rattle.grammar.specs.rfc.Types.{FileState, Top, Begin, Bom1, Blanks, ExpectCell, Inside, After, Cr, Outside, Between, Tail, Ends, Step, To}
-use Rattle.model.specs.rules.Base.{Bytes, ◌is◌, if◌then◌else◌}
+use Rattle.model.specs.rules.Base.{Bytes, ◌is◌, choose◌then◌else◌}
 use Rattle.model.specs.rules.Cell.{first_byte, cell_step, is_whole}
 use Rattle.model.specs.rules.File.{is_blank, after_cell, begin_record, begin_file, file_step, file_end}
 use Rattle.model.proofs.Tests.{split, is→eq}
@@ -38,7 +38,7 @@ record Continues (o : ℕ) (ys text : Bytes) (cells : List Bytes) (ls : List (Li
   after_blank : Runs Csvj After o o ys (line text cells ∷ ls) (ps ∷ ss)
 
 blank_step : (k : Bool) (b : ℕ) → is_blank b ≡ true → after_cell Csvj k b ≡ To After (Between k)
-unfolding after_cell if◌then◌else◌
+unfolding after_cell choose◌then◌else◌
 blank_step k b q = rw q
 
 blank_continues :
@@ -63,7 +63,7 @@ comma_continues :
     {o : ℕ} {ys text : Bytes} {cells : List Bytes} {ls : List (Line Bytes)} {ps : List Span} {ss : List (List Span)} →
     Runs Csvj ExpectCell (suc o) (suc o) ys (line text cells ∷ ls) (ps ∷ ss) →
     Continues o (0x2C ∷ ys) (0x2C ∷ text) cells ls ps ss
-unfolding file_step after_cell if◌then◌else◌
+unfolding file_step after_cell choose◌then◌else◌
 comma_continues k =
     record {
       after_value = λ c p r w. between_closing (after_whole Csvj c 0x2C r w by_delimiter) k;
@@ -73,7 +73,7 @@ comma_continues k =
 terminator_continues :
     {o : ℕ} {es zs : Bytes} {ls : List (Line Bytes)} {ss : List (List Span)} → Line-terminator es → Runs Csvj Begin (past es o) (past es o) zs ls ss →
     Continues o (es ++ zs) [] [] ls [] ss
-unfolding file_step after_cell if◌then◌else◌
+unfolding file_step after_cell choose◌then◌else◌
 terminator_continues lf k =
     record {
       after_value = λ c p r w. ends_closing (after_whole Csvj c LF r w by_lf) k;
@@ -95,7 +95,7 @@ abbrev FromLine : ℕ → Bytes → List (Line Bytes) → List (List Span) → T
 FromLine o xs ls ss = (f : FileState) → Opening f → Runs Csvj f o o xs ls ss
 
 open_value : {f : FileState} (b : ℕ) (e : Cell) → Opening f → cell_step Csvj Fresh b ≡ More e → file_step Csvj f b ≡ file_step Csvj (Inside Fresh) b
-unfolding file_step begin_file begin_record cell_step first_byte if◌then◌else◌
+unfolding file_step begin_file begin_record cell_step first_byte choose◌then◌else◌
 open_value b e at_top s =
     rw (
       other_byte Csvj b 0xEF e s refl,
@@ -108,7 +108,7 @@ open_value b e at_begin s = rw (other_byte Csvj b 0x20 e s refl, other_byte Csvj
 open_value b e at_blanks s = rw (other_byte Csvj b 0x20 e s refl, other_byte Csvj b 0x09 e s refl, other_byte Csvj b LF e s refl, other_byte Csvj b CR e s refl)
 
 wanted_value : (b : ℕ) (e : Cell) → cell_step Csvj Fresh b ≡ More e → file_step Csvj ExpectCell b ≡ file_step Csvj (Inside Fresh) b
-unfolding file_step cell_step first_byte if◌then◌else◌
+unfolding file_step cell_step first_byte choose◌then◌else◌
 wanted_value b e s = rw (other_byte Csvj b 0x20 e s refl, other_byte Csvj b 0x09 e s refl)
 
 from_first :
@@ -124,19 +124,19 @@ from_wanted (first_of_cell {b} {e} s) r = from_state (wanted_value b e s) r
 ws_wanted :
     {o : ℕ} {ws ys text : Bytes} {cells : List Bytes} {ls : List (Line Bytes)} {ss : List (List Span)} → Ws ws →
     Runs Csvj ExpectCell (past ws o) (past ws o) ys (line text cells ∷ ls) ss → Runs Csvj ExpectCell o o (ws ++ ys) (line (ws ++ text) cells ∷ ls) ss
-unfolding file_step if◌then◌else◌
+unfolding file_step choose◌then◌else◌
 ws_wanted no_ws k = k
 ws_wanted (space w) k = between refl (ws_wanted w k)
 ws_wanted (tab w) k = between refl (ws_wanted w k)
 
 space_step : {f : FileState} → Opening f → file_step Csvj f 0x20 ≡ To Blanks (Between false)
-unfolding file_step begin_file begin_record if◌then◌else◌
+unfolding file_step begin_file begin_record choose◌then◌else◌
 space_step at_top = refl
 space_step at_begin = refl
 space_step at_blanks = refl
 
 tab_step : {f : FileState} → Opening f → file_step Csvj f 0x09 ≡ To Blanks (Between false)
-unfolding file_step begin_file begin_record if◌then◌else◌
+unfolding file_step begin_file begin_record choose◌then◌else◌
 tab_step at_top = refl
 tab_step at_begin = refl
 tab_step at_blanks = refl
@@ -150,13 +150,13 @@ ws_opening (space w) k f o = between (space_step o) (ws_opening w k Blanks at_bl
 ws_opening (tab w) k f o = between (tab_step o) (ws_opening w k Blanks at_blanks)
 
 lf_step : {f : FileState} → Opening f → file_step Csvj f LF ≡ To Begin (Ends false)
-unfolding file_step begin_file begin_record if◌then◌else◌
+unfolding file_step begin_file begin_record choose◌then◌else◌
 lf_step at_top = refl
 lf_step at_begin = refl
 lf_step at_blanks = refl
 
 cr_step : {f : FileState} → Opening f → file_step Csvj f CR ≡ To Cr (Tail false)
-unfolding file_step begin_file begin_record if◌then◌else◌
+unfolding file_step begin_file begin_record choose◌then◌else◌
 cr_step at_top = refl
 cr_step at_begin = refl
 cr_step at_blanks = refl
@@ -164,7 +164,7 @@ cr_step at_blanks = refl
 terminator_opening :
     {o : ℕ} {es zs : Bytes} {ls : List (Line Bytes)} {ss : List (List Span)} → Line-terminator es → Runs Csvj Begin (past es o) (past es o) zs ls ss →
     FromLine o (es ++ zs) (line [] [] ∷ ls) ([] ∷ ss)
-unfolding file_step if◌then◌else◌
+unfolding file_step choose◌then◌else◌
 terminator_opening lf k f o = ends (lf_step o) k
 terminator_opening crlf k f o = tail (cr_step o) (ends refl k)
 
@@ -228,7 +228,7 @@ table_reads : (o : ℕ) {xs : Bytes} {ls : List (Line Derived)} (k : Csvj-file x
 table_reads o (csvj_file_lem {bs} (header_line l) k) = line_reads o l (lines_read (past bs o) k)
 
 pub file_reads : {xs : Bytes} {ls : List (Line Derived)} (k : File xs ls) → Runs Csvj Top 0 0 xs (map spelling ls) (csvj_file k)
-unfolding file_step begin_file if◌then◌else◌
+unfolding file_step begin_file choose◌then◌else◌
 file_reads (unmarked k) = table_reads 0 k Top at_top
 file_reads (marked k) = outside refl (outside refl (passed refl (table_reads 3 k Begin at_begin)))
 

@@ -5,7 +5,7 @@ use mathlib.Core.Path.{◌≡◌, refl, ◌∙◌}
 use mathlib.Core.Bool.{Bool, true, false}
 use mathlib.Core.List.{List, [], ◌∷◌, ◌++◌, append_assoc, append-nil}
 use Rattle.grammar.specs.rfc.Types.{Dialect, CsvPlus, Fresh, FileState, Inside, Between, To}
-use Rattle.model.specs.rules.Base.{Bytes, if◌then◌else◌}
+use Rattle.model.specs.rules.Base.{Bytes, choose◌then◌else◌}
 use Rattle.model.specs.rules.Dialect.{delimiter_of}
 use Rattle.model.specs.rules.File.{after_cell}
 use Rattle.model.proofs.Tests.{same_byte}
@@ -32,7 +32,7 @@ cells_at o (more_cells {raw} m n) = cell_at o raw ∷ cells_at (suc (past raw o)
 -- ---- they are read
 
 delimiter_step : {d : Dialect} → Doubles d → after_cell d true (delimiter_of d) ≡ To (Inside Fresh) (Between true)
-unfolding after_cell if◌then◌else◌
+unfolding after_cell choose◌then◌else◌
 delimiter_step d_tdif = refl
 delimiter_step (d_plus {s}) = rw (same_byte (delimiter_of (CsvPlus s)))
 

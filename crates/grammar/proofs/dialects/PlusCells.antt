@@ -9,7 +9,7 @@ use lib.Dec.{leb}
 use borrow.Author.Tests.{ne_eqb, eqb-false, leb-true, leb-false}
 use Rattle.grammar.specs.rfc.Types.{Text, Delimiter, Comma, Semicolon, Tab, Bar, Quote, Double, Single, Settings, CsvPlus, Char, Whole, Within}
 use Rattle.grammar.specs.rfc.Types.{On, Cell, Fresh, Quoted, Plain, More}
-use Rattle.model.specs.rules.Base.{Bytes, ◌is◌, if◌then◌else◌}
+use Rattle.model.specs.rules.Base.{Bytes, ◌is◌, choose◌then◌else◌}
 use Rattle.model.specs.rules.Dialect.{standard, delimiter_byte, quote_byte}
 use Rattle.model.specs.rules.Utf8.{char_step}
 use Rattle.model.specs.rules.Cell.{text_byte, first_byte, plain_byte, cell_step, is_whole}
@@ -96,7 +96,7 @@ module _ (s : Settings) where
   no_separator b x y z = rw (ne_eqb b (COMMA s) x, ne_eqb b CR y, ne_eqb b LF z)
 
   plain_step : {c : Cell} (b : ℕ) → Start c → (b is DQUOTE s) ≡ false → is_separator b ≡ false → cell_step (CsvPlus s) c b ≡ text_byte Plain (char_step Whole b)
-  unfolding cell_step first_byte plain_byte if◌then◌else◌
+  unfolding cell_step first_byte plain_byte choose◌then◌else◌
   plain_step b at_fresh p q = rw (p, q)
   plain_step b at_plain p q = rw (p, q)
 
@@ -144,7 +144,7 @@ module _ (s : Settings) where
   plain_byte_lem :
       {e e' : Cell} {b : ℕ} {bs : Bytes} (c : Char) → Plain c ≡ e → cell_step (CsvPlus s) e b ≡ More e' →
       ((c' : Char) → Plain c' ≡ e' → PlainRest c' bs) → PlainRest c (b ∷ bs)
-  unfolding cell_step plain_byte if◌then◌else◌
+  unfolding cell_step plain_byte choose◌then◌else◌
   plain_byte_lem {e'} {b} {bs} Whole p k ih = go (b is DQUOTE s) (is_separator b) refl refl (rw (← p) at k)
     where
       go : (x y : Bool) → (b is DQUOTE s) ≡ x → is_separator b ≡ y → cell_step (CsvPlus s) (Plain Whole) b ≡ More e' → PlainRest Whole (b ∷ bs)
@@ -163,7 +163,7 @@ module _ (s : Settings) where
   -- ---- fields
 
   at_quote : cell_step (CsvPlus s) Fresh (DQUOTE s) ≡ More (Quoted Whole)
-  unfolding cell_step first_byte if◌then◌else◌
+  unfolding cell_step first_byte choose◌then◌else◌
   at_quote = rw (same_byte (DQUOTE s))
 
   pub field_spells : {c : Derived} → Field s c → Spells (CsvPlus s) Fresh (raw_of c)
@@ -171,11 +171,11 @@ module _ (s : Settings) where
   field_spells (a_non_escaped m) = plain_spells m at_fresh
 
   quoted_content : (bs : Bytes) → content_of (CsvPlus s) (DQUOTE s ∷ bs) ≡ undouble (DQUOTE s) false bs
-  unfolding content_of if◌then◌else◌
+  unfolding content_of choose◌then◌else◌
   quoted_content bs = rw (same_byte (DQUOTE s))
 
   plain_first : (b : ℕ) (bs : Bytes) → b ≢ DQUOTE s → content_of (CsvPlus s) (b ∷ bs) ≡ b ∷ bs
-  unfolding content_of if◌then◌else◌
+  unfolding content_of choose◌then◌else◌
   plain_first b bs n = rw (ne_eqb b (DQUOTE s) n)
 
   plain_content : {bs : Bytes} → Non-escaped s bs → content_of (CsvPlus s) bs ≡ bs
@@ -203,7 +203,7 @@ module _ (s : Settings) where
   quoted_field (closing m) = derived_from (an_escaped (escaped dquote (doubled_inner m) dquote))
 
   first_field : (b : ℕ) (bs : Bytes) {e : Cell} → cell_step (CsvPlus s) Fresh b ≡ More e → Spells (CsvPlus s) e bs → DerivedFrom (Field s) (b ∷ bs)
-  unfolding cell_step first_byte if◌then◌else◌
+  unfolding cell_step first_byte choose◌then◌else◌
   first_field b bs {e} k m = go (b is DQUOTE s) (is_separator b) refl refl
     where
       go : (x y : Bool) → (b is DQUOTE s) ≡ x → is_separator b ≡ y → DerivedFrom (Field s) (b ∷ bs)

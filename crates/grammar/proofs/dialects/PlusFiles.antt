@@ -7,7 +7,7 @@ use mathlib.Core.List.{List, [], ◌∷◌, ◌++◌, map, append-nil}
 use borrow.Author.Tests.{eqb-false}
 use Rattle.grammar.specs.rfc.Types.{Delimiter, Comma, Semicolon, Tab, Bar, Settings, CsvPlus, Cell, Fresh}
 use Rattle.grammar.specs.rfc.Types.{FileState, Top, Begin, PlainBom1, PlainBom2, Inside, Cr, OfCell, Tail, Ends, Step, To, Final}
-use Rattle.model.specs.rules.Base.{Bytes, ◌is◌, if◌then◌else◌}
+use Rattle.model.specs.rules.Base.{Bytes, ◌is◌, choose◌then◌else◌}
 use Rattle.model.specs.rules.Dialect.{delimiter_byte}
 use Rattle.model.specs.rules.Cell.{is_whole}
 use Rattle.model.specs.rules.File.{after_cell, begin_record, begin_file, file_step, last_cell, file_end}
@@ -99,22 +99,22 @@ module _ (s : Settings) where
   -- ---- a derived file is read
 
   after_lf : after_cell (CsvPlus s) true LF ≡ To Begin (Ends true)
-  unfolding after_cell if◌then◌else◌
+  unfolding after_cell choose◌then◌else◌
   after_lf = rw (separate s).0
 
   after_cr : after_cell (CsvPlus s) true CR ≡ To Cr (Tail true)
-  unfolding after_cell if◌then◌else◌
+  unfolding after_cell choose◌then◌else◌
   after_cr = rw (separate s).1
 
   ending_follows :
       {o : ℕ} {es zs : Bytes} {ls : List (Line Bytes)} {ss : List (List Span)} → CRLF s es →
       Runs (CsvPlus s) Begin (past es o) (past es o) zs ls ss → Follows (CsvPlus s) o (es ++ zs) [] [] ls [] ss
-  unfolding file_step if◌then◌else◌
+  unfolding file_step choose◌then◌else◌
   ending_follows lf k c p r w = ends_closing (after_whole (CsvPlus s) c LF r w by_lf ∙ after_lf) k
   ending_follows crlf k c p r w = tail_closing (after_whole (CsvPlus s) c CR r w by_cr ∙ after_cr) (ends refl k)
 
   end_follows : (o : ℕ) → Follows (CsvPlus s) o [] [] [] [] [] []
-  unfolding file_end if◌then◌else◌
+  unfolding file_end choose◌then◌else◌
   end_follows o c p r w = ends_final {f = Inside c} (rw w)
 
   begin_reads :
@@ -157,13 +157,13 @@ module _ (s : Settings) where
       from_fresh (ending_some text xs e) (record_reads o r (ending_follows e (to_begin (records_read (past es (past text o)) k))))
 
   unfinished : {A : Type 0} (c : Cell) {ls : List (Line Bytes)} → is_whole (CsvPlus s) c ≡ false → Reads (CsvPlus s) (Inside c) [] ls → A
-  unfolding file_end if◌then◌else◌
+  unfolding file_end choose◌then◌else◌
   unfinished c w r = cut_off (rw w at (at_end r))
 
   mark_last_reads :
       {o p : ℕ} (bs : Bytes) {ls : List (Line Bytes)} {ss : List (List Span)} → ¬ EndsBom bs →
       Runs (CsvPlus s) (Inside after_bb) o p bs ls ss → Runs (CsvPlus s) PlainBom2 o p bs ls ss
-  unfolding file_step is_whole if◌then◌else◌
+  unfolding file_step is_whole choose◌then◌else◌
   mark_last_reads [] n r = unfinished after_bb refl (reads r)
   mark_last_reads {o} {p} (b ∷ bs) {ls} {ss} n r = go (b is 0xBF) refl
     where
@@ -174,7 +174,7 @@ module _ (s : Settings) where
   mark_rest_reads :
       {o p : ℕ} (bs : Bytes) {ls : List (Line Bytes)} {ss : List (List Span)} → ¬ CompletesBom bs →
       Runs (CsvPlus s) (Inside after_ef) o p bs ls ss → Runs (CsvPlus s) PlainBom1 o p bs ls ss
-  unfolding file_step is_whole if◌then◌else◌
+  unfolding file_step is_whole choose◌then◌else◌
   mark_rest_reads [] n r = unfinished after_ef refl (reads r)
   mark_rest_reads {o} {p} (b ∷ bs) {ls} {ss} n r = go (b is 0xBB) refl
     where
@@ -194,7 +194,7 @@ module _ (s : Settings) where
   top_reads :
       {o : ℕ} {xs : Bytes} {ls : List (Line Bytes)} {ss : List (List Span)} → ¬ BeginsWithBom xs → FromFresh o ls ss xs →
       Runs (CsvPlus s) Top o o xs ls ss
-  unfolding file_step begin_file begin_record if◌then◌else◌
+  unfolding file_step begin_file begin_record choose◌then◌else◌
   top_reads {o} {ls} {ss} n (from_fresh (some {b} {bs}) r) = go (b is 0xEF) refl
     where
       rest_of : ¬ BeginsWithBom (0xEF ∷ bs) → ¬ CompletesBom bs

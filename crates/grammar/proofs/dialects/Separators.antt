@@ -8,7 +8,7 @@ use Rattle.grammar.specs.rfc.Types.{Advance, On, Broken, HexLeft, Four, Three, T
 use Rattle.grammar.specs.rfc.Types.{Numeral, Minus, Zero, Integer, Point, Fraction, E, ESign, Exponent, Word, T, Tr, Tru, F, Fa, Fal, Fals, N}
 use Rattle.grammar.specs.rfc.Types.{Nu, Nul, Backslash}
 use Rattle.grammar.specs.rfc.Types.{Cell, Fresh, Quoted, Closed, Escape, Hex, InNumber, InWord, Plain, Complete, CellStep, More, Stop, Refuse, ByteFault}
-use Rattle.model.specs.rules.Base.{CR, LF, ◌is◌, if◌then◌else◌}
+use Rattle.model.specs.rules.Base.{CR, LF, ◌is◌, choose◌then◌else◌}
 use Rattle.model.specs.rules.Dialect.{quote_of, delimiter_of, delimiter_byte}
 use Rattle.model.specs.rules.Utf8.{char_step}
 use Rattle.model.specs.rules.Cell.{text_byte, is_digit, after_hex, after_letter, numeral_step, first_byte, quoted_byte, plain_byte, cell_step, is_numeral, is_whole}
@@ -138,7 +138,7 @@ reached_step (CsvPlus x) c e b r s = tt
 -- ---- whole cells stop
 
 numeral_stops : (d : Dialect) (n : Numeral) (b : ℕ) → is_numeral n ≡ true → NotInCell d b → numeral_step n b ≡ Stop
-unfolding numeral_step if◌then◌else◌
+unfolding numeral_step choose◌then◌else◌
 numeral_stops d Minus b w k = impossible w
 numeral_stops d Zero b w k = rw (k.point, k.e)
 numeral_stops d Integer b w k = rw (k.digit, k.point, k.e)
@@ -157,13 +157,13 @@ separator_test r by_space = absurd r
 separator_test r by_tab = absurd r
 
 fresh_stops : (d : Dialect) (b : ℕ) → is_whole d Fresh ≡ true → Separates d b → cell_step d Fresh b ≡ Stop
-unfolding cell_step first_byte is_whole if◌then◌else◌
+unfolding cell_step first_byte is_whole choose◌then◌else◌
 fresh_stops Csvj b w x = impossible w
 fresh_stops Tdif b w x = impossible w
 fresh_stops (CsvPlus s) b w x = rw ((not_in_cell x).quote, separator_test tt x)
 
 pub stops : (d : Dialect) (c : Cell) (b : ℕ) → Reached d c → is_whole d c ≡ true → Separates d b → cell_step d c b ≡ Stop
-unfolding cell_step plain_byte is_whole if◌then◌else◌
+unfolding cell_step plain_byte is_whole choose◌then◌else◌
 stops d Fresh b r w x = fresh_stops d b w x
 stops d (Quoted c) b r w x = impossible w
 stops d Closed b r w x = rw (not_in_cell x).quote

@@ -8,7 +8,7 @@ use mathlib.Core.List.{[], ◌∷◌, ◌++◌}
 use lib.Dec.{leb}
 use borrow.Author.Tests.{leb-true, leb-false}
 use Rattle.grammar.specs.rfc.Types.{Text, Tdif, Whole, Cell, Fresh, Quoted, InWord, Backslash, More}
-use Rattle.model.specs.rules.Base.{Bytes, QUOTE, BACKSLASH, ◌is◌, if◌then◌else◌}
+use Rattle.model.specs.rules.Base.{Bytes, QUOTE, BACKSLASH, ◌is◌, choose◌then◌else◌}
 use Rattle.model.specs.rules.Cell.{first_byte, cell_step, is_whole}
 use Rattle.model.specs.rules.Decode.{kind_of, content_of}
 use Rattle.model.proofs.Tests.{split_on, impossible, is→eq}
@@ -47,12 +47,12 @@ doubled_inner (doubled-quotes m) = two_quotes (doubled_inner m)
 -- ---- fields
 
 pub field_spells : {c : Derived} → Field c → Spells Tdif Fresh (raw_of c)
-unfolding cell_step first_byte is_whole if◌then◌else◌
+unfolding cell_step first_byte is_whole choose◌then◌else◌
 field_spells (a_null null) = byte refl (byte refl (whole refl))
 field_spells (a_value (value i)) = byte refl (doubled_spells d_tdif (inner_doubled i))
 
 pub field_content : {c : Derived} → Field c → c ≡ decoded Tdif (raw_of c)
-unfolding kind_of content_of if◌then◌else◌
+unfolding kind_of content_of choose◌then◌else◌
 field_content (a_null null) = refl
 field_content (a_value (value {bs} {ts} i)) = ap (cell (DQUOTE ∷ (bs ++ (DQUOTE ∷ []))) Text) (sym (doubled_content QUOTE (omega arith) (inner_doubled i)))
 
@@ -60,7 +60,7 @@ quoted_field : {bs : Bytes} → Closing QUOTE bs → DerivedFrom Field (QUOTE �
 quoted_field (closing m) = derived_from (a_value (value (doubled_inner m)))
 
 first_field : (b : ℕ) (bs : Bytes) {e : Cell} → cell_step Tdif Fresh b ≡ More e → Spells Tdif e bs → DerivedFrom Field (b ∷ bs)
-unfolding cell_step first_byte if◌then◌else◌
+unfolding cell_step first_byte choose◌then◌else◌
 first_field b bs {e} s k = go (b is QUOTE) (b is BACKSLASH) refl refl
   where
     go : (x y : Bool) → (b is QUOTE) ≡ x → (b is BACKSLASH) ≡ y → DerivedFrom Field (b ∷ bs)

@@ -9,7 +9,7 @@ use mathlib.Core.List.{List, [], ◌∷◌, ◌++◌, map, append_assoc}
 use borrow.Author.Tests.{ne_eqb}
 use Rattle.grammar.specs.rfc.Types.{Tdif, Char, Whole, Cell, Fresh, More}
 use Rattle.grammar.specs.rfc.Types.{FileState, Top, Begin, Ended, Comment, Inside, Outside, Ends, Step, To, Clean}
-use Rattle.model.specs.rules.Base.{Bytes, COMMA, ◌is◌, if◌then◌else◌}
+use Rattle.model.specs.rules.Base.{Bytes, COMMA, ◌is◌, choose◌then◌else◌}
 use Rattle.model.specs.rules.Utf8.{char_step}
 use Rattle.model.specs.rules.Cell.{first_byte, cell_step, is_whole}
 use Rattle.model.specs.rules.File.{after_cell, in_cell, begin_record, begin_file, commented, file_step, file_end}
@@ -65,7 +65,7 @@ FromLine o xs ls ss = (f : FileState) → Opening f → Runs Tdif f o o xs ls ss
 
 -- the first byte of a field is not of a comment and no LF
 open_field : {f : FileState} (b : ℕ) (e : Cell) → Opening f → cell_step Tdif Fresh b ≡ More e → file_step Tdif f b ≡ file_step Tdif (Inside Fresh) b
-unfolding file_step begin_file begin_record in_cell cell_step first_byte if◌then◌else◌
+unfolding file_step begin_file begin_record in_cell cell_step first_byte choose◌then◌else◌
 open_field b e at_top s = rw (other_byte Tdif b 0x23 e s refl)
 open_field b e at_begin s = rw (other_byte Tdif b 0x23 e s refl)
 open_field b e at_ended s = rw (other_byte Tdif b 0x23 e s refl, other_byte Tdif b LF e s refl)
@@ -84,7 +84,7 @@ from_first (first_of_cell {b} {e} s) r f o = from_state (open_field b e o s) r
 break_follows :
     {o : ℕ} {es zs : Bytes} {ls : List (Line Bytes)} {ss : List (List Span)} → Linebreak es → FromLine (past es o) zs ls ss →
     Follows Tdif o (es ++ zs) [] [] ls [] ss
-unfolding after_cell file_step if◌then◌else◌
+unfolding after_cell file_step choose◌then◌else◌
 break_follows cr k c p r w = ends_closing (after_whole Tdif c CR r w by_cr) (k Ended at_ended)
 break_follows lf k c p r w = ends_closing (after_whole Tdif c LF r w by_lf) (k Begin at_begin)
 break_follows crlf k c p r w = ends_closing (after_whole Tdif c CR r w by_cr) (passed refl (k Begin at_begin))
@@ -93,13 +93,13 @@ break_follows crlf k c p r w = ends_closing (after_whole Tdif c CR r w by_cr) (p
 break_reads :
     {o : ℕ} {es zs : Bytes} {ls : List (Line Bytes)} {ss : List (List Span)} → Linebreak es → FromLine (past es o) zs ls ss →
     Runs Tdif (Comment Whole) o o (es ++ zs) ls ss
-unfolding file_step if◌then◌else◌
+unfolding file_step choose◌then◌else◌
 break_reads cr k = passed refl (k Ended at_ended)
 break_reads lf k = passed refl (k Begin at_begin)
 break_reads crlf k = passed refl (passed refl (k Begin at_begin))
 
 comment_step : (b : ℕ) → b ≢ LF → b ≢ CR → file_step Tdif (Comment Whole) b ≡ commented (char_step Whole b)
-unfolding file_step if◌then◌else◌
+unfolding file_step choose◌then◌else◌
 comment_step b n m = rw (ne_eqb b LF n, ne_eqb b CR m)
 
 ascii_reads :
@@ -136,7 +136,7 @@ remark_reads {o} {ys} (commentdata {cs} {bs} (comment_beyond u) m) k =
     rw (append_assoc cs bs ys) (long_reads (data_long u) (remark_reads m (rw (past_append cs bs o) at k)))
 
 hash_step : {f : FileState} → Opening f → file_step Tdif f 0x23 ≡ To (Comment Whole) Outside
-unfolding file_step begin_file begin_record if◌then◌else◌
+unfolding file_step begin_file begin_record choose◌then◌else◌
 hash_step at_top = refl
 hash_step at_begin = refl
 hash_step at_ended = refl

@@ -7,7 +7,7 @@ use mathlib.Core.Path.{◌≡◌, refl, sym}
 use mathlib.Core.Bool.{Bool, true, false}
 use mathlib.Core.List.{List, [], ◌∷◌}
 use Rattle.grammar.specs.rfc.Types.{Lead, C2ToDf, E0, E1ToEc, Ed, EeToEf, F0, F1ToF3, F4, Inner, Second, LastTwo, Last, Char, Whole, Within, On}
-use Rattle.model.specs.rules.Base.{Bytes, within, if◌then◌else◌}
+use Rattle.model.specs.rules.Base.{Bytes, within, choose◌then◌else◌}
 use Rattle.model.specs.rules.Utf8.{row_of, leads, lead_byte, after_second, inner_step, char_step}
 use Rattle.model.proofs.cell_laws.Utf8.{broken_on, same_on}
 use Rattle.model.proofs.Tests.{split_on, within_true}
@@ -29,7 +29,7 @@ pub data Long : Bytes → Type 0 where
 -- ---- a production is read
 
 row_first : (l : Lead) (b : ℕ) → b from (row_of l).lo to (row_of l).hi → char_step Whole b ≡ On (Within (Second l))
-unfolding char_step lead_byte leads row_of if◌then◌else◌
+unfolding char_step lead_byte leads row_of choose◌then◌else◌
 row_first l b r = go l r
   where
     over : (lo hi n : ℕ) → n ≤ b → hi < n → within lo hi b ≡ false
@@ -97,15 +97,15 @@ row_first l b r = go l r
         )
 
 second_of : (l : Lead) (b : ℕ) → b from (row_of l).lo2 to (row_of l).hi2 → char_step (Within (Second l)) b ≡ On (after_second (row_of l).size)
-unfolding char_step inner_step if◌then◌else◌
+unfolding char_step inner_step choose◌then◌else◌
 second_of l b r = rw (range_within r)
 
 tail_of : {b : ℕ} → UTF8-tail b → char_step (Within Last) b ≡ On Whole
-unfolding char_step inner_step if◌then◌else◌
+unfolding char_step inner_step choose◌then◌else◌
 tail_of (tail r) = rw (range_within r)
 
 tail_of_two : {b : ℕ} → UTF8-tail b → char_step (Within LastTwo) b ≡ On (Within Last)
-unfolding char_step inner_step if◌then◌else◌
+unfolding char_step inner_step choose◌then◌else◌
 tail_of_two (tail r) = rw (range_within r)
 
 -- a first byte of the row l, a second byte of that row, and what follows
@@ -124,7 +124,7 @@ just : (n : ℕ) → n from n to n
 just n = range (omega arith) (omega arith)
 
 pub data_long : {cs : Bytes} → UTF8-data cs → Long cs
-unfolding row_of if◌then◌else◌
+unfolding row_of choose◌then◌else◌
 data_long (of_two (c2_df a (tail b))) = row_long C2ToDf a b finished
 data_long (of_three (e0 b c)) = row_long E0 (just 0xE0) b (one_more_lem c)
 data_long (of_three (e1_ec a (tail b) c)) = row_long E1ToEc a b (one_more_lem c)
@@ -150,7 +150,7 @@ finish_none : {bs : Bytes} → Finishes Whole bs → bs ≡ []
 finish_none finished = refl
 
 finish_one : {bs : Bytes} → Finishes (Within Last) bs → Tail bs
-unfolding char_step inner_step if◌then◌else◌
+unfolding char_step inner_step choose◌then◌else◌
 finish_one (finishing {c} {b} {bs} e k) =
     split_on (within 0x80 0xBF b)
     (λ p. let w : Whole ≡ c = same_on refl (rw p at e) in rw (finish_none (rw (← w) at k)) (a_tail (tail (within_range 0x80 0xBF b p)))) λ p.
@@ -160,14 +160,14 @@ tail_after : {b : ℕ} {bs : Bytes} → UTF8-tail b → Tail bs → TwoTails (b 
 tail_after r (a_tail s) = tails r s
 
 finish_two : {bs : Bytes} → Finishes (Within LastTwo) bs → TwoTails bs
-unfolding char_step inner_step if◌then◌else◌
+unfolding char_step inner_step choose◌then◌else◌
 finish_two (finishing {c} {b} {bs} e k) =
     split_on (within 0x80 0xBF b)
     (λ p. let w : Within Last ≡ c = same_on refl (rw p at e) in tail_after (tail (within_range 0x80 0xBF b p)) (finish_one (rw (← w) at k))) λ p.
     broken_on (rw p at e)
 
 finish_row : (l : Lead) {bs : Bytes} → Finishes (Within (Second l)) bs → RowRest l bs
-unfolding char_step inner_step if◌then◌else◌
+unfolding char_step inner_step choose◌then◌else◌
 finish_row l (finishing {c} {b} {bs} e k) =
     split_on (within (row_of l).lo2 (row_of l).hi2 b)
     (λ p. let w : after_second (row_of l).size ≡ c = same_on refl (rw p at e) in row_rest (within_range (row_of l).lo2 (row_of l).hi2 b p) (rw (← w) at k)) λ p.
@@ -183,7 +183,7 @@ four : {a b : ℕ} {bs : Bytes} → ((c d : ℕ) → UTF8-tail c → UTF8-tail d
 four f (tails {b = c} {c = d} t u) = of_four (f c d t u)
 
 row_data : (l : Lead) {a : ℕ} {bs : Bytes} → a from (row_of l).lo to (row_of l).hi → RowRest l bs → UTF8-data (a ∷ bs)
-unfolding row_of if◌then◌else◌
+unfolding row_of choose◌then◌else◌
 row_data C2ToDf r (row_rest s k) = rw (finish_none k) (of_two (c2_df r (tail s)))
 row_data E0 r (row_rest s k) = rw (equals r) (three (λ c t. e0 s t) (finish_one k))
 row_data E1ToEc r (row_rest s k) = three (λ c t. e1_ec r (tail s) t) (finish_one k)
@@ -199,7 +199,7 @@ data FirstOf (b : ℕ) (c : Char) : Type 0 where
   of_row : (l : Lead) → b from (row_of l).lo to (row_of l).hi → Within (Second l) ≡ c → FirstOf b c
 
 among_rows : (ls : List Lead) (b : ℕ) (c : Char) → lead_byte ls b ≡ On c → FirstOf b c
-unfolding lead_byte if◌then◌else◌
+unfolding lead_byte choose◌then◌else◌
 among_rows [] b c e = broken_on e
 among_rows (l ∷ ls) b c e = go (within (row_of l).lo (row_of l).hi b) refl (among_rows ls b c)
   where
@@ -208,7 +208,7 @@ among_rows (l ∷ ls) b c e = go (within (row_of l).lo (row_of l).hi b) refl (am
     go false p ih = ih (rw p at e)
 
 first_of : (b : ℕ) (c : Char) → char_step Whole b ≡ On c → FirstOf b c
-unfolding char_step if◌then◌else◌
+unfolding char_step choose◌then◌else◌
 first_of b c e =
     split_on (within 0x00 0x7F b) (λ p. of_ascii (within_true 0x00 0x7F b p).1 (same_on refl (rw p at e))) λ p.
     among_rows leads b c (rw p at e)

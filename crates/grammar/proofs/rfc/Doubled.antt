@@ -8,7 +8,7 @@ use mathlib.Core.Bool.{Bool, true, false}
 use mathlib.Core.List.{[], ◌∷◌, ◌++◌, append_assoc}
 use borrow.Author.Tests.{ne_eqb, eqb-false}
 use Rattle.grammar.specs.rfc.Types.{Dialect, Inner, Char, Whole, Within, On, Cell, Quoted, Closed, More}
-use Rattle.model.specs.rules.Base.{Bytes, ◌is◌, if◌then◌else◌}
+use Rattle.model.specs.rules.Base.{Bytes, ◌is◌, choose◌then◌else◌}
 use Rattle.model.specs.rules.Dialect.{quote_of}
 use Rattle.model.specs.rules.Utf8.{char_step}
 use Rattle.model.specs.rules.Cell.{text_byte, cell_step, is_whole}
@@ -32,15 +32,15 @@ quoted_state d = record { inner = λ i b. refl; unfinished = λ i. refl }
 
 module _ {d : Dialect} (k : Doubles d) where
   at_quote : cell_step d (Quoted Whole) (quote_of d) ≡ More Closed
-  unfolding if◌then◌else◌
+  unfolding choose◌then◌else◌
   at_quote = quoted_is k (quote_of d) ∙ (rw (same_byte (quote_of d)))
 
   again : cell_step d Closed (quote_of d) ≡ More (Quoted Whole)
-  unfolding cell_step if◌then◌else◌
+  unfolding cell_step choose◌then◌else◌
   again = rw (same_byte (quote_of d))
 
   at_other : (b : ℕ) → b ≢ quote_of d → cell_step d (Quoted Whole) b ≡ text_byte Quoted (char_step Whole b)
-  unfolding if◌then◌else◌
+  unfolding choose◌then◌else◌
   at_other b n = quoted_is k b ∙ (rw (ne_eqb b (quote_of d) n))
 
   at_high : (b : ℕ) → 0x80 ≤ b → cell_step d (Quoted Whole) b ≡ text_byte Quoted (char_step Whole b)
@@ -90,7 +90,7 @@ module _ {d : Dialect} (k : Doubles d) where
   open_none in_closed w = open_closed
 
   open_byte : {c c' : Cell} {b : ℕ} {bs : Bytes} → InText c → cell_step d c b ≡ More c' → (InText c' → Open c' bs) → Open c (b ∷ bs)
-  unfolding cell_step if◌then◌else◌
+  unfolding cell_step choose◌then◌else◌
   open_byte {c'} {b} {bs} (in_quoted Whole) e ih = go (b is quote_of d) refl
     where
       go : (t : Bool) → (b is quote_of d) ≡ t → Open (Quoted Whole) (b ∷ bs)
@@ -129,7 +129,7 @@ spells_doubled {d} k {xs} m = go (spells_open k m (in_quoted Whole))
 
 module _ (q : ℕ) (a : q ≤ 0x7F) where
   undouble_other : (b : ℕ) (bs : Bytes) → b ≢ q → undouble q false (b ∷ bs) ≡ b ∷ undouble q false bs
-  unfolding undouble if◌then◌else◌
+  unfolding undouble choose◌then◌else◌
   undouble_other b bs n = rw (ne_eqb b q n)
 
   undouble_finish : {c : Char} {cs : Bytes} (xs : Bytes) → Finishes c cs → undouble q false (cs ++ xs) ≡ cs ++ undouble q false xs
@@ -144,7 +144,7 @@ module _ (q : ℕ) (a : q ≤ 0x7F) where
       undouble_other b (bs ++ xs) (λ z. omega arith) ∙ ap (λ l. b ∷ l) (undouble_finish xs f)
 
   pub doubled_content : {bs ts : Bytes} → Doubled q bs ts → undouble q false (bs ++ (q ∷ [])) ≡ ts
-  unfolding undouble if◌then◌else◌
+  unfolding undouble choose◌then◌else◌
   doubled_content no_char = rw (same_byte q)
   doubled_content (ascii_char {b} {bs} h n m) = undouble_other b (bs ++ (q ∷ [])) n ∙ ap (λ l. b ∷ l) (doubled_content m)
   doubled_content (long_char {cs} {bs} l m) =

@@ -8,7 +8,7 @@ use mathlib.Core.List.{[], ◌∷◌, ◌++◌, append-nil}
 use borrow.Author.Tests.{ne_eqb, eqb-false}
 use Rattle.grammar.specs.rfc.Types.{Csvj, Numeral, Zero, Integer, Point, Fraction, ESign, Exponent, Cell, Fresh, InNumber, CellStep, More}
 use Rattle.grammar.specs.rfc.Types as types
-use Rattle.model.specs.rules.Base.{Bytes, QUOTE, ◌is◌, if◌then◌else◌}
+use Rattle.model.specs.rules.Base.{Bytes, QUOTE, ◌is◌, choose◌then◌else◌}
 use Rattle.model.specs.rules.Cell.{is_digit, numeral_step, first_byte, cell_step, is_numeral, is_whole}
 use Rattle.model.specs.rules.Decode.{kind_of, content_of}
 use Rattle.model.proofs.Tests.{split, split_on, impossible, is→eq}
@@ -29,7 +29,7 @@ data Loops : Numeral → Type 0 where
   in_exponent : Loops Exponent
 
 loop_digit : {n : Numeral} {b : ℕ} → Loops n → DIGIT b → cell_step Csvj (InNumber n) b ≡ More (InNumber n)
-unfolding cell_step numeral_step if◌then◌else◌
+unfolding cell_step numeral_step choose◌then◌else◌
 loop_digit in_integer r = rw (range_within r)
 loop_digit in_fraction r = rw (range_within r)
 loop_digit in_exponent r = rw (range_within r)
@@ -45,7 +45,7 @@ data Wants : Numeral → Numeral → Type 0 where
   after_sign : Wants ESign Exponent
 
 wanted_digit : {n m : Numeral} {b : ℕ} → Wants n m → DIGIT b → cell_step Csvj (InNumber n) b ≡ More (InNumber m)
-unfolding cell_step numeral_step if◌then◌else◌
+unfolding cell_step numeral_step choose◌then◌else◌
 wanted_digit after_point r = rw (range_within r)
 wanted_digit after_e r = rw (range_within r)
 wanted_digit after_sign r = rw (range_within r)
@@ -65,7 +65,7 @@ data BeforeExp : Numeral → Type 0 where
   exp_fraction : BeforeExp Fraction
 
 e_step : {n : Numeral} {b : ℕ} → BeforeExp n → E b → cell_step Csvj (InNumber n) b ≡ More (InNumber types.E)
-unfolding cell_step numeral_step if◌then◌else◌
+unfolding cell_step numeral_step choose◌then◌else◌
 e_step exp_zero small_e = refl
 e_step exp_zero large_e = refl
 e_step exp_integer small_e = refl
@@ -74,7 +74,7 @@ e_step exp_fraction small_e = refl
 e_step exp_fraction large_e = refl
 
 sign_step : {s : ℕ} → Optional-sign (s ∷ []) → cell_step Csvj (InNumber types.E) s ≡ More (InNumber ESign)
-unfolding cell_step numeral_step if◌then◌else◌
+unfolding cell_step numeral_step choose◌then◌else◌
 sign_step (negative minus) = refl
 sign_step (positive plus) = refl
 
@@ -104,7 +104,7 @@ frac_exp frac_zero = exp_zero
 frac_exp frac_integer = exp_integer
 
 point_step : {n : Numeral} → BeforeFrac n → cell_step Csvj (InNumber n) 0x2E ≡ More (InNumber Point)
-unfolding cell_step numeral_step if◌then◌else◌
+unfolding cell_step numeral_step choose◌then◌else◌
 point_step frac_zero = refl
 point_step frac_integer = refl
 
@@ -118,12 +118,12 @@ data BeforeInt : Cell → Type 0 where
   int_minus : BeforeInt (InNumber types.Minus)
 
 zero_step : {c : Cell} → BeforeInt c → cell_step Csvj c 0x30 ≡ More (InNumber Zero)
-unfolding cell_step first_byte numeral_step if◌then◌else◌
+unfolding cell_step first_byte numeral_step choose◌then◌else◌
 zero_step int_fresh = refl
 zero_step int_minus = refl
 
 nonzero_step : {c : Cell} {b : ℕ} → BeforeInt c → b from 0x31 to 0x39 → cell_step Csvj c b ≡ More (InNumber Integer)
-unfolding cell_step first_byte numeral_step if◌then◌else◌
+unfolding cell_step first_byte numeral_step choose◌then◌else◌
 nonzero_step {b} i r = go i
   where
     low : 0x31 ≤ b
@@ -144,7 +144,7 @@ int_spells i (a_zero zero) f e = byte (zero_step i) (frac_spells frac_zero f e)
 int_spells i (nonzero (digit1_9 r) ds) f e = byte (nonzero_step i r) (digits_spell in_integer ds (frac_spells frac_integer f e))
 
 pub number_spells : {bs : Bytes} → Number bs → Spells Csvj Fresh bs
-unfolding cell_step first_byte if◌then◌else◌
+unfolding cell_step first_byte choose◌then◌else◌
 number_spells (number no_minus i f e) = int_spells int_fresh i f e
 number_spells (number (a_minus minus) i f e) = byte refl (int_spells int_minus i f e)
 
@@ -298,7 +298,7 @@ first_of_number (number no_minus (nonzero (digit1_9 {b} r) ds) f e) =
     number_first {b = b} (rw (ne_eqb b 0x2D (λ z. omega arith), p))
 
 pub number_content : {bs : Bytes} → NumberFirst bs → (kind_of Csvj bs ≡ types.Number) × (content_of Csvj bs ≡ bs)
-unfolding kind_of content_of if◌then◌else◌
+unfolding kind_of content_of choose◌then◌else◌
 number_content (number_first {b} t) = (rw (other QUOTE refl, other 0x74 refl, other 0x66 refl, other 0x6E refl), rw (other QUOTE refl, t))
   where
     other : (n : ℕ) → (n is 0x2D || is_digit n) ≡ false → (b is n) ≡ false

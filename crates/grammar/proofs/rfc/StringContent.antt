@@ -10,7 +10,7 @@ use mathlib.Core.List.{List, [], ◌∷◌, ◌++◌, map, append_assoc, append-
 use lib.Dec.{leb}
 use borrow.Author.Tests.{ne_eqb, le-leb, lt-leb, leb-true, leb-false}
 use Rattle.grammar.specs.rfc.Types.{Text, Csvj, Char}
-use Rattle.model.specs.rules.Base.{Bytes, QUOTE, BACKSLASH, if◌then◌else◌}
+use Rattle.model.specs.rules.Base.{Bytes, QUOTE, BACKSLASH, choose◌then◌else◌}
 use Rattle.model.specs.rules.Utf8.{pack, is_high, is_low, joined}
 use Rattle.model.specs.rules.Decode.{Unit16, between, hex_of, units, text_of, kind_of, content_of}
 use Rattle.model.specs.rules.Decode as decode
@@ -38,7 +38,7 @@ units_of [] = []
 units_of (i ∷ us) = item_units i (units_of us)
 
 byte_units : (b : ℕ) (xs : Bytes) → b ≢ QUOTE → b ≢ BACKSLASH → units between (b ∷ xs) ≡ decode.byte b ∷ units between xs
-unfolding units if◌then◌else◌
+unfolding units choose◌then◌else◌
 byte_units b xs n m = rw (ne_eqb b QUOTE n, ne_eqb b BACKSLASH m)
 
 finish_units : {c : Char} {cs : Bytes} (xs : Bytes) → Finishes c cs → units between (cs ++ xs) ≡ map decode.byte cs ++ units between xs
@@ -53,7 +53,7 @@ long_units xs (long {i} {b} {bs} e f) =
     byte_units b (bs ++ xs) (λ z. omega arith) (λ z. omega arith) ∙ ap (λ l. decode.byte b ∷ l) (finish_units xs f)
 
 hex_of_lem : {b v : ℕ} → HEXDIG b v → hex_of b ≡ v
-unfolding if◌then◌else◌
+unfolding choose◌then◌else◌
 hex_of_lem (decimal {b} r) = rw (le-leb b 0x39 r.high)
 hex_of_lem (upper {b} r) = let h : 0x41 ≤ b = r.low in rw (lt-leb b 0x39 (omega arith), le-leb b 0x46 r.high)
 hex_of_lem (lower {b} r) = let h : 0x61 ≤ b = r.low in rw (lt-leb b 0x39 (omega arith), lt-leb b 0x46 (omega arith))
@@ -62,11 +62,11 @@ escape_units :
     (a b c d : ℕ) (xs : Bytes) →
     units between (BACKSLASH ∷ 0x75 ∷ a ∷ b ∷ c ∷ d ∷ xs)
     ≡ decode.unit ((((0 * 0x10 + hex_of a) * 0x10 + hex_of b) * 0x10 + hex_of c) * 0x10 + hex_of d) ∷ units between xs
-unfolding units if◌then◌else◌
+unfolding units choose◌then◌else◌
 escape_units a b c d xs = refl
 
 char_units : {cs : Bytes} {i : Item} (xs : Bytes) → json.Char cs i → units between (cs ++ xs) ≡ item_units i (units between xs)
-unfolding units if◌then◌else◌
+unfolding units choose◌then◌else◌
 char_units xs (unescaped (below_quote {b} r)) = let h : b ≤ 0x21 = r.high in byte_units b xs (λ z. omega arith) (λ z. omega arith)
 char_units xs (unescaped (below_backslash {b} r)) =
     let h : 0x23 ≤ b = r.low in let k : b ≤ 0x5B = r.high in byte_units b xs (λ z. omega arith) (λ z. omega arith)
@@ -91,7 +91,7 @@ char_units xs (uXXXX {a} {b} {c} {d} {w} {x} {y} {z} escape p q r s) = escape_un
         omega arith
 
 chars_units : {bs : Bytes} {us : List Item} → Chars bs us → units between (bs ++ (QUOTE ∷ [])) ≡ units_of us
-unfolding units units_of if◌then◌else◌
+unfolding units units_of choose◌then◌else◌
 chars_units no_char = refl
 chars_units (char {cs} {bs} {i} c k) =
     rw (append_assoc cs bs (QUOTE ∷ [])) (char_units (bs ++ (QUOTE ∷ [])) c ∙ ap (item_units i) (chars_units k))
@@ -99,7 +99,7 @@ chars_units (char {cs} {bs} {i} c k) =
 -- ---- the octets of a code point
 
 octets_pack : {u : ℕ} {cs : Bytes} → Octets u cs → cs ≡ pack u
-unfolding pack if◌then◌else◌
+unfolding pack choose◌then◌else◌
 octets_pack {u} (one_octet r) = rw (le-leb u 0x7F r.high)
 octets_pack {u} (two_octets w x r e k) =
     let l : 0x80 ≤ u = r.low in
@@ -180,11 +180,11 @@ octets_text [] us = refl
 octets_text (c ∷ cs) us = ap (λ l. c ∷ l) (octets_text cs us)
 
 pair_text : (h l : ℕ) (us : List Unit16) → (is_high h && is_low l) ≡ true → text_of (decode.unit h ∷ decode.unit l ∷ us) ≡ pack (joined h l) ++ text_of us
-unfolding text_of if◌then◌else◌
+unfolding text_of choose◌then◌else◌
 pair_text h l us p = rw p
 
 lone_text : {us : List Item} (u : ℕ) → Items us → ¬ Pair u us → text_of (decode.unit u ∷ units_of us) ≡ pack u ++ text_of (units_of us)
-unfolding text_of units_of if◌then◌else◌
+unfolding text_of units_of choose◌then◌else◌
 lone_text u no_item n = sym (append-nil (pack u))
 lone_text u (some_octets k) n = refl
 lone_text u (a_unit {u = l} {us} h k) n = go (is_high u && is_low l) refl
@@ -257,11 +257,11 @@ has_content (a_unit {u} h (a_unit {u = l} j k)) = unit_content u l h (has_conten
 -- ---- strings
 
 pub string_content : {raw ts : Bytes} → String raw ts → content_of Csvj raw ≡ ts
-unfolding content_of if◌then◌else◌
+unfolding content_of choose◌then◌else◌
 string_content (string a_quotation_mark c a_quotation_mark k) = ap text_of (chars_units c) ∙ content_text k (chars_items c)
 
 pub string_kind : {raw ts : Bytes} → String raw ts → kind_of Csvj raw ≡ Text
-unfolding kind_of if◌then◌else◌
+unfolding kind_of choose◌then◌else◌
 string_kind (string a_quotation_mark c a_quotation_mark k) = refl
 
 -- a string of these bytes

@@ -10,7 +10,7 @@ use lib.Dec.{leb, ltb}
 use borrow.Author.Tests.{ne_eqb, eqb-false, le-ltb, ltb-false, leb-true, leb-false}
 use Rattle.grammar.specs.rfc.Types.{Csvj, Inner, Char, Whole, Within, On, HexLeft, Four, Three, Two, One, Cell, Quoted, Escape, Hex, Complete}
 use Rattle.grammar.specs.rfc.Types.{CellStep, More}
-use Rattle.model.specs.rules.Base.{Bytes, QUOTE, BACKSLASH, ◌is◌, within, if◌then◌else◌}
+use Rattle.model.specs.rules.Base.{Bytes, QUOTE, BACKSLASH, ◌is◌, within, choose◌then◌else◌}
 use Rattle.model.specs.rules.Utf8.{char_step}
 use Rattle.model.specs.rules.Cell.{text_byte, is_digit, is_hex, is_short, after_hex, quoted_byte, cell_step, is_whole}
 use Rattle.model.proofs.Tests.{split, split_on, impossible, is→eq}
@@ -30,7 +30,7 @@ use Rattle.grammar.proofs.rfc.Doubled.{quoted_state}
 
 -- a byte that is text in a string
 text_step : (b : ℕ) → 0x20 ≤ b → b ≢ QUOTE → b ≢ BACKSLASH → cell_step Csvj (Quoted Whole) b ≡ text_byte Quoted (char_step Whole b)
-unfolding cell_step quoted_byte if◌then◌else◌
+unfolding cell_step quoted_byte choose◌then◌else◌
 text_step b h n m = rw (ne_eqb b QUOTE n, ne_eqb b BACKSLASH m, le-ltb b 0x20 h)
 
 ascii_step : (b : ℕ) → 0x20 ≤ b → b ≤ 0x7F → b ≢ QUOTE → b ≢ BACKSLASH → cell_step Csvj (Quoted Whole) b ≡ More (Quoted Whole)
@@ -44,11 +44,11 @@ hex_test (lower {b} r) =
     rw (above_within 0x30 0x39 b (omega arith), above_within 0x41 0x46 b (omega arith), range_within r)
 
 hex_step : (n : HexLeft) {b v : ℕ} → HEXDIG b v → cell_step Csvj (Hex n) b ≡ More (after_hex n)
-unfolding cell_step if◌then◌else◌
+unfolding cell_step choose◌then◌else◌
 hex_step n x = rw (hex_test x)
 
 char_spells : {cs xs : Bytes} {i : Item} → json.Char cs i → Spells Csvj (Quoted Whole) xs → Spells Csvj (Quoted Whole) (cs ++ xs)
-unfolding cell_step quoted_byte if◌then◌else◌
+unfolding cell_step quoted_byte choose◌then◌else◌
 char_spells (unescaped (below_quote {b} r)) k = let h : b ≤ 0x21 = r.high in byte (ascii_step b r.low (omega arith) (λ e. omega arith) (λ e. omega arith)) k
 char_spells (unescaped (below_backslash {b} r)) k =
     let h : 0x23 ≤ b = r.low in let m : b ≤ 0x5B = r.high in byte (ascii_step b (omega arith) (omega arith) (λ e. omega arith) (λ e. omega arith)) k
@@ -68,7 +68,7 @@ char_spells (uXXXX escape w x y z) k =
     byte refl (byte refl (byte (hex_step Four w) (byte (hex_step Three x) (byte (hex_step Two y) (byte (hex_step One z) k)))))
 
 pub chars_spell : {bs : Bytes} {us : List Item} → Chars bs us → Spells Csvj (Quoted Whole) (bs ++ (QUOTE ∷ []))
-unfolding cell_step quoted_byte is_whole if◌then◌else◌
+unfolding cell_step quoted_byte is_whole choose◌then◌else◌
 chars_spell no_char = byte refl (whole refl)
 chars_spell (char {cs} {bs} c k) = rw (append_assoc cs bs (QUOTE ∷ [])) (char_spells c (chars_spell k))
 

@@ -6,7 +6,7 @@ use mathlib.Core.Bool.{Bool, true, false}
 use mathlib.Core.List.{[], ◌∷◌, ◌++◌}
 use Rattle.grammar.specs.rfc.Types.{Kind, Dialect, Inner, Char, Whole, Within, Word, Cell, Fresh, InWord, Complete, More}
 use Rattle.model.specs.declared.CellCheck.TheVariants.{WholeCell}
-use Rattle.model.specs.rules.Base.{Bytes, ◌is◌, if◌then◌else◌}
+use Rattle.model.specs.rules.Base.{Bytes, ◌is◌, choose◌then◌else◌}
 use Rattle.model.specs.rules.Utf8.{char_step}
 use Rattle.model.specs.rules.Cell.{text_byte, letter_of, after_letter, cell_step, is_whole}
 use Rattle.model.specs.rules.Decode.{validate_cell}
@@ -71,7 +71,7 @@ complete_none (byte e k) = no_stop e
 pub spelled :
     {d : Dialect} {xs : Bytes} (w : Word) (ys : Bytes) → Spells d (InWord w) xs → ((zs : Bytes) → Spells d (after_letter w) zs → zs ≡ ys) →
     xs ≡ letter_of w ∷ ys
-unfolding cell_step is_whole if◌then◌else◌
+unfolding cell_step is_whole choose◌then◌else◌
 spelled w ys (whole e) h = impossible e
 spelled w ys (byte {e} {b} {bs} s k) h = go (b is letter_of w) refl
   where

@@ -7,7 +7,7 @@ use mathlib.Core.List.{[], ◌∷◌}
 use Rattle.model.specs.rules.Types.{Settings, Dialect, Csvj, Tdif, CsvPlus, Inner, Char, Whole, Within, Advance, On, Broken, ByteFault}
 use Rattle.model.specs.rules.Types.{Numeral, Minus, Zero, Integer, Point, Fraction, E, ESign, Exponent, Cell, Fresh, Quoted, Closed, InNumber}
 use Rattle.model.specs.rules.Types.{Plain, CellStep, More, Stop, Refuse}
-use Rattle.model.specs.rules.Base.{Bytes, QUOTE, CR, LF, ◌is◌, if◌then◌else◌}
+use Rattle.model.specs.rules.Base.{Bytes, QUOTE, CR, LF, ◌is◌, choose◌then◌else◌}
 use Rattle.model.specs.rules.Dialect.{quote_of, delimiter_of}
 use Rattle.model.specs.rules.Utf8.{char_step, text_from}
 use Rattle.model.specs.rules.Cell.{text_byte, is_digit, numeral_step, first_byte, quoted_byte, plain_byte, cell_step, is_whole}
@@ -46,7 +46,7 @@ pub data Doubles : Dialect → Type 0 where
   d_tdif : Doubles Tdif
   d_plus : {s : Settings} → Doubles (CsvPlus s)
 
-pub quoted_is : {d : Dialect} → Doubles d → (b : ℕ) → cell_step d (Quoted Whole) b ≡ (if b is quote_of d then More Closed else text_byte Quoted (char_step Whole b))
+pub quoted_is : {d : Dialect} → Doubles d → (b : ℕ) → cell_step d (Quoted Whole) b ≡ (choose b is quote_of d then More Closed else text_byte Quoted (char_step Whole b))
 unfolding cell_step quoted_byte
 quoted_is d_tdif b = refl
 quoted_is d_plus b = refl
@@ -66,7 +66,7 @@ module _ (d : Dialect) (k : Doubles d) where
   quoted_whole :
       (b : ℕ) (c' : Cell) (bs : Bytes) → cell_step d (Quoted Whole) b ≡ More c' → Undoubled c' bs →
       text_from Whole (undouble (quote_of d) false (b ∷ bs)) ≡ true
-  unfolding undouble if◌then◌else◌
+  unfolding undouble choose◌then◌else◌
   quoted_whole b c' bs e u = go (b is quote_of d) refl
     where
       go : (t : Bool) → (b is quote_of d) ≡ t → text_from Whole (undouble (quote_of d) false (b ∷ bs)) ≡ true
@@ -80,14 +80,14 @@ module _ (d : Dialect) (k : Doubles d) where
   quoted_inner :
       (i : Inner) (b : ℕ) (c' : Cell) (bs : Bytes) → cell_step d (Quoted (Within i)) b ≡ More c' → Undoubled c' bs →
       text_from (Within i) (undouble (quote_of d) false (b ∷ bs)) ≡ true
-  unfolding undouble cell_step if◌then◌else◌
+  unfolding undouble cell_step choose◌then◌else◌
   quoted_inner i b c' bs e u =
       let x = char_on Quoted (Within i) b c' e in
       rw (inner_no_quote d i b x.char x.step, undouble)
       (text_more (Within i) x.char b (undouble (quote_of d) false bs) x.step ∙ un_text (rw (← x.cell) at u))
 
   closed_next : (b : ℕ) (c' : Cell) (bs : Bytes) → cell_step d Closed b ≡ More c' → Undoubled c' bs → text_from Whole (undouble (quote_of d) true (b ∷ bs)) ≡ true
-  unfolding undouble cell_step if◌then◌else◌
+  unfolding undouble cell_step choose◌then◌else◌
   closed_next b c' bs e u = go (b is quote_of d) refl
     where
       go : (t : Bool) → (b is quote_of d) ≡ t → text_from Whole (undouble (quote_of d) true (b ∷ bs)) ≡ true
@@ -103,7 +103,7 @@ module _ (d : Dialect) (k : Doubles d) where
     in_closed : InText Closed
 
   stays : {c c' : Cell} (b : ℕ) → InText c → cell_step d c b ≡ More c' → InText c'
-  unfolding cell_step if◌then◌else◌
+  unfolding cell_step choose◌then◌else◌
   stays {c'} b (in_quoted {c = Whole}) e = go (b is quote_of d) refl
     where
       go : (t : Bool) → (b is quote_of d) ≡ t → InText c'
@@ -135,7 +135,7 @@ module _ (s : Settings) where
 
   -- a byte of an unquoted cell is a byte of text
   plain_byte_lem : (c : Char) (b : ℕ) (c' : Cell) → cell_step (CsvPlus s) (Plain c) b ≡ More c' → CharOn Plain c b c'
-  unfolding cell_step plain_byte if◌then◌else◌
+  unfolding cell_step plain_byte choose◌then◌else◌
   plain_byte_lem (Within i) b c' e = char_on Plain (Within i) b c' e
   plain_byte_lem Whole b c' e = go (b is quote_of (CsvPlus s)) (b is delimiter_of (CsvPlus s) || b is CR || b is LF) refl refl
     where
@@ -159,7 +159,7 @@ module _ (s : Settings) where
   plus_first :
       (b : ℕ) (bs : Bytes) (c' : Cell) {e : Cell} → cell_step (CsvPlus s) Fresh b ≡ More c' → Runs (CsvPlus s) c' bs e →
       is_whole (CsvPlus s) e ≡ true → text_from Whole (content_of (CsvPlus s) (b ∷ bs)) ≡ true
-  unfolding content_of cell_step first_byte if◌then◌else◌
+  unfolding content_of cell_step first_byte choose◌then◌else◌
   plus_first b bs c' {e} x r w = go (b is quote_of (CsvPlus s)) (b is delimiter_of (CsvPlus s) || b is CR || b is LF) refl refl
     where
       go :
@@ -188,7 +188,7 @@ module _ (s : Settings) where
 tdif_first :
     (b : ℕ) (bs : Bytes) (c' : Cell) {e : Cell} → cell_step Tdif Fresh b ≡ More c' → Runs Tdif c' bs e → is_whole Tdif e ≡ true →
     text_from Whole (content_of Tdif (b ∷ bs)) ≡ true
-unfolding content_of cell_step first_byte text_from if◌then◌else◌
+unfolding content_of cell_step first_byte text_from choose◌then◌else◌
 tdif_first b bs c' {e} x r w = go (b is QUOTE) refl
   where
     go : (p : Bool) → (b is QUOTE) ≡ p → text_from Whole (content_of Tdif (b ∷ bs)) ≡ true

@@ -9,7 +9,7 @@ use Rattle.model.specs.rules.Types.{Last, Within}
 use Rattle.model.specs.rules.Types.{Cell, Fresh, Plain, CellStep, More, Stop, Refuse}
 use Rattle.model.specs.rules.Types.{Fault, CellCheck, WholeCell, Unsound}
 use Rattle.model.specs.rules.Types as types
-use Rattle.model.specs.rules.Base.{Bytes, if◌then◌else◌}
+use Rattle.model.specs.rules.Base.{Bytes, choose◌then◌else◌}
 use Rattle.model.specs.rules.Utf8.{row_of, leads, lead_byte, inner_step, char_step}
 use Rattle.model.specs.rules.Cell.{first_byte, cell_step, is_whole}
 pub use Rattle.model.specs.rules.Cell.{Runs, here, there}
@@ -20,7 +20,7 @@ use Rattle.model.specs.laws.Laws.{All, all_none, all_cons}
 
 -- EF is no delimiter and no quote
 pub bom_cell : (s : Settings) → cell_step (CsvPlus s) Fresh 0xEF ≡ More (Plain (Within (Second EeToEf)))
-unfolding cell_step first_byte char_step lead_byte leads row_of if◌then◌else◌
+unfolding cell_step first_byte char_step lead_byte leads row_of choose◌then◌else◌
 bom_cell s = go s.delimiter s.quote
   where
     go : (x : Delimiter) (q : Quote) → cell_step (CsvPlus (record { delimiter = x; quote = q })) Fresh 0xEF ≡ More (Plain (Within (Second EeToEf)))
@@ -34,7 +34,7 @@ bom_cell s = go s.delimiter s.quote
     go Bar Single = refl
 
 pub bom_rest : (d : Dialect) → cell_step d (Plain (Within (Second EeToEf))) 0xBB ≡ More (Plain (Within Last))
-unfolding cell_step char_step inner_step row_of if◌then◌else◌
+unfolding cell_step char_step inner_step row_of choose◌then◌else◌
 bom_rest d = refl
 
 -- ---- runs of a cell
@@ -44,7 +44,7 @@ snoc b here e = there e here
 snoc b (there f r) e = there f (snoc b r e)
 
 pub runs_sound : {d : Dialect} {c c' : Cell} {bs : Bytes} (i : ℕ) → Runs d c bs c' → is_whole d c' ≡ true → validate_from d c i bs ≡ WholeCell
-unfolding validate_from if◌then◌else◌
+unfolding validate_from choose◌then◌else◌
 runs_sound i here w = rw (w, validate_from)
 runs_sound i (there e r) w = rw (e, validate_from) (runs_sound (suc i) r w)
 
@@ -58,10 +58,10 @@ unsound_sound : {A : Type 0} {e : Fault} {i : ℕ} → Unsound e i ≡ WholeCell
 unsound_sound x = let z : ◌≡◌ {A = ℕ} 0 1 = cc in absurd (omega arith)
 
 pub sound_runs : (d : Dialect) (c : Cell) (i : ℕ) (bs : Bytes) → validate_from d c i bs ≡ WholeCell → WholeRun d c bs
-unfolding validate_from if◌then◌else◌
+unfolding validate_from choose◌then◌else◌
 sound_runs d c i [] h = go (is_whole d c) refl h
   where
-    go : (t : Bool) → is_whole d c ≡ t → (if t then WholeCell else Unsound types.CutShort i) ≡ WholeCell → WholeRun d c []
+    go : (t : Bool) → is_whole d c ≡ t → (choose t then WholeCell else Unsound types.CutShort i) ≡ WholeCell → WholeRun d c []
     go true e k = record { end = c; runs = here; whole = e }
     go false e k = unsound_sound k
 sound_runs d c i (b ∷ bs) h = go (cell_step d c b) refl h (λ c'. sound_runs d c' (suc i) bs)

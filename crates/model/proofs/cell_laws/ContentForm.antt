@@ -4,7 +4,7 @@ use mathlib.Core.Path.{◌≡◌, refl, ◌∙◌}
 use mathlib.Core.Bool.{Bool, true, false, ◌||◌}
 use mathlib.Core.List.{[], ◌∷◌}
 use Rattle.model.specs.rules.Types.{Dialect, Csvj, Tdif, CsvPlus, Whole, Cell, Fresh, Quoted, More, WholeCell}
-use Rattle.model.specs.rules.Base.{Bytes, QUOTE, ◌is◌, if◌then◌else◌}
+use Rattle.model.specs.rules.Base.{Bytes, QUOTE, ◌is◌, choose◌then◌else◌}
 use Rattle.model.specs.rules.Utf8.{wide_from, is_content}
 use Rattle.model.specs.rules.Cell.{first_byte, cell_step, is_whole, is_digit}
 use Rattle.model.specs.rules.Decode.{validate_cell, content_of}
@@ -16,7 +16,7 @@ use Rattle.model.proofs.cell_laws.JsonContent.{string_content}
 csvj_first :
     (b : ℕ) (bs : Bytes) (c' : Cell) {e : Cell} → cell_step Csvj Fresh b ≡ More c' → Runs Csvj c' bs e → is_whole Csvj e ≡ true →
     is_content (content_of Csvj (b ∷ bs)) ≡ true
-unfolding content_of is_content wide_from if◌then◌else◌
+unfolding content_of is_content wide_from choose◌then◌else◌
 csvj_first b bs c' {e} x r w = go (b is QUOTE) (b is 0x2D || is_digit b) refl refl
   where
     opens : (b is QUOTE) ≡ true → Quoted Whole ≡ c'

@@ -12,7 +12,7 @@ use borrow.Author.Tests.{leb-true, leb-false, le-leb, lt-leb, ne_eqb}
 use Rattle.model.specs.rules.Types.{Csvj, Lead, C2ToDf, E0, E1ToEc, Ed, EeToEf, F0, F1ToF3, F4, Inner, Second, LastTwo, Last, Char, Whole}
 use Rattle.model.specs.rules.Types.{Within, On, HexLeft, Four, Three, Two, One}
 use Rattle.model.specs.rules.Types.{Cell, Quoted, Escape, Hex, Complete, More}
-use Rattle.model.specs.rules.Base.{Bytes, QUOTE, BACKSLASH, ◌is◌, if◌then◌else◌}
+use Rattle.model.specs.rules.Base.{Bytes, QUOTE, BACKSLASH, ◌is◌, choose◌then◌else◌}
 use Rattle.model.specs.rules.Utf8.{row_of, leads, lead_byte, inner_step, char_step, Wide, gap, ed, lone, inner, wide_step, wide_from, is_content, pack}
 use Rattle.model.specs.rules.Utf8.{is_high, is_low, joined}
 use Rattle.model.specs.rules.Cell.{quoted_byte, cell_step, is_whole, is_short, is_hex, after_hex}
@@ -55,11 +55,11 @@ char_runs h b c bs e r =
 -- the rows of the table that have more than one first byte
 module _ (b : ℕ) where
   row_c2 : 0xC2 ≤ b → b ≤ 0xDF → char_step Whole b ≡ On (Within (Second C2ToDf))
-  unfolding char_step lead_byte leads row_of if◌then◌else◌
+  unfolding char_step lead_byte leads row_of choose◌then◌else◌
   row_c2 l h = rw (le-leb 0 b (omega arith), lt-leb b 0x7F (omega arith), le-leb 0xC2 b l, le-leb b 0xDF h)
 
   row_e1 : 0xE1 ≤ b → b ≤ 0xEC → char_step Whole b ≡ On (Within (Second E1ToEc))
-  unfolding char_step lead_byte leads row_of if◌then◌else◌
+  unfolding char_step lead_byte leads row_of choose◌then◌else◌
   row_e1 l h =
       rw (
         le-leb 0 b (omega arith),
@@ -73,7 +73,7 @@ module _ (b : ℕ) where
       )
 
   row_ee : 0xEE ≤ b → b ≤ 0xEF → char_step Whole b ≡ On (Within (Second EeToEf))
-  unfolding char_step lead_byte leads row_of if◌then◌else◌
+  unfolding char_step lead_byte leads row_of choose◌then◌else◌
   row_ee l h =
       rw (
         le-leb 0 b (omega arith),
@@ -91,7 +91,7 @@ module _ (b : ℕ) where
       )
 
   row_f1 : 0xF1 ≤ b → b ≤ 0xF3 → char_step Whole b ≡ On (Within (Second F1ToF3))
-  unfolding char_step lead_byte leads row_of if◌then◌else◌
+  unfolding char_step lead_byte leads row_of choose◌then◌else◌
   row_f1 l h =
       rw (
         le-leb 0 b (omega arith),
@@ -114,51 +114,51 @@ module _ (b : ℕ) where
 
   -- a later byte
   last : 0x80 ≤ b → b ≤ 0xBF → char_step (Within Last) b ≡ On Whole
-  unfolding char_step inner_step if◌then◌else◌
+  unfolding char_step inner_step choose◌then◌else◌
   last l h = rw (le-leb 0x80 b l, le-leb b 0xBF h)
 
   last_two : 0x80 ≤ b → b ≤ 0xBF → char_step (Within LastTwo) b ≡ On (Within Last)
-  unfolding char_step inner_step if◌then◌else◌
+  unfolding char_step inner_step choose◌then◌else◌
   last_two l h = rw (le-leb 0x80 b l, le-leb b 0xBF h)
 
   -- a second byte
   second_c2 : 0x80 ≤ b → b ≤ 0xBF → char_step (Within (Second C2ToDf)) b ≡ On Whole
-  unfolding char_step inner_step row_of if◌then◌else◌
+  unfolding char_step inner_step row_of choose◌then◌else◌
   second_c2 l h = rw (le-leb 0x80 b l, le-leb b 0xBF h)
 
   second_e0 : 0xA0 ≤ b → b ≤ 0xBF → char_step (Within (Second E0)) b ≡ On (Within Last)
-  unfolding char_step inner_step row_of if◌then◌else◌
+  unfolding char_step inner_step row_of choose◌then◌else◌
   second_e0 l h = rw (le-leb 0xA0 b l, le-leb b 0xBF h)
 
   second_e1 : 0x80 ≤ b → b ≤ 0xBF → char_step (Within (Second E1ToEc)) b ≡ On (Within Last)
-  unfolding char_step inner_step row_of if◌then◌else◌
+  unfolding char_step inner_step row_of choose◌then◌else◌
   second_e1 l h = rw (le-leb 0x80 b l, le-leb b 0xBF h)
 
   second_ed : 0x80 ≤ b → b ≤ 0x9F → char_step (Within (Second Ed)) b ≡ On (Within Last)
-  unfolding char_step inner_step row_of if◌then◌else◌
+  unfolding char_step inner_step row_of choose◌then◌else◌
   second_ed l h = rw (le-leb 0x80 b l, le-leb b 0x9F h)
 
   second_ee : 0x80 ≤ b → b ≤ 0xBF → char_step (Within (Second EeToEf)) b ≡ On (Within Last)
-  unfolding char_step inner_step row_of if◌then◌else◌
+  unfolding char_step inner_step row_of choose◌then◌else◌
   second_ee l h = rw (le-leb 0x80 b l, le-leb b 0xBF h)
 
   second_f0 : 0x90 ≤ b → b ≤ 0xBF → char_step (Within (Second F0)) b ≡ On (Within LastTwo)
-  unfolding char_step inner_step row_of if◌then◌else◌
+  unfolding char_step inner_step row_of choose◌then◌else◌
   second_f0 l h = rw (le-leb 0x90 b l, le-leb b 0xBF h)
 
   second_f1 : 0x80 ≤ b → b ≤ 0xBF → char_step (Within (Second F1ToF3)) b ≡ On (Within LastTwo)
-  unfolding char_step inner_step row_of if◌then◌else◌
+  unfolding char_step inner_step row_of choose◌then◌else◌
   second_f1 l h = rw (le-leb 0x80 b l, le-leb b 0xBF h)
 
   second_f4 : 0x80 ≤ b → b ≤ 0x8F → char_step (Within (Second F4)) b ≡ On (Within LastTwo)
-  unfolding char_step inner_step row_of if◌then◌else◌
+  unfolding char_step inner_step row_of choose◌then◌else◌
   second_f4 l h = rw (le-leb 0x80 b l, le-leb b 0x8F h)
 
 -- the rows of one first byte
 row_of_one :
     (char_step Whole 0xE0 ≡ On (Within (Second E0))) × (char_step Whole 0xED ≡ On (Within (Second Ed)))
     × (char_step Whole 0xF0 ≡ On (Within (Second F0))) × (char_step Whole 0xF4 ≡ On (Within (Second F4)))
-unfolding char_step lead_byte leads row_of if◌then◌else◌
+unfolding char_step lead_byte leads row_of choose◌then◌else◌
 row_of_one = (refl, refl, refl, refl)
 
 -- three bytes and four bytes of a row
@@ -208,19 +208,19 @@ module _ (h : Bool) (u : ℕ) (l : 0x7FF < u) (m : u ≤ 0xFFFF) where
 
 -- a lone surrogate
 ed_wide : (h : Bool) (b : ℕ) → b ≡ 0xED → wide_step (gap h) b ≡ some (ed h)
-unfolding wide_step if◌then◌else◌
+unfolding wide_step choose◌then◌else◌
 ed_wide h b e = rw e
 
 lone_wide : (x : Bool) (b : ℕ) → 0x80 ≤ b → b ≤ 0xBF → wide_step (lone x) b ≡ some (gap x)
-unfolding wide_step if◌then◌else◌
+unfolding wide_step choose◌then◌else◌
 lone_wide x b p q = rw (le-leb 0x80 b p, le-leb b 0xBF q)
 
 high_wide : (h : Bool) (b : ℕ) → 0xA0 ≤ b → b ≤ 0xAF → wide_step (ed h) b ≡ some (lone true)
-unfolding wide_step if◌then◌else◌
+unfolding wide_step choose◌then◌else◌
 high_wide h b p q = rw (le-leb 0x80 b (omega arith), lt-leb b 0x9F (omega arith), le-leb 0xA0 b p, le-leb b 0xAF q)
 
 low_wide : (b : ℕ) → 0xB0 ≤ b → b ≤ 0xBF → wide_step (ed false) b ≡ some (lone false)
-unfolding wide_step if◌then◌else◌
+unfolding wide_step choose◌then◌else◌
 low_wide b p q =
     rw (
       le-leb 0x80 b (omega arith),
@@ -241,19 +241,19 @@ surrogate_run h x a b c e f p q xs =
     ∙ wide_on (lone x) (gap x) c xs (lone_wide x c p q)
 
 pack1 : (u : ℕ) → u ≤ 0x7F → pack u ≡ u ∷ []
-unfolding pack if◌then◌else◌
+unfolding pack choose◌then◌else◌
 pack1 u h = rw (le-leb u 0x7F h, pack)
 
 pack2 : (u : ℕ) → 0x7F < u → u ≤ 0x7FF → pack u ≡ (0xC0 + u / 0x40) ∷ (0x80 + u % 0x40) ∷ []
-unfolding pack if◌then◌else◌
+unfolding pack choose◌then◌else◌
 pack2 u l h = rw (lt-leb u 0x7F l, le-leb u 0x7FF h, pack)
 
 pack3 : (u : ℕ) → 0x7FF < u → u ≤ 0xFFFF → pack u ≡ (0xE0 + u / 0x1000) ∷ (0x80 + u / 0x40 % 0x40) ∷ (0x80 + u % 0x40) ∷ []
-unfolding pack if◌then◌else◌
+unfolding pack choose◌then◌else◌
 pack3 u l h = rw (lt-leb u 0x7F (omega arith), lt-leb u 0x7FF l, le-leb u 0xFFFF h, pack)
 
 pack4 : (u : ℕ) → 0xFFFF < u → pack u ≡ (0xF0 + u / 0x40000) ∷ (0x80 + u / 0x1000 % 0x40) ∷ (0x80 + u / 0x40 % 0x40) ∷ (0x80 + u % 0x40) ∷ []
-unfolding pack if◌then◌else◌
+unfolding pack choose◌then◌else◌
 pack4 u l = rw (lt-leb u 0x7F (omega arith), lt-leb u 0x7FF (omega arith), lt-leb u 0xFFFF l, pack)
 
 -- a code unit, joined to nothing
@@ -441,7 +441,7 @@ data Letter (b : ℕ) (bs : Bytes) (c' : Cell) : Type 0 where
   stands : (c : Char) → Quoted c ≡ c' → (b is QUOTE) ≡ false → (b is BACKSLASH) ≡ false → char_step Whole b ≡ On c → Letter b bs c'
 
 letter : (b : ℕ) (bs : Bytes) (c' : Cell) → cell_step Csvj (Quoted Whole) b ≡ More c' → Letter b bs c'
-unfolding cell_step quoted_byte if◌then◌else◌
+unfolding cell_step quoted_byte choose◌then◌else◌
 letter b bs c' e = go (b is QUOTE) (b is BACKSLASH) (ltb b 0x20) refl refl refl
   where
     go : (x y z : Bool) → (b is QUOTE) ≡ x → (b is BACKSLASH) ≡ y → ltb b 0x20 ≡ z → Letter b bs c'
@@ -451,7 +451,7 @@ letter b bs c' e = go (b is QUOTE) (b is BACKSLASH) (ltb b 0x20) refl refl refl
     go false false false p q r = let k = char_on Quoted Whole b c' (rw (p, q, r) at e) in stands k.char k.cell p q k.step
 
 quoted_units : (b : ℕ) (bs : Bytes) (c' : Cell) → Letter b bs c' → Unitary c' bs → Good Whole (units between (b ∷ bs))
-unfolding units if◌then◌else◌
+unfolding units choose◌then◌else◌
 quoted_units b bs c' (closes e p) u = rw (p, units) g_end
 quoted_units b bs c' (escapes e p q) u = rw (p, q, units) (from_escape (rw (← e) at u))
 quoted_units b bs c' (stands c e p q k) u = rw (p, q, units) (g_byte k (from_quoted (rw (← e) at u)))
@@ -463,7 +463,7 @@ letter_in (stands c e p q k) = rw (← e) j_quoted
 
 -- inside a character
 inner_units : (i : Inner) (b : ℕ) (bs : Bytes) (c' : Cell) → CharOn Quoted (Within i) b c' → Unitary c' bs → Good (Within i) (units between (b ∷ bs))
-unfolding units if◌then◌else◌
+unfolding units choose◌then◌else◌
 inner_units i b bs c' k u =
     let h : 0x80 ≤ b = inner_high i b k.char k.step in
     rw (ne_eqb b QUOTE (omega arith), ne_eqb b BACKSLASH (omega arith), units) (g_byte k.step (from_quoted (rw (← k.cell) at u)))
@@ -492,7 +492,7 @@ short_of b e =
     impossible (rw (p₁, p₂, p₃, p₄, p₅, p₆, p₇, p₈) at e)
 
 short_units : {b : ℕ} (bs : Bytes) → Short b → Good Whole (units between bs) → Good Whole (units escape (b ∷ bs))
-unfolding units char_step if◌then◌else◌
+unfolding units char_step choose◌then◌else◌
 short_units bs s_quote g = g_byte refl g
 short_units bs s_backslash g = g_byte refl g
 short_units bs s_solidus g = g_byte refl g
@@ -507,7 +507,7 @@ data Escaped (b : ℕ) (c' : Cell) : Type 0 where
   e_hex : (b is 0x75) ≡ true → Hex Four ≡ c' → Escaped b c'
 
 escape_step : (b : ℕ) (c' : Cell) → cell_step Csvj Escape b ≡ More c' → Escaped b c'
-unfolding cell_step if◌then◌else◌
+unfolding cell_step choose◌then◌else◌
 escape_step b c' e = go (is_short b) (b is 0x75) refl refl
   where
     go : (x y : Bool) → is_short b ≡ x → (b is 0x75) ≡ y → Escaped b c'
@@ -516,7 +516,7 @@ escape_step b c' e = go (is_short b) (b is 0x75) refl refl
     go false false p q = no_more (rw (p, q) at e)
 
 escape_units : (b : ℕ) (bs : Bytes) (c' : Cell) → Escaped b c' → Unitary c' bs → Good Whole (units escape (b ∷ bs))
-unfolding units if◌then◌else◌
+unfolding units choose◌then◌else◌
 escape_units b bs c' (e_short s e) u = short_units bs s (from_quoted (rw (← e) at u))
 escape_units b bs c' (e_hex p e) u = rw (p, units) (from_hex (rw (← e) at u) 0 sofar_four)
 
@@ -526,7 +526,7 @@ escape_in (e_hex p e) = rw (← e) j_hex
 
 -- a digit
 hex_small : (b : ℕ) → is_hex b ≡ true → hex_of b < 16
-unfolding if◌then◌else◌
+unfolding choose◌then◌else◌
 hex_small b e =
     split_on (leb b 0x39) (λ p. let k : b ≤ 0x39 = leb-true b 0x39 p in rw p (omega arith)) λ p.
     split_on (leb b 0x46) (λ q. let k : b ≤ 0x46 = leb-true b 0x46 q in rw (p, q) (omega arith)) λ q.
@@ -540,7 +540,7 @@ record Digit (n : HexLeft) (b : ℕ) (c' : Cell) : Type 0 where
   next : after_hex n ≡ c'
 
 digit_step : (n : HexLeft) (b : ℕ) (c' : Cell) → cell_step Csvj (Hex n) b ≡ More c' → Digit n b c'
-unfolding cell_step if◌then◌else◌
+unfolding cell_step choose◌then◌else◌
 digit_step n b c' e = go (is_hex b) refl
   where
     go : (x : Bool) → is_hex b ≡ x → Digit n b c'

@@ -10,7 +10,7 @@ use borrow.Author.Tests.{le-leb, ne_eqb}
 use Rattle.model.specs.rules.Types.{Delimiter, Comma, Semicolon, Tab, Bar, Quote, Double, Single, Dialect, Csvj, Tdif, CsvPlus, Lead, C2ToDf}
 use Rattle.model.specs.rules.Types.{E0, E1ToEc, Ed, EeToEf, F0, F1ToF3, F4, Inner, Second, LastTwo, Last, Char, Whole, Within, Advance, On}
 use Rattle.model.specs.rules.Types.{Broken}
-use Rattle.model.specs.rules.Base.{Bytes, CR, LF, ◌is◌, within, if◌then◌else◌}
+use Rattle.model.specs.rules.Base.{Bytes, CR, LF, ◌is◌, within, choose◌then◌else◌}
 use Rattle.model.specs.rules.Dialect.{quote_of, delimiter_of, delimiter_byte, quote_byte}
 use Rattle.model.specs.rules.Utf8.{row_of, leads, lead_byte, inner_step, char_step, text_from, Wide, gap, ed, lone, inner, settled, wide_step}
 use Rattle.model.specs.rules.Utf8.{wide_from, is_content}
@@ -19,7 +19,7 @@ use Rattle.model.proofs.Tests.{split_on, impossible, is→eq, within_true}
 -- ---- ASCII
 
 pub ascii_whole : (b : ℕ) → b ≤ 0x7F → char_step Whole b ≡ On Whole
-unfolding char_step if◌then◌else◌
+unfolding char_step choose◌then◌else◌
 ascii_whole b h = rw (le-leb 0 b (omega arith), le-leb b 0x7F h)
 
 pub quote_ascii : (d : Dialect) → quote_of d ≤ 0x7F
@@ -68,7 +68,7 @@ second_low F4 = omega arith
 
 -- a byte inside a character is from 80 on
 pub inner_high : (i : Inner) (b : ℕ) (c : Char) → char_step (Within i) b ≡ On c → 0x80 ≤ b
-unfolding char_step inner_step if◌then◌else◌
+unfolding char_step inner_step choose◌then◌else◌
 inner_high (Second l) b c e =
     split_on (within (row_of l).lo2 (row_of l).hi2 b)
     (λ p.
@@ -138,11 +138,11 @@ pub same_on : {x y : Char} {o : Advance} → o ≡ On x → o ≡ On y → x ≡
 same_on p q = cc
 
 ed_char : char_step Whole 0xED ≡ On (Within (Second Ed))
-unfolding char_step lead_byte leads row_of if◌then◌else◌
+unfolding char_step lead_byte leads row_of choose◌then◌else◌
 ed_char = refl
 
 gap_step : (h : Bool) (b : ℕ) (c : Char) → char_step Whole b ≡ On c → NearStep c (gap h) b
-unfolding wide_step if◌then◌else◌
+unfolding wide_step choose◌then◌else◌
 gap_step h b c e = go (b is 0xED) refl
   where
     go : (t : Bool) → (b is 0xED) ≡ t → NearStep c (gap h) b
@@ -152,7 +152,7 @@ gap_step h b c e = go (b is 0xED) refl
     go false p = record { wide = settled c; step = rw (p, e); near = near_settled c; calm = calm_settled c }
 
 ed_step : (h : Bool) (b : ℕ) (c : Char) → char_step (Within (Second Ed)) b ≡ On c → NearStep c (ed h) b
-unfolding wide_step char_step inner_step row_of if◌then◌else◌
+unfolding wide_step char_step inner_step row_of choose◌then◌else◌
 ed_step h b c e =
     split_on (within 0x80 0x9F b)
     (λ p. let z : Within Last ≡ c = same_on refl (rw p at e) in record { wide = inner Last; step = rw p; near = rw (← z) near_inner; calm = tt }) λ p.

@@ -11,7 +11,7 @@ use Rattle.model.specs.rules.Types.{Kind, Text, Number, True, False, Null, Diale
 use Rattle.model.specs.rules.Types.{Cell, ByteFault, Fault, CheckResult, Sound, Faulty}
 use Rattle.model.specs.rules.Types.{FileState, Top, Begin, Ended, Bom1, Bom2, PlainBom1, PlainBom2, Comment, Blanks, ExpectCell, Inside, After}
 use Rattle.model.specs.rules.Types.{Cr, Outside, Passed, OfCell, Between, Tail, Ends, Step, To, Reject, Ending, Clean, Final, Cut}
-use Rattle.model.specs.rules.Base.{Bytes, QUOTE, if◌then◌else◌, is_empty}
+use Rattle.model.specs.rules.Base.{Bytes, QUOTE, choose◌then◌else◌, is_empty}
 use Rattle.model.specs.rules.Dialect.{quote_of}
 use Rattle.model.specs.rules.File.{file_step, file_end, last_cell}
 use Rattle.model.specs.rules.Decode.{kind_of, content_of}
@@ -34,7 +34,7 @@ pub record From (d : Dialect) (v : Value) (raw : Bytes) : Type 0 where
 
 -- no empty cell is false, the longest word
 false_long : (d : Dialect) (raw : Bytes) → kind_of d raw ≡ False → 1 ≤ length raw
-unfolding kind_of if◌then◌else◌
+unfolding kind_of choose◌then◌else◌
 false_long Csvj [] e = let z : ◌≡◌ {A = ℕ} 0 1 = cc in absurd (omega arith)
 false_long Tdif [] e = let z : ◌≡◌ {A = ℕ} 0 1 = cc in absurd (omega arith)
 false_long (CsvPlus s) [] e = let z : ◌≡◌ {A = ℕ} 0 1 = cc in absurd (omega arith)

@@ -9,7 +9,7 @@ use Rattle.model.specs.rules.Types.{Delimiter, Comma, Semicolon, Tab, Bar, Quote
 use Rattle.model.specs.rules.Types.{Numeral, Minus, Zero, Integer, Point, Fraction, E, ESign, Exponent, Word, T, Tr, Tru, F, Fa, Fal, Fals, N}
 use Rattle.model.specs.rules.Types.{Nu, Nul, Backslash}
 use Rattle.model.specs.rules.Types.{Cell, Fresh, Quoted, Closed, Escape, Hex, InNumber, InWord, Plain, Complete, More, FileState}
-use Rattle.model.specs.rules.Base.{LF, CR, ◌is◌, if◌then◌else◌}
+use Rattle.model.specs.rules.Base.{LF, CR, ◌is◌, choose◌then◌else◌}
 use Rattle.model.specs.rules.Dialect.{quote_of, delimiter_of, delimiter_byte, quote_byte}
 use Rattle.model.specs.rules.Cell.{letter_of, numeral_step, first_byte, plain_byte, cell_step, in_quotes}
 use Rattle.model.specs.rules.File.{is_blank, quotes_open, counts}
@@ -45,7 +45,7 @@ data IsBreak : ℕ → Type 0 where
   is_cr : IsBreak CR
 
 numeral_break : {A : Type 0} {b : ℕ} {e : Cell} (n : Numeral) → IsBreak b → numeral_step n b ≡ More e → A
-unfolding numeral_step if◌then◌else◌
+unfolding numeral_step choose◌then◌else◌
 numeral_break Minus is_lf k = no_more k
 numeral_break Minus is_cr k = no_more k
 numeral_break Zero is_lf k = no_stop k
@@ -92,7 +92,7 @@ break_separates d is_lf = lf_separates d
 break_separates d is_cr = cr_separates d
 
 fresh_break : {A : Type 0} {b : ℕ} {e : Cell} (d : Dialect) → IsBreak b → first_byte d b ≡ More e → A
-unfolding first_byte if◌then◌else◌
+unfolding first_byte choose◌then◌else◌
 fresh_break Csvj is_lf k = no_more k
 fresh_break Csvj is_cr k = no_more k
 fresh_break Tdif is_lf k = no_more k
@@ -100,15 +100,15 @@ fresh_break Tdif is_cr k = no_more k
 fresh_break (CsvPlus s) x k = no_stop (rw (break_no_quote (CsvPlus s) x, break_separates (CsvPlus s) x) at k)
 
 plain_break : {A : Type 0} {b : ℕ} {e : Cell} (d : Dialect) → IsBreak b → plain_byte d b ≡ More e → A
-unfolding plain_byte if◌then◌else◌
+unfolding plain_byte choose◌then◌else◌
 plain_break d x k = no_stop (rw (break_no_quote d x, break_separates d x) at k)
 
 closed_break : {A : Type 0} {b : ℕ} {e : Cell} (d : Dialect) → IsBreak b → cell_step d Closed b ≡ More e → A
-unfolding cell_step if◌then◌else◌
+unfolding cell_step choose◌then◌else◌
 closed_break d x k = no_stop (rw (break_no_quote d x) at k)
 
 word_break : {A : Type 0} {b : ℕ} {e : Cell} (d : Dialect) (w : Word) → IsBreak b → cell_step d (InWord w) b ≡ More e → A
-unfolding cell_step if◌then◌else◌
+unfolding cell_step choose◌then◌else◌
 word_break d w x k = no_more (rw (break_letter w x) at k)
 
 cell_break : {A : Type 0} {b : ℕ} {e : Cell} (d : Dialect) (c : Cell) → in_quotes c ≡ false → IsBreak b → cell_step d c b ≡ More e → A

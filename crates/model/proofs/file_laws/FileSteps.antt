@@ -9,7 +9,7 @@ use Rattle.model.specs.rules.Types.{Cell, Fresh, Quoted, Closed, Escape, Hex, In
 use Rattle.model.specs.rules.Types.{ByteFault, Encoding, Syntax}
 use Rattle.model.specs.rules.Types.{FileState, Top, Begin, Ended, Bom1, Bom2, PlainBom1, PlainBom2, Comment, Blanks, ExpectCell, Inside, After}
 use Rattle.model.specs.rules.Types.{Cr, ByteRole, Outside, Passed, OfCell, Between, Tail, Ends, Step, To, Reject}
-use Rattle.model.specs.rules.Base.{if◌then◌else◌, LF, CR, COMMA, ◌is◌}
+use Rattle.model.specs.rules.Base.{choose◌then◌else◌, LF, CR, COMMA, ◌is◌}
 use Rattle.model.specs.rules.Dialect.{delimiter_of}
 use Rattle.model.specs.rules.Utf8.{row_of, leads, lead_byte, inner_step, char_step}
 use Rattle.model.specs.rules.Cell.{cell_step, is_whole, in_quotes}
@@ -207,15 +207,15 @@ fresh_fine Tdif b h = refl
 fresh_fine (CsvPlus s) b h = broken_not b h
 
 bom_fine : is_broken (char_step Whole 0xEF) ≡ false
-unfolding char_step lead_byte leads row_of if◌then◌else◌
+unfolding char_step lead_byte leads row_of choose◌then◌else◌
 bom_fine = refl
 
 bom_one_fine : is_broken (char_step (Within (Second EeToEf)) 0xBB) ≡ false
-unfolding char_step inner_step row_of if◌then◌else◌
+unfolding char_step inner_step row_of choose◌then◌else◌
 bom_one_fine = refl
 
 bom_two_fine : is_broken (char_step (Within Last) 0xBF) ≡ false
-unfolding char_step inner_step if◌then◌else◌
+unfolding char_step inner_step choose◌then◌else◌
 bom_two_fine = refl
 
 blank_ascii : (b : ℕ) → is_blank b ≡ true → b ≤ 0x7F

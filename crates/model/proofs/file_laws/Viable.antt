@@ -13,7 +13,7 @@ use Rattle.model.specs.rules.Types.{Tr, Tru, F, Fa, Fal, Fals, N, Nu, Nul, Backs
 use Rattle.model.specs.rules.Types.{Cell, Fresh, Quoted, Closed, Escape, Hex, InNumber, InWord, Plain, Complete, More, Stop, ByteFault}
 use Rattle.model.specs.rules.Types.{FileState, Top, Begin, Ended, Bom1, Bom2, PlainBom1, PlainBom2, Comment, Blanks, ExpectCell, Inside, After}
 use Rattle.model.specs.rules.Types.{Cr, ByteRole, Outside, Passed, OfCell, Ends, Step, To, Reject}
-use Rattle.model.specs.rules.Base.{Bytes, LF, QUOTE, ◌is◌, if◌then◌else◌}
+use Rattle.model.specs.rules.Base.{Bytes, LF, QUOTE, ◌is◌, choose◌then◌else◌}
 use Rattle.model.specs.rules.Dialect.{quote_of, delimiter_of, delimiter_byte, quote_byte}
 use Rattle.model.specs.rules.Utf8.{row_of, inner_step, char_step}
 use Rattle.model.specs.rules.Cell.{numeral_step, letter_of, after_letter, first_byte, quoted_byte, plain_byte, cell_step}
@@ -138,7 +138,7 @@ lf_no_quote (CsvPlus s) = go s.quote
 
 -- LF ends a record after a cell
 after_line : (d : Dialect) (k : Bool) → after_cell d k LF ≡ To Begin (Ends k)
-unfolding after_cell if◌then◌else◌
+unfolding after_cell choose◌then◌else◌
 after_line Csvj k = refl
 after_line Tdif k = refl
 after_line (CsvPlus s) k = rw (lf_no_delimiter s)
@@ -158,15 +158,15 @@ module _ (d : Dialect) (g : Char → FileState) (bs : Bytes)
     (next : (i : Inner) (b : ℕ) (c : Char) (xs : Bytes) → char_step (Within i) b ≡ On c → Completes d (g c) xs → Completes d (g (Within i)) (b ∷ xs))
     (end : Completes d (g Whole) bs) where
   last_on : Completes d (g (Within Last)) (0x80 ∷ bs)
-  unfolding char_step inner_step if◌then◌else◌
+  unfolding char_step inner_step choose◌then◌else◌
   last_on = next Last 0x80 Whole bs refl end
 
   last_two_on : Completes d (g (Within LastTwo)) (0x80 ∷ 0x80 ∷ bs)
-  unfolding char_step inner_step if◌then◌else◌
+  unfolding char_step inner_step choose◌then◌else◌
   last_two_on = next LastTwo 0x80 (Within Last) (0x80 ∷ bs) refl last_on
 
   char_on : (c : Char) → Completes d (g c) (char_end c ++ bs)
-  unfolding char_step inner_step row_of if◌then◌else◌
+  unfolding char_step inner_step row_of choose◌then◌else◌
   char_on Whole = end
   char_on (Within (Second C2ToDf)) = next (Second C2ToDf) 0x80 Whole bs refl end
   char_on (Within (Second E0)) = next (Second E0) 0xA0 (Within Last) (0x80 ∷ bs) refl last_on
@@ -180,7 +180,7 @@ module _ (d : Dialect) (g : Char → FileState) (bs : Bytes)
   char_on (Within Last) = last_on
 
 closed_on : (d : Dialect) → Completes d (Inside Closed) line
-unfolding cell_step if◌then◌else◌
+unfolding cell_step choose◌then◌else◌
 closed_on d = cell_over d (rw (lf_no_quote d))
 
 complete_on : (d : Dialect) → Completes d (Inside Complete) line
@@ -188,19 +188,19 @@ unfolding cell_step
 complete_on d = cell_over d refl
 
 quote_on : (d : Dialect) → Completes d (Inside (Quoted Whole)) (quote_of d ∷ line)
-unfolding cell_step quoted_byte if◌then◌else◌
+unfolding cell_step quoted_byte choose◌then◌else◌
 quote_on Csvj = cell_on Csvj Complete refl (complete_on Csvj)
 quote_on Tdif = cell_on Tdif Closed refl (closed_on Tdif)
 quote_on (CsvPlus s) = cell_on (CsvPlus s) Closed (rw (same_byte (quote_of (CsvPlus s)))) (closed_on (CsvPlus s))
 
 plain_on : (d : Dialect) → Completes d (Inside (Plain Whole)) line
-unfolding cell_step plain_byte if◌then◌else◌
+unfolding cell_step plain_byte choose◌then◌else◌
 plain_on Csvj = cell_over Csvj refl
 plain_on Tdif = cell_over Tdif refl
 plain_on (CsvPlus s) = cell_over (CsvPlus s) (rw (lf_no_quote (CsvPlus s), lf_no_delimiter s))
 
 hex_on : (d : Dialect) (n : HexLeft) → Completes d (Inside (Hex n)) (hex_end d n)
-unfolding cell_step if◌then◌else◌
+unfolding cell_step choose◌then◌else◌
 hex_on d One = cell_on d (Quoted Whole) refl (quote_on d)
 hex_on d Two = cell_on d (Hex One) refl (cell_on d (Quoted Whole) refl (quote_on d))
 hex_on d Three = cell_on d (Hex Two) refl (cell_on d (Hex One) refl (cell_on d (Quoted Whole) refl (quote_on d)))
@@ -208,7 +208,7 @@ hex_on d Four =
     cell_on d (Hex Three) refl (cell_on d (Hex Two) refl (cell_on d (Hex One) refl (cell_on d (Quoted Whole) refl (quote_on d))))
 
 numeral_on : (d : Dialect) (n : Numeral) → Completes d (Inside (InNumber n)) (numeral_end n)
-unfolding cell_step numeral_step if◌then◌else◌
+unfolding cell_step numeral_step choose◌then◌else◌
 numeral_on d Minus = cell_on d (InNumber Zero) refl (cell_over d refl)
 numeral_on d Zero = cell_over d refl
 numeral_on d Integer = cell_over d refl
@@ -219,7 +219,7 @@ numeral_on d ESign = cell_on d (InNumber Exponent) refl (cell_over d refl)
 numeral_on d Exponent = cell_over d refl
 
 letter_on : (d : Dialect) (w : Word) {bs : Bytes} → Completes d (Inside (after_letter w)) bs → Completes d (Inside (InWord w)) (letter_of w ∷ bs)
-unfolding cell_step if◌then◌else◌
+unfolding cell_step choose◌then◌else◌
 letter_on d w k = cell_on d (after_letter w) (rw (same_byte (letter_of w))) k
 
 word_on : (d : Dialect) (w : Word) → Completes d (Inside (InWord w)) (word_end w)
@@ -237,13 +237,13 @@ word_on d Backslash = letter_on d Backslash (complete_on d)
 
 -- a quote opens a cell
 quote_opens : (d : Dialect) → cell_step d Fresh (quote_of d) ≡ More (Quoted Whole)
-unfolding cell_step first_byte if◌then◌else◌
+unfolding cell_step first_byte choose◌then◌else◌
 quote_opens Csvj = refl
 quote_opens Tdif = refl
 quote_opens (CsvPlus s) = rw (same_byte (quote_of (CsvPlus s)))
 
 fresh_line : (s : Settings) → cell_step (CsvPlus s) Fresh LF ≡ Stop
-unfolding cell_step first_byte if◌then◌else◌
+unfolding cell_step first_byte choose◌then◌else◌
 fresh_line s = rw (lf_no_quote (CsvPlus s), lf_no_delimiter s)
 
 fresh_on : (d : Dialect) → Completes d (Inside Fresh) (fresh_end d)
@@ -252,7 +252,7 @@ fresh_on Tdif = cell_on Tdif (Quoted Whole) (quote_opens Tdif) (quote_on Tdif)
 fresh_on (CsvPlus s) = cell_over (CsvPlus s) (fresh_line s)
 
 cell_completes : (d : Dialect) (c : Cell) → Completes d (Inside c) (cell_end d c)
-unfolding cell_step if◌then◌else◌
+unfolding cell_step choose◌then◌else◌
 cell_completes d Fresh = fresh_on d
 cell_completes d (Quoted c) = char_on d (λ x. Inside (Quoted x)) (quote_of d ∷ line) (λ i b x xs e h. cell_on d (Quoted x) (rw e) h) (quote_on d) c
 cell_completes d Closed = closed_on d
@@ -269,11 +269,11 @@ unfolding begin_record in_cell
 begin_line s = rw (fresh_line s) (after_line (CsvPlus s) true)
 
 begin_quote : begin_record Tdif QUOTE ≡ To (Inside (Quoted Whole)) OfCell
-unfolding begin_record in_cell cell_step first_byte if◌then◌else◌
+unfolding begin_record in_cell cell_step first_byte choose◌then◌else◌
 begin_quote = refl
 
 begin_empty : begin_record Csvj LF ≡ To Begin (Ends false)
-unfolding begin_record if◌then◌else◌
+unfolding begin_record choose◌then◌else◌
 begin_empty = refl
 
 record_on : (d : Dialect) (f : FileState) → file_step d f LF ≡ begin_record d LF → file_step d f QUOTE ≡ begin_record d QUOTE → Completes d f (begin_end d)
@@ -286,27 +286,27 @@ unfolding file_step
 begin_on d = record_on d Begin refl refl
 
 file_lf : (d : Dialect) → begin_file d LF ≡ begin_record d LF
-unfolding begin_file if◌then◌else◌
+unfolding begin_file choose◌then◌else◌
 file_lf Csvj = refl
 file_lf Tdif = refl
 file_lf (CsvPlus s) = refl
 
 file_quote : (d : Dialect) → begin_file d QUOTE ≡ begin_record d QUOTE
-unfolding begin_file if◌then◌else◌
+unfolding begin_file choose◌then◌else◌
 file_quote Csvj = refl
 file_quote Tdif = refl
 file_quote (CsvPlus s) = refl
 
 bom_one : (d : Dialect) → file_step d PlainBom1 0x80 ≡ To (Inside (Plain (Within Last))) OfCell
-unfolding file_step in_cell cell_step char_step inner_step row_of if◌then◌else◌
+unfolding file_step in_cell cell_step char_step inner_step row_of choose◌then◌else◌
 bom_one d = refl
 
 bom_two : (d : Dialect) → file_step d PlainBom2 0x80 ≡ To (Inside (Plain Whole)) OfCell
-unfolding file_step in_cell cell_step char_step inner_step if◌then◌else◌
+unfolding file_step in_cell cell_step char_step inner_step choose◌then◌else◌
 bom_two d = refl
 
 quote_wanted : (d : Dialect) → file_step d ExpectCell (quote_of d) ≡ To (Inside (Quoted Whole)) OfCell
-unfolding file_step in_cell if◌then◌else◌
+unfolding file_step in_cell choose◌then◌else◌
 quote_wanted d = rw (no_blank d, quote_opens d)
   where
     no_blank : (x : Dialect) → is_blank (quote_of x) ≡ false
@@ -319,7 +319,7 @@ quote_wanted d = rw (no_blank d, quote_opens d)
         go Single = refl
 
 pub completes : (d : Dialect) (f : FileState) → Completes d f (completion d f)
-unfolding completion file_step if◌then◌else◌
+unfolding completion file_step choose◌then◌else◌
 completes d Top = record_on d Top (file_lf d) (file_quote d)
 completes d Begin = begin_on d
 completes d Ended = on d Ended LF Begin Passed refl (begin_on d)

@@ -11,7 +11,7 @@ use mathlib.Core.List.{[], ◌∷◌, ◌++◌}
 use lib.ListN.{length, length-append}
 use Rattle.model.specs.rules.Types.{Dialect, Target, ByteFault, Encoding, Syntax, FileState, Top, ByteRole, Outside, Passed, OfCell, Between}
 use Rattle.model.specs.rules.Types.{Tail, Ends, Step, To, Reject, Fault, Byte, CheckResult, Sound, Faulty}
-use Rattle.model.specs.rules.Base.{Bytes, if◌then◌else◌}
+use Rattle.model.specs.rules.Base.{Bytes, choose◌then◌else◌}
 use Rattle.model.specs.rules.File.{file_step}
 use Rattle.model.specs.rules.Records.{Read, Progress, going, stopped, nothing_read, record_fault, file_full, record_full, read_byte, read_from}
 use Rattle.model.specs.rules.Records.{read_bytes, move, complete, validated, closing}
@@ -111,7 +111,7 @@ module _ (d : Dialect) (target : Option Target) where
   -- the byte after them, within the limits
   module _ (xs : Bytes) (r : Read) (b : ℕ) (read : read_bytes d target xs ≡ going r) (file : file_full r ≡ false) (size : record_full r b ≡ false) where
     next_byte : read_bytes d target (xs ++ (b ∷ [])) ≡ move d target r b (file_step d r.state b)
-    unfolding read_bytes read_from read_byte if◌then◌else◌
+    unfolding read_bytes read_from read_byte choose◌then◌else◌
     next_byte = rw (read_append, read, file, size)
 
     rejected : (e : ByteFault) → file_step d r.state b ≡ Reject e → read_bytes d target (xs ++ (b ∷ [])) ≡ stopped (Byte e) r

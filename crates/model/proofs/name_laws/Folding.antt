@@ -10,7 +10,7 @@ use mathlib.Core.List.{List, [], ◌∷◌, ◌++◌, map}
 use lib.ListN.{length, get_or}
 use lib.Dec.{leb, T, eqb→eq}
 use borrow.Author.Tests.{ne_eqb, le-leb, lt-leb, leb-true, leb-false, eqb-false}
-use Rattle.model.specs.rules.Base.{if◌then◌else◌, ◌is◌, within, Bytes}
+use Rattle.model.specs.rules.Base.{choose◌then◌else◌, ◌is◌, within, Bytes}
 use Rattle.model.specs.rules.Utf8.{pack, packed, is_later}
 use Rattle.model.specs.rules.Names.{fold_point, is_pair, pair_point, fold_byte, fold_name}
 use Rattle.model.specs.laws.Folding.{first_of, second_of, fold_at, byte_before, is_fold, folds_from, FoldTable}
@@ -37,7 +37,7 @@ pub data Small (u : ℕ) : Type 0 where
   past : 0x42F < u → Small u
 
 pub small_stays : (u : ℕ) → Small u → fold_point u ≡ u
-unfolding fold_point if◌then◌else◌
+unfolding fold_point choose◌then◌else◌
 small_stays u (latin h k) =
     rw (
       above 0x41 0x5A u h,
@@ -128,11 +128,11 @@ stays_above u h = small_stays u (past (omega arith))
 -- ---- its bytes
 
 pub pack_short : (u : ℕ) → u ≤ 0x7F → pack u ≡ u ∷ []
-unfolding pack if◌then◌else◌
+unfolding pack choose◌then◌else◌
 pack_short u h = rw (le-leb u 0x7F h)
 
 pub pack_pair : (u : ℕ) → 0x80 ≤ u → u ≤ 0x7FF → pack u ≡ (0xC0 + u / 0x40) ∷ (0x80 + u % 0x40) ∷ []
-unfolding pack if◌then◌else◌
+unfolding pack choose◌then◌else◌
 pack_pair u h k = rw (lt-leb u 0x7F (omega arith), le-leb u 0x7FF k)
 
 -- two bytes of a code point are a pair, and the pair's code point is that one
@@ -206,15 +206,15 @@ pair_none : (a : ℕ) → is_pair a 0 ≡ false
 pair_none a = split_on (within 0xC2 0xDF a) (λ p. rw p) λ p. rw p
 
 at_second : (a b c : ℕ) → is_pair a b ≡ true → fold_at a b c ≡ second_of (fold_point (pair_point a b))
-unfolding fold_at if◌then◌else◌
+unfolding fold_at choose◌then◌else◌
 at_second a b c e = rw e
 
 at_first : (a b c : ℕ) → is_pair a b ≡ false → is_pair b c ≡ true → fold_at a b c ≡ first_of (fold_point (pair_point b c))
-unfolding fold_at if◌then◌else◌
+unfolding fold_at choose◌then◌else◌
 at_first a b c e k = rw (e, k)
 
 at_alone : (a b c : ℕ) → is_pair a b ≡ false → is_pair b c ≡ false → fold_at a b c ≡ fold_byte b
-unfolding fold_at if◌then◌else◌
+unfolding fold_at choose◌then◌else◌
 at_alone a b c e k = rw (e, k)
 
 -- the two bytes of a folded pair
@@ -228,7 +228,7 @@ fold_pair a b e =
     two_bytes (fold_point (pair_point a b)) f.low f.high
 
 fold_places : (p : ℕ) (bs : Bytes) → is_pair p (head bs) ≡ false → fold_name bs ≡ fold_from p bs
-unfolding fold_name fold_from if◌then◌else◌
+unfolding fold_name fold_from choose◌then◌else◌
 fold_places p [] h = refl
 fold_places p (a ∷ []) h = rw (at_alone p a 0 h (pair_none a))
 fold_places p (a ∷ b ∷ bs) h = go (is_pair a b) refl (λ k. fold_places b bs k) (λ k. fold_places a (b ∷ bs) k)
@@ -255,7 +255,7 @@ fold_length bs = ap length (by_places bs) ∙ go 0 bs
     go a (b ∷ bs) = ap suc (go b bs)
 
 at_none : (a : ℕ) → fold_at a 0 0 ≡ 0
-unfolding fold_point if◌then◌else◌
+unfolding fold_point choose◌then◌else◌
 at_none a = at_alone a 0 0 (pair_none a) refl
 
 pub fold_at_lem : (bs : Bytes) (i : ℕ) → get_or (fold_name bs) i 0 ≡ fold_at (byte_before bs i) (get_or bs i 0) (get_or bs (i + 1) 0)
@@ -339,7 +339,7 @@ pair_settled a b e =
     rw (pack_pair (fold_point (pair_point a b)) f.low f.high, pair_back (fold_point (pair_point a b)) f.low f.high) (point_twice (pair_point a b))
 
 byte_settled : (b : ℕ) → fold_byte (fold_byte b) ≡ fold_byte b
-unfolding if◌then◌else◌
+unfolding choose◌then◌else◌
 byte_settled b = split_on (leb b 0x7F) (λ p. rw (p, le-leb (fold_point b) 0x7F (folded_short b (leb-true b 0x7F p))) (point_twice b)) λ p. rw (p, p)
 
 -- a byte that begins a pair is later to none
@@ -389,7 +389,7 @@ twice_from z a (b ∷ c ∷ bs) =
     (ap (λ (l : Bytes). fold_at a b c ∷ l) (twice_from a b (c ∷ bs)))
 
 pub twice : (bs : Bytes) → fold_name (fold_name bs) ≡ fold_name bs
-unfolding fold_point if◌then◌else◌
+unfolding fold_point choose◌then◌else◌
 twice bs =
     let start : fold_at 0 0 (head bs) ≡ 0 = at_alone 0 0 (head bs) refl refl in
     ap fold_name (by_places bs) ∙ by_places (fold_from 0 bs) ∙ ap (λ (a : ℕ). fold_from a (fold_from 0 bs)) (sym start) ∙ twice_from 0 0 bs ∙ sym (by_places bs)
@@ -397,7 +397,7 @@ twice bs =
 -- ---- one code point at a time
 
 alone : (a : ℕ) (bs : Bytes) → is_pair a (head bs) ≡ false → fold_name (a ∷ bs) ≡ fold_byte a ∷ fold_name bs
-unfolding fold_name if◌then◌else◌
+unfolding fold_name choose◌then◌else◌
 alone a [] h = refl
 alone a (b ∷ bs) h = rw h
 
@@ -409,7 +409,7 @@ alone_high : (a : ℕ) (bs : Bytes) → 0xDF < a → fold_name (a ∷ bs) ≡ fo
 alone_high a bs h = alone a bs (rw (above 0xC2 0xDF a h))
 
 pub byte_stays : (a : ℕ) → 0x7F < a → fold_byte a ≡ a
-unfolding if◌then◌else◌
+unfolding choose◌then◌else◌
 byte_stays a h = rw (lt-leb a 0x7F h)
 
 later_stays : (x : ℕ) (bs : Bytes) → fold_name ((0x80 + x % 0x40) ∷ bs) ≡ (0x80 + x % 0x40) ∷ fold_name bs
@@ -419,20 +419,20 @@ lead_stays : (a : ℕ) (bs : Bytes) → 0xE0 ≤ a → fold_name (a ∷ bs) ≡ 
 lead_stays a bs h = rw (alone_high a bs (omega arith), byte_stays a (omega arith))
 
 fold_short : (u : ℕ) (bs : Bytes) → u ≤ 0x7F → fold_name (pack u ++ bs) ≡ pack (fold_point u) ++ fold_name bs
-unfolding if◌then◌else◌
+unfolding choose◌then◌else◌
 fold_short u bs h = rw (pack_short u h, pack_short (fold_point u) (folded_short u h), alone_low u bs (omega arith), le-leb u 0x7F h)
 
 fold_two : (u : ℕ) (bs : Bytes) → 0x80 ≤ u → u ≤ 0x7FF → fold_name (pack u ++ bs) ≡ pack (fold_point u) ++ fold_name bs
-unfolding fold_name if◌then◌else◌
+unfolding fold_name choose◌then◌else◌
 fold_two u bs h k = rw (pack_pair u h k, pair_of u h k, pair_back u h k)
 
 pub pack_three : (u : ℕ) → 0x800 ≤ u → u ≤ 0xFFFF → pack u ≡ (0xE0 + u / 0x1000) ∷ (0x80 + u / 0x40 % 0x40) ∷ (0x80 + u % 0x40) ∷ []
-unfolding pack if◌then◌else◌
+unfolding pack choose◌then◌else◌
 pack_three u h k = rw (lt-leb u 0x7F (omega arith), lt-leb u 0x7FF (omega arith), le-leb u 0xFFFF k)
 
 pub pack_four : (u : ℕ) → 0x10000 ≤ u
     → pack u ≡ (0xF0 + u / 0x40000) ∷ (0x80 + u / 0x1000 % 0x40) ∷ (0x80 + u / 0x40 % 0x40) ∷ (0x80 + u % 0x40) ∷ []
-unfolding pack if◌then◌else◌
+unfolding pack choose◌then◌else◌
 pack_four u h = rw (lt-leb u 0x7F (omega arith), lt-leb u 0x7FF (omega arith), lt-leb u 0xFFFF (omega arith))
 
 fold_three : (u : ℕ) (bs : Bytes) → 0x800 ≤ u → u ≤ 0xFFFF → fold_name (pack u ++ bs) ≡ pack (fold_point u) ++ fold_name bs

@@ -10,7 +10,7 @@ use lib.ListN.{length, drop, get_or}
 use lib.Dec.{leb}
 use borrow.Author.Tests.{leb-true, leb-false}
 use Rattle.model.specs.rules.Types.{Lead, C2ToDf, E0, E1ToEc, Ed, EeToEf, F0, F1ToF3, F4, Second, LastTwo, Last}
-use Rattle.model.specs.rules.Base.{if◌then◌else◌, ◌is◌, within, Bytes}
+use Rattle.model.specs.rules.Base.{choose◌then◌else◌, ◌is◌, within, Bytes}
 use Rattle.model.specs.rules.Utf8.{row_of, leads, lead_byte, after_second, inner_step, char_step, pack, packed, Wide, gap, ed, lone, inner, settled}
 use Rattle.model.specs.rules.Utf8.{settle, wide_step, wide_from, is_content}
 use Rattle.model.specs.rules.Names.{fold_point, fold_name}
@@ -52,7 +52,7 @@ data Later : ℕ → Bytes → Type 0 where
   later : {n b : ℕ} {bs : Bytes} → 0x80 ≤ b → b ≤ 0xBF → Later n bs → Later (suc n) (b ∷ bs)
 
 last_byte : (bs : Bytes) → wide_from (inner Last) bs ≡ true → Later 1 bs
-unfolding wide_from wide_step char_step inner_step if◌then◌else◌
+unfolding wide_from wide_step char_step inner_step choose◌then◌else◌
 last_byte [] e = impossible e
 last_byte (b ∷ bs) e = go (steps_on (inner Last) b bs e)
   where
@@ -64,7 +64,7 @@ last_byte (b ∷ bs) e = go (steps_on (inner Last) b bs e)
         no_step (rw p at s)
 
 last_two : (bs : Bytes) → wide_from (inner LastTwo) bs ≡ true → Later 2 bs
-unfolding wide_from wide_step char_step inner_step if◌then◌else◌
+unfolding wide_from wide_step char_step inner_step choose◌then◌else◌
 last_two [] e = impossible e
 last_two (b ∷ bs) e = go (steps_on (inner LastTwo) b bs e)
   where
@@ -75,7 +75,7 @@ last_two (b ∷ bs) e = go (steps_on (inner LastTwo) b bs e)
         no_step (rw p at s)
 
 lone_last : (h : Bool) (bs : Bytes) → wide_from (lone h) bs ≡ true → Later 1 bs
-unfolding wide_from wide_step if◌then◌else◌
+unfolding wide_from wide_step choose◌then◌else◌
 lone_last h [] e = impossible e
 lone_last h (b ∷ bs) e = go (steps_on (lone h) b bs e)
   where
@@ -102,7 +102,7 @@ data SecondOn (lo hi : ℕ) (next : Wide) : Bytes → Type 0 where
 
 second_byte : (l : Lead) (bs : Bytes) → wide_from (inner (Second l)) bs ≡ true
     → SecondOn (row_of l).lo2 (row_of l).hi2 (settled (after_second (row_of l).size)) bs
-unfolding wide_from wide_step char_step inner_step if◌then◌else◌
+unfolding wide_from wide_step char_step inner_step choose◌then◌else◌
 second_byte l [] e = impossible e
 second_byte l (b ∷ bs) e = go (steps_on (inner (Second l)) b bs e)
   where
@@ -136,7 +136,7 @@ row_of_four a lo hi (b ∷ bs) h k l m x y (second_on p q e) = four_bytes {b = b
 row_of_four a lo hi [] h k l m x y x8 = elim x8 [ ]
 
 row_begins : (l : Lead) (a : ℕ) (bs : Bytes) → (row_of l).lo ≤ a → a ≤ (row_of l).hi → wide_from (inner (Second l)) bs ≡ true → Begins (a ∷ bs)
-unfolding row_of if◌then◌else◌
+unfolding row_of choose◌then◌else◌
 row_begins C2ToDf a bs h k e = two_bytes h k (go bs (second_byte C2ToDf bs e))
   where
     go : (bs : Bytes) → SecondOn 0x80 0xBF (gap false) bs → Later 1 bs
@@ -156,7 +156,7 @@ row_begins F4 a bs h k e = row_of_four a 0x80 0x8F bs (omega arith) (omega arith
     (second_byte F4 bs e)
 
 ed_begins : (h : Bool) (bs : Bytes) → wide_from (ed h) bs ≡ true → Begins (0xED ∷ bs)
-unfolding wide_from wide_step if◌then◌else◌
+unfolding wide_from wide_step choose◌then◌else◌
 ed_begins h [] e = impossible e
 ed_begins h (b ∷ bs) e = go (steps_on (ed h) b bs e)
   where
@@ -175,12 +175,12 @@ ed_begins h (b ∷ bs) e = go (steps_on (ed h) b bs e)
         (λ o. let r = within_true 0xB0 0xBF b o in let u : 0xB0 ≤ b = r.0 in low (omega arith) r.1 h (rw (p, t, o) at s) k) λ o.
         no_step (rw (p, t, o) at s)
       where
-        low : {w : Wide} → 0x80 ≤ b → b ≤ 0xBF → (g : Bool) → (if g then none else some (lone false)) ≡ some w → wide_from w bs ≡ true → Begins (0xED ∷ b ∷ bs)
+        low : {w : Wide} → 0x80 ≤ b → b ≤ 0xBF → (g : Bool) → (choose g then none else some (lone false)) ≡ some w → wide_from w bs ≡ true → Begins (0xED ∷ b ∷ bs)
         low x y true s k = no_step s
         low x y false s k = let q = same_wide s in made x y (lone_last false bs (rw (← q) at k))
 
 lead_begins : (ls : List Lead) (h : Bool) (a : ℕ) (bs : Bytes) (w : Wide) → settle (lead_byte ls a) ≡ some w → wide_from w bs ≡ true → Begins (a ∷ bs)
-unfolding lead_byte if◌then◌else◌
+unfolding lead_byte choose◌then◌else◌
 lead_begins [] h a bs w s k = no_step s
 lead_begins (l ∷ ls) h a bs w s k = go (within (row_of l).lo (row_of l).hi a) refl (lead_begins ls h a bs w)
   where
@@ -190,7 +190,7 @@ lead_begins (l ∷ ls) h a bs w s k = go (within (row_of l).lo (row_of l).hi a) 
     go false p ih = ih (rw p at s) k
 
 content_begins : (h : Bool) (a : ℕ) (bs : Bytes) → wide_from (gap h) (a ∷ bs) ≡ true → Begins (a ∷ bs)
-unfolding wide_step char_step if◌then◌else◌
+unfolding wide_step char_step choose◌then◌else◌
 content_begins h a bs e = go (steps_on (gap h) a bs e)
   where
     go : WideOn (gap h) a bs → Begins (a ∷ bs)

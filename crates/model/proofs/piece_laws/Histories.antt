@@ -8,7 +8,7 @@ use mathlib.Core.List.{List, [], ◌∷◌, ◌++◌, append_assoc, append-nil}
 use Rattle.model.specs.rules.Types.{Report, Dialect, Target, Encoding, Syntax, Fault, NoRecord, Byte, CutShort, CellCount, RepeatedName}
 use Rattle.model.specs.rules.Types.{HeaderKind, FileTooLong, RecordTooLong, TooManyColumns, NoCells, LacksKind, LoneSurrogate, Clash}
 use Rattle.model.specs.rules.Types.{TextTooLong, OutputTooLong}
-use Rattle.model.specs.rules.Base.{if◌then◌else◌, within}
+use Rattle.model.specs.rules.Base.{choose◌then◌else◌, within}
 use Rattle.model.specs.rules.Report.{refusal, number_of}
 use Rattle.model.specs.rules.Api.{unwritten}
 use Rattle.model.specs.rules.Ledger.{Call, Entry, bytes_of, is_finish, is_accepted, is_file_fault, fault_in, ended_in, consumed_in, closed_in, written_in}
@@ -42,32 +42,32 @@ none_some e = let z : ◌≡◌ {A = ℕ} 0 1 = cc in absurd (omega arith)
 
 module _ (ys : List Entry) where
   pub fault_none : (xs : List Entry) → fault_in xs ≡ none → fault_in (xs ++ ys) ≡ fault_in ys
-  unfolding fault_in if◌then◌else◌
+  unfolding fault_in choose◌then◌else◌
   fault_none [] k = refl
   fault_none (x ∷ xs) k =
       split_on (is_file_fault x.answer.report) (λ h. none_some (rw h at k)) λ h. rw h (fault_none xs (rw h at k))
 
   pub fault_some : (e : Report) (xs : List Entry) → fault_in xs ≡ some e → fault_in (xs ++ ys) ≡ some e
-  unfolding fault_in if◌then◌else◌
+  unfolding fault_in choose◌then◌else◌
   fault_some e [] k = none_some (sym k)
   fault_some e (x ∷ xs) k =
       split_on (is_file_fault x.answer.report) (λ h. rw h (rw h at k)) λ h. rw h (fault_some e xs (rw h at k))
 
   pub consumed_none : (xs : List Entry) → fault_in xs ≡ none → consumed_in (xs ++ ys) ≡ consumed_in xs ++ consumed_in ys
-  unfolding fault_in consumed_in if◌then◌else◌
+  unfolding fault_in consumed_in choose◌then◌else◌
   consumed_none [] k = refl
   consumed_none (x ∷ xs) k =
       split_on (is_file_fault x.answer.report) (λ h. none_some (rw h at k)) λ h.
       rw h
-      (ap (λ l. (if is_accepted x.answer.report then bytes_of x.call else []) ++ l) (consumed_none xs (rw h at k))
-      ∙ sym (append_assoc (if is_accepted x.answer.report then bytes_of x.call else []) (consumed_in xs) (consumed_in ys)))
+      (ap (λ l. (choose is_accepted x.answer.report then bytes_of x.call else []) ++ l) (consumed_none xs (rw h at k))
+      ∙ sym (append_assoc (choose is_accepted x.answer.report then bytes_of x.call else []) (consumed_in xs) (consumed_in ys)))
 
   pub consumed_some : (e : Report) (xs : List Entry) → fault_in xs ≡ some e → consumed_in (xs ++ ys) ≡ consumed_in xs
-  unfolding fault_in consumed_in if◌then◌else◌
+  unfolding fault_in consumed_in choose◌then◌else◌
   consumed_some e [] k = none_some (sym k)
   consumed_some e (x ∷ xs) k =
       split_on (is_file_fault x.answer.report) (λ h. rw h) λ h.
-      rw h (ap (λ l. (if is_accepted x.answer.report then bytes_of x.call else []) ++ l) (consumed_some e xs (rw h at k)))
+      rw h (ap (λ l. (choose is_accepted x.answer.report then bytes_of x.call else []) ++ l) (consumed_some e xs (rw h at k)))
 
   pub written_append : (xs : List Entry) → written_in (xs ++ ys) ≡ written_in xs ++ written_in ys
   unfolding written_in
@@ -86,7 +86,7 @@ module _ (ys : List Entry) where
       ∙ or_assoc (is_finish x.call && is_accepted x.answer.report) (ended_in xs) (ended_in ys)
 
   pub closed_none : (xs : List Entry) → fault_in xs ≡ none → closed_in (xs ++ ys) ≡ (ended_in xs || closed_in ys)
-  unfolding fault_in ended_in closed_in if◌then◌else◌
+  unfolding fault_in ended_in closed_in choose◌then◌else◌
   closed_none [] k = refl
   closed_none (x ∷ xs) k =
       split_on (is_file_fault x.answer.report) (λ h. none_some (rw h at k)) λ h.
@@ -95,7 +95,7 @@ module _ (ys : List Entry) where
       ∙ or_assoc (is_finish x.call && is_accepted x.answer.report) (ended_in xs) (closed_in ys))
 
   pub closed_some : (e : Report) (xs : List Entry) → fault_in xs ≡ some e → closed_in (xs ++ ys) ≡ closed_in xs
-  unfolding fault_in closed_in if◌then◌else◌
+  unfolding fault_in closed_in choose◌then◌else◌
   closed_some e [] k = none_some (sym k)
   closed_some e (x ∷ xs) k =
       split_on (is_file_fault x.answer.report) (λ h. rw h) λ h.
@@ -118,15 +118,15 @@ module _ (d : Dialect) (t : Target) (past : List Entry) (c : Call) where
   answer_failed e k = rw (k, answer_to)
 
   pub answer_ended : fault_in past ≡ none → ended_in past ≡ true → answer_to d t past c ≡ unwritten (refusal 11)
-  unfolding answer_to if◌then◌else◌
+  unfolding answer_to choose◌then◌else◌
   answer_ended k h = rw (k, answer_to, h)
 
   pub answer_small : fault_in past ≡ none → ended_in past ≡ false → too_small c ≡ true → answer_to d t past c ≡ unwritten (refusal 10)
-  unfolding answer_to if◌then◌else◌
+  unfolding answer_to choose◌then◌else◌
   answer_small k h s = rw (k, answer_to, h, s)
 
   pub answer_taken :
       fault_in past ≡ none → ended_in past ≡ false → too_small c ≡ false →
       answer_to d t past c ≡ taken t (written_in past) (seen_by d t c (consumed_in past ++ bytes_of c))
-  unfolding answer_to if◌then◌else◌
+  unfolding answer_to choose◌then◌else◌
   answer_taken k h s = rw (k, answer_to, h, s)

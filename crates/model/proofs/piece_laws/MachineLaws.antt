@@ -7,7 +7,7 @@ use mathlib.Core.List.{List, [], ◌∷◌, ◌++◌, append_assoc, append-nil}
 use lib.ListN.{length, drop}
 use lib.Seq.{drop-append_seam, drop-length}
 use Rattle.model.specs.rules.Types.{Report, Dialect, Target, Fault}
-use Rattle.model.specs.rules.Base.{if◌then◌else◌, within, Bytes, is_empty}
+use Rattle.model.specs.rules.Base.{choose◌then◌else◌, within, Bytes, is_empty}
 use Rattle.model.specs.rules.Dialect.{dialect_of, into}
 use Rattle.model.specs.rules.Text.{record_text, table_text, ending}
 use Rattle.model.specs.rules.Report.{refusal, number_of}
@@ -45,7 +45,7 @@ module _ (d : Dialect) (t : Target) where
   seen_grows r (finish room) = end_grows d (some t) (going r)
 
   machine_answers : (past : List Entry) (w : ConverterStage) (c : Call) → LiesAt d t past w → answer_to d t past c ≡ answer_at d t w c
-  unfolding answer_at if◌then◌else◌
+  unfolding answer_at choose◌then◌else◌
   machine_answers past (taking r) c (stood_taking k h b w) =
       split_on (too_small c) (λ s. rw s (answer_small d t past c k h s)) λ s.
       rw s
@@ -71,7 +71,7 @@ module _ (d : Dialect) (t : Target) where
       (b : read_bytes d (some t) (consumed_in past) ≡ going r) (w : written_in past ≡ table_text t (rows r.done)) where
     -- a call that was too small
     stays_taking : (c : Call) → LiesAt d t (past ++ made c (unwritten (refusal 10))) (taking r)
-    unfolding fault_in ended_in consumed_in if◌then◌else◌
+    unfolding fault_in ended_in consumed_in choose◌then◌else◌
     stays_taking (piece bs room) =
         let x : List Entry = made (piece bs room) (unwritten (refusal 10)) in
         let same : consumed_in (past ++ x) ≡ consumed_in past = consumed_none x past k ∙ append-nil (consumed_in past) in
@@ -95,7 +95,7 @@ module _ (d : Dialect) (t : Target) where
     meets :
         (c : Call) (f : Fault) (r' : Read) → seen_by d t c (consumed_in past ++ bytes_of c) ≡ stopped f r' → Grows r.done r'.done →
         LiesAt d t (past ++ made c (taken t (table_text t (rows r.done)) (stopped f r'))) (faulted (fault_report f r'))
-    unfolding fault_in consumed_in closed_in if◌then◌else◌
+    unfolding fault_in consumed_in closed_in choose◌then◌else◌
     meets c f r' e g =
         let x : List Entry = made c (taken t (table_text t (rows r.done)) (stopped f r')) in
         let n : within 1 9 (number_of f) ≡ true = fault_number f in
@@ -116,7 +116,7 @@ module _ (d : Dialect) (t : Target) where
     takes :
         (c : Call) (q : Progress) → seen_from d t r c ≡ q → Grows r.done (records_of q) →
         LiesAt d t (past ++ made c (taken t (table_text t (rows r.done)) q)) (stage_then (is_finish c) q)
-    unfolding fault_in ended_in consumed_in if◌then◌else◌
+    unfolding fault_in ended_in consumed_in choose◌then◌else◌
     takes (piece bs room) (going r') e g =
         let x : List Entry = made (piece bs room) (taken t (table_text t (rows r.done)) (going r')) in
         let same : consumed_in (past ++ x) ≡ consumed_in past ++ bs = consumed_none x past k ∙ ap (λ l. consumed_in past ++ l) (append-nil bs) in
@@ -141,14 +141,14 @@ module _ (d : Dialect) (t : Target) where
   stays_ended :
       (past : List Entry) (c : Call) (r : Read) → fault_in past ≡ none → ended_in past ≡ true → read_file d (some t) (consumed_in past) ≡ going r →
       written_in past ≡ table_text t (rows r.done) → LiesAt d t (past ++ made c (unwritten (refusal 11))) ended
-  unfolding fault_in consumed_in if◌then◌else◌
+  unfolding fault_in consumed_in choose◌then◌else◌
   stays_ended past c r k h b w =
       let x : List Entry = made c (unwritten (refusal 11)) in
       let same : consumed_in (past ++ x) ≡ consumed_in past = consumed_none x past k ∙ append-nil (consumed_in past) in
       stood_ended r (fault_none x past k) (ended_append x past ∙ rw h) (rw same b) (silent past c (refusal 11) ∙ w)
 
   machine_moves : (past : List Entry) (w : ConverterStage) (c : Call) → LiesAt d t past w → LiesAt d t (past ++ made c (answer_at d t w c)) (stage_after d t w c)
-  unfolding answer_at stage_after if◌then◌else◌
+  unfolding answer_at stage_after choose◌then◌else◌
   machine_moves past (taking r) c (stood_taking k h b w) =
       split_on (too_small c) (λ s. rw s (stays_taking past r k h b w c)) λ s.
       rw s (takes past r k h b w c (seen_from d t r c) refl (seen_grows r c))
@@ -160,7 +160,7 @@ module _ (d : Dialect) (t : Target) where
   machine_new = stood_taking refl refl refl refl
 
   machine_leaves : (w : ConverterStage) (c : Call) → checked_at w c ≡ true → stage_after d t w c ≡ w
-  unfolding stage_after if◌then◌else◌
+  unfolding stage_after choose◌then◌else◌
   machine_leaves (taking r) c s = rw s
   machine_leaves (faulted e) c s = refl
   machine_leaves ended c s = refl
@@ -203,7 +203,7 @@ module _ (m n : ℕ) (d t : Dialect) (p : dialect_of m ≡ some d) (q : dialect_
 pub joined_stood :
     (d : Dialect) (t : Target) (past : List Entry) (w : ConverterStage) → LiesAt d t past w →
     written_in past ≡ table_text t (rows (records_of (seen_in d t past)))
-unfolding if◌then◌else◌
+unfolding choose◌then◌else◌
 joined_stood d t past (taking r) (stood_taking k h b w) = rw (closed_ended past k, h, b) w
 joined_stood d t past (faulted e) (stood_faulted f r z k s w) = rw s w
 joined_stood d t past ended (stood_ended r k h b w) = rw (closed_ended past k, h, b) w

@@ -10,7 +10,7 @@ use lib.ListN.{length, drop, length-drop}
 use lib.Dec.{ltb}
 use borrow.Author.Tests.{ltb-false, le-ltb}
 use Rattle.model.specs.rules.Types.{Report, Dialect, Target, Fault}
-use Rattle.model.specs.rules.Base.{if◌then◌else◌, within, Bytes, concat}
+use Rattle.model.specs.rules.Base.{choose◌then◌else◌, within, Bytes, concat}
 use Rattle.model.specs.rules.Dialect.{dialect_of, into}
 use Rattle.model.specs.rules.Text.{table_text}
 use Rattle.model.specs.rules.Report.{accepted, refusal, number_of, MAXFILE}
@@ -113,7 +113,7 @@ module _ (m n : ℕ) (d t : Dialect) (p : dialect_of m ≡ some d) (q : dialect_
   still_open :
       (past : List Entry) (w : ConverterStage) (bs : Bytes) (room : ℕ) (e : Report) → LiesAt d (into t) past w → fault_in past ≡ none →
       fault_in (after m n past (piece bs room)) ≡ some e → ended_in past ≡ false
-  unfolding fault_in if◌then◌else◌
+  unfolding fault_in choose◌then◌else◌
   still_open past (taking r) bs room e (stood_taking k h b w) i g = h
   still_open past (faulted x) bs room e (stood_faulted f r z k s w) i g = none_some (sym i ∙ k)
   still_open past ended bs room e (stood_ended r k h b w) i g =
@@ -127,7 +127,7 @@ module _ (m n : ℕ) (d t : Dialect) (p : dialect_of m ≡ some d) (q : dialect_
       (past : List Entry) (w : ConverterStage) (bs rest : Bytes) (room : ℕ) (e : Report) →
       LiesAt d (into t) (after m n past (piece bs room)) w → fault_in past ≡ none → ended_in past ≡ false →
       fault_in (after m n past (piece bs room)) ≡ some e → (converter m n (consumed_in (after m n past (piece bs room)) ++ rest) MAXFILE).report ≡ e
-  unfolding if◌then◌else◌
+  unfolding choose◌then◌else◌
   known_fault past (taking r) bs rest room e (stood_taking k h b w) i o g = none_some (sym k ∙ g)
   known_fault past ended bs rest room e (stood_ended r k h b w) i o g = none_some (sym k ∙ g)
   known_fault past (faulted e') bs rest room e (stood_faulted f r z k s w) i o g =
@@ -143,7 +143,7 @@ module _ (m n : ℕ) (d t : Dialect) (p : dialect_of m ≡ some d) (q : dialect_
       some_same z = cc
 
 pub fault_of_every_file : FaultOfEveryFile
-unfolding fault_in if◌then◌else◌
+unfolding fault_in choose◌then◌else◌
 fault_of_every_file m n cs bs rest room e h g = go (dialect_of m) (dialect_of n) refl refl
   where
     past : List Entry
@@ -187,7 +187,7 @@ module _ (d : Dialect) (t : Target) where
       (bs p : Bytes) (past : List Entry) (r : Read) (q : Progress) → read_bytes d (some t) (bs ++ p) ≡ q → fault_in past ≡ none →
       ended_in past ≡ false → consumed_in past ≡ bs → read_bytes d (some t) bs ≡ going r → written_in past ≡ text_of d t (going r) →
       Pieced (bs ++ p) (past ++ given p (taken t (written_in past) q))
-  unfolding fault_in ended_in consumed_in written_in if◌then◌else◌
+  unfolding fault_in ended_in consumed_in written_in choose◌then◌else◌
   piece_more bs p past r (going r') e k h c b w =
       let x : List Entry = given p (taken t (written_in past) (going r')) in
       let g : Grows (records_of (read_bytes d (some t) bs)) (records_of (read_bytes d (some t) (bs ++ p))) = records_stay d (some t) bs p in
@@ -218,12 +218,12 @@ module _ (d : Dialect) (t : Target) where
 
   -- the converter has room
   whole_report : (f : Progress) → length (text_of d t f) ≤ MAXFILE → (converted_as t MAXFILE f).report ≡ report_of f
-  unfolding if◌then◌else◌
+  unfolding choose◌then◌else◌
   whole_report (going r) l = rw (le-ltb MAXFILE (length (text_of d t (going r))) l)
   whole_report (stopped e r) l = refl
 
   whole_text : (f : Progress) → length (text_of d t f) ≤ MAXFILE → (converted_as t MAXFILE f).report ≡ accepted → (converted_as t MAXFILE f).text ≡ text_of d t f
-  unfolding if◌then◌else◌
+  unfolding choose◌then◌else◌
   whole_text (going r) l a = rw (le-ltb MAXFILE (length (text_of d t (going r))) l)
   whole_text (stopped e r) l a =
       let z : number_of e ≡ 0 = ap (λ (x : Report). x.number) a in

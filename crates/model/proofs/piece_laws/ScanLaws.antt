@@ -8,7 +8,7 @@ use mathlib.Core.List.{List, [], ◌∷◌, map, map-append}
 use lib.Dec.{leb}
 use borrow.Author.Tests.{leb-true, leb-false, le-leb, lt-leb}
 use Rattle.model.specs.rules.Types.{Dialect, Target, Outside, Passed, OfCell, Between, Tail, Ends, Step, To, Reject, FileTooLong, RecordTooLong}
-use Rattle.model.specs.rules.Base.{if◌then◌else◌, Bytes}
+use Rattle.model.specs.rules.Base.{choose◌then◌else◌, Bytes}
 use Rattle.model.specs.rules.File.{file_step, counts}
 use Rattle.model.specs.rules.Report.{MAXFILE, MAXRECORD}
 use Rattle.model.specs.rules.Records.{Rec, going, stopped, closing, complete, move, file_full, record_full, read_byte, read_from}
@@ -42,11 +42,11 @@ module _ (d : Dialect) (target : Option Target) (done : List Rec) where
   choose_reads :
       (s : Scan) (b : ℕ) (bs : Bytes) → Comes bs → (u v : Bool) (x : Step) →
       read_from d target
-      (if u then stopped FileTooLong (read_of d done s)
-      else if v then stopped RecordTooLong (read_of d done s) else move d target (read_of d done s) b x) bs
+      (choose u then stopped FileTooLong (read_of d done s)
+      else choose v then stopped RecordTooLong (read_of d done s) else move d target (read_of d done s) b x) bs
       ≡ resume d target done
-      (if u then fails FileTooLong s else if v then fails RecordTooLong s else scan_step s b bs (λ s'. scan d MAXFILE s' bs) x)
-  unfolding if◌then◌else◌
+      (choose u then fails FileTooLong s else choose v then fails RecordTooLong s else scan_step s b bs (λ s'. scan d MAXFILE s' bs) x)
+  unfolding choose◌then◌else◌
   choose_reads s b bs ih true v x = read_stopped d target FileTooLong (read_of d done s) bs
   choose_reads s b bs ih false true x = read_stopped d target RecordTooLong (read_of d done s) bs
   choose_reads s b bs ih false false x = step_reads s b bs ih x
@@ -91,10 +91,10 @@ module _ (d : Dialect) (n limit : ℕ) where
 
   choose_moved :
       (s : Scan) (b : ℕ) (bs : Bytes) → Shifts bs → (u v : Bool) (x : Step) →
-      (if u then fails FileTooLong (moved n s)
-      else if v then fails RecordTooLong (moved n s) else scan_step (moved n s) b bs (λ s'. scan d (n + limit) s' bs) x)
-      ≡ moved_to n (if u then fails FileTooLong s else if v then fails RecordTooLong s else scan_step s b bs (λ s'. scan d limit s' bs) x)
-  unfolding if◌then◌else◌
+      (choose u then fails FileTooLong (moved n s)
+      else choose v then fails RecordTooLong (moved n s) else scan_step (moved n s) b bs (λ s'. scan d (n + limit) s' bs) x)
+      ≡ moved_to n (choose u then fails FileTooLong s else choose v then fails RecordTooLong s else scan_step s b bs (λ s'. scan d limit s' bs) x)
+  unfolding choose◌then◌else◌
   choose_moved s b bs ih true v x = refl
   choose_moved s b bs ih false true x = refl
   choose_moved s b bs ih false false x = step_moved s b bs ih x

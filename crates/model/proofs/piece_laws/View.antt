@@ -12,7 +12,7 @@ use Rattle.model.specs.rules.Types.{Dialect, Csvj, Tdif, CsvPlus, EeToEf, Second
 use Rattle.model.specs.rules.Types.{Stop, Refuse}
 use Rattle.model.specs.rules.Types.{FileState, Top, Begin, Ended, Bom1, Bom2, PlainBom1, PlainBom2, Comment, Blanks, ExpectCell, Inside, After}
 use Rattle.model.specs.rules.Types.{Cr, Outside, Passed, OfCell, Between, Tail, Ends, Step, To, Reject, FileTooLong, RecordTooLong}
-use Rattle.model.specs.rules.Base.{if◌then◌else◌, ◌is◌, Bytes}
+use Rattle.model.specs.rules.Base.{choose◌then◌else◌, ◌is◌, Bytes}
 use Rattle.model.specs.rules.Cell.{cell_step}
 use Rattle.model.specs.rules.File.{after_cell, grow, in_cell, file_step, counts}
 use Rattle.model.specs.rules.Report.{MAXFILE, MAXRECORD}
@@ -77,22 +77,22 @@ module _ (d : Dialect) (limit : ℕ) (k : Buffered) (began : ℕ) where
   behind o l = ne_eqb (suc o) began (λ e. omega arith)
 
   place_behind : (kept o : ℕ) → began ≤ o → joined_place kept began (suc o) ≡ suc o
-  unfolding joined_place if◌then◌else◌
+  unfolding joined_place choose◌then◌else◌
   place_behind kept o l = rw (behind o l)
 
   raw_behind : (o : ℕ) → began ≤ o → joined_raw k began (suc o) [] ≡ []
-  unfolding joined_raw if◌then◌else◌
+  unfolding joined_raw choose◌then◌else◌
   raw_behind o l = rw (behind o l)
 
   raw_more : (o b : ℕ) (raw : Bytes) → joined_raw k began o raw ++ (b ∷ []) ≡ joined_raw k began o (raw ++ (b ∷ []))
-  unfolding joined_raw if◌then◌else◌
+  unfolding joined_raw choose◌then◌else◌
   raw_more o b raw = split_on (o is began) (λ h. rw h (append_assoc k.raw raw (b ∷ []))) λ h. rw h
 
   cell_joined :
       (s : Scan) →
       record { from = joined_place k.opened began s.opened; upto = s.offset; bytes = joined_raw k began s.opened s.raw }
       ≡ joined_cell k began (record { from = s.opened; upto = s.offset; bytes = s.raw })
-  unfolding joined_cell joined_raw joined_place if◌then◌else◌
+  unfolding joined_cell joined_raw joined_place choose◌then◌else◌
   cell_joined s = split_on (s.opened is began) (λ h. rw h) λ h. rw h
 
   closing_joined : (c : Bool) (s : Scan) → closing_raw c (joined k began s) ≡ joined_cells k began (closing_raw c s)
@@ -191,11 +191,11 @@ module _ (d : Dialect) (limit : ℕ) (k : Buffered) (began : ℕ) where
 
     choose_seen :
         (u v : Bool) (x : Step) → Seen x →
-        (if u then fails FileTooLong (joined k began s)
-        else if v then fails RecordTooLong (joined k began s) else scan_step (joined k began s) b bs (λ s'. scan d limit s' bs) x)
+        (choose u then fails FileTooLong (joined k began s)
+        else choose v then fails RecordTooLong (joined k began s) else scan_step (joined k began s) b bs (λ s'. scan d limit s' bs) x)
         ≡ joined_to k began
-        (if u then fails FileTooLong s else if v then fails RecordTooLong s else scan_step s b bs (λ s'. scan d limit s' bs) x)
-    unfolding if◌then◌else◌
+        (choose u then fails FileTooLong s else choose v then fails RecordTooLong s else scan_step s b bs (λ s'. scan d limit s' bs) x)
+    unfolding choose◌then◌else◌
     choose_seen true v x e = refl
     choose_seen false true x e = refl
     choose_seen false false x e = e
@@ -213,11 +213,11 @@ view d limit k began s bs h l = views d limit k began bs s h l
 -- ---- a part of a file
 
 place_buffered : (kept began : ℕ) → joined_place kept began began ≡ kept
-unfolding joined_place if◌then◌else◌
+unfolding joined_place choose◌then◌else◌
 place_buffered kept began = rw (same_byte began)
 
 raw_buffered : (k : Buffered) (began : ℕ) → joined_raw k began began [] ≡ k.raw
-unfolding joined_raw if◌then◌else◌
+unfolding joined_raw choose◌then◌else◌
 raw_buffered k began = rw (same_byte began) (append-nil k.raw)
 
 position_joined : (n : ℕ) (k : Buffered) (f : FileState) (size began : ℕ) → joined k (n + began) (moved n (fresh f size began)) ≡ standing n k f size began

@@ -6,7 +6,7 @@ use mathlib.Core.Bool.{Bool, true, false, ◌&&◌, ◌||◌}
 use mathlib.Core.List.{[], ◌∷◌}
 use Rattle.model.specs.rules.Types.{Kind, Text, Number, True, False, Null, Settings, Dialect, Csvj, Tdif, CsvPlus, Cell, Fresh, CellStep, More}
 use Rattle.model.specs.rules.Types.{CellCheck, WholeCell, Unsound}
-use Rattle.model.specs.rules.Base.{Bytes, QUOTE, ◌is◌, holds, if◌then◌else◌, is_empty}
+use Rattle.model.specs.rules.Base.{Bytes, QUOTE, ◌is◌, holds, choose◌then◌else◌, is_empty}
 use Rattle.model.specs.rules.Dialect.{quote_of}
 use Rattle.model.specs.rules.Utf8.{holds_lone, is_content}
 use Rattle.model.specs.rules.Cell.{is_digit, first_byte, cell_step, is_whole}
@@ -69,7 +69,7 @@ or_right false y e = e
 
 module _ (b : ℕ) (bs : Bytes) (c : Cell) (k : kind_of Csvj (b ∷ bs) ≡ Number) where
   no_text : (b is QUOTE) ≡ false
-  unfolding kind_of if◌then◌else◌
+  unfolding kind_of choose◌then◌else◌
   no_text = go (b is QUOTE) refl
     where
       go : (t : Bool) → (b is QUOTE) ≡ t → t ≡ false
@@ -86,12 +86,12 @@ module _ (b : ℕ) (bs : Bytes) (c : Cell) (k : kind_of Csvj (b ∷ bs) ≡ Numb
       split Digit (b is 0x2D) (λ p _. rw p) λ p.
       split Digit (b is 0x30) (λ z _. rw (is→eq b 0x30 z)) λ z.
       split Digit (is_digit b) (λ w _. or_right (b is 0x2D) (is_digit b) w) λ w.
-      split Digit (b is 0x74) (λ t _. unfold if◌then◌else◌ in no_kind True refl (rw (q, t) at k)) λ t.
-      split Digit (b is 0x66) (λ f _. unfold if◌then◌else◌ in no_kind False refl (rw (q, t, f) at k)) λ f.
-      split Digit (b is 0x6E) (λ n _. unfold if◌then◌else◌ in no_kind Null refl (rw (q, t, f, n) at k)) λ n y. no_more y
+      split Digit (b is 0x74) (λ t _. unfold choose◌then◌else◌ in no_kind True refl (rw (q, t) at k)) λ t.
+      split Digit (b is 0x66) (λ f _. unfold choose◌then◌else◌ in no_kind False refl (rw (q, t, f) at k)) λ f.
+      split Digit (b is 0x6E) (λ n _. unfold choose◌then◌else◌ in no_kind Null refl (rw (q, t, f, n) at k)) λ n y. no_more y
 
 pub number_content : (bs : Bytes) → kind_of Csvj bs ≡ Number → validate_cell Csvj bs ≡ WholeCell → content_of Csvj bs ≡ bs
-unfolding content_of validate_cell if◌then◌else◌
+unfolding content_of validate_cell choose◌then◌else◌
 number_content [] k j = refl
 number_content (b ∷ bs) k j = let w = sound_runs Csvj Fresh 0 (b ∷ bs) j in go w.runs
   where
@@ -104,7 +104,7 @@ abbrev pub cell_value : (from upto : ℕ) → Kind → Bytes → Value
 cell_value f u k bs = record { from = f; upto = u; kind = k; content = bs }
 
 json_cell_lem : (only first : Bool) (f u : ℕ) {k : Kind} {bs : Bytes} → Valid k bs → Back Csvj (cell_text Csvj only first (cell_value f u k bs)) (cell_value f u k bs)
-unfolding cell_text json_cell kind_of content_of validate_cell validate_from cell_step first_byte is_whole if◌then◌else◌
+unfolding cell_text json_cell kind_of content_of validate_cell validate_from cell_step first_byte is_whole choose◌then◌else◌
 json_cell_lem only first f u (v_text {bs} e) = record { sound = json_sound bs e; kind = refl; content = json_content bs e }
 json_cell_lem only first f u (v_number {bs} e j) = record { sound = j; kind = e; content = number_content bs e j }
 json_cell_lem only first f u v_true = record { sound = refl; kind = refl; content = refl }
@@ -119,7 +119,7 @@ quoted_back {d} f u bs k e n = record { sound = quoted_sound d k bs (content_tex
 tdif_cell :
     (only first : Bool) (f u : ℕ) {k : Kind} {bs : Bytes} → Valid k bs → has_kind Tdif k ≡ true →
     loses_surrogate Tdif (cell_value f u k bs) ≡ false → Back Tdif (cell_text Tdif only first (cell_value f u k bs)) (cell_value f u k bs)
-unfolding cell_text kind_of content_of validate_cell validate_from cell_step first_byte is_whole if◌then◌else◌
+unfolding cell_text kind_of content_of validate_cell validate_from cell_step first_byte is_whole choose◌then◌else◌
 tdif_cell only first f u (v_text {bs} e) c n = quoted_back f u bs d_tdif e n
 tdif_cell only first f u (v_number e j) c n = impossible c
 tdif_cell only first f u v_true c n = impossible c

@@ -13,7 +13,7 @@ use Rattle.model.specs.rules.Types.{Settings, Dialect, Csvj, Tdif, CsvPlus, Targ
 use Rattle.model.specs.rules.Types.{More, Refuse, Syntax}
 use Rattle.model.specs.rules.Types.{FileState, Top, Begin, Ended, Bom1, Bom2, PlainBom1, PlainBom2, Comment, Blanks, ExpectCell, Inside, After}
 use Rattle.model.specs.rules.Types.{Cr, OfCell, To}
-use Rattle.model.specs.rules.Base.{Bytes, LF, CR, ◌is◌, if◌then◌else◌}
+use Rattle.model.specs.rules.Base.{Bytes, LF, CR, ◌is◌, choose◌then◌else◌}
 use Rattle.model.specs.rules.Cell.{first_byte, cell_step}
 use Rattle.model.specs.rules.File.{in_cell, begin_record, begin_file, file_step}
 use Rattle.model.specs.rules.Text.{Value, begins_bom}
@@ -76,7 +76,7 @@ unfolding in_cell
 grows d c b c' e = rw e
 
 begins : (d : Dialect) (b : ℕ) (c : Cell) → cell_step d Fresh b ≡ More c → begin_record d b ≡ To (Inside c) OfCell
-unfolding begin_record if◌then◌else◌
+unfolding begin_record choose◌then◌else◌
 begins Csvj b c e =
     unfold cell_step first_byte in rw (not_this Csvj 0x20 b refl e, not_this Csvj 0x09 b refl e, not_this Csvj LF b refl e, not_this Csvj CR b refl e)
     (grows Csvj Fresh b c e)
@@ -97,7 +97,7 @@ same_cell p q = cc
 
 module _ (s : Settings) (b : ℕ) (bs : Bytes) (c : Cell) where
   top_plus : cell_step (CsvPlus s) Fresh b ≡ More c → begins_bom (b ∷ bs) ≡ false → Next (CsvPlus s) Top b c bs
-  unfolding file_step begin_file if◌then◌else◌
+  unfolding file_step begin_file choose◌then◌else◌
   top_plus e n = go (b is 0xEF) refl
     where
       go : (t : Bool) → (b is 0xEF) ≡ t → Next (CsvPlus s) Top b c bs
@@ -108,7 +108,7 @@ module _ (s : Settings) (b : ℕ) (bs : Bytes) (c : Cell) where
           record { state = PlainBom1; step = rw h; like = rw (← p) like_bom1; clear = first_marks b bs h n }
 
   mark1_plus : cell_step (CsvPlus s) (Plain (Within (Second EeToEf))) b ≡ More c → marks2 (b ∷ bs) ≡ false → Next (CsvPlus s) PlainBom1 b c bs
-  unfolding file_step if◌then◌else◌
+  unfolding file_step choose◌then◌else◌
   mark1_plus e n = go (b is 0xBB) refl
     where
       go : (t : Bool) → (b is 0xBB) ≡ t → Next (CsvPlus s) PlainBom1 b c bs
@@ -119,13 +119,13 @@ module _ (s : Settings) (b : ℕ) (bs : Bytes) (c : Cell) where
           record { state = PlainBom2; step = rw h; like = rw (← p) like_bom2; clear = second_marks b bs h n }
 
   mark2_plus : cell_step (CsvPlus s) (Plain (Within Last)) b ≡ More c → marks3 (b ∷ bs) ≡ false → Next (CsvPlus s) PlainBom2 b c bs
-  unfolding file_step if◌then◌else◌
+  unfolding file_step choose◌then◌else◌
   mark2_plus e n = record { state = Inside c; step = rw n (grows (CsvPlus s) (Plain (Within Last)) b c e); like = like_in; clear = tt }
 
 like_step :
     {d : Dialect} {f : FileState} {c : Cell} (b : ℕ) (c' : Cell) (bs : Bytes) → Like d f c → cell_step d c b ≡ More c' → NoBom f (b ∷ bs) →
     Next d f b c' bs
-unfolding file_step begin_file if◌then◌else◌
+unfolding file_step begin_file choose◌then◌else◌
 like_step {d} b c' bs (like_in {c}) e n = record { state = Inside c'; step = grows d c b c' e; like = like_in; clear = tt }
 like_step {d} b c' bs like_begin e n = record { state = Inside c'; step = begins d b c' e; like = like_in; clear = tt }
 like_step b c' bs (like_top {d = Csvj}) e n =
@@ -166,7 +166,7 @@ module _ (d : Dialect) (T : Option Target) (ds : List Rec) (s p : ℕ) (vs : Lis
   byte_read :
       (f f' : FileState) (b o z : ℕ) (raw : Bytes) → file_step d f b ≡ To f' OfCell → o < MAXFILE → z < MAXRECORD →
       read_byte d T (reading ds f o s z p raw vs) b ≡ going (reading ds f' (suc o) s (suc z) p (raw ++ (b ∷ [])) vs)
-  unfolding read_byte move if◌then◌else◌
+  unfolding read_byte move choose◌then◌else◌
   byte_read f f' b o z raw e h k = rw (file_free (reading ds f o s z p raw vs) h, record_free (reading ds f o s z p raw vs) b k, e)
 
   -- the reading state after these bytes of a cell

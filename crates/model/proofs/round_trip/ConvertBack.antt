@@ -10,7 +10,7 @@ use lib.Dec.{ltb, eqb}
 use lib.ListN.{length, length-append}
 use borrow.Author.Tests.{eqb-true}
 use Rattle.model.specs.rules.Types.{Dialect, Fault, TooManyColumns, CellCount, RepeatedName, Clash, Top, Sound, Faulty}
-use Rattle.model.specs.rules.Base.{Bytes, concat, if◌then◌else◌}
+use Rattle.model.specs.rules.Base.{Bytes, concat, choose◌then◌else◌}
 use Rattle.model.specs.rules.Dialect.{dialect_of, into}
 use Rattle.model.specs.rules.Text.{Value, record_text, data_text, table_text, ending}
 use Rattle.model.specs.rules.Report.{refusal, MAXCOLUMNS}
@@ -39,7 +39,7 @@ use Rattle.model.proofs.round_trip.RoundTrip.{accepts, no_refusal, fault_number,
 repeat_alike :
     (t : Dialect) (f g : ℕ → Fault) (seen : List Bytes) (n : ℕ) (vs : List Value) → repeat_from t f seen n vs ≡ Sound →
     repeat_from t g seen n vs ≡ Sound
-unfolding repeat_from if◌then◌else◌
+unfolding repeat_from choose◌then◌else◌
 repeat_alike t f g seen n [] e = refl
 repeat_alike t f g seen n (v ∷ vs) e = go (among (name_key t v.content) seen) refl (repeat_alike t f g (name_key t v.content ∷ seen) (suc n) vs)
   where
@@ -226,7 +226,7 @@ rows_count (x ∷ ds) [] s = elim s [ ]
 answered_alike :
     (ds es : List Rec) (room : ℕ) → SameRows (rows ds) (rows es) →
     SameAnswer (answered ds (concat (rows ds)) room) (answered es (concat (rows es)) room)
-unfolding rows if◌then◌else◌
+unfolding rows choose◌then◌else◌
 answered_alike [] [] room s = record { report = refl; columns = refl; records = refl; cells = refl }
 answered_alike (x ∷ ds) (y ∷ es) room (and_row c s) =
     let all : SameRows (x.cells ∷ rows ds) (y.cells ∷ rows es) = and_row c s in

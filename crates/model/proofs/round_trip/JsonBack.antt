@@ -9,7 +9,7 @@ use mathlib.Core.List.{List, [], ◌∷◌, ◌++◌, append-nil, append_assoc}
 use lib.Dec.{leb}
 use borrow.Author.Tests.{leb-true, leb-false, le-leb, lt-leb}
 use Rattle.model.specs.rules.Types.{Second, LastTwo, Last, Within, Inner, C2ToDf, E0, E1ToEc, Ed, EeToEf, F0, F1ToF3, F4, Broken}
-use Rattle.model.specs.rules.Base.{Bytes, if◌then◌else◌, ◌is◌, QUOTE, within}
+use Rattle.model.specs.rules.Base.{Bytes, choose◌then◌else◌, ◌is◌, QUOTE, within}
 use Rattle.model.specs.rules.Utf8.{pack, is_high, is_low, is_surrogate, char_step, inner_step, row_of, Wide, gap, ed, lone, inner, wide_step, wide_from}
 use Rattle.model.specs.rules.Decode.{Unit16, byte, unit, units, between, text_of, hex_of}
 use Rattle.model.specs.rules.Text.{escaped, hex_digit, surrogate, json_body}
@@ -17,7 +17,7 @@ use Rattle.model.proofs.Tests.{split, split_on, impossible, and_true, is→eq}
 
 -- a code unit that is no high surrogate is decoded alone
 unit_alone : (h : ℕ) (us : List Unit16) → is_high h ≡ false → text_of (unit h ∷ us) ≡ pack h ++ text_of us
-unfolding text_of if◌then◌else◌
+unfolding text_of choose◌then◌else◌
 unit_alone h [] e = sym (append-nil (pack h))
 unit_alone h (byte b ∷ us) e = refl
 unit_alone h (unit l ∷ us) e = rw (e, text_of)
@@ -26,11 +26,11 @@ small_low : (a : ℕ) → a < 0x20 → is_high a ≡ false
 small_low a h = rw (lt-leb 0xD800 a (omega arith))
 
 small_pack : (a : ℕ) → a < 0x20 → pack a ≡ a ∷ []
-unfolding pack if◌then◌else◌
+unfolding pack choose◌then◌else◌
 small_pack a h = rw (le-leb a 0x7F (omega arith), pack)
 
 hex_back : (n : ℕ) → n < 16 → hex_of (hex_digit n) ≡ n
-unfolding if◌then◌else◌
+unfolding choose◌then◌else◌
 hex_back n h = go (leb n 9) refl
   where
     go : (t : Bool) → leb n 9 ≡ t → hex_of (hex_digit n) ≡ n
@@ -42,7 +42,7 @@ coded :
     (a : ℕ) (rest : Bytes) → a < 0x20 →
     text_of (units between (0x5C ∷ 0x75 ∷ 0x30 ∷ 0x30 ∷ hex_digit (a / 0x10) ∷ hex_digit (a % 0x10) ∷ rest))
     ≡ a ∷ text_of (units between rest)
-unfolding units if◌then◌else◌
+unfolding units choose◌then◌else◌
 coded a rest h =
     rw (hex_back (a / 0x10) (omega arith), hex_back (a % 0x10) (omega arith))
     (alone ((0 + a / 0x10) * 0x10 + a % 0x10) (omega arith))
@@ -54,14 +54,14 @@ pub escape_back : (a : ℕ) (rest : Bytes) → text_of (units between (escaped a
 unfolding units text_of
 escape_back a rest =
     let P : Bytes → Type 0 = λ l. text_of (units between (l ++ rest)) ≡ a ∷ text_of (units between rest) in
-    split P _ (λ e. unfold if◌then◌else◌ in rw (is→eq a _ e)) λ q.
-    split P _ (λ e. unfold if◌then◌else◌ in rw (is→eq a _ e)) λ s.
-    split P _ (λ e. unfold if◌then◌else◌ in rw (q, s)) λ l.
-    split P _ (λ e. unfold if◌then◌else◌ in rw (is→eq a _ e)) λ _.
-    split P _ (λ e. unfold if◌then◌else◌ in rw (is→eq a _ e)) λ _.
-    split P _ (λ e. unfold if◌then◌else◌ in rw (is→eq a _ e)) λ _.
-    split P _ (λ e. unfold if◌then◌else◌ in rw (is→eq a _ e)) λ _.
-    split P _ (λ e. unfold if◌then◌else◌ in rw (is→eq a _ e)) λ _.
+    split P _ (λ e. unfold choose◌then◌else◌ in rw (is→eq a _ e)) λ q.
+    split P _ (λ e. unfold choose◌then◌else◌ in rw (is→eq a _ e)) λ s.
+    split P _ (λ e. unfold choose◌then◌else◌ in rw (q, s)) λ l.
+    split P _ (λ e. unfold choose◌then◌else◌ in rw (is→eq a _ e)) λ _.
+    split P _ (λ e. unfold choose◌then◌else◌ in rw (is→eq a _ e)) λ _.
+    split P _ (λ e. unfold choose◌then◌else◌ in rw (is→eq a _ e)) λ _.
+    split P _ (λ e. unfold choose◌then◌else◌ in rw (is→eq a _ e)) λ _.
+    split P _ (λ e. unfold choose◌then◌else◌ in rw (is→eq a _ e)) λ _.
     coded a rest (leb-false 0x20 a l)
 
 -- ---- a lone surrogate
@@ -72,7 +72,7 @@ unit_of b c = 0xD000 + (b - 0x80) * 0x40 + (c - 0x80)
 
 module _ (b c : ℕ) (hb : 0xA0 ≤ b) (hb' : b ≤ 0xBF) (hc : 0x80 ≤ c) (hc' : c ≤ 0xBF) where
   pack_surrogate : pack (unit_of b c) ≡ 0xED ∷ b ∷ c ∷ []
-  unfolding pack if◌then◌else◌
+  unfolding pack choose◌then◌else◌
   pack_surrogate =
       rw (lt-leb (unit_of b c) 0x7F (omega arith), lt-leb (unit_of b c) 0x7FF (omega arith), le-leb (unit_of b c) 0xFFFF (omega arith), pack)
       (three (omega arith) (omega arith) (omega arith))
@@ -81,7 +81,7 @@ module _ (b c : ℕ) (hb : 0xA0 ≤ b) (hb' : b ≤ 0xBF) (hc : 0x80 ≤ c) (hc'
       three p q r = cc
 
   digits_surrogate : (rest : Bytes) → units between (surrogate b c ++ rest) ≡ unit (unit_of b c) ∷ units between rest
-  unfolding units if◌then◌else◌
+  unfolding units choose◌then◌else◌
   digits_surrogate rest =
       rw (
         hex_back ((b - 0x80) % 0x40 / 4) (omega arith),
@@ -112,7 +112,7 @@ ahead : {w : Wide} {bs : Bytes} → Onward bs (some w) → wide_from w bs ≡ tr
 ahead (onward e) = e
 
 lone_end : (h : Bool) (c : ℕ) (bs : Bytes) → wide_from (lone h) (c ∷ bs) ≡ true → (0x80 ≤ c) × (c ≤ 0xBF) × (wide_from (gap h) bs ≡ true)
-unfolding wide_step if◌then◌else◌
+unfolding wide_step choose◌then◌else◌
 lone_end h c bs e =
     let o : Onward bs (wide_step (lone h) c) = step_on (lone h) c bs e in
     split_on (leb 0x80 c)
@@ -126,10 +126,10 @@ pub data Lone (h : Bool) (b c : ℕ) (bs : Bytes) : Type 0 where
   low : h ≡ false → 0xB0 ≤ b → b ≤ 0xBF → 0x80 ≤ c → c ≤ 0xBF → wide_from (gap false) bs ≡ true → Lone h b c bs
 
 lone_after : (h : Bool) (b c : ℕ) (bs : Bytes) → 0xA0 ≤ b → wide_from (ed h) (b ∷ c ∷ bs) ≡ true → Lone h b c bs
-unfolding wide_step if◌then◌else◌
+unfolding wide_step choose◌then◌else◌
 lone_after h b c bs k e =
     let o : Onward (c ∷ bs) (wide_step (ed h) b) = step_on (ed h) b (c ∷ bs) e in
-    let o₁ : Onward (c ∷ bs) (if within 0xA0 0xAF b then some (lone true) else if within 0xB0 0xBF b then (if h then none else some (lone false)) else none)
+    let o₁ : Onward (c ∷ bs) (choose within 0xA0 0xAF b then some (lone true) else choose within 0xB0 0xBF b then (choose h then none else some (lone false)) else none)
     = rw (le-leb 0x80 b (omega arith), lt-leb b 0x9F (omega arith)) at o in
     split_on (leb b 0xAF)
     (λ p. let r = lone_end true c bs (ahead (rw (le-leb 0xA0 b k, p) at o₁)) in high k (leb-true b 0xAF p) r.0 r.1 r.2)
@@ -139,13 +139,13 @@ lone_after h b c bs k e =
     (λ q. last h m (leb-true b 0xBF q) (rw (le-leb 0xA0 b k, p, le-leb 0xB0 b (omega arith), q) at o₁))
     (λ q. nothing_ahead (rw (le-leb 0xA0 b k, p, le-leb 0xB0 b (omega arith), q) at o₁)))
   where
-    last : (h : Bool) → 0xAF < b → b ≤ 0xBF → Onward (c ∷ bs) (if h then none else some (lone false)) → Lone h b c bs
+    last : (h : Bool) → 0xAF < b → b ≤ 0xBF → Onward (c ∷ bs) (choose h then none else some (lone false)) → Lone h b c bs
     last true m n o = nothing_ahead o
     last false m n o = let r = lone_end false c bs (ahead o) in low refl (omega arith) n r.0 r.1 r.2
 
 -- ED is in no character but as its first byte
 pub inner_ed : (i : Inner) → char_step (Within i) 0xED ≡ Broken
-unfolding char_step inner_step row_of if◌then◌else◌
+unfolding char_step inner_step row_of choose◌then◌else◌
 inner_ed (Second C2ToDf) = refl
 inner_ed (Second E0) = refl
 inner_ed (Second E1ToEc) = refl
@@ -163,7 +163,7 @@ inner_ed_none i = rw (inner_ed i)
 
 -- ED begins a character, and with a byte from A0 a lone surrogate
 pub at_ed : (w : Wide) (b c : ℕ) (bs : Bytes) → 0xA0 ≤ b → wide_from w (0xED ∷ b ∷ c ∷ bs) ≡ true → (h : Bool) × (w ≡ gap h) × Lone h b c bs
-unfolding wide_step if◌then◌else◌
+unfolding wide_step choose◌then◌else◌
 at_ed (gap h) b c bs k e = (h, refl, lone_after h b c bs k (ahead (step_on (gap h) 0xED (b ∷ c ∷ bs) e)))
 at_ed (ed h) b c bs k e = nothing_ahead (step_on (ed h) 0xED (b ∷ c ∷ bs) e)
 at_ed (lone h) b c bs k e = nothing_ahead (step_on (lone h) 0xED (b ∷ c ∷ bs) e)
@@ -176,13 +176,13 @@ NotLow (byte b ∷ us) = Unit {0}
 NotLow (unit l ∷ us) = is_low l ≡ false
 
 high_alone : (u : ℕ) (us : List Unit16) → NotLow us → text_of (unit u ∷ us) ≡ pack u ++ text_of us
-unfolding text_of if◌then◌else◌
+unfolding text_of choose◌then◌else◌
 high_alone u [] n = sym (append-nil (pack u))
 high_alone u (byte b ∷ us) n = refl
 high_alone u (unit l ∷ us) n = split_on (is_high u) (λ e. rw (e, n, text_of)) (λ e. rw (e, text_of))
 
 coded_not_low : (a : ℕ) (xs : Bytes) → a < 0x20 → NotLow (units between (0x5C ∷ 0x75 ∷ 0x30 ∷ 0x30 ∷ hex_digit (a / 0x10) ∷ hex_digit (a % 0x10) ∷ xs))
-unfolding units if◌then◌else◌
+unfolding units choose◌then◌else◌
 coded_not_low a xs h =
     rw (hex_back (a / 0x10) (omega arith), hex_back (a % 0x10) (omega arith)) (rw (lt-leb 0xDC00 ((0 + a / 0x10) * 0x10 + a % 0x10) (omega arith)))
 
@@ -190,14 +190,14 @@ escaped_not_low : (a : ℕ) (xs : Bytes) → NotLow (units between (escaped a ++
 unfolding units
 escaped_not_low a xs =
     let P : Bytes → Type 0 = λ l. NotLow (units between (l ++ xs)) in
-    split P _ (λ e. unfold if◌then◌else◌ in tt) λ q.
-    split P _ (λ e. unfold if◌then◌else◌ in tt) λ s.
-    split P _ (λ e. unfold if◌then◌else◌ in rw (q, s) tt) λ l.
-    split P _ (λ e. unfold if◌then◌else◌ in tt) λ _.
-    split P _ (λ e. unfold if◌then◌else◌ in tt) λ _.
-    split P _ (λ e. unfold if◌then◌else◌ in tt) λ _.
-    split P _ (λ e. unfold if◌then◌else◌ in tt) λ _.
-    split P _ (λ e. unfold if◌then◌else◌ in tt) λ _.
+    split P _ (λ e. unfold choose◌then◌else◌ in tt) λ q.
+    split P _ (λ e. unfold choose◌then◌else◌ in tt) λ s.
+    split P _ (λ e. unfold choose◌then◌else◌ in rw (q, s) tt) λ l.
+    split P _ (λ e. unfold choose◌then◌else◌ in tt) λ _.
+    split P _ (λ e. unfold choose◌then◌else◌ in tt) λ _.
+    split P _ (λ e. unfold choose◌then◌else◌ in tt) λ _.
+    split P _ (λ e. unfold choose◌then◌else◌ in tt) λ _.
+    split P _ (λ e. unfold choose◌then◌else◌ in tt) λ _.
     coded_not_low a xs (leb-false 0x20 a l)
 
 abbrev close : Bytes
@@ -221,7 +221,7 @@ low_not_high b c p = rw (le-leb 0xD800 (unit_of b c) (omega arith), lt-leb (unit
 -- the first character of a content after a high surrogate is no low one
 body_not_low : (bs : Bytes) → wide_from (gap true) bs ≡ true → NotLow (units between (json_body bs ++ close))
 unfolding json_body
-body_not_low [] e = unfold units if◌then◌else◌ in tt
+body_not_low [] e = unfold units choose◌then◌else◌ in tt
 body_not_low (a ∷ []) e = escaped_not_low a close
 body_not_low (a ∷ b ∷ []) e = rw append_assoc (escaped_not_low a (escaped b ++ close))
 body_not_low (a ∷ b ∷ c ∷ bs) e =
@@ -235,7 +235,7 @@ body_not_low (a ∷ b ∷ c ∷ bs) e =
     first h p (low f x y z v k) = let q : true ≡ false = cc in impossible (sym q)
 
 close_back : text_of (units between close) ≡ []
-unfolding units text_of if◌then◌else◌
+unfolding units text_of choose◌then◌else◌
 close_back = refl
 
 -- what was written is read back

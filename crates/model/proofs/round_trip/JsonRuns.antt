@@ -10,7 +10,7 @@ use lib.Dec.{leb}
 use borrow.Author.Tests.{leb-true, leb-false, le-leb, lt-leb, ne_eqb, le-ltb}
 use Rattle.model.specs.rules.Types.{Csvj, Dialect, Inner, Char, Whole, Within, Advance, On, HexLeft, Four, Three, Two, One, Text, Cell, Fresh}
 use Rattle.model.specs.rules.Types.{Quoted, Escape, Hex, Complete, More, WholeCell}
-use Rattle.model.specs.rules.Base.{Bytes, QUOTE, ◌is◌, if◌then◌else◌}
+use Rattle.model.specs.rules.Base.{Bytes, QUOTE, ◌is◌, choose◌then◌else◌}
 use Rattle.model.specs.rules.Utf8.{char_step, is_surrogate, Wide, gap, ed, lone, inner, wide_step, wide_from, is_content}
 use Rattle.model.specs.rules.Cell.{first_byte, quoted_byte, cell_step, is_whole}
 use Rattle.model.specs.rules.Decode.{validate_cell, content_of}
@@ -29,7 +29,7 @@ runs_append (there e q) r = there e (runs_append q r)
 
 -- a hexadecimal digit
 hex_step : (m : HexLeft) (n : ℕ) → n < 16 → cell_step Csvj (Hex m) (hex_digit n) ≡ cell_step Csvj (Hex m) 0x30
-unfolding cell_step if◌then◌else◌
+unfolding cell_step choose◌then◌else◌
 hex_step m n h = go (leb n 9) refl
   where
     go : (t : Bool) → leb n 9 ≡ t → cell_step Csvj (Hex m) (hex_digit n) ≡ cell_step Csvj (Hex m) 0x30
@@ -50,7 +50,7 @@ hex_step m n h = go (leb n 9) refl
 coded :
     (a b c d : ℕ) → a < 16 → b < 16 → c < 16 → d < 16 →
     Runs Csvj (Quoted Whole) (0x5C ∷ 0x75 ∷ hex_digit a ∷ hex_digit b ∷ hex_digit c ∷ hex_digit d ∷ []) (Quoted Whole)
-unfolding cell_step quoted_byte if◌then◌else◌
+unfolding cell_step quoted_byte choose◌then◌else◌
 coded a b c d i j k l =
     there {c' = Escape} refl
     (there {c' = Hex Four} refl
@@ -60,14 +60,14 @@ coded a b c d i j k l =
 
 -- a backslash and a letter
 short : (b : ℕ) → cell_step Csvj Escape b ≡ More (Quoted Whole) → Runs Csvj (Quoted Whole) (0x5C ∷ b ∷ []) (Quoted Whole)
-unfolding cell_step quoted_byte if◌then◌else◌
+unfolding cell_step quoted_byte choose◌then◌else◌
 short b e = there {c' = Escape} refl (there {c' = Quoted Whole} e here)
 
 -- a byte written as it is
 raw_byte :
     (a : ℕ) (c : Char) → (a is QUOTE) ≡ false → (a is 0x5C) ≡ false → leb 0x20 a ≡ true → char_step Whole a ≡ On c →
     Runs Csvj (Quoted Whole) (a ∷ []) (Quoted c)
-unfolding cell_step quoted_byte if◌then◌else◌
+unfolding cell_step quoted_byte choose◌then◌else◌
 raw_byte a c q s l e =
     let k : 0x20 ≤ a = leb-true 0x20 a l in
     let x : cell_step Csvj (Quoted Whole) a ≡ More (Quoted c) = rw (q, s, le-ltb a 0x20 k, e) in there x here
@@ -78,25 +78,25 @@ same_char p q = cc
 escaped_runs : (a : ℕ) (c : Char) → char_step Whole a ≡ On c → Runs Csvj (Quoted Whole) (escaped a) (Quoted c)
 escaped_runs a c e =
     let P : Bytes → Type 0 = λ l. Runs Csvj (Quoted Whole) l (Quoted c) in
-    split P _ (λ k. let p : Whole ≡ c = ascii 0x22 (is→eq a _ k) (omega arith) in rw (← p) (short 0x22 (unfold cell_step if◌then◌else◌ in refl))) λ q.
-    split P _ (λ k. let p : Whole ≡ c = ascii 0x5C (is→eq a _ k) (omega arith) in rw (← p) (short 0x5C (unfold cell_step if◌then◌else◌ in refl))) λ s.
+    split P _ (λ k. let p : Whole ≡ c = ascii 0x22 (is→eq a _ k) (omega arith) in rw (← p) (short 0x22 (unfold cell_step choose◌then◌else◌ in refl))) λ q.
+    split P _ (λ k. let p : Whole ≡ c = ascii 0x5C (is→eq a _ k) (omega arith) in rw (← p) (short 0x5C (unfold cell_step choose◌then◌else◌ in refl))) λ s.
     split P _ (λ k. raw_byte a c q s k e) λ l.
     let m : a < 0x20 = leb-false 0x20 a l in
     let p : Whole ≡ c = same_char (ascii_whole a (omega arith)) e in
     rw (← p)
     (let Q : Bytes → Type 0 = λ l. Runs Csvj (Quoted Whole) l (Quoted Whole) in
-    split Q _ (λ _. short 0x62 (unfold cell_step if◌then◌else◌ in refl)) λ _.
-    split Q _ (λ _. short 0x74 (unfold cell_step if◌then◌else◌ in refl)) λ _.
-    split Q _ (λ _. short 0x6E (unfold cell_step if◌then◌else◌ in refl)) λ _.
-    split Q _ (λ _. short 0x66 (unfold cell_step if◌then◌else◌ in refl)) λ _.
-    split Q _ (λ _. short 0x72 (unfold cell_step if◌then◌else◌ in refl)) λ _.
-    unfold if◌then◌else◌ in coded 0 0 (a / 0x10) (a % 0x10) (omega arith) (omega arith) (omega arith) (omega arith))
+    split Q _ (λ _. short 0x62 (unfold cell_step choose◌then◌else◌ in refl)) λ _.
+    split Q _ (λ _. short 0x74 (unfold cell_step choose◌then◌else◌ in refl)) λ _.
+    split Q _ (λ _. short 0x6E (unfold cell_step choose◌then◌else◌ in refl)) λ _.
+    split Q _ (λ _. short 0x66 (unfold cell_step choose◌then◌else◌ in refl)) λ _.
+    split Q _ (λ _. short 0x72 (unfold cell_step choose◌then◌else◌ in refl)) λ _.
+    unfold choose◌then◌else◌ in coded 0 0 (a / 0x10) (a % 0x10) (omega arith) (omega arith) (omega arith) (omega arith))
   where
     ascii : (x : ℕ) → a ≡ x → x < 0x80 → Whole ≡ c
     ascii x p h = same_char (ascii_whole a (omega arith)) e
 
 raw_escaped : (a : ℕ) → 0x80 ≤ a → escaped a ≡ a ∷ []
-unfolding if◌then◌else◌
+unfolding choose◌then◌else◌
 raw_escaped a h = rw (ne_eqb a QUOTE (omega arith), ne_eqb a 0x5C (omega arith), le-leb 0x20 a (omega arith))
 
 later_runs : (i : Inner) (a : ℕ) (c : Char) → char_step (Within i) a ≡ On c → Runs Csvj (Quoted (Within i)) (escaped a) (Quoted c)
@@ -112,7 +112,7 @@ byte_runs (Within i) a c e = later_runs i a c e
 -- ---- a lone surrogate
 
 surrogate_runs : (b c : ℕ) → 0xA0 ≤ b → b ≤ 0xBF → 0x80 ≤ c → c ≤ 0xBF → Runs Csvj (Quoted Whole) (surrogate b c) (Quoted Whole)
-unfolding if◌then◌else◌
+unfolding choose◌then◌else◌
 surrogate_runs b c p q r t =
     coded 0xD ((b - 0x80) % 0x40 / 4) ((b - 0x80) % 0x40 % 4 * 4 + (c - 0x80) / 0x10) (c % 0x10) (omega arith) (omega arith) (omega arith) (omega arith)
 
@@ -122,7 +122,7 @@ abbrev close : Bytes
 close = QUOTE ∷ []
 
 close_runs : Runs Csvj (Quoted Whole) close Complete
-unfolding cell_step quoted_byte if◌then◌else◌
+unfolding cell_step quoted_byte choose◌then◌else◌
 close_runs = there refl here
 
 end_whole : (w : Wide) → wide_from w [] ≡ true → char_of w ≡ Whole
@@ -147,11 +147,11 @@ byte_writes :
 byte_writes w a bs (steps w' e h k) n ih = runs_append (byte_runs (char_of w) a (char_of w') e) (ih w' h (k n))
 
 ed_end : {A : Type 0} (h : Bool) (y : ℕ) → 0xA0 ≤ y → wide_from (ed h) (y ∷ []) ≡ true → A
-unfolding wide_from wide_step if◌then◌else◌
+unfolding wide_from wide_step choose◌then◌else◌
 ed_end h y k e = go (leb y 0xAF) (leb y 0xBF) h refl refl (rw (le-leb 0x80 y (omega arith), lt-leb y 0x9F (omega arith), le-leb 0xA0 y k, wide_from) at e)
   where
     B : Bool → Bool → Bool → Option Wide
-    B s t h = if s then some (lone true) else (if (leb 0xB0 y && t) then (if h then none else some (lone false)) else none)
+    B s t h = choose s then some (lone true) else (choose (leb 0xB0 y && t) then (choose h then none else some (lone false)) else none)
 
     go :
         {A : Type 0} (s t h : Bool) → leb y 0xAF ≡ s → leb y 0xBF ≡ t →
@@ -162,7 +162,7 @@ ed_end h y k e = go (leb y 0xAF) (leb y 0xBF) h refl refl (rw (le-leb 0x80 y (om
     go false false h p q x = let m : 0xAF < y = leb-false y 0xAF p in impossible (rw (p, le-leb 0xB0 y (omega arith), q) at x)
 
 ed_last : {A : Type 0} (w : Wide) (y : ℕ) → 0xA0 ≤ y → wide_from w (0xED ∷ y ∷ []) ≡ true → A
-unfolding wide_from wide_step if◌then◌else◌
+unfolding wide_from wide_step choose◌then◌else◌
 ed_last (gap h) y k e = ed_end h y k e
 ed_last (ed h) y k e = impossible e
 ed_last (lone h) y k e = impossible e
@@ -195,9 +195,9 @@ body_writes (x ∷ y ∷ z ∷ bs) w e a =
     (λ t. rw append_assoc (byte_writes w x (y ∷ z ∷ bs) (step_apart w x (y ∷ z ∷ bs) e a) t (body_writes (y ∷ z ∷ bs))))
 
 pub json_sound : (bs : Bytes) → is_content bs ≡ true → validate_cell Csvj (json_cell Text bs) ≡ WholeCell
-unfolding validate_cell json_cell is_content char_of cell_step first_byte is_whole if◌then◌else◌
+unfolding validate_cell json_cell is_content char_of cell_step first_byte is_whole choose◌then◌else◌
 json_sound bs e = let x : cell_step Csvj Fresh QUOTE ≡ More (Quoted Whole) = refl in runs_sound 0 (there x (body_writes bs (gap false) e tt)) refl
 
 pub json_content : (bs : Bytes) → is_content bs ≡ true → content_of Csvj (json_cell Text bs) ≡ bs
-unfolding json_cell is_content content_of if◌then◌else◌
+unfolding json_cell is_content content_of choose◌then◌else◌
 json_content bs e = json_back (gap false) bs e

@@ -15,7 +15,7 @@ use Rattle.model.specs.rules.Types.{Target, Whole, Within}
 use Rattle.model.specs.rules.Types.{Numeral, Minus, Zero, Integer, Point, Fraction, E, ESign, Exponent, Cell, Fresh, Quoted, Closed, Escape}
 use Rattle.model.specs.rules.Types.{Hex, InNumber, InWord, Plain, Complete, Stop}
 use Rattle.model.specs.rules.Types.{FileState, Begin, ExpectCell, Inside, Cr, Between, Tail, Ends, To, Sound}
-use Rattle.model.specs.rules.Base.{Bytes, LF, CR, ◌is◌, if◌then◌else◌, is_empty}
+use Rattle.model.specs.rules.Base.{Bytes, LF, CR, ◌is◌, choose◌then◌else◌, is_empty}
 use Rattle.model.specs.rules.Dialect.{into, quote_of, delimiter_of, delimiter_byte, quote_byte}
 use Rattle.model.specs.rules.Cell.{is_digit, is_numeral, numeral_step, first_byte, plain_byte, cell_step, is_whole}
 use Rattle.model.specs.rules.File.{after_cell, in_cell, begin_record, begin_file, file_step, counts}
@@ -94,14 +94,14 @@ by_cr d =
     }
 
 fresh_stops : (d : Dialect) (b : ℕ) → Closer d b → is_whole d Fresh ≡ true → cell_step d Fresh b ≡ Stop
-unfolding cell_step first_byte is_whole if◌then◌else◌
+unfolding cell_step first_byte is_whole choose◌then◌else◌
 fresh_stops Csvj b k w = impossible w
 fresh_stops Tdif b k w = impossible w
 fresh_stops (CsvPlus s) b k w = rw (k.no_quote, k.closes)
 
 -- a number that may end here ends before such a byte
 numeral_stops : (n : Numeral) (b : ℕ) → Breaks b → is_numeral n ≡ true → numeral_step n b ≡ Stop
-unfolding numeral_step if◌then◌else◌
+unfolding numeral_step choose◌then◌else◌
 numeral_stops Minus b k w = impossible w
 numeral_stops Zero b k w = rw (k.no_point, k.no_e)
 numeral_stops Integer b k w = rw (k.no_digit, k.no_point, k.no_e)
@@ -112,7 +112,7 @@ numeral_stops ESign b k w = impossible w
 numeral_stops Exponent b k w = rw k.no_digit
 
 whole_stops : (d : Dialect) (b : ℕ) → Closer d b → (c : Cell) → is_whole d c ≡ true → cell_step d c b ≡ Stop
-unfolding cell_step plain_byte is_whole if◌then◌else◌
+unfolding cell_step plain_byte is_whole choose◌then◌else◌
 whole_stops d b k Fresh w = fresh_stops d b k w
 whole_stops d b k (Quoted c) w = impossible w
 whole_stops d b k Closed w = rw k.no_quote
@@ -142,7 +142,7 @@ next_clear Tdif bs = tt
 next_clear (CsvPlus s) bs = tt
 
 close_step : {d : Dialect} {f : FileState} {c : Cell} (b : ℕ) → Closer d b → Like d f c → is_whole d c ≡ true → file_step d f b ≡ after_cell d true b
-unfolding file_step in_cell begin_record begin_file is_whole if◌then◌else◌
+unfolding file_step in_cell begin_record begin_file is_whole choose◌then◌else◌
 close_step b k (like_in {d} {c}) w = rw (whole_stops d b k c w)
 close_step b k (like_begin {d = Csvj}) w = impossible w
 close_step b k (like_begin {d = Tdif}) w = impossible w
@@ -173,7 +173,7 @@ unfolding record_full
 end_free r b k = rw (k, and_false (leb MAXRECORD r.size))
 
 sep_after : (d : Dialect) → after_cell d true (delimiter_of d) ≡ To (next_state d) (Between true)
-unfolding after_cell if◌then◌else◌
+unfolding after_cell choose◌then◌else◌
 sep_after Csvj = refl
 sep_after Tdif = refl
 sep_after (CsvPlus s) = rw (same_byte (delimiter_of (CsvPlus s)))
@@ -190,7 +190,7 @@ module _ (d : Dialect) (T : Option Target) (ds : List Rec) (s : ℕ) where
       z < MAXRECORD →
       read_byte d T (reading ds f o s z p raw vs) (delimiter_of d)
       ≡ going (reading ds (next_state d) (suc o) s (suc z) (suc o) [] (vs ++ (value_of d p o raw ∷ [])))
-  unfolding read_byte move if◌then◌else◌
+  unfolding read_byte move choose◌then◌else◌
   sep_read {f} l w o z p raw vs h k =
       rw (
         file_free (reading ds f o s z p raw vs) h,
@@ -215,7 +215,7 @@ module _ (d : Dialect) (T : Option Target) (ds : List Rec) (s : ℕ) where
       (o z p : ℕ) (raw : Bytes) (vs : List Value) → o < MAXFILE → record_fault d T ds (vs ++ (value_of d p o raw ∷ [])) ≡ Sound →
       read_byte d T (reading ds f o s z p raw vs) LF
       ≡ going (between_records (ds ++ (recorded z (vs ++ (value_of d p o raw ∷ [])) ∷ [])) Begin (suc o))
-  unfolding read_byte move if◌then◌else◌
+  unfolding read_byte move choose◌then◌else◌
   lf_read {f} a l w o z p raw vs h n =
       rw (file_free (reading ds f o s z p raw vs) h, end_free (reading ds f o s z p raw vs) LF (like_open LF l w refl), close_step LF (by_lf d) l w, a)
       (completed (reading ds f o s z p raw vs) (vs ++ (value_of d p o raw ∷ [])) (suc o) z refl refl refl n)
@@ -224,14 +224,14 @@ module _ (d : Dialect) (T : Option Target) (ds : List Rec) (s : ℕ) where
       {f : FileState} {c : Cell} → after_cell d true CR ≡ To Cr (Tail true) → Like d f c → is_whole d c ≡ true →
       (o z p : ℕ) (raw : Bytes) (vs : List Value) → o < MAXFILE →
       read_byte d T (reading ds f o s z p raw vs) CR ≡ going (reading ds Cr (suc o) s z (suc o) [] (vs ++ (value_of d p o raw ∷ [])))
-  unfolding read_byte move if◌then◌else◌
+  unfolding read_byte move choose◌then◌else◌
   cr_read {f} a l w o z p raw vs h =
       rw (file_free (reading ds f o s z p raw vs) h, end_free (reading ds f o s z p raw vs) CR (like_open CR l w refl), close_step CR (by_cr d) l w, a)
 
   crlf_read :
       file_step d Cr LF ≡ To Begin (Ends false) → (o z p : ℕ) (raw : Bytes) (vs : List Value) → o < MAXFILE → record_fault d T ds vs ≡ Sound →
       read_byte d T (reading ds Cr o s z p raw vs) LF ≡ going (between_records (ds ++ (recorded z vs ∷ [])) Begin (suc o))
-  unfolding read_byte move if◌then◌else◌
+  unfolding read_byte move choose◌then◌else◌
   crlf_read a o z p raw vs h n =
       rw (file_free (reading ds Cr o s z p raw vs) h, end_free (reading ds Cr o s z p raw vs) LF (unfold counts in refl), a)
       (completed (reading ds Cr o s z p raw vs) vs (suc o) z refl refl refl n)
@@ -246,7 +246,7 @@ cr_no_delimiter s = go s.delimiter
     go Bar = refl
 
 cr_after : (s : Settings) → after_cell (CsvPlus s) true CR ≡ To Cr (Tail true)
-unfolding after_cell if◌then◌else◌
+unfolding after_cell choose◌then◌else◌
 cr_after s = rw (cr_no_delimiter s)
 
 byte_by :
@@ -265,14 +265,14 @@ end_read :
     (going (between_records (ds ++ (recorded d T ds s z (vs ++ (value_of d p o raw ∷ [])) ∷ [])) Begin (o + length (ending d)))) xs
 unfolding read_from
 end_read Csvj T ds s l w o z p raw vs xs h n =
-    rw (lf_read Csvj T ds s (unfold after_cell if◌then◌else◌ in refl) l w o z p raw vs (omega arith) n, add-one o)
+    rw (lf_read Csvj T ds s (unfold after_cell choose◌then◌else◌ in refl) l w o z p raw vs (omega arith) n, add-one o)
 end_read Tdif T ds s l w o z p raw vs xs h n =
-    rw (lf_read Tdif T ds s (unfold after_cell if◌then◌else◌ in refl) l w o z p raw vs (omega arith) n, add-one o)
+    rw (lf_read Tdif T ds s (unfold after_cell choose◌then◌else◌ in refl) l w o z p raw vs (omega arith) n, add-one o)
 end_read (CsvPlus k) T ds s l w o z p raw vs xs h n =
     rw (add-two o)
     (byte_by (CsvPlus k) T _ CR _ (LF ∷ xs) (cr_read (CsvPlus k) T ds s (cr_after k) l w o z p raw vs (omega arith))
     ∙ byte_by (CsvPlus k) T _ LF _ xs
-    (crlf_read (CsvPlus k) T ds s (unfold file_step if◌then◌else◌ in refl) (suc o) z (suc o) []
+    (crlf_read (CsvPlus k) T ds s (unfold file_step choose◌then◌else◌ in refl) (suc o) z (suc o) []
     (vs ++ (value_of (CsvPlus k) p o raw ∷ [])) (omega arith) n))
 
 -- ---- the cells of a record
@@ -362,7 +362,7 @@ empty_read :
     counts f LF ≡ false → o < MAXFILE → record_fault Csvj T ds [] ≡ Sound →
     read_from Csvj T (going (between_records ds f o)) (LF ∷ xs)
     ≡ read_from Csvj T (going (between_records (ds ++ (recorded Csvj T ds o 0 [] ∷ [])) Begin (suc o))) xs
-unfolding read_byte move if◌then◌else◌
+unfolding read_byte move choose◌then◌else◌
 empty_read T ds f o xs e k h n =
     byte_by Csvj T (between_records ds f o) LF _ xs
     (rw (file_free (between_records ds f o) h, end_free (between_records ds f o) LF k, e)

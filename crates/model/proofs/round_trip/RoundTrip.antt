@@ -11,7 +11,7 @@ use borrow.Author.Tests.{le-ltb, ltb-false}
 use Rattle.model.specs.rules.Types.{Report, Dialect, Target, Encoding, Syntax, Fault, NoRecord, Byte, CutShort, CellCount, RepeatedName}
 use Rattle.model.specs.rules.Types.{HeaderKind, FileTooLong, RecordTooLong, TooManyColumns, NoCells, LacksKind, LoneSurrogate, Clash}
 use Rattle.model.specs.rules.Types.{TextTooLong, OutputTooLong, CheckResult, Sound, Faulty}
-use Rattle.model.specs.rules.Base.{Bytes, concat, if◌then◌else◌}
+use Rattle.model.specs.rules.Base.{Bytes, concat, choose◌then◌else◌}
 use Rattle.model.specs.rules.Dialect.{dialect_of, into}
 use Rattle.model.specs.rules.Text.{Value, table_text}
 use Rattle.model.specs.rules.Report.{report, accepted, refusal, number_of, column_of}
@@ -74,7 +74,7 @@ pub record Fitted (room : ℕ) (bs text : Bytes) : Type 0 where
   pub fits : length text ≤ room
 
 pub fitted_accepts : (room : ℕ) (bs text : Bytes) → fitted room bs ≡ accepts text → Fitted room bs text
-unfolding if◌then◌else◌
+unfolding choose◌then◌else◌
 fitted_accepts room bs text e = go (ltb room (length bs)) refl
   where
     go : (t : Bool) → ltb room (length bs) ≡ t → Fitted room bs text
@@ -84,7 +84,7 @@ fitted_accepts room bs text e = go (ltb room (length bs)) refl
         record { same = q; fits = rw (← q) (ltb-false room (length bs) p) }
 
 pub fitted_fits : (room : ℕ) (bs text : Bytes) → Fitted room bs text → fitted room bs ≡ accepts text
-unfolding if◌then◌else◌
+unfolding choose◌then◌else◌
 fitted_fits room bs text f = rw (f.same, le-ltb room (length text) f.fits)
 
 pub record Wrote (n : ℕ) (table : Table) (room : ℕ) (text : Bytes) : Type 0 where
@@ -152,7 +152,7 @@ rows_count (y ∷ ys) = ap suc (rows_count ys)
 rows_answer :
     (ds : List Rec) (h : List Value) (rs : List (List Value)) (room : ℕ) → SameRows (rows ds) (h ∷ rs) → length (concat (h ∷ rs)) ≤ room →
     Answers (h ∷ rs) (length h) (answered ds (concat (rows ds)) room)
-unfolding rows if◌then◌else◌
+unfolding rows choose◌then◌else◌
 rows_answer (x ∷ ds) h rs room (and_row c s) l =
     let all : SameRows (x.cells ∷ rows ds) (h ∷ rs) = and_row c s in
     let k : length (concat (x.cells ∷ rows ds)) ≡ length (concat (h ∷ rs)) = same_length (concat_same all) in

@@ -10,7 +10,7 @@ use lib.Dec.{leb, ltb, eqb}
 use lib.ListN.{length, take, drop, length-take, length-drop}
 use borrow.Author.Tests.{eqb-true, ltb-true}
 use Rattle.model.specs.rules.Types.{Kind, Dialect}
-use Rattle.model.specs.rules.Base.{Bytes, if◌then◌else◌}
+use Rattle.model.specs.rules.Base.{Bytes, choose◌then◌else◌}
 use Rattle.model.specs.rules.Dialect.{into}
 use Rattle.model.specs.rules.Text.{Value}
 use Rattle.model.specs.rules.Api.{Table, kind_named, is_value, slice, table_cell, cons, table_cells, rows_of, table_rows, rows_in, rows_fault}
@@ -37,7 +37,7 @@ cell_held bs s e n = go (kind_named n)
         (o : Option Kind) → HeldCell (elim o as (λ _. Option Value) [
           | none ↦ none
           | some k ↦
-              if leb s e && leb e (length bs) && is_value k (slice bs s e) then some
+              choose leb s e && leb e (length bs) && is_value k (slice bs s e) then some
               (record { from = s; upto = e; kind = k; content = slice bs s e })
               else none
         ])

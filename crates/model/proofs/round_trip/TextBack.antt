@@ -10,7 +10,7 @@ use lib.Dec.{leb}
 use borrow.Author.Tests.{leb-false, le-leb, lt-leb, eq-eqb}
 use Rattle.model.specs.rules.Types.{Settings, Dialect, CsvPlus, Ed, Inner, Second, Last, Char, Whole, Within, Advance, On, Broken}
 use Rattle.model.specs.rules.Types.{Text, Cell, Fresh, Quoted, Closed, Plain, More, WholeCell}
-use Rattle.model.specs.rules.Base.{Bytes, LF, CR, QUOTE, ◌is◌, holds, if◌then◌else◌}
+use Rattle.model.specs.rules.Base.{Bytes, LF, CR, QUOTE, ◌is◌, holds, choose◌then◌else◌}
 use Rattle.model.specs.rules.Dialect.{quote_of, delimiter_of}
 use Rattle.model.specs.rules.Utf8.{row_of, leads, lead_byte, inner_step, char_step, text_from, holds_lone, Wide, gap, ed, lone, inner, settled}
 use Rattle.model.specs.rules.Utf8.{settle, wide_step, wide_from, is_content}
@@ -27,7 +27,7 @@ or_false true y e = impossible (sym e)
 or_false false y e = (refl, e)
 
 pub undouble_doubled : (q : ℕ) (bs : Bytes) → undouble q false (doubled q bs ++ (q ∷ [])) ≡ bs
-unfolding undouble doubled if◌then◌else◌
+unfolding undouble doubled choose◌then◌else◌
 undouble_doubled q [] = rw (same_byte q, undouble)
 undouble_doubled q (b ∷ bs) =
     let ih : undouble q false (doubled q bs ++ (q ∷ [])) ≡ bs = undouble_doubled q bs in
@@ -72,7 +72,7 @@ lone_after_ed [] b h e k = tt
 lone_after_ed (c ∷ bs) b h e k = let q : (b is 0xED) ≡ true = eq-eqb b 0xED (is→eq b 0xED e) in rw q at k
 
 pair_apart : (b : ℕ) (bs : Bytes) → holds_lone (b ∷ bs) ≡ false → pair b bs ≡ false
-unfolding holds_lone if◌then◌else◌
+unfolding holds_lone choose◌then◌else◌
 pair_apart b [] k = refl
 pair_apart b (c ∷ bs) k = go (b is 0xED) (leb 0xA0 c) refl refl
   where
@@ -82,7 +82,7 @@ pair_apart b (c ∷ bs) k = go (b is 0xED) (leb 0xA0 c) refl refl
     go true true p q = impossible (sym (rw (is→eq b 0xED p, q) at k))
 
 lone_tail : (b : ℕ) (bs : Bytes) → holds_lone (b ∷ bs) ≡ false → holds_lone bs ≡ false
-unfolding holds_lone if◌then◌else◌
+unfolding holds_lone choose◌then◌else◌
 lone_tail b [] k = refl
 lone_tail b (c ∷ bs) k = go ((b is 0xED) && leb 0xA0 c) refl
   where
@@ -97,11 +97,11 @@ settled_steps w b bs Broken e h = impossible h
 settled_steps w b bs (On c) e h = steps (settled c) (rw (char_settled c) e) h (λ _. apart_settled c bs)
 
 ed_char : (b : ℕ) → (b is 0xED) ≡ true → char_step Whole b ≡ On (Within (Second Ed))
-unfolding char_step lead_byte leads row_of if◌then◌else◌
+unfolding char_step lead_byte leads row_of choose◌then◌else◌
 ed_char b e = rw (is→eq b 0xED e)
 
 pub step_apart : (w : Wide) (b : ℕ) (bs : Bytes) → wide_from w (b ∷ bs) ≡ true → Apart w (b ∷ bs) → Steps w b bs
-unfolding wide_from wide_step char_of if◌then◌else◌
+unfolding wide_from wide_step char_of choose◌then◌else◌
 step_apart (gap h) b bs e a = go (b is 0xED) refl
   where
     go : (t : Bool) → (b is 0xED) ≡ t → Steps (gap h) b bs
@@ -143,21 +143,21 @@ content_text bs e k = text_apart (gap false) bs e tt k
 -- ---- quotes doubled
 
 first_quote : {d : Dialect} → Doubles d → cell_step d Fresh (quote_of d) ≡ More (Quoted Whole)
-unfolding cell_step first_byte if◌then◌else◌
+unfolding cell_step first_byte choose◌then◌else◌
 first_quote d_tdif = refl
 first_quote (d_plus {s}) = rw (same_byte (quote_of (CsvPlus s)))
 
 quote_closes : {d : Dialect} → Doubles d → cell_step d (Quoted Whole) (quote_of d) ≡ More Closed
-unfolding cell_step quoted_byte if◌then◌else◌
+unfolding cell_step quoted_byte choose◌then◌else◌
 quote_closes d_tdif = refl
 quote_closes (d_plus {s}) = rw (same_byte (quote_of (CsvPlus s)))
 
 quote_opens : (d : Dialect) → cell_step d Closed (quote_of d) ≡ More (Quoted Whole)
-unfolding cell_step if◌then◌else◌
+unfolding cell_step choose◌then◌else◌
 quote_opens d = rw (same_byte (quote_of d))
 
 quoted_char : {d : Dialect} (b : ℕ) (c : Char) → Doubles d → (b is quote_of d) ≡ false → char_step Whole b ≡ On c → cell_step d (Quoted Whole) b ≡ More (Quoted c)
-unfolding cell_step quoted_byte if◌then◌else◌
+unfolding cell_step quoted_byte choose◌then◌else◌
 quoted_char b c d_tdif n e = rw (n, e)
 quoted_char b c d_plus n e = rw (n, e)
 
@@ -171,11 +171,11 @@ body_of d bs = doubled (quote_of d) bs ++ (quote_of d ∷ [])
 
 module _ (d : Dialect) (k : Doubles d) where
   doubled_other : (b : ℕ) (bs : Bytes) → (b is quote_of d) ≡ false → body_of d (b ∷ bs) ≡ b ∷ body_of d bs
-  unfolding doubled if◌then◌else◌
+  unfolding doubled choose◌then◌else◌
   doubled_other b bs e = rw (e, doubled)
 
   doubled_quote : (b : ℕ) (bs : Bytes) → (b is quote_of d) ≡ true → body_of d (b ∷ bs) ≡ quote_of d ∷ quote_of d ∷ body_of d bs
-  unfolding doubled if◌then◌else◌
+  unfolding doubled choose◌then◌else◌
   doubled_quote b bs e = rw (e, doubled)
 
   body_step :
@@ -210,12 +210,12 @@ module _ (d : Dialect) (k : Doubles d) where
   quoted_sound bs h = runs_sound 0 (there (first_quote k) (body_runs Whole bs h)) refl
 
 pub quoted_content : {d : Dialect} (bs : Bytes) → Doubles d → content_of d (quoted_text (quote_of d) bs) ≡ bs
-unfolding content_of quoted_text if◌then◌else◌
+unfolding content_of quoted_text choose◌then◌else◌
 quoted_content bs d_tdif = undouble_doubled QUOTE bs
 quoted_content bs (d_plus {s}) = rw (same_byte (quote_of (CsvPlus s))) (undouble_doubled (quote_of (CsvPlus s)) bs)
 
 pub quoted_kind : {d : Dialect} (bs : Bytes) → Doubles d → kind_of d (quoted_text (quote_of d) bs) ≡ Text
-unfolding kind_of quoted_text if◌then◌else◌
+unfolding kind_of quoted_text choose◌then◌else◌
 quoted_kind bs d_tdif = refl
 quoted_kind bs d_plus = refl
 
@@ -235,11 +235,11 @@ usual s b e =
 
 module _ (s : Settings) where
   fresh_char : (b : ℕ) (c : Char) → Usual s b → char_step Whole b ≡ On c → cell_step (CsvPlus s) Fresh b ≡ More (Plain c)
-  unfolding cell_step first_byte if◌then◌else◌
+  unfolding cell_step first_byte choose◌then◌else◌
   fresh_char b c u e = rw (u.no_quote, u.no_end, e)
 
   plain_char : (b : ℕ) (c : Char) → Usual s b → char_step Whole b ≡ On c → cell_step (CsvPlus s) (Plain Whole) b ≡ More (Plain c)
-  unfolding cell_step plain_byte if◌then◌else◌
+  unfolding cell_step plain_byte choose◌then◌else◌
   plain_char b c u e = rw (u.no_quote, u.no_end, e)
 
   abbrev Plainly : Bytes → Type 0
@@ -276,6 +276,6 @@ module _ (s : Settings) where
       first (text_step c p t) = let x = unusual b bs k in runs_sound 0 (there (fresh_char b c x.0 p) (plain_runs bs c t x.1)) refl
 
   pub plain_content : (bs : Bytes) → holds (special s) bs ≡ false → content_of (CsvPlus s) bs ≡ bs
-  unfolding content_of if◌then◌else◌
+  unfolding content_of choose◌then◌else◌
   plain_content [] k = refl
   plain_content (b ∷ bs) k = rw (unusual b bs k).0.no_quote

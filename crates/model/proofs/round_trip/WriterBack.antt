@@ -11,7 +11,7 @@ use lib.Dec.{ltb}
 use lib.ListN.{length, length-append}
 use Rattle.model.specs.rules.Types.{Report, Kind, Text, Number, True, False, Null, Quote, Double, Single, Dialect, Csvj, Tdif, CsvPlus, Top, Begin}
 use Rattle.model.specs.rules.Types.{TooManyColumns, HeaderKind, LacksKind, LoneSurrogate, CheckResult, Sound, Faulty}
-use Rattle.model.specs.rules.Base.{Bytes, QUOTE, ◌is◌, holds, if◌then◌else◌, is_empty}
+use Rattle.model.specs.rules.Base.{Bytes, QUOTE, ◌is◌, holds, choose◌then◌else◌, is_empty}
 use Rattle.model.specs.rules.Dialect.{into, quote_of, quote_byte, is_csvj}
 use Rattle.model.specs.rules.File.{begin_record, begin_file, file_step, counts}
 use Rattle.model.specs.rules.Text.{Value, is_text, begins_bom, special, doubled, quoted_text, json_body, json_cell, csv_plus_cell, cell_text}
@@ -75,7 +75,7 @@ more_all d all_none = all_none
 more_all d (all_cons {x} f fs) = all_cons (cell_back d false false x f) (more_all d fs)
 
 pub data_row : (d : Dialect) (vs : List Value) → has_cells d vs ≡ true → All (Carried d) vs → RowBack d Begin false vs
-unfolding file_step begin_record counts if◌then◌else◌
+unfolding file_step begin_record counts choose◌then◌else◌
 data_row Csvj [] f all_none = row_empty refl refl
 data_row Tdif [] f all_none = impossible f
 data_row (CsvPlus s) [] f all_none = impossible f
@@ -113,7 +113,7 @@ first_clear (CsvPlus s) only v e =
     (or_false (holds (special s) v.content || only && is_empty v.content) (true && begins_bom v.content) q).1
 
 header_row : (d : Dialect) (vs : List Value) → has_cells d vs ≡ true → All (Carried d) vs → All TextCell vs → RowBack d Top true vs
-unfolding file_step begin_file begin_record counts if◌then◌else◌
+unfolding file_step begin_file begin_record counts choose◌then◌else◌
 header_row Csvj [] f all_none t = row_empty refl refl
 header_row Tdif [] f all_none t = impossible f
 header_row (CsvPlus s) [] f all_none t = impossible f

@@ -2,7 +2,7 @@
 use Rattle.std.specs.Prelude.{ℕ, ◌≤◌, ◌≡◌, true, false, List, [], ◌∷◌, ◌++◌, map, length}
 use Rattle.std.proofs.Math.Option.{none, some}
 use Rattle.model.specs.rules.Types.{Report, Dialect, Target}
-use Rattle.model.specs.rules.Base.{if◌then◌else◌, Bytes, concat}
+use Rattle.model.specs.rules.Base.{choose◌then◌else◌, Bytes, concat}
 use Rattle.model.specs.rules.Dialect.{dialect_of, into}
 use Rattle.model.specs.rules.Text.{table_text}
 use Rattle.model.specs.rules.Report.{accepted, MAXFILE, MAXPIECE, LEASTOUTPUT}
@@ -16,7 +16,7 @@ use Rattle.model.specs.laws.RoundTrips.{RoundTrip}
 
 -- what these calls have shown of the file (§16.5 §16.6)
 abbrev pub seen_in : Dialect → Target → List Entry → Progress
-seen_in d t past = if closed_in past then read_file d (some t) (consumed_in past) else read_bytes d (some t) (consumed_in past)
+seen_in d t past = choose closed_in past then read_file d (some t) (consumed_in past) else read_bytes d (some t) (consumed_in past)
 
 -- the outputs of any list of calls, joined, are the canonical text of the records completed in the bytes consumed (§19.4)
 abbrev pub JoinedOutputs : Type 0

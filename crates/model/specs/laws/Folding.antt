@@ -1,7 +1,7 @@
 -- Folding a name, as laws: one code point at a time, once for all, and byte for byte, as the code goes; and what a table of folded code
 -- points has to be. They are proved in proofs/AllFolding.antt.
 use Rattle.std.specs.Prelude.{ℕ, suc, ◌+◌, ◌<◌, ◌≤◌, ◌≡◌, Bool, true, ◌&&◌, List, [], ◌∷◌, map, length, get_or, T}
-use Rattle.model.specs.rules.Base.{if◌then◌else◌, ◌is◌, Bytes}
+use Rattle.model.specs.rules.Base.{choose◌then◌else◌, ◌is◌, Bytes}
 use Rattle.model.specs.rules.Utf8.{pack, packed, is_content}
 use Rattle.model.specs.rules.Names.{fold_point, is_pair, pair_point, fold_byte, fold_name}
 use Rattle.model.specs.laws.Laws.{All}
@@ -27,8 +27,8 @@ second_of u = get_or (pack u) 1 0
 -- a byte of a folded name, by the byte and its neighbours in the name (§4.10)
 unfoldable pub fold_at : (before here after : ℕ) → ℕ
 fold_at a b c =
-    if is_pair a b then second_of (fold_point (pair_point a b))
-    else if is_pair b c then first_of (fold_point (pair_point b c))
+    choose is_pair a b then second_of (fold_point (pair_point a b))
+    else choose is_pair b c then first_of (fold_point (pair_point b c))
     else fold_byte b
 
 -- the byte before a place, and none before the first (§4.10)

@@ -3,7 +3,7 @@
 use Rattle.std.specs.Prelude.{ℕ, ◌≡◌, Bool, true, false, List, [], ◌∷◌, ◌++◌, length, drop}
 use Rattle.std.proofs.Math.Option.{none, some}
 use Rattle.model.specs.rules.Types.{Report, Dialect, Target, Fault}
-use Rattle.model.specs.rules.Base.{if◌then◌else◌, Bytes, is_empty}
+use Rattle.model.specs.rules.Base.{choose◌then◌else◌, Bytes, is_empty}
 use Rattle.model.specs.rules.Dialect.{dialect_of, into}
 use Rattle.model.specs.rules.Text.{record_text, table_text, ending}
 use Rattle.model.specs.rules.Report.{refusal}
@@ -27,7 +27,7 @@ seen_from d t r (finish room) = read_end d (some t) (going r)
 
 -- the answer to a call at a stage (§15.5 §15.6 §15.7 §16.7)
 unfoldable pub answer_at : Dialect → Target → ConverterStage → Call → Written
-answer_at d t (taking r) c = if too_small c then unwritten (refusal 10) else taken t (table_text t (rows r.done)) (seen_from d t r c)
+answer_at d t (taking r) c = choose too_small c then unwritten (refusal 10) else taken t (table_text t (rows r.done)) (seen_from d t r c)
 answer_at d t (faulted e) c = unwritten e
 answer_at d t ended c = unwritten (refusal 11)
 
@@ -39,7 +39,7 @@ stage_then is_end (stopped e r) = faulted (fault_report e r)
 
 -- the stage after a call (§15.3)
 unfoldable pub stage_after : Dialect → Target → ConverterStage → Call → ConverterStage
-stage_after d t (taking r) c = if too_small c then taking r else stage_then (is_finish c) (seen_from d t r c)
+stage_after d t (taking r) c = choose too_small c then taking r else stage_then (is_finish c) (seen_from d t r c)
 stage_after d t (faulted e) c = faulted e
 stage_after d t ended c = ended
 

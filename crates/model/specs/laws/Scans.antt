@@ -7,7 +7,7 @@ use Rattle.std.proofs.Math.Option.{Option}
 use Rattle.model.specs.rules.Types.{Dialect, Target, FileState, Top, Begin, Ended, Bom1, Bom2, PlainBom1, PlainBom2, Comment, Blanks}
 use Rattle.model.specs.rules.Types.{ExpectCell, Inside, After, Cr, Outside, Passed, OfCell, Between, Tail, Ends, Step, To, Reject, Fault, Byte}
 use Rattle.model.specs.rules.Types.{FileTooLong, RecordTooLong, Sound, Faulty}
-use Rattle.model.specs.rules.Base.{if◌then◌else◌, ◌is◌, Bytes}
+use Rattle.model.specs.rules.Base.{choose◌then◌else◌, ◌is◌, Bytes}
 use Rattle.model.specs.rules.File.{file_step, counts}
 use Rattle.model.specs.rules.Decode.{kind_of, content_of}
 use Rattle.model.specs.rules.Text.{Value}
@@ -81,8 +81,8 @@ scan_step s b left more (To f (Ends closes)) = completes s (closing_raw closes s
 unfoldable pub scan : Dialect → (limit : ℕ) → Scan → Bytes → ScanResult
 scan d limit s [] = pends s
 scan d limit s (b ∷ bs) =
-    if leb limit s.offset then fails FileTooLong s
-    else if leb MAXRECORD s.size && counts s.state b then fails RecordTooLong s
+    choose leb limit s.offset then fails FileTooLong s
+    else choose leb MAXRECORD s.size && counts s.state b then fails RecordTooLong s
     else scan_step s b bs (λ s'. scan d limit s' bs) (file_step d s.state b)
 
 -- ---- the same as reading
@@ -175,15 +175,15 @@ pub record Buffered : Type 0 where
 
 -- a cell that was opened where the part began starts with the buffered bytes (§15.2)
 unfoldable pub joined_cell : Buffered → (began : ℕ) → RawCell → RawCell
-joined_cell k began c = if c.from is began then record { from = k.opened; upto = c.upto; bytes = k.raw ++ c.bytes } else c
+joined_cell k began c = choose c.from is began then record { from = k.opened; upto = c.upto; bytes = k.raw ++ c.bytes } else c
 
 -- the open cell's bytes; if it was opened where the part began, the buffered ones come first (§15.2)
 unfoldable pub joined_raw : Buffered → (began opened : ℕ) → Bytes → Bytes
-joined_raw k began opened raw = if opened is began then k.raw ++ raw else raw
+joined_raw k began opened raw = choose opened is began then k.raw ++ raw else raw
 
 -- a place that is still where the part began is the buffered one (§15.2)
 unfoldable pub joined_place : (kept began place : ℕ) → ℕ
-joined_place kept began place = if place is began then kept else place
+joined_place kept began place = choose place is began then kept else place
 
 -- the buffered cells before those scanned of a part that began there (§15.2)
 abbrev pub joined_cells : Buffered → (began : ℕ) → List RawCell → List RawCell

@@ -4,7 +4,7 @@ use Rattle.std.specs.Prelude.{ℕ, zero, suc, ◌-◌, ◌*◌, Bool, true, fals
 use Rattle.std.proofs.Math.Option.{Option, none, some}
 use Rattle.model.specs.rules.Types.{Report, Kind, Text, Number, True, False, Null, Dialect, Csvj, Target, CheckResult, Sound, Faulty, CellCheck}
 use Rattle.model.specs.rules.Types.{WholeCell, Unsound}
-use Rattle.model.specs.rules.Base.{if◌then◌else◌, ◌is◌, Bytes, is_empty, concat, over}
+use Rattle.model.specs.rules.Base.{choose◌then◌else◌, ◌is◌, Bytes, is_empty, concat, over}
 use Rattle.model.specs.rules.Dialect.{dialect_of, into}
 use Rattle.model.specs.rules.Utf8.{is_content}
 use Rattle.model.specs.rules.Decode.{kind_number, kind_of, content_of, validate_cell}
@@ -30,7 +30,7 @@ no_answer e = record { report = e; columns = 0; records = 0; cells = [] }
 abbrev pub answered : List Rec → List Value → (room : ℕ) → Answer
 answered [] vs room = no_answer accepted
 answered (h ∷ rs) vs room =
-    if ltb room (length vs) then no_answer (refusal 10)
+    choose ltb room (length vs) then no_answer (refusal 10)
     else record { report = accepted; columns = length h.cells; records = length rs; cells = vs }
 
 -- the reader's answer on what was read of a file and its end: the fault, if there was one (§10.1 §10.5)
@@ -44,7 +44,7 @@ reader n bs room = elim (dialect_of n) [ none ↦ no_answer (refusal 11) | some 
 
 -- the smaller of two lengths, for the shortest list (§10.5)
 abbrev pub least : ℕ → ℕ → ℕ
-least a b = if leb a b then a else b
+least a b = choose leb a b then a else b
 
 -- what the list of starts is filled with (§10.2)
 abbrev pub starts_of : List Value → List ℕ
@@ -100,7 +100,7 @@ not_decoded e = record { report = e; kind = 0; content = [] }
 abbrev pub decoded_as : Dialect → Bytes → (room : ℕ) → CellCheck → Decoded
 decoded_as d bs room (Unsound e o) = not_decoded (report (number_of e) 0 0 o)
 decoded_as d bs room WholeCell =
-    if ltb room (length (content_of d bs)) then not_decoded (refusal 10)
+    choose ltb room (length (content_of d bs)) then not_decoded (refusal 10)
     else record { report = accepted; kind = kind_number (kind_of d bs); content = content_of d bs }
 
 -- the decoder: 11 first, then the check of the raw cell (§1.7 §9.1 §11.1)
@@ -124,7 +124,7 @@ unwritten e = record { report = e; text = [] }
 
 -- a text for this room: 10 exactly when it is longer (§12.3 §13.13)
 abbrev pub fitted : (room : ℕ) → Bytes → Written
-fitted room bs = if ltb room (length bs) then unwritten (refusal 10) else record { report = accepted; text = bs }
+fitted room bs = choose ltb room (length bs) then unwritten (refusal 10) else record { report = accepted; text = bs }
 
 -- the canonical text of the records that were read for this target, or the fault found (§12.1 §12.2)
 abbrev pub converted_as : (target : Target) → (room : ℕ) → Progress → Written
@@ -160,11 +160,11 @@ pub record Table : Type 0 where
 -- the kind of a number, or none (§2.3 §13.6)
 unfoldable pub kind_named : ℕ → Option Kind
 kind_named n =
-    if n is 1 then some Text
-    else if n is 2 then some Number
-    else if n is 3 then some True
-    else if n is 4 then some False
-    else if n is 5 then some Null
+    choose n is 1 then some Text
+    else choose n is 2 then some Number
+    else choose n is 3 then some True
+    else choose n is 4 then some False
+    else choose n is 5 then some Null
     else none
 
 -- the kind and the check of bytes, as a cell of CSVJ, are those of a number (§13.7)
@@ -194,7 +194,7 @@ table_cell bs s e n =
     elim (kind_named n) [
       | none ↦ none
       | some k ↦
-          if leb s e && leb e (length bs) && is_value k (slice bs s e) then some (record { from = s; upto = e; kind = k; content = slice bs s e })
+          choose leb s e && leb e (length bs) && is_value k (slice bs s e) then some (record { from = s; upto = e; kind = k; content = slice bs s e })
           else none
     ]
 
@@ -222,7 +222,7 @@ rows_of (suc n) columns vs = take columns vs ∷ rows_of n columns (drop columns
 abbrev pub table_rows : (columns records : ℕ) → Option (List Value) → Option (List (List Value))
 table_rows columns records none = none
 table_rows columns records (some vs) =
-    if eqb (length vs) (columns * records) && ltb 0 records then some (rows_of records columns vs) else none
+    choose eqb (length vs) (columns * records) && ltb 0 records then some (rows_of records columns vs) else none
 
 -- the records of a table, or none where what was given is no table, which is 12 (§6.12 §13.2)
 unfoldable pub rows_in : Table → Option (List (List Value))

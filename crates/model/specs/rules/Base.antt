@@ -2,10 +2,10 @@
 use Rattle.std.specs.Prelude.{ℕ, Bool, true, false, ◌&&◌, ◌||◌, List, [], ◌∷◌, ◌++◌, length, drop, leb, eqb}
 
 -- helper: a choice by a test
-infixr 5 if◌then◌else◌
-unfoldable pub if◌then◌else◌ {ℓ} : {A : Type ℓ} → Bool → A → A → A
-if◌then◌else◌ true a b = a
-if◌then◌else◌ false a b = b
+infixr 5 choose◌then◌else◌
+unfoldable pub choose◌then◌else◌ {ℓ} : {A : Type ℓ} → Bool → A → A → A
+choose◌then◌else◌ true a b = a
+choose◌then◌else◌ false a b = b
 
 -- the bytes of a file, of a raw cell, of content or of a written text, each a number (§2.1 §2.4 §14.1)
 abbrev pub Bytes : Type 0
@@ -74,5 +74,5 @@ over new old = new ++ drop (length new) old
 
 -- helper: `unfolding base_computes` opens every definition of this module
 unfoldable pub base_computes : Type 0
-unfolding if◌then◌else◌ same holds concat
+unfolding choose◌then◌else◌ same holds concat
 base_computes = Unit {0}

@@ -6,7 +6,7 @@ use Rattle.model.specs.rules.Types.{HexLeft, Four, Three, Two, One, Numeral, Min
 use Rattle.model.specs.rules.Types.{Word, T, Tr, Tru, F, Fa, Fal, Fals, N, Nu, Nul, Backslash}
 use Rattle.model.specs.rules.Types.{Cell, Fresh, Quoted, Closed, Escape, Hex, InNumber, InWord, Plain, Complete, CellStep, More, Stop, Refuse}
 use Rattle.model.specs.rules.Types.{Encoding, Syntax}
-use Rattle.model.specs.rules.Base.{Bytes, if◌then◌else◌, ◌is◌, within, LF, CR, QUOTE, BACKSLASH}
+use Rattle.model.specs.rules.Base.{Bytes, choose◌then◌else◌, ◌is◌, within, LF, CR, QUOTE, BACKSLASH}
 use Rattle.model.specs.rules.Dialect.{quote_of, delimiter_of}
 use Rattle.model.specs.rules.Utf8.{char_step}
 
@@ -44,21 +44,21 @@ after_hex One = Quoted Whole
 -- the next byte of a number (§3.5)
 unfoldable pub numeral_step : Numeral → ℕ → CellStep
 numeral_step Minus b =
-    if b is 0x30 then More (InNumber Zero) else if is_digit b then More (InNumber Integer) else Refuse Syntax
-numeral_step Zero b = if b is 0x2E then More (InNumber Point) else if is_e b then More (InNumber E) else Stop
+    choose b is 0x30 then More (InNumber Zero) else choose is_digit b then More (InNumber Integer) else Refuse Syntax
+numeral_step Zero b = choose b is 0x2E then More (InNumber Point) else choose is_e b then More (InNumber E) else Stop
 numeral_step Integer b =
-    if is_digit b then More (InNumber Integer)
-    else if b is 0x2E then More (InNumber Point)
-    else if is_e b then More (InNumber E)
+    choose is_digit b then More (InNumber Integer)
+    else choose b is 0x2E then More (InNumber Point)
+    else choose is_e b then More (InNumber E)
     else Stop
-numeral_step Point b = if is_digit b then More (InNumber Fraction) else Refuse Syntax
-numeral_step Fraction b = if is_digit b then More (InNumber Fraction) else if is_e b then More (InNumber E) else Stop
+numeral_step Point b = choose is_digit b then More (InNumber Fraction) else Refuse Syntax
+numeral_step Fraction b = choose is_digit b then More (InNumber Fraction) else choose is_e b then More (InNumber E) else Stop
 numeral_step E b =
-    if is_digit b then More (InNumber Exponent)
-    else if b is 0x2B || b is 0x2D then More (InNumber ESign)
+    choose is_digit b then More (InNumber Exponent)
+    else choose b is 0x2B || b is 0x2D then More (InNumber ESign)
     else Refuse Syntax
-numeral_step ESign b = if is_digit b then More (InNumber Exponent) else Refuse Syntax
-numeral_step Exponent b = if is_digit b then More (InNumber Exponent) else Stop
+numeral_step ESign b = choose is_digit b then More (InNumber Exponent) else Refuse Syntax
+numeral_step Exponent b = choose is_digit b then More (InNumber Exponent) else Stop
 
 -- the next letter of a word: true, false, null, and the N of TDIF's null (§3.4 §4.3)
 abbrev pub letter_of : Word → ℕ
@@ -95,40 +95,40 @@ after_letter Backslash = Complete
 -- §5.3 §5.5 §6.22)
 unfoldable pub first_byte : Dialect → ℕ → CellStep
 first_byte Csvj b =
-    if b is QUOTE then More (Quoted Whole)
-    else if b is 0x2D then More (InNumber Minus)
-    else if b is 0x30 then More (InNumber Zero)
-    else if is_digit b then More (InNumber Integer)
-    else if b is 0x74 then More (InWord T)
-    else if b is 0x66 then More (InWord F)
-    else if b is 0x6E then More (InWord N)
+    choose b is QUOTE then More (Quoted Whole)
+    else choose b is 0x2D then More (InNumber Minus)
+    else choose b is 0x30 then More (InNumber Zero)
+    else choose is_digit b then More (InNumber Integer)
+    else choose b is 0x74 then More (InWord T)
+    else choose b is 0x66 then More (InWord F)
+    else choose b is 0x6E then More (InWord N)
     else Refuse Syntax
 first_byte Tdif b =
-    if b is QUOTE then More (Quoted Whole)
-    else if b is BACKSLASH then More (InWord Backslash)
+    choose b is QUOTE then More (Quoted Whole)
+    else choose b is BACKSLASH then More (InWord Backslash)
     else Refuse Syntax
 first_byte (CsvPlus s) b =
-    if b is quote_of (CsvPlus s) then More (Quoted Whole)
-    else if b is delimiter_of (CsvPlus s) || b is CR || b is LF then Stop
+    choose b is quote_of (CsvPlus s) then More (Quoted Whole)
+    else choose b is delimiter_of (CsvPlus s) || b is CR || b is LF then Stop
     else text_byte Plain (char_step Whole b)
 
 -- a byte between the quotes, at a character's start. CSVJ has escapes and refuses bytes below 20; in TDIF and CSV+ a quote
 -- may be the first of two, and every other byte is text (§3.6 §3.7 §4.4 §5.4 §6.22)
 unfoldable pub quoted_byte : Dialect → ℕ → CellStep
 quoted_byte Csvj b =
-    if b is QUOTE then More Complete
-    else if b is BACKSLASH then More Escape
-    else if ltb b 0x20 then Refuse Syntax
+    choose b is QUOTE then More Complete
+    else choose b is BACKSLASH then More Escape
+    else choose ltb b 0x20 then Refuse Syntax
     else text_byte Quoted (char_step Whole b)
-quoted_byte Tdif b = if b is QUOTE then More Closed else text_byte Quoted (char_step Whole b)
-quoted_byte (CsvPlus s) b = if b is quote_of (CsvPlus s) then More Closed else text_byte Quoted (char_step Whole b)
+quoted_byte Tdif b = choose b is QUOTE then More Closed else text_byte Quoted (char_step Whole b)
+quoted_byte (CsvPlus s) b = choose b is quote_of (CsvPlus s) then More Closed else text_byte Quoted (char_step Whole b)
 
 -- a byte of an unquoted CSV+ cell, at a character's start after the first: a quote has no place in it, also not after a space (§5.5
 -- §5.8)
 unfoldable pub plain_byte : Dialect → ℕ → CellStep
 plain_byte d b =
-    if b is quote_of d then Refuse Syntax
-    else if b is delimiter_of d || b is CR || b is LF then Stop
+    choose b is quote_of d then Refuse Syntax
+    else choose b is delimiter_of d || b is CR || b is LF then Stop
     else text_byte Plain (char_step Whole b)
 
 -- the next byte of a cell: it belongs to the cell, or the cell has ended before it, or it is fault 2 or 3. Inside a character a byte
@@ -137,12 +137,12 @@ unfoldable pub cell_step : Dialect → Cell → ℕ → CellStep
 cell_step d Fresh b = first_byte d b
 cell_step d (Quoted Whole) b = quoted_byte d b
 cell_step d (Quoted (Within i)) b = text_byte Quoted (char_step (Within i) b)
-cell_step d Closed b = if b is quote_of d then More (Quoted Whole) else Stop
+cell_step d Closed b = choose b is quote_of d then More (Quoted Whole) else Stop
 cell_step d Escape b =
-    if is_short b then More (Quoted Whole) else if b is 0x75 then More (Hex Four) else Refuse Syntax
-cell_step d (Hex n) b = if is_hex b then More (after_hex n) else Refuse Syntax
+    choose is_short b then More (Quoted Whole) else choose b is 0x75 then More (Hex Four) else Refuse Syntax
+cell_step d (Hex n) b = choose is_hex b then More (after_hex n) else Refuse Syntax
 cell_step d (InNumber n) b = numeral_step n b
-cell_step d (InWord w) b = if b is letter_of w then More (after_letter w) else Refuse Syntax
+cell_step d (InWord w) b = choose b is letter_of w then More (after_letter w) else Refuse Syntax
 cell_step d (Plain Whole) b = plain_byte d b
 cell_step d (Plain (Within i)) b = text_byte Plain (char_step (Within i) b)
 cell_step d Complete b = Stop

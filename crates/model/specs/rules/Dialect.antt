@@ -2,7 +2,7 @@
 use Rattle.std.specs.Prelude.{ℕ, Bool, true, false}
 use Rattle.std.proofs.Math.Option.{Option, none, some}
 use Rattle.model.specs.rules.Types.{Delimiter, Comma, Semicolon, Tab, Bar, Quote, Double, Single, Settings, Dialect, Csvj, Tdif, CsvPlus, Target}
-use Rattle.model.specs.rules.Base.{if◌then◌else◌, ◌is◌, COMMA, QUOTE}
+use Rattle.model.specs.rules.Base.{choose◌then◌else◌, ◌is◌, COMMA, QUOTE}
 
 -- the byte of each delimiter that CSV+ may be set to (§5.12)
 abbrev pub delimiter_byte : Delimiter → ℕ
@@ -23,9 +23,9 @@ standard = record { delimiter = Comma; quote = Double }
 -- the dialect of a number, or none if the number is unknown; nothing else selects a dialect (§1.1 §1.2 §1.3 §1.4 §1.8)
 unfoldable pub dialect_of : ℕ → Option Dialect
 dialect_of n =
-    if n is 1 then some Csvj
-    else if n is 2 then some Tdif
-    else if n is 3 then some (CsvPlus standard)
+    choose n is 1 then some Csvj
+    else choose n is 2 then some Tdif
+    else choose n is 3 then some (CsvPlus standard)
     else none
 
 -- the target that a dialect's number in a call denotes (§1.1 §12.1)

@@ -5,7 +5,7 @@ use Rattle.model.specs.rules.Types.{Dialect, Csvj, Tdif, CsvPlus, EeToEf, Second
 use Rattle.model.specs.rules.Types.{Cell, Fresh, Plain, CellStep, More, Stop, Refuse, Encoding, Syntax}
 use Rattle.model.specs.rules.Types.{FileState, Top, Begin, Ended, Bom1, Bom2, PlainBom1, PlainBom2, Comment, Blanks, ExpectCell, Inside, After, Cr}
 use Rattle.model.specs.rules.Types.{Outside, Passed, OfCell, Between, Tail, Ends, Step, To, Reject, Ending, Clean, Final, Cut}
-use Rattle.model.specs.rules.Base.{if◌then◌else◌, ◌is◌, LF, CR, COMMA}
+use Rattle.model.specs.rules.Base.{choose◌then◌else◌, ◌is◌, LF, CR, COMMA}
 use Rattle.model.specs.rules.Dialect.{delimiter_of}
 use Rattle.model.specs.rules.Utf8.{char_step}
 use Rattle.model.specs.rules.Cell.{cell_step, is_whole, in_quotes}
@@ -18,20 +18,20 @@ is_blank b = b is 0x20 || b is 0x09
 -- record's ending, in CSVJ a blank, and nothing else (§3.1 §3.2 §3.3 §4.1 §4.5 §5.1 §5.3 §5.8 §6.23)
 unfoldable pub after_cell : Dialect → (closes : Bool) → ℕ → Step
 after_cell Csvj closes b =
-    if is_blank b then To After (Between closes)
-    else if b is COMMA then To ExpectCell (Between closes)
-    else if b is LF then To Begin (Ends closes)
-    else if b is CR then To Cr (Tail closes)
+    choose is_blank b then To After (Between closes)
+    else choose b is COMMA then To ExpectCell (Between closes)
+    else choose b is LF then To Begin (Ends closes)
+    else choose b is CR then To Cr (Tail closes)
     else Reject Syntax
 after_cell Tdif closes b =
-    if b is COMMA then To (Inside Fresh) (Between closes)
-    else if b is LF then To Begin (Ends closes)
-    else if b is CR then To Ended (Ends closes)
+    choose b is COMMA then To (Inside Fresh) (Between closes)
+    else choose b is LF then To Begin (Ends closes)
+    else choose b is CR then To Ended (Ends closes)
     else Reject Syntax
 after_cell (CsvPlus s) closes b =
-    if b is delimiter_of (CsvPlus s) then To (Inside Fresh) (Between closes)
-    else if b is LF then To Begin (Ends closes)
-    else if b is CR then To Cr (Tail closes)
+    choose b is delimiter_of (CsvPlus s) then To (Inside Fresh) (Between closes)
+    else choose b is LF then To Begin (Ends closes)
+    else choose b is CR then To Cr (Tail closes)
     else Reject Syntax
 
 -- a byte in a cell, given what it does to the cell and what it is when the cell ends before it (§3.3 §4.5 §5.3)
@@ -49,19 +49,19 @@ in_cell d c b = grow (cell_step d c b) (after_cell d true b)
 -- §3.3 §3.12 §4.6 §4.7 §4.8 §5.6 §6.1)
 unfoldable pub begin_record : Dialect → ℕ → Step
 begin_record Csvj b =
-    if is_blank b then To Blanks (Between false)
-    else if b is LF then To Begin (Ends false)
-    else if b is CR then To Cr (Tail false)
+    choose is_blank b then To Blanks (Between false)
+    else choose b is LF then To Begin (Ends false)
+    else choose b is CR then To Cr (Tail false)
     else in_cell Csvj Fresh b
-begin_record Tdif b = if b is 0x23 then To (Comment Whole) Outside else in_cell Tdif Fresh b
+begin_record Tdif b = choose b is 0x23 then To (Comment Whole) Outside else in_cell Tdif Fresh b
 begin_record (CsvPlus s) b = in_cell (CsvPlus s) Fresh b
 
 -- the file's first byte, which may begin the byte order mark: CSVJ skips the mark, TDIF has none, CSV+ refuses it at its third byte
 -- (§3.8 §4.11 §5.9)
 unfoldable pub begin_file : Dialect → ℕ → Step
-begin_file Csvj b = if b is 0xEF then To Bom1 Outside else begin_record Csvj b
+begin_file Csvj b = choose b is 0xEF then To Bom1 Outside else begin_record Csvj b
 begin_file Tdif b = begin_record Tdif b
-begin_file (CsvPlus s) b = if b is 0xEF then To PlainBom1 OfCell else begin_record (CsvPlus s) b
+begin_file (CsvPlus s) b = choose b is 0xEF then To PlainBom1 OfCell else begin_record (CsvPlus s) b
 
 -- a byte of a comment, which is fault 2 where it breaks the table (§4.7 §6.2)
 abbrev pub commented : Advance → Step
@@ -73,23 +73,23 @@ unfoldable pub file_step : Dialect → FileState → ℕ → Step
 file_step d Top b = begin_file d b
 file_step d Begin b = begin_record d b
 -- the LF of a CRLF whose CR ended a record or a comment; a second one would begin an empty line (§4.2 §4.6)
-file_step d Ended b = if b is LF then To Begin Passed else begin_record d b
+file_step d Ended b = choose b is LF then To Begin Passed else begin_record d b
 -- after EF at offset 0 the byte order mark has to continue (§3.9); in CSV+ its third byte is the fault, and any other is of an
 -- unquoted cell (§5.9)
-file_step d Bom1 b = if b is 0xBB then To Bom2 Outside else Reject Syntax
-file_step d Bom2 b = if b is 0xBF then To Begin Passed else Reject Syntax
-file_step d PlainBom1 b = if b is 0xBB then To PlainBom2 OfCell else in_cell d (Plain (Within (Second EeToEf))) b
-file_step d PlainBom2 b = if b is 0xBF then Reject Syntax else in_cell d (Plain (Within Last)) b
+file_step d Bom1 b = choose b is 0xBB then To Bom2 Outside else Reject Syntax
+file_step d Bom2 b = choose b is 0xBF then To Begin Passed else Reject Syntax
+file_step d PlainBom1 b = choose b is 0xBB then To PlainBom2 OfCell else in_cell d (Plain (Within (Second EeToEf))) b
+file_step d PlainBom2 b = choose b is 0xBF then Reject Syntax else in_cell d (Plain (Within Last)) b
 -- a comment extends to its line break (§4.7)
 file_step d (Comment Whole) b =
-    if b is LF then To Begin Passed else if b is CR then To Ended Passed else commented (char_step Whole b)
+    choose b is LF then To Begin Passed else choose b is CR then To Ended Passed else commented (char_step Whole b)
 file_step d (Comment (Within i)) b = commented (char_step (Within i) b)
 file_step d Blanks b = begin_record d b
-file_step d ExpectCell b = if is_blank b then To ExpectCell (Between false) else in_cell d Fresh b
+file_step d ExpectCell b = choose is_blank b then To ExpectCell (Between false) else in_cell d Fresh b
 file_step d (Inside c) b = in_cell d c b
 file_step d After b = after_cell d false b
 -- a CR outside quotes is followed by its LF (§3.1 §5.7)
-file_step d Cr b = if b is LF then To Begin (Ends false) else Reject Syntax
+file_step d Cr b = choose b is LF then To Begin (Ends false) else Reject Syntax
 
 -- ---- the end of the file
 
@@ -97,7 +97,7 @@ file_step d Cr b = if b is LF then To Begin (Ends false) else Reject Syntax
 abbrev pub last_cell : Dialect → Cell → Ending
 last_cell Csvj c = Cut
 last_cell Tdif c = Cut
-last_cell (CsvPlus s) c = if is_whole (CsvPlus s) c then Final else Cut
+last_cell (CsvPlus s) c = choose is_whole (CsvPlus s) c then Final else Cut
 
 -- the meaning of the end of the file in each state: between records nothing; else fault 4, or the end of a last CSV+ record (§5.2
 -- §6.4 §6.25)

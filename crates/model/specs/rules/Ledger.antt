@@ -2,7 +2,7 @@
 use Rattle.std.specs.Prelude.{ℕ, Bool, true, false, ◌&&◌, ◌||◌, List, [], ◌∷◌, ◌++◌, map, length, drop, ltb}
 use Rattle.std.proofs.Math.Option.{Option, none, some}
 use Rattle.model.specs.rules.Types.{Report, Dialect, Target}
-use Rattle.model.specs.rules.Base.{if◌then◌else◌, ◌is◌, within, Bytes, over}
+use Rattle.model.specs.rules.Base.{choose◌then◌else◌, ◌is◌, within, Bytes, over}
 use Rattle.model.specs.rules.Dialect.{dialect_of, into}
 use Rattle.model.specs.rules.Text.{table_text}
 use Rattle.model.specs.rules.Report.{refusal, MAXPIECE, LEASTOUTPUT}
@@ -47,7 +47,7 @@ is_file_fault e = within 1 9 e.number
 -- the file fault that an earlier call reported (§15.5)
 unfoldable pub fault_in : List Entry → Option Report
 fault_in [] = none
-fault_in (x ∷ xs) = if is_file_fault x.answer.report then some x.answer.report else fault_in xs
+fault_in (x ∷ xs) = choose is_file_fault x.answer.report then some x.answer.report else fault_in xs
 
 -- an earlier end call was accepted (§15.6)
 unfoldable pub ended_in : List Entry → Bool
@@ -59,14 +59,14 @@ ended_in (x ∷ xs) = is_finish x.call && is_accepted x.answer.report || ended_i
 unfoldable pub consumed_in : List Entry → Bytes
 consumed_in [] = []
 consumed_in (x ∷ xs) =
-    if is_file_fault x.answer.report then bytes_of x.call
-    else (if is_accepted x.answer.report then bytes_of x.call else []) ++ consumed_in xs
+    choose is_file_fault x.answer.report then bytes_of x.call
+    else (choose is_accepted x.answer.report then bytes_of x.call else []) ++ consumed_in xs
 
 -- an end call was taken, so that the end of the file is known: an accepted one, or one that found the fault (§16.6)
 unfoldable pub closed_in : List Entry → Bool
 closed_in [] = false
 closed_in (x ∷ xs) =
-    if is_file_fault x.answer.report then is_finish x.call
+    choose is_file_fault x.answer.report then is_finish x.call
     else is_finish x.call && is_accepted x.answer.report || closed_in xs
 
 -- all that was written before (§16.7)
@@ -98,8 +98,8 @@ answer_to d t past c =
     elim (fault_in past) [
       | some e ↦ unwritten e
       | none ↦
-          if ended_in past then unwritten (refusal 11)
-          else if too_small c then unwritten (refusal 10)
+          choose ended_in past then unwritten (refusal 11)
+          else choose too_small c then unwritten (refusal 10)
           else taken t (written_in past) (seen_by d t c (consumed_in past ++ bytes_of c))
     ]
 

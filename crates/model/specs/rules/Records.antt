@@ -6,7 +6,7 @@ use Rattle.model.specs.rules.Types.{FileState, Top, Begin, Outside, Passed, OfCe
 use Rattle.model.specs.rules.Types.{Fault, NoRecord, Byte, CutShort, CellCount, RepeatedName, HeaderKind, FileTooLong, RecordTooLong}
 use Rattle.model.specs.rules.Types.{TooManyColumns, NoCells, LacksKind, LoneSurrogate, Clash, TextTooLong, OutputTooLong, CheckResult, Sound}
 use Rattle.model.specs.rules.Types.{Faulty}
-use Rattle.model.specs.rules.Base.{if◌then◌else◌, within, Bytes, same, is_empty}
+use Rattle.model.specs.rules.Base.{choose◌then◌else◌, within, Bytes, same, is_empty}
 use Rattle.model.specs.rules.Dialect.{is_csvj}
 use Rattle.model.specs.rules.Utf8.{holds_lone}
 use Rattle.model.specs.rules.File.{file_step, file_end, counts}
@@ -42,7 +42,7 @@ when false e = Sound
 
 -- a letter A to Z as its lower case, and every other byte as it is (§4.10)
 abbrev pub lower : ℕ → ℕ
-lower b = if within 0x41 0x5A b then b + 0x20 else b
+lower b = choose within 0x41 0x5A b then b + 0x20 else b
 
 -- what names are compared by: content, in TDIF with upper case taken as lower. Two names are the same exactly when their
 -- keys are (§3.11 §4.10 §5.10)
@@ -54,14 +54,14 @@ name_key (CsvPlus s) bs = bs
 -- a name is among others (§6.6)
 unfoldable pub among : Bytes → List Bytes → Bool
 among x [] = false
-among x (y ∷ ys) = if same x y then true else among x ys
+among x (y ∷ ys) = choose same x y then true else among x ys
 
 -- the first name, from column n on, that repeats an earlier one; `seen` holds the keys of the earlier ones (§6.6 §7.10)
 unfoldable pub repeat_from : Dialect → (ℕ → Fault) → (seen : List Bytes) (n : ℕ) → List Value → CheckResult
 repeat_from d fault seen n [] = Sound
 repeat_from d fault seen n (v ∷ vs) =
     let key : Bytes = name_key d v.content in
-    if among key seen then Faulty (fault n) else repeat_from d fault (key ∷ seen) (suc n) vs
+    choose among key seen then Faulty (fault n) else repeat_from d fault (key ∷ seen) (suc n) vs
 
 -- the first header name that repeats an earlier one, by the dialect's rule for names (§6.6 §8.4)
 unfoldable pub repeat_fault : Dialect → (ℕ → Fault) → List Value → CheckResult
@@ -244,8 +244,8 @@ record_full r b = leb MAXRECORD r.size && counts r.state b
 -- one byte more: limits come before form (§7.6)
 unfoldable pub read_byte : Dialect → (target : Option Target) → Read → ℕ → Progress
 read_byte d target r b =
-    if file_full r then stopped FileTooLong r
-    else if record_full r b then stopped RecordTooLong r
+    choose file_full r then stopped FileTooLong r
+    else choose record_full r b then stopped RecordTooLong r
     else move d target r b (file_step d r.state b)
 
 -- bytes in file order, up to the first fault (§7.5)
@@ -288,7 +288,7 @@ record_now r = suc (length r.done)
 
 -- the offset of a fault: the byte where reading is, or the start of the record (§6.19 §6.20)
 abbrev pub place_of : Fault → Read → ℕ
-place_of e r = if is_at_byte e then r.offset else r.start
+place_of e r = choose is_at_byte e then r.offset else r.start
 
 -- the report of a fault, by its row of the table (§6.14)
 abbrev pub fault_report : Fault → Read → Report

@@ -1,7 +1,7 @@
 -- Canonical text of a cell, a record and a table, in each dialect.
 use Rattle.std.specs.Prelude.{ℕ, ◌+◌, ◌-◌, ◌*◌, ◌/◌, ◌%◌, Bool, true, false, ◌&&◌, ◌||◌, List, [], ◌∷◌, ◌++◌, leb}
 use Rattle.model.specs.rules.Types.{Kind, Text, Number, True, False, Null, Settings, Dialect, Csvj, Tdif, CsvPlus, Target}
-use Rattle.model.specs.rules.Base.{if◌then◌else◌, ◌is◌, Bytes, QUOTE, BACKSLASH, CR, LF, holds, is_empty}
+use Rattle.model.specs.rules.Base.{choose◌then◌else◌, ◌is◌, Bytes, QUOTE, BACKSLASH, CR, LF, holds, is_empty}
 use Rattle.model.specs.rules.Dialect.{delimiter_of, quote_of}
 use Rattle.model.specs.rules.Utf8.{is_surrogate}
 
@@ -24,19 +24,19 @@ is_text Null = false
 
 -- a lower-case hexadecimal digit (§14.3 §14.4)
 abbrev pub hex_digit : ℕ → ℕ
-hex_digit n = if leb n 9 then 0x30 + n else 0x57 + n
+hex_digit n = choose leb n 9 then 0x30 + n else 0x57 + n
 
 -- a byte of a text in CSVJ: as it is, or as its escape (§14.3)
 abbrev pub escaped : ℕ → Bytes
 escaped b =
-    if b is QUOTE then BACKSLASH ∷ QUOTE ∷ []
-    else if b is BACKSLASH then BACKSLASH ∷ BACKSLASH ∷ []
-    else if leb 0x20 b then b ∷ []
-    else if b is 0x08 then BACKSLASH ∷ 0x62 ∷ []
-    else if b is 0x09 then BACKSLASH ∷ 0x74 ∷ []
-    else if b is 0x0A then BACKSLASH ∷ 0x6E ∷ []
-    else if b is 0x0C then BACKSLASH ∷ 0x66 ∷ []
-    else if b is 0x0D then BACKSLASH ∷ 0x72 ∷ []
+    choose b is QUOTE then BACKSLASH ∷ QUOTE ∷ []
+    else choose b is BACKSLASH then BACKSLASH ∷ BACKSLASH ∷ []
+    else choose leb 0x20 b then b ∷ []
+    else choose b is 0x08 then BACKSLASH ∷ 0x62 ∷ []
+    else choose b is 0x09 then BACKSLASH ∷ 0x74 ∷ []
+    else choose b is 0x0A then BACKSLASH ∷ 0x6E ∷ []
+    else choose b is 0x0C then BACKSLASH ∷ 0x66 ∷ []
+    else choose b is 0x0D then BACKSLASH ∷ 0x72 ∷ []
     else BACKSLASH ∷ 0x75 ∷ 0x30 ∷ 0x30 ∷ hex_digit (b / 0x10) ∷ hex_digit (b % 0x10) ∷ []
 
 -- a lone surrogate in CSVJ: the three bytes ED b c are \ud and three more digits (§14.4)
@@ -51,7 +51,7 @@ json_body [] = []
 json_body (a ∷ []) = escaped a
 json_body (a ∷ b ∷ []) = escaped a ++ json_body (b ∷ [])
 json_body (a ∷ b ∷ c ∷ bs) =
-    if is_surrogate a b then surrogate b c ++ json_body bs else escaped a ++ json_body (b ∷ c ∷ bs)
+    choose is_surrogate a b then surrogate b c ++ json_body bs else escaped a ++ json_body (b ∷ c ∷ bs)
 
 -- a cell in CSVJ (§14.3 §14.5)
 unfoldable pub json_cell : Kind → Bytes → Bytes
@@ -67,7 +67,7 @@ json_cell Null bs = 0x6E ∷ 0x75 ∷ 0x6C ∷ 0x6C ∷ []
 -- content with each quote written twice (§14.6 §14.7)
 unfoldable pub doubled : ℕ → Bytes → Bytes
 doubled q [] = []
-doubled q (b ∷ bs) = if b is q then q ∷ q ∷ doubled q bs else b ∷ doubled q bs
+doubled q (b ∷ bs) = choose b is q then q ∷ q ∷ doubled q bs else b ∷ doubled q bs
 
 -- content in quotes, as a cell of TDIF or CSV+ (§14.6 §14.7)
 unfoldable pub quoted_text : ℕ → Bytes → Bytes
@@ -93,14 +93,14 @@ has_quotes s only first bs = holds (special s) bs || only && is_empty bs || firs
 
 -- a cell in CSV+, in quotes where it has to be (§14.7)
 unfoldable pub csv_plus_cell : Settings → (only first : Bool) → Bytes → Bytes
-csv_plus_cell s only first bs = if has_quotes s only first bs then quoted_text (quote_of (CsvPlus s)) bs else bs
+csv_plus_cell s only first bs = choose has_quotes s only first bs then quoted_text (quote_of (CsvPlus s)) bs else bs
 
 -- ---- records and tables
 
 -- a cell in a dialect that can represent its kind; TDIF's other kind beside text is null (§14.5 §14.6 §14.7)
 unfoldable pub cell_text : Dialect → (only first : Bool) → Value → Bytes
 cell_text Csvj only first v = json_cell v.kind v.content
-cell_text Tdif only first v = if is_text v.kind then quoted_text QUOTE v.content else BACKSLASH ∷ 0x4E ∷ []
+cell_text Tdif only first v = choose is_text v.kind then quoted_text QUOTE v.content else BACKSLASH ∷ 0x4E ∷ []
 cell_text (CsvPlus s) only first v = csv_plus_cell s only first v.content
 
 -- a record's ending (§14.2)

@@ -4,7 +4,7 @@ use Rattle.std.specs.Prelude.{ℕ, ◌+◌, ◌-◌, ◌*◌, ◌/◌, ◌%◌, 
 use Rattle.std.proofs.Math.Option.{Option, none, some}
 use Rattle.model.specs.rules.Types.{Lead, C2ToDf, E0, E1ToEc, Ed, EeToEf, F0, F1ToF3, F4, Inner, Second, LastTwo, Last, Char, Whole, Within}
 use Rattle.model.specs.rules.Types.{Advance, On, Broken}
-use Rattle.model.specs.rules.Base.{if◌then◌else◌, ◌is◌, within, Bytes}
+use Rattle.model.specs.rules.Base.{choose◌then◌else◌, ◌is◌, within, Bytes}
 
 -- ---- the table
 
@@ -39,21 +39,21 @@ leads = C2ToDf ∷ E0 ∷ E1ToEc ∷ Ed ∷ EeToEf ∷ F0 ∷ F1ToF3 ∷ F4 ∷ 
 -- the first byte of a character of more than one byte: its row, or none, which breaks the table (§2.11)
 unfoldable pub lead_byte : List Lead → ℕ → Advance
 lead_byte [] b = Broken
-lead_byte (l ∷ ls) b = if within (row_of l).lo (row_of l).hi b then On (Within (Second l)) else lead_byte ls b
+lead_byte (l ∷ ls) b = choose within (row_of l).lo (row_of l).hi b then On (Within (Second l)) else lead_byte ls b
 
 -- after the second byte of a character of this length (§2.11)
 abbrev pub after_second : (size : ℕ) → Char
-after_second size = if size is 2 then Whole else if size is 3 then Within Last else Within LastTwo
+after_second size = choose size is 2 then Whole else choose size is 3 then Within Last else Within LastTwo
 
 -- a character's second byte by its row, and its later bytes, which are 80 to BF (§2.11)
 unfoldable pub inner_step : Inner → ℕ → Advance
-inner_step (Second l) b = if within (row_of l).lo2 (row_of l).hi2 b then On (after_second (row_of l).size) else Broken
-inner_step LastTwo b = if within 0x80 0xBF b then On (Within Last) else Broken
-inner_step Last b = if within 0x80 0xBF b then On Whole else Broken
+inner_step (Second l) b = choose within (row_of l).lo2 (row_of l).hi2 b then On (after_second (row_of l).size) else Broken
+inner_step LastTwo b = choose within 0x80 0xBF b then On (Within Last) else Broken
+inner_step Last b = choose within 0x80 0xBF b then On Whole else Broken
 
 -- the next byte of a text, by the table (§2.11)
 unfoldable pub char_step : Char → ℕ → Advance
-char_step Whole b = if within 0x00 0x7F b then On Whole else lead_byte leads b
+char_step Whole b = choose within 0x00 0x7F b then On Whole else lead_byte leads b
 char_step (Within i) b = inner_step i b
 
 -- a text obeys the table from here to its end, and is not cut inside a character (§1.5 §2.11)
@@ -67,9 +67,9 @@ text_from c (b ∷ bs) = elim (char_step c b) [ Broken ↦ false | On c' ↦ tex
 -- a code point as one to four bytes; a surrogate as the three bytes that represent a lone one (§2.6 §2.10)
 unfoldable pub pack : ℕ → Bytes
 pack u =
-    if leb u 0x7F then u ∷ []
-    else if leb u 0x7FF then (0xC0 + u / 0x40) ∷ (0x80 + u % 0x40) ∷ []
-    else if leb u 0xFFFF then (0xE0 + u / 0x1000) ∷ (0x80 + u / 0x40 % 0x40) ∷ (0x80 + u % 0x40) ∷ []
+    choose leb u 0x7F then u ∷ []
+    else choose leb u 0x7FF then (0xC0 + u / 0x40) ∷ (0x80 + u % 0x40) ∷ []
+    else choose leb u 0xFFFF then (0xE0 + u / 0x1000) ∷ (0x80 + u / 0x40 % 0x40) ∷ (0x80 + u % 0x40) ∷ []
     else (0xF0 + u / 0x40000) ∷ (0x80 + u / 0x1000 % 0x40) ∷ (0x80 + u / 0x40 % 0x40) ∷ (0x80 + u % 0x40) ∷ []
 
 -- code points one after another, as text holds them (§2.6 §2.10)
@@ -103,7 +103,7 @@ is_surrogate a b = a is 0xED && leb 0xA0 b
 unfoldable pub holds_lone : Bytes → Bool
 holds_lone [] = false
 holds_lone (a ∷ []) = false
-holds_lone (a ∷ b ∷ bs) = if is_surrogate a b then true else holds_lone (b ∷ bs)
+holds_lone (a ∷ b ∷ bs) = choose is_surrogate a b then true else holds_lone (b ∷ bs)
 
 -- the state inside content, with what is needed to recognise a high surrogate directly before a low one (§2.6 §2.9)
 pub data Wide : Type 0 where
@@ -129,13 +129,13 @@ settle (On c) = some (settled c)
 -- the next byte of content: of the table's text, or of a lone surrogate, which is not low directly after a high one (§2.6
 -- §2.9)
 unfoldable pub wide_step : Wide → ℕ → Option Wide
-wide_step (gap h) b = if b is 0xED then some (ed h) else settle (char_step Whole b)
+wide_step (gap h) b = choose b is 0xED then some (ed h) else settle (char_step Whole b)
 wide_step (ed h) b =
-    if within 0x80 0x9F b then some (inner Last)
-    else if within 0xA0 0xAF b then some (lone true)
-    else if within 0xB0 0xBF b then (if h then none else some (lone false))
+    choose within 0x80 0x9F b then some (inner Last)
+    else choose within 0xA0 0xAF b then some (lone true)
+    else choose within 0xB0 0xBF b then (choose h then none else some (lone false))
     else none
-wide_step (lone h) b = if within 0x80 0xBF b then some (gap h) else none
+wide_step (lone h) b = choose within 0x80 0xBF b then some (gap h) else none
 wide_step (inner i) b = settle (char_step (Within i) b)
 
 -- bytes are content from here to their end, and are not cut inside a character or a surrogate (§2.6 §2.9)

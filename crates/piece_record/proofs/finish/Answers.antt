@@ -6,7 +6,7 @@ use mathlib.Core.List.{List}
 use lib.ListN.{length}
 use borrow.Author.Rules.{rules}
 use Rattle.model.specs.declared.CheckResult.TheVariants.{Sound}
-use Rattle.model.specs.rules.Base.{if◌then◌else◌, Bytes}
+use Rattle.model.specs.rules.Base.{choose◌then◌else◌, Bytes}
 use Rattle.model.specs.rules.Dialect.{into}
 use Rattle.model.specs.rules.Text.{Value}
 use Rattle.cell_decoder.specs.declared.source.Source.TheVariants.{File}
@@ -72,7 +72,7 @@ returns-in-Faulty c =
     is_refused (sym (fault) ∙ c.in-Faulty.is) refl
 
 pub shape_of-out : goal.shape_of-out
-unfolding if◌then◌else◌
+unfolding choose◌then◌else◌
 shape_of-out c =
     let measured : c.check_record-r.result.verdict ≡ Sound → c.check_record-r.result.length ≡ length (text (start c)) =
         λ sound. c.check_record-r.ensures.length_value sound in
@@ -87,7 +87,7 @@ shape_of-out c =
     ap length p.text ∙ length_written u.args.out.now u.args.o (text u) (fits)
 
 pub returns-else-out-o : goal.returns-else-out-o
-unfolding if◌then◌else◌ fault_at
+unfolding choose◌then◌else◌ fault_at
 returns-else-out-o c =
     let fault : (let a = (start c).args in c.check_record-r.result.verdict ≡ fault_at a.d (into a.t) a.p (cells (start c))) =
         c.check_record-r.ensures.verdict_value in

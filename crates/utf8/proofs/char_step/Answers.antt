@@ -3,7 +3,7 @@ use mathlib.Core.Path.{sym, ◌∙◌}
 use Prim.Native.Nat.{zero-le}
 use native.Mathlib.Omega.{arith}
 use borrow.Author.Tests.{le-leb, lt-leb}
-use Rattle.model.specs.rules.Base.{if◌then◌else◌}
+use Rattle.model.specs.rules.Base.{choose◌then◌else◌}
 use Rattle.model.specs.rules.Utf8.{inner_step, char_step}
 use Rattle.model.proofs.cell_laws.Utf8.{ascii_whole}
 use Rattle.utf8.proofs.char_step.Goals as goal
@@ -13,7 +13,7 @@ unfolding char_step
 returns-then-b-lt128 c = sym (rw c.in-Whole.is (ascii_whole c.args.b (omega arith)))
 
 pub returns-else-b-lt128 : goal.returns-else-b-lt128
-unfolding char_step if◌then◌else◌
+unfolding char_step choose◌then◌else◌
 returns-else-b-lt128 c = c.lead_byte.ensures ∙ rw (c.in-Whole.is, le-leb 0 _ zero-le, lt-leb _ 0x7F c.if-b-lt128.false)
 
 pub returns-in-Second : goal.returns-in-Second

@@ -3,7 +3,7 @@ use native.Mathlib.Omega.{arith}
 use native.Mathlib.Numerals.{add-one}
 use lib.ListN.{get_or, drop_of_length-le}
 use borrow.Author.Tests.{le-leb, lt-leb}
-use Rattle.model.specs.rules.Base.{if◌then◌else◌}
+use Rattle.model.specs.rules.Base.{choose◌then◌else◌}
 use Rattle.model.specs.rules.Utf8.{row_of, leads, lead_byte}
 use Rattle.utf8.proofs.Table.{firsts, lasts, lead_at}
 use Rattle.utf8.proofs.lead_byte.Goals as goal
@@ -13,14 +13,14 @@ pub loop-row-init : goal.loop-row-init
 loop-row-init c = (omega arith, refl)
 
 pub returns-then-b-last : goal.returns-then-b-last
-unfolding row_of leads if◌then◌else◌
+unfolding row_of leads choose◌then◌else◌
 returns-then-b-last c =
     let from_first = le-leb (get_or firsts c.loop-row.row 0) c.args.b c.if-first-row.true in
     let to_last = le-leb c.args.b (get_or lasts c.loop-row.row 0) c.if-b-last.true in
     sym (c.loop-row.invariant.1 ∙ lead_at c.loop-row.row c.args.b (omega arith) ∙ simp (from_first, to_last))
 
 pub loop-row-preserved : goal.loop-row-preserved
-unfolding row_of leads if◌then◌else◌
+unfolding row_of leads choose◌then◌else◌
 loop-row-preserved c =
     let at = lead_at c.loop-row.row c.args.b (omega arith) in (
       omega arith,

@@ -2,13 +2,13 @@
 use mathlib.Core.Path.{sym, ap, ◌∙◌}
 use lib.ListN.{length}
 use borrow.Author.Rules.{rules}
-use Rattle.model.specs.rules.Base.{if◌then◌else◌}
+use Rattle.model.specs.rules.Base.{choose◌then◌else◌}
 use Rattle.cell_decoder.proofs.CellValidation.{validated_by, validated}
 
 use Rattle.cell_decoder.proofs.validate.validate_cell.Goals as goal
 
 pub returns-then-is_whole : goal.returns-then-is_whole
-unfolding if◌then◌else◌
+unfolding choose◌then◌else◌
 returns-then-is_whole c =
     let a = c.args in
     sym (validated a.d a.raw.now c.cell_end.result c.cell_end.ensures ∙
@@ -27,7 +27,7 @@ returns-in-Refused c =
     ap (validated_by a.d (length a.raw.now)) c.in-Refused.is)
 
 pub returns-else-is_whole : goal.returns-else-is_whole
-unfolding if◌then◌else◌
+unfolding choose◌then◌else◌
 returns-else-is_whole c =
     let a = c.args in
     sym (validated a.d a.raw.now c.cell_end.result c.cell_end.ensures ∙

@@ -1,19 +1,19 @@
 -- `cell_lexer::values::is_hex` meets its contract: the disjunction of its three ranges.
-use Rattle.model.specs.rules.Base.{if◌then◌else◌}
+use Rattle.model.specs.rules.Base.{choose◌then◌else◌}
 use Rattle.model.proofs.Tests.{tests}
 use borrow.Author.Rules.{rules}
 use Rattle.cell_lexer.proofs.values.is_hex.Goals as goal
 
 pub returns-then-is_digit : goal.returns-then-is_digit
-unfolding if◌then◌else◌
+unfolding choose◌then◌else◌
 returns-then-is_digit c = search (tests, ← c.is_digit.ensures, c.if-is_digit.true)
 
 pub returns-then-is_upper_hex : goal.returns-then-is_upper_hex
-unfolding if◌then◌else◌
+unfolding choose◌then◌else◌
 returns-then-is_upper_hex c = search (tests, ← c.is_upper_hex.ensures, c.if-is_upper_hex.true, ← c.is_digit.ensures, c.if-is_digit.false)
 
 pub returns : goal.returns
-unfolding if◌then◌else◌
+unfolding choose◌then◌else◌
 returns c =
     search (
       tests,

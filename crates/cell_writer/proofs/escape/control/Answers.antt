@@ -3,7 +3,7 @@ use mathlib.Core.Path.{◌≡◌}
 use mathlib.Core.List.{[], ◌∷◌}
 use borrow.Author.Rules.{rules}
 use Prim.Native.Nat.{ℕ}
-use Rattle.model.specs.rules.Base.{if◌then◌else◌, BACKSLASH}
+use Rattle.model.specs.rules.Base.{choose◌then◌else◌, BACKSLASH}
 use Rattle.model.specs.rules.Text.{escaped}
 use Rattle.cell_writer.proofs.Units.{spells_as, escaped_code, code_spells}
 
@@ -11,23 +11,23 @@ use Rattle.cell_writer.proofs.escape.control.Goals as goal
 
 -- the bytes that have a letter
 backspace : (b : ℕ) → b ≡ 0x08 → escaped b ≡ BACKSLASH ∷ 0x62 ∷ []
-unfolding if◌then◌else◌
+unfolding choose◌then◌else◌
 backspace b e = rw e
 
 tab : (b : ℕ) → b ≡ 0x09 → escaped b ≡ BACKSLASH ∷ 0x74 ∷ []
-unfolding if◌then◌else◌
+unfolding choose◌then◌else◌
 tab b e = rw e
 
 line_feed : (b : ℕ) → b ≡ 0x0A → escaped b ≡ BACKSLASH ∷ 0x6E ∷ []
-unfolding if◌then◌else◌
+unfolding choose◌then◌else◌
 line_feed b e = rw e
 
 form_feed : (b : ℕ) → b ≡ 0x0C → escaped b ≡ BACKSLASH ∷ 0x66 ∷ []
-unfolding if◌then◌else◌
+unfolding choose◌then◌else◌
 form_feed b e = rw e
 
 carriage_return : (b : ℕ) → b ≡ 0x0D → escaped b ≡ BACKSLASH ∷ 0x72 ∷ []
-unfolding if◌then◌else◌
+unfolding choose◌then◌else◌
 carriage_return b e = rw e
 
 pub returns-then-b-eq8 : goal.returns-then-b-eq8

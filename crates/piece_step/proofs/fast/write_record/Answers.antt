@@ -6,7 +6,7 @@ use mathlib.Core.Bool.{true, false}
 use mathlib.Core.List.{List, ◌++◌}
 use lib.ListN.{length}
 use borrow.Author.Rules.{rules}
-use Rattle.model.specs.rules.Base.{if◌then◌else◌, Bytes}
+use Rattle.model.specs.rules.Base.{choose◌then◌else◌, Bytes}
 use Rattle.model.specs.rules.Dialect.{into}
 use Rattle.model.proofs.Tests.{impossible}
 use Rattle.model.specs.rules.Text.{Value, record_text, ending}
@@ -28,7 +28,7 @@ abbrev text : tie.Start → Bytes
 text c = record_text (into c.args.t) false (cells c) ++ ending c.args.t
 
 place_of : {old : Bytes} {o : ℕ} {w new : Bytes} {r : ℕ} → WrittenAt true old o w new r → (new ≡ written old o w) × (r ≡ o + length w)
-unfolding if◌then◌else◌
+unfolding choose◌then◌else◌
 place_of p = (p.text, p.place)
 
 pub returns-in-Faulty : goal.returns-in-Faulty

@@ -4,7 +4,7 @@ use mathlib.Core.Bool.{false}
 use mathlib.Core.List.{[]}
 use native.Mathlib.Omega.{arith}
 use lib.ListN.{length, get_or}
-use Rattle.model.specs.rules.Base.{COMMA, if◌then◌else◌}
+use Rattle.model.specs.rules.Base.{COMMA, choose◌then◌else◌}
 use Rattle.model.proofs.Tests.{impossible}
 use Rattle.buffer.specs.Writes.{measure}
 use Rattle.buffer.proofs.WriteProgress.{put_measured}
@@ -53,5 +53,5 @@ loop-n-preserved c =
     (put_measured refl (c.measured-o.ensures ∙ ap (λ (k : ℕ). measure (c.loop-n.o + k)) c.column_length.ensures) refl)
 
 pub returns : goal.returns
-unfolding if◌then◌else◌
+unfolding choose◌then◌else◌
 returns c = (put_all c.requires.spans.with_ends c.loop-n.invariant c.loop-n-test.false).place

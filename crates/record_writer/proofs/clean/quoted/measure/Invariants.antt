@@ -5,7 +5,7 @@ use mathlib.Core.Bool.{false}
 use mathlib.Core.List.{[]}
 use native.Mathlib.Omega.{arith}
 use lib.ListN.{length, get_or}
-use Rattle.model.specs.rules.Base.{COMMA, if◌then◌else◌}
+use Rattle.model.specs.rules.Base.{COMMA, choose◌then◌else◌}
 use Rattle.model.proofs.Tests.{impossible}
 use Rattle.buffer.specs.Writes.{measure}
 use Rattle.buffer.proofs.WriteProgress.{put_measured}
