@@ -5,9 +5,7 @@ use lib.ListN.{length}
 use borrow.Author.Rules.{rules}
 use Rattle.model.specs.rules.Report.{MAXFILE, MAXRECORD}
 use Rattle.record_scanner.proofs.ScanInvariant.{
-  Call,
-  Scanning,
-  Asked,
+  ask,
   begins,
   too_long_file,
   too_long_record,
@@ -28,21 +26,12 @@ use Rattle.record_scanner.proofs.ScanInvariant.{
   small_sum,
   small_step,
 }
-
 use Rattle.record_scanner.proofs.scan.Goals as goal
-
--- look: helper asked
--- look: cites tie
--- what is known after the call of `next_token`
-abbrev call : tie.After-next-token invariant-loop decreases-loop → Call
-call u =
-    let a = u.before.before.before.before.before.before.before.before.before.before.before.args in
-    record { d = a.d; part = a.part.now; first = a.first; size = a.size; limit = a.limit; from = a.from; room = a.room; base = a.base; starts₀ = a.starts.now; ends₀ = a.ends.now; kinds₀ = a.kinds.now }
 
 pub loop-i-init : goal.loop-i-init
 loop-i-init c =
     let q = c.requires in
-    begins _ q.0.0 q.0.1 q.0.2 q.1.0.0 q.1.0.1
+    begins _ q.from_in_bounds.0 q.from_in_bounds.1 q.from_in_bounds.2 q.size_bound.0 q.size_bound.1
 
 pub shape_of-starts-then-limit-i : goal.shape_of-starts-then-limit-i
 shape_of-starts-then-limit-i c = (lengths _ c.loop-i.invariant.lists).0
@@ -57,7 +46,7 @@ pub returns-then-limit-i : goal.returns-then-limit-i
 returns-then-limit-i c =
     let l = c.loop-i in
     let o = too_long_file _ l.invariant c.loop-i-test.true c.if-limit-i.true in
-    (o.answer, (o.at_starts, (o.at_ends, (o.at_kinds, o.bounds))))
+    record { value = o.answer; starts_after = o.at_starts; ends_after = o.at_ends; kinds_after = o.at_kinds; scan_in_bounds = o.bounds }
 
 pub shape_of-starts-then-is_full : goal.shape_of-starts-then-is_full
 shape_of-starts-then-is_full c = (lengths _ c.loop-i.invariant.lists).0
@@ -72,7 +61,7 @@ pub returns-then-is_full : goal.returns-then-is_full
 returns-then-is_full c =
     let l = c.loop-i in
     let o = too_long_record _ l.invariant c.loop-i-test.true c.if-limit-i.false (sym c.is_full.ensures ∙ c.if-is_full.true) in
-    (o.answer, (o.at_starts, (o.at_ends, (o.at_kinds, o.bounds))))
+    record { value = o.answer; starts_after = o.at_starts; ends_after = o.at_ends; kinds_after = o.at_kinds; scan_in_bounds = o.bounds }
 
 pub next_token-requires : goal.next_token-requires
 next_token-requires c =
@@ -81,157 +70,69 @@ next_token-requires c =
 
 pub shape_of-starts-in-Reject : goal.shape_of-starts-in-Reject
 shape_of-starts-in-Reject c =
-    let asked : (let l = c.loop-i in Asked (call c) l.state l.i l.h l.starts l.ends l.kinds c.next_token.result) =
-        record {
-      scanning = c.loop-i.invariant;
-      inside = c.loop-i-test.true;
-      under = c.if-limit-i.false;
-      fits = sym c.is_full.ensures ∙ c.if-is_full.false;
-      lies = c.next_token.ensures.lies;
-      comes = c.next_token.ensures.token_correct;
-    } in
-    (lengths _ (asked (c)).scanning.lists).0
+    let asked = ask _ c.loop-i.invariant c.loop-i-test.true c.if-limit-i.false (sym c.is_full.ensures ∙ c.if-is_full.false) c.next_token.ensures.lies c.next_token.ensures.token_correct in
+    (lengths _ asked.scanning.lists).0
 
 pub shape_of-ends-in-Reject : goal.shape_of-ends-in-Reject
 shape_of-ends-in-Reject c =
-    let asked : (let l = c.loop-i in Asked (call c) l.state l.i l.h l.starts l.ends l.kinds c.next_token.result) =
-        record {
-      scanning = c.loop-i.invariant;
-      inside = c.loop-i-test.true;
-      under = c.if-limit-i.false;
-      fits = sym c.is_full.ensures ∙ c.if-is_full.false;
-      lies = c.next_token.ensures.lies;
-      comes = c.next_token.ensures.token_correct;
-    } in
-    (lengths _ (asked (c)).scanning.lists).1
+    let asked = ask _ c.loop-i.invariant c.loop-i-test.true c.if-limit-i.false (sym c.is_full.ensures ∙ c.if-is_full.false) c.next_token.ensures.lies c.next_token.ensures.token_correct in
+    (lengths _ asked.scanning.lists).1
 
 pub shape_of-kinds-in-Reject : goal.shape_of-kinds-in-Reject
 shape_of-kinds-in-Reject c =
-    let asked : (let l = c.loop-i in Asked (call c) l.state l.i l.h l.starts l.ends l.kinds c.next_token.result) =
-        record {
-      scanning = c.loop-i.invariant;
-      inside = c.loop-i-test.true;
-      under = c.if-limit-i.false;
-      fits = sym c.is_full.ensures ∙ c.if-is_full.false;
-      lies = c.next_token.ensures.lies;
-      comes = c.next_token.ensures.token_correct;
-    } in
-    (lengths _ (asked (c)).scanning.lists).2
+    let asked = ask _ c.loop-i.invariant c.loop-i-test.true c.if-limit-i.false (sym c.is_full.ensures ∙ c.if-is_full.false) c.next_token.ensures.lies c.next_token.ensures.token_correct in
+    (lengths _ asked.scanning.lists).2
 
 pub returns-in-Reject : goal.returns-in-Reject
 returns-in-Reject c =
-    let asked : (let l = c.loop-i in Asked (call c) l.state l.i l.h l.starts l.ends l.kinds c.next_token.result) =
-        record {
-      scanning = c.loop-i.invariant;
-      inside = c.loop-i-test.true;
-      under = c.if-limit-i.false;
-      fits = sym c.is_full.ensures ∙ c.if-is_full.false;
-      lies = c.next_token.ensures.lies;
-      comes = c.next_token.ensures.token_correct;
-    } in
-    let o = step_refused _ (by_byte _ (asked) _ c.in-Is.is) _ c.in-Reject.is in
-    (o.answer, (o.at_starts, (o.at_ends, (o.at_kinds, o.bounds))))
+    let asked = ask _ c.loop-i.invariant c.loop-i-test.true c.if-limit-i.false (sym c.is_full.ensures ∙ c.if-is_full.false) c.next_token.ensures.lies c.next_token.ensures.token_correct in
+    let o = step_refused _ (by_byte _ asked _ c.in-Is.is) _ c.in-Reject.is in
+    record { value = o.answer; starts_after = o.at_starts; ends_after = o.at_ends; kinds_after = o.at_kinds; scan_in_bounds = o.bounds }
 
 pub overflow_add-base : goal.overflow_add-base
 overflow_add-base c =
-    let asked : (let l = c.loop-i in Asked (call c) l.state l.i l.h l.starts l.ends l.kinds c.next_token.result) =
-        record {
-      scanning = c.loop-i.invariant;
-      inside = c.loop-i-test.true;
-      under = c.if-limit-i.false;
-      fits = sym c.is_full.ensures ∙ c.if-is_full.false;
-      lies = c.next_token.ensures.lies;
-      comes = c.next_token.ensures.token_correct;
-    } in
-    record { fits = small_sum _ (by_byte _ (asked) _ c.in-Is.is) }
+    let asked = ask _ c.loop-i.invariant c.loop-i-test.true c.if-limit-i.false (sym c.is_full.ensures ∙ c.if-is_full.false) c.next_token.ensures.lies c.next_token.ensures.token_correct in
+    record { fits = small_sum _ (by_byte _ asked _ c.in-Is.is) }
 
 pub store_cell-requires : goal.store_cell-requires
 store_cell-requires c =
     let l = c.loop-i in
     let n = lengths _ l.invariant.lists in
-    let q = c.requires.size_bound.1 in
-    ((l.invariant.place.opened, l.invariant.place.inside), (rw n.0 q.0, rw n.1 q.1, rw n.2 q.2))
+    let q = c.requires.room_in_bounds in
+    record { opened_le_i = (l.invariant.place.opened, l.invariant.place.inside); room_in_bounds = (rw n.0 q.0, rw n.1 q.1, rw n.2 q.2) }
 
 pub after_byte-h-requires : goal.after_byte-h-requires
 after_byte-h-requires c =
-    let asked : (let l = c.loop-i in Asked (call c) l.state l.i l.h l.starts l.ends l.kinds c.next_token.result) =
-        record {
-      scanning = c.loop-i.invariant;
-      inside = c.loop-i-test.true;
-      under = c.if-limit-i.false;
-      fits = sym c.is_full.ensures ∙ c.if-is_full.false;
-      lies = c.next_token.ensures.lies;
-      comes = c.next_token.ensures.token_correct;
-    } in
-    small_step _ (by_byte _ (asked) _ c.in-Is.is)
+    let asked = ask _ c.loop-i.invariant c.loop-i-test.true c.if-limit-i.false (sym c.is_full.ensures ∙ c.if-is_full.false) c.next_token.ensures.lies c.next_token.ensures.token_correct in
+    small_step _ (by_byte _ asked _ c.in-Is.is)
 
 pub overflow_add-i : goal.overflow_add-i
 overflow_add-i c =
-    let asked : (let l = c.loop-i in Asked (call c) l.state l.i l.h l.starts l.ends l.kinds c.next_token.result) =
-        record {
-      scanning = c.loop-i.invariant;
-      inside = c.loop-i-test.true;
-      under = c.if-limit-i.false;
-      fits = sym c.is_full.ensures ∙ c.if-is_full.false;
-      lies = c.next_token.ensures.lies;
-      comes = c.next_token.ensures.token_correct;
-    } in
-    record { fits = (small_step _ (by_byte _ (asked) _ c.in-Is.is)).0 }
+    let asked = ask _ c.loop-i.invariant c.loop-i-test.true c.if-limit-i.false (sym c.is_full.ensures ∙ c.if-is_full.false) c.next_token.ensures.lies c.next_token.ensures.token_correct in
+    record { fits = (small_step _ (by_byte _ asked _ c.in-Is.is)).0 }
 
 pub shape_of-starts-then-ends_record : goal.shape_of-starts-then-ends_record
 shape_of-starts-then-ends_record c =
-    let asked : (let l = c.loop-i in Asked (call c) l.state l.i l.h l.starts l.ends l.kinds c.next_token.result) =
-        record {
-      scanning = c.loop-i.invariant;
-      inside = c.loop-i-test.true;
-      under = c.if-limit-i.false;
-      fits = sym c.is_full.ensures ∙ c.if-is_full.false;
-      lies = c.next_token.ensures.lies;
-      comes = c.next_token.ensures.token_correct;
-    } in
-    (put_lengths _ (asked (c)).scanning.lists _ _ _ _ _ c.store_cell.ensures).0
+    let asked = ask _ c.loop-i.invariant c.loop-i-test.true c.if-limit-i.false (sym c.is_full.ensures ∙ c.if-is_full.false) c.next_token.ensures.lies c.next_token.ensures.token_correct in
+    (put_lengths _ asked.scanning.lists _ _ _ _ _ (c.store_cell.ensures.starts_after, (c.store_cell.ensures.ends_after, c.store_cell.ensures.kinds_after))).0
 
 pub shape_of-ends-then-ends_record : goal.shape_of-ends-then-ends_record
 shape_of-ends-then-ends_record c =
-    let asked : (let l = c.loop-i in Asked (call c) l.state l.i l.h l.starts l.ends l.kinds c.next_token.result) =
-        record {
-      scanning = c.loop-i.invariant;
-      inside = c.loop-i-test.true;
-      under = c.if-limit-i.false;
-      fits = sym c.is_full.ensures ∙ c.if-is_full.false;
-      lies = c.next_token.ensures.lies;
-      comes = c.next_token.ensures.token_correct;
-    } in
-    (put_lengths _ (asked (c)).scanning.lists _ _ _ _ _ c.store_cell.ensures).1
+    let asked = ask _ c.loop-i.invariant c.loop-i-test.true c.if-limit-i.false (sym c.is_full.ensures ∙ c.if-is_full.false) c.next_token.ensures.lies c.next_token.ensures.token_correct in
+    (put_lengths _ asked.scanning.lists _ _ _ _ _ (c.store_cell.ensures.starts_after, (c.store_cell.ensures.ends_after, c.store_cell.ensures.kinds_after))).1
 
 pub shape_of-kinds-then-ends_record : goal.shape_of-kinds-then-ends_record
 shape_of-kinds-then-ends_record c =
-    let asked : (let l = c.loop-i in Asked (call c) l.state l.i l.h l.starts l.ends l.kinds c.next_token.result) =
-        record {
-      scanning = c.loop-i.invariant;
-      inside = c.loop-i-test.true;
-      under = c.if-limit-i.false;
-      fits = sym c.is_full.ensures ∙ c.if-is_full.false;
-      lies = c.next_token.ensures.lies;
-      comes = c.next_token.ensures.token_correct;
-    } in
-    (put_lengths _ (asked (c)).scanning.lists _ _ _ _ _ c.store_cell.ensures).2
+    let asked = ask _ c.loop-i.invariant c.loop-i-test.true c.if-limit-i.false (sym c.is_full.ensures ∙ c.if-is_full.false) c.next_token.ensures.lies c.next_token.ensures.token_correct in
+    (put_lengths _ asked.scanning.lists _ _ _ _ _ (c.store_cell.ensures.starts_after, (c.store_cell.ensures.ends_after, c.store_cell.ensures.kinds_after))).2
 
 pub returns-then-ends_record : goal.returns-then-ends_record
 returns-then-ends_record c =
-    let asked : (let l = c.loop-i in Asked (call c) l.state l.i l.h l.starts l.ends l.kinds c.next_token.result) =
-        record {
-      scanning = c.loop-i.invariant;
-      inside = c.loop-i-test.true;
-      under = c.if-limit-i.false;
-      fits = sym c.is_full.ensures ∙ c.if-is_full.false;
-      lies = c.next_token.ensures.lies;
-      comes = c.next_token.ensures.token_correct;
-    } in
+    let asked = ask _ c.loop-i.invariant c.loop-i-test.true c.if-limit-i.false (sym c.is_full.ensures ∙ c.if-is_full.false) c.next_token.ensures.lies c.next_token.ensures.token_correct in
     let o =
-    step_over _ (by_byte _ (asked) _ c.in-Is.is) _ _ c.in-To.is _ c.closes_cell.ensures _ _ _
-    c.store_cell.ensures _ c.after_byte-h.ensures _ c.ends_record.ensures c.if-ends_record.true in
-    (o.answer, (o.at_starts, (o.at_ends, (o.at_kinds, o.bounds))))
+    step_over _ (by_byte _ asked _ c.in-Is.is) _ _ c.in-To.is _ c.closes_cell.ensures _ _ _
+    (c.store_cell.ensures.starts_after, (c.store_cell.ensures.ends_after, c.store_cell.ensures.kinds_after)) _ c.after_byte-h.ensures _ c.ends_record.ensures c.if-ends_record.true in
+    record { value = o.answer; starts_after = o.at_starts; ends_after = o.at_ends; kinds_after = o.at_kinds; scan_in_bounds = o.bounds }
 
 pub loop-i-smaller-in-To : goal.loop-i-smaller-in-To
 loop-i-smaller-in-To c =
@@ -242,46 +143,22 @@ loop-i-smaller-in-To c =
 
 pub loop-i-preserved-in-To : goal.loop-i-preserved-in-To
 loop-i-preserved-in-To c =
-    let asked : (let l = c.loop-i in Asked (call c) l.state l.i l.h l.starts l.ends l.kinds c.next_token.result) =
-        record {
-      scanning = c.loop-i.invariant;
-      inside = c.loop-i-test.true;
-      under = c.if-limit-i.false;
-      fits = sym c.is_full.ensures ∙ c.if-is_full.false;
-      lies = c.next_token.ensures.lies;
-      comes = c.next_token.ensures.token_correct;
-    } in
-    step_on _ (by_byte _ (asked) _ c.in-Is.is) _ _ c.in-To.is _
-    c.closes_cell.ensures _ _ _ c.store_cell.ensures _ c.after_byte-h.ensures _
+    let asked = ask _ c.loop-i.invariant c.loop-i-test.true c.if-limit-i.false (sym c.is_full.ensures ∙ c.if-is_full.false) c.next_token.ensures.lies c.next_token.ensures.token_correct in
+    step_on _ (by_byte _ asked _ c.in-Is.is) _ _ c.in-To.is _
+    c.closes_cell.ensures _ _ _ (c.store_cell.ensures.starts_after, (c.store_cell.ensures.ends_after, c.store_cell.ensures.kinds_after)) _ c.after_byte-h.ensures _
     c.ends_record.ensures c.if-ends_record.false
 
 pub overflow_sub-j : goal.overflow_sub-j
 overflow_sub-j c =
-    let asked : (let l = c.loop-i in Asked (call c) l.state l.i l.h l.starts l.ends l.kinds c.next_token.result) =
-        record {
-      scanning = c.loop-i.invariant;
-      inside = c.loop-i-test.true;
-      under = c.if-limit-i.false;
-      fits = sym c.is_full.ensures ∙ c.if-is_full.false;
-      lies = c.next_token.ensures.lies;
-      comes = c.next_token.ensures.token_correct;
-    } in
-    let n = lies_skip _ (asked) _ c.in-Skipped.is in let j1 = n.0 in omega arith
+    let asked = ask _ c.loop-i.invariant c.loop-i-test.true c.if-limit-i.false (sym c.is_full.ensures ∙ c.if-is_full.false) c.next_token.ensures.lies c.next_token.ensures.token_correct in
+    let n = lies_skip _ asked _ c.in-Skipped.is in let j1 = n.0 in omega arith
 
 pub after_byte-h-requires-in-Skipped : goal.after_byte-h-requires-in-Skipped
 after_byte-h-requires-in-Skipped c =
-    let asked : (let l = c.loop-i in Asked (call c) l.state l.i l.h l.starts l.ends l.kinds c.next_token.result) =
-        record {
-      scanning = c.loop-i.invariant;
-      inside = c.loop-i-test.true;
-      under = c.if-limit-i.false;
-      fits = sym c.is_full.ensures ∙ c.if-is_full.false;
-      lies = c.next_token.ensures.lies;
-      comes = c.next_token.ensures.token_correct;
-    } in
+    let asked = ask _ c.loop-i.invariant c.loop-i-test.true c.if-limit-i.false (sym c.is_full.ensures ∙ c.if-is_full.false) c.next_token.ensures.lies c.next_token.ensures.token_correct in
     let a = c.args in
     let l = c.loop-i in
-    let n = lies_skip _ (asked) _ c.in-Skipped.is in
+    let n = lies_skip _ asked _ c.in-Skipped.is in
     let few : a.base + l.h.cells ≤ l.i = l.invariant.place.few in
     let sized : l.h.size ≤ MAXRECORD + l.i = l.invariant.place.sized in
     let low : a.limit ≤ MAXFILE = l.invariant.place.low in
@@ -289,391 +166,175 @@ after_byte-h-requires-in-Skipped c =
 
 pub loop-i-smaller-in-Skipped : goal.loop-i-smaller-in-Skipped
 loop-i-smaller-in-Skipped c =
-    let asked : (let l = c.loop-i in Asked (call c) l.state l.i l.h l.starts l.ends l.kinds c.next_token.result) =
-        record {
-      scanning = c.loop-i.invariant;
-      inside = c.loop-i-test.true;
-      under = c.if-limit-i.false;
-      fits = sym c.is_full.ensures ∙ c.if-is_full.false;
-      lies = c.next_token.ensures.lies;
-      comes = c.next_token.ensures.token_correct;
-    } in
-    let n = lies_skip _ (asked) _ c.in-Skipped.is in let j1 = n.0 in let j2 = n.1 in omega arith
+    let asked = ask _ c.loop-i.invariant c.loop-i-test.true c.if-limit-i.false (sym c.is_full.ensures ∙ c.if-is_full.false) c.next_token.ensures.lies c.next_token.ensures.token_correct in
+    let n = lies_skip _ asked _ c.in-Skipped.is in let j1 = n.0 in let j2 = n.1 in omega arith
 
 pub loop-i-preserved-in-Skipped : goal.loop-i-preserved-in-Skipped
 loop-i-preserved-in-Skipped c =
-    let asked : (let l = c.loop-i in Asked (call c) l.state l.i l.h l.starts l.ends l.kinds c.next_token.result) =
-        record {
-      scanning = c.loop-i.invariant;
-      inside = c.loop-i-test.true;
-      under = c.if-limit-i.false;
-      fits = sym c.is_full.ensures ∙ c.if-is_full.false;
-      lies = c.next_token.ensures.lies;
-      comes = c.next_token.ensures.token_correct;
-    } in
-    by_skip _ (asked) _ c.in-Skipped.is _ c.after_byte-h-in-Skipped.ensures
+    let asked = ask _ c.loop-i.invariant c.loop-i-test.true c.if-limit-i.false (sym c.is_full.ensures ∙ c.if-is_full.false) c.next_token.ensures.lies c.next_token.ensures.token_correct in
+    by_skip _ asked _ c.in-Skipped.is _ c.after_byte-h-in-Skipped.ensures
 
 pub overflow_sub-j-in-AfterCell : goal.overflow_sub-j-in-AfterCell
 overflow_sub-j-in-AfterCell c =
-    let asked : (let l = c.loop-i in Asked (call c) l.state l.i l.h l.starts l.ends l.kinds c.next_token.result) =
-        record {
-      scanning = c.loop-i.invariant;
-      inside = c.loop-i-test.true;
-      under = c.if-limit-i.false;
-      fits = sym c.is_full.ensures ∙ c.if-is_full.false;
-      lies = c.next_token.ensures.lies;
-      comes = c.next_token.ensures.token_correct;
-    } in
-    (lies_cell _ (asked) _ _ c.in-AfterCell.is).0
+    let asked = ask _ c.loop-i.invariant c.loop-i-test.true c.if-limit-i.false (sym c.is_full.ensures ∙ c.if-is_full.false) c.next_token.ensures.lies c.next_token.ensures.token_correct in
+    (lies_cell _ asked _ _ c.in-AfterCell.is).0
 
 pub after_bytes-h-requires : goal.after_bytes-h-requires
 after_bytes-h-requires c =
-    let asked : (let l = c.loop-i in Asked (call c) l.state l.i l.h l.starts l.ends l.kinds c.next_token.result) =
-        record {
-      scanning = c.loop-i.invariant;
-      inside = c.loop-i-test.true;
-      under = c.if-limit-i.false;
-      fits = sym c.is_full.ensures ∙ c.if-is_full.false;
-      lies = c.next_token.ensures.lies;
-      comes = c.next_token.ensures.token_correct;
-    } in
+    let asked = ask _ c.loop-i.invariant c.loop-i-test.true c.if-limit-i.false (sym c.is_full.ensures ∙ c.if-is_full.false) c.next_token.ensures.lies c.next_token.ensures.token_correct in
     let a = c.args in
     let l = c.loop-i in
     let few : a.base + l.h.cells ≤ l.i = l.invariant.place.few in
     let sized : l.h.size ≤ MAXRECORD + l.i = l.invariant.place.sized in
     let low : a.limit ≤ MAXFILE = l.invariant.place.low in
-    let n = lies_cell _ (asked) _ _ c.in-AfterCell.is in let j1 = n.0 in let j2 = n.2 in omega arith
+    let n = lies_cell _ asked _ _ c.in-AfterCell.is in let j1 = n.0 in let j2 = n.2 in omega arith
 
 pub bounds-part-j : goal.bounds-part-j
 bounds-part-j c =
-    let asked : (let l = c.loop-i in Asked (call c) l.state l.i l.h l.starts l.ends l.kinds c.next_token.result) =
-        record {
-      scanning = c.loop-i.invariant;
-      inside = c.loop-i-test.true;
-      under = c.if-limit-i.false;
-      fits = sym c.is_full.ensures ∙ c.if-is_full.false;
-      lies = c.next_token.ensures.lies;
-      comes = c.next_token.ensures.token_correct;
-    } in
-    (lies_cell _ (asked) _ _ c.in-AfterCell.is).1
+    let asked = ask _ c.loop-i.invariant c.loop-i-test.true c.if-limit-i.false (sym c.is_full.ensures ∙ c.if-is_full.false) c.next_token.ensures.lies c.next_token.ensures.token_correct in
+    (lies_cell _ asked _ _ c.in-AfterCell.is).1
 
 pub shape_of-starts-in-Reject-after_cell : goal.shape_of-starts-in-Reject-after_cell
 shape_of-starts-in-Reject-after_cell c =
-    let asked : (let l = c.loop-i in Asked (call c) l.state l.i l.h l.starts l.ends l.kinds c.next_token.result) =
-        record {
-      scanning = c.loop-i.invariant;
-      inside = c.loop-i-test.true;
-      under = c.if-limit-i.false;
-      fits = sym c.is_full.ensures ∙ c.if-is_full.false;
-      lies = c.next_token.ensures.lies;
-      comes = c.next_token.ensures.token_correct;
-    } in
-    (lengths _ (asked (c)).scanning.lists).0
+    let asked = ask _ c.loop-i.invariant c.loop-i-test.true c.if-limit-i.false (sym c.is_full.ensures ∙ c.if-is_full.false) c.next_token.ensures.lies c.next_token.ensures.token_correct in
+    (lengths _ asked.scanning.lists).0
 
 pub shape_of-ends-in-Reject-after_cell : goal.shape_of-ends-in-Reject-after_cell
 shape_of-ends-in-Reject-after_cell c =
-    let asked : (let l = c.loop-i in Asked (call c) l.state l.i l.h l.starts l.ends l.kinds c.next_token.result) =
-        record {
-      scanning = c.loop-i.invariant;
-      inside = c.loop-i-test.true;
-      under = c.if-limit-i.false;
-      fits = sym c.is_full.ensures ∙ c.if-is_full.false;
-      lies = c.next_token.ensures.lies;
-      comes = c.next_token.ensures.token_correct;
-    } in
-    (lengths _ (asked (c)).scanning.lists).1
+    let asked = ask _ c.loop-i.invariant c.loop-i-test.true c.if-limit-i.false (sym c.is_full.ensures ∙ c.if-is_full.false) c.next_token.ensures.lies c.next_token.ensures.token_correct in
+    (lengths _ asked.scanning.lists).1
 
 pub shape_of-kinds-in-Reject-after_cell : goal.shape_of-kinds-in-Reject-after_cell
 shape_of-kinds-in-Reject-after_cell c =
-    let asked : (let l = c.loop-i in Asked (call c) l.state l.i l.h l.starts l.ends l.kinds c.next_token.result) =
-        record {
-      scanning = c.loop-i.invariant;
-      inside = c.loop-i-test.true;
-      under = c.if-limit-i.false;
-      fits = sym c.is_full.ensures ∙ c.if-is_full.false;
-      lies = c.next_token.ensures.lies;
-      comes = c.next_token.ensures.token_correct;
-    } in
-    (lengths _ (asked (c)).scanning.lists).2
+    let asked = ask _ c.loop-i.invariant c.loop-i-test.true c.if-limit-i.false (sym c.is_full.ensures ∙ c.if-is_full.false) c.next_token.ensures.lies c.next_token.ensures.token_correct in
+    (lengths _ asked.scanning.lists).2
 
 pub returns-in-Reject-after_cell : goal.returns-in-Reject-after_cell
 returns-in-Reject-after_cell c =
-    let asked : (let l = c.loop-i in Asked (call c) l.state l.i l.h l.starts l.ends l.kinds c.next_token.result) =
-        record {
-      scanning = c.loop-i.invariant;
-      inside = c.loop-i-test.true;
-      under = c.if-limit-i.false;
-      fits = sym c.is_full.ensures ∙ c.if-is_full.false;
-      lies = c.next_token.ensures.lies;
-      comes = c.next_token.ensures.token_correct;
-    } in
+    let asked = ask _ c.loop-i.invariant c.loop-i-test.true c.if-limit-i.false (sym c.is_full.ensures ∙ c.if-is_full.false) c.next_token.ensures.lies c.next_token.ensures.token_correct in
     let o =
-    step_refused _ (by_cell _ (asked) _ _ c.in-AfterCell.is _
+    step_refused _ (by_cell _ asked _ _ c.in-AfterCell.is _
     c.after_bytes-h.ensures _ c.after_cell.ensures) _ c.in-Reject-after_cell.is in
-    (o.answer, (o.at_starts, (o.at_ends, (o.at_kinds, o.bounds))))
+    record { value = o.answer; starts_after = o.at_starts; ends_after = o.at_ends; kinds_after = o.at_kinds; scan_in_bounds = o.bounds }
 
 pub overflow_add-base-in-To-after_cell : goal.overflow_add-base-in-To-after_cell
 overflow_add-base-in-To-after_cell c =
-    let asked : (let l = c.loop-i in Asked (call c) l.state l.i l.h l.starts l.ends l.kinds c.next_token.result) =
-        record {
-      scanning = c.loop-i.invariant;
-      inside = c.loop-i-test.true;
-      under = c.if-limit-i.false;
-      fits = sym c.is_full.ensures ∙ c.if-is_full.false;
-      lies = c.next_token.ensures.lies;
-      comes = c.next_token.ensures.token_correct;
-    } in
+    let asked = ask _ c.loop-i.invariant c.loop-i-test.true c.if-limit-i.false (sym c.is_full.ensures ∙ c.if-is_full.false) c.next_token.ensures.lies c.next_token.ensures.token_correct in
     let g =
-    by_cell _ (asked) _ _ c.in-AfterCell.is _
+    by_cell _ asked _ _ c.in-AfterCell.is _
     c.after_bytes-h.ensures _ c.after_cell.ensures in
     let x = small_sum _ g in record { fits = x }
 
 pub store_cell-requires-in-To-after_cell : goal.store_cell-requires-in-To-after_cell
 store_cell-requires-in-To-after_cell c =
-    let asked : (let l = c.loop-i in Asked (call c) l.state l.i l.h l.starts l.ends l.kinds c.next_token.result) =
-        record {
-      scanning = c.loop-i.invariant;
-      inside = c.loop-i-test.true;
-      under = c.if-limit-i.false;
-      fits = sym c.is_full.ensures ∙ c.if-is_full.false;
-      lies = c.next_token.ensures.lies;
-      comes = c.next_token.ensures.token_correct;
-    } in
+    let asked = ask _ c.loop-i.invariant c.loop-i-test.true c.if-limit-i.false (sym c.is_full.ensures ∙ c.if-is_full.false) c.next_token.ensures.lies c.next_token.ensures.token_correct in
     let l = c.loop-i in
     let g =
-    by_cell _ (asked) _ _ c.in-AfterCell.is _
+    by_cell _ asked _ _ c.in-AfterCell.is _
     c.after_bytes-h.ensures _ c.after_cell.ensures in
     let n = lengths _ l.invariant.lists in
-    let q = c.requires.size_bound.1 in
-    ((g.place.opened, g.place.inside), (rw n.0 q.0, rw n.1 q.1, rw n.2 q.2))
+    let q = c.requires.room_in_bounds in
+    record { opened_le_i = (g.place.opened, g.place.inside); room_in_bounds = (rw n.0 q.0, rw n.1 q.1, rw n.2 q.2) }
 
 pub after_byte-h-requires-in-To-after_cell : goal.after_byte-h-requires-in-To-after_cell
 after_byte-h-requires-in-To-after_cell c =
-    let asked : (let l = c.loop-i in Asked (call c) l.state l.i l.h l.starts l.ends l.kinds c.next_token.result) =
-        record {
-      scanning = c.loop-i.invariant;
-      inside = c.loop-i-test.true;
-      under = c.if-limit-i.false;
-      fits = sym c.is_full.ensures ∙ c.if-is_full.false;
-      lies = c.next_token.ensures.lies;
-      comes = c.next_token.ensures.token_correct;
-    } in
+    let asked = ask _ c.loop-i.invariant c.loop-i-test.true c.if-limit-i.false (sym c.is_full.ensures ∙ c.if-is_full.false) c.next_token.ensures.lies c.next_token.ensures.token_correct in
     let g =
-    by_cell _ (asked) _ _ c.in-AfterCell.is _
+    by_cell _ asked _ _ c.in-AfterCell.is _
     c.after_bytes-h.ensures _ c.after_cell.ensures in
     small_step _ g
 
 pub overflow_add-i-in-To-after_cell : goal.overflow_add-i-in-To-after_cell
 overflow_add-i-in-To-after_cell c =
-    let asked : (let l = c.loop-i in Asked (call c) l.state l.i l.h l.starts l.ends l.kinds c.next_token.result) =
-        record {
-      scanning = c.loop-i.invariant;
-      inside = c.loop-i-test.true;
-      under = c.if-limit-i.false;
-      fits = sym c.is_full.ensures ∙ c.if-is_full.false;
-      lies = c.next_token.ensures.lies;
-      comes = c.next_token.ensures.token_correct;
-    } in
+    let asked = ask _ c.loop-i.invariant c.loop-i-test.true c.if-limit-i.false (sym c.is_full.ensures ∙ c.if-is_full.false) c.next_token.ensures.lies c.next_token.ensures.token_correct in
     let g =
-    by_cell _ (asked) _ _ c.in-AfterCell.is _
+    by_cell _ asked _ _ c.in-AfterCell.is _
     c.after_bytes-h.ensures _ c.after_cell.ensures in
     record { fits = (small_step _ g).0 }
 
 pub shape_of-starts-then-ends_record-2 : goal.shape_of-starts-then-ends_record-2
 shape_of-starts-then-ends_record-2 c =
-    let asked : (let l = c.loop-i in Asked (call c) l.state l.i l.h l.starts l.ends l.kinds c.next_token.result) =
-        record {
-      scanning = c.loop-i.invariant;
-      inside = c.loop-i-test.true;
-      under = c.if-limit-i.false;
-      fits = sym c.is_full.ensures ∙ c.if-is_full.false;
-      lies = c.next_token.ensures.lies;
-      comes = c.next_token.ensures.token_correct;
-    } in
-    (put_lengths _ (asked (c)).scanning.lists _ _ _
-    _ _ c.store_cell-in-To-after_cell.ensures).0
+    let asked = ask _ c.loop-i.invariant c.loop-i-test.true c.if-limit-i.false (sym c.is_full.ensures ∙ c.if-is_full.false) c.next_token.ensures.lies c.next_token.ensures.token_correct in
+    (put_lengths _ asked.scanning.lists _ _ _
+    _ _ (c.store_cell-in-To-after_cell.ensures.starts_after, (c.store_cell-in-To-after_cell.ensures.ends_after, c.store_cell-in-To-after_cell.ensures.kinds_after))).0
 
 pub shape_of-ends-then-ends_record-2 : goal.shape_of-ends-then-ends_record-2
 shape_of-ends-then-ends_record-2 c =
-    let asked : (let l = c.loop-i in Asked (call c) l.state l.i l.h l.starts l.ends l.kinds c.next_token.result) =
-        record {
-      scanning = c.loop-i.invariant;
-      inside = c.loop-i-test.true;
-      under = c.if-limit-i.false;
-      fits = sym c.is_full.ensures ∙ c.if-is_full.false;
-      lies = c.next_token.ensures.lies;
-      comes = c.next_token.ensures.token_correct;
-    } in
-    (put_lengths _ (asked (c)).scanning.lists _ _ _
-    _ _ c.store_cell-in-To-after_cell.ensures).1
+    let asked = ask _ c.loop-i.invariant c.loop-i-test.true c.if-limit-i.false (sym c.is_full.ensures ∙ c.if-is_full.false) c.next_token.ensures.lies c.next_token.ensures.token_correct in
+    (put_lengths _ asked.scanning.lists _ _ _
+    _ _ (c.store_cell-in-To-after_cell.ensures.starts_after, (c.store_cell-in-To-after_cell.ensures.ends_after, c.store_cell-in-To-after_cell.ensures.kinds_after))).1
 
 pub shape_of-kinds-then-ends_record-2 : goal.shape_of-kinds-then-ends_record-2
 shape_of-kinds-then-ends_record-2 c =
-    let asked : (let l = c.loop-i in Asked (call c) l.state l.i l.h l.starts l.ends l.kinds c.next_token.result) =
-        record {
-      scanning = c.loop-i.invariant;
-      inside = c.loop-i-test.true;
-      under = c.if-limit-i.false;
-      fits = sym c.is_full.ensures ∙ c.if-is_full.false;
-      lies = c.next_token.ensures.lies;
-      comes = c.next_token.ensures.token_correct;
-    } in
-    (put_lengths _ (asked (c)).scanning.lists _ _ _
-    _ _ c.store_cell-in-To-after_cell.ensures).2
+    let asked = ask _ c.loop-i.invariant c.loop-i-test.true c.if-limit-i.false (sym c.is_full.ensures ∙ c.if-is_full.false) c.next_token.ensures.lies c.next_token.ensures.token_correct in
+    (put_lengths _ asked.scanning.lists _ _ _
+    _ _ (c.store_cell-in-To-after_cell.ensures.starts_after, (c.store_cell-in-To-after_cell.ensures.ends_after, c.store_cell-in-To-after_cell.ensures.kinds_after))).2
 
 pub returns-then-ends_record-2 : goal.returns-then-ends_record-2
 returns-then-ends_record-2 c =
-    let asked : (let l = c.loop-i in Asked (call c) l.state l.i l.h l.starts l.ends l.kinds c.next_token.result) =
-        record {
-      scanning = c.loop-i.invariant;
-      inside = c.loop-i-test.true;
-      under = c.if-limit-i.false;
-      fits = sym c.is_full.ensures ∙ c.if-is_full.false;
-      lies = c.next_token.ensures.lies;
-      comes = c.next_token.ensures.token_correct;
-    } in
+    let asked = ask _ c.loop-i.invariant c.loop-i-test.true c.if-limit-i.false (sym c.is_full.ensures ∙ c.if-is_full.false) c.next_token.ensures.lies c.next_token.ensures.token_correct in
     let o =
-    step_over _ (by_cell _ (asked) _ _ c.in-AfterCell.is _ c.after_bytes-h.ensures _
-    c.after_cell.ensures) _ _ c.in-To-after_cell.is _ c.closes_cell-in-To-after_cell.ensures _ _ _ c.store_cell-in-To-after_cell.ensures _ c.after_byte-h-in-To-after_cell.ensures _ c.ends_record-in-To-after_cell.ensures c.if-ends_record-2.true in
-    (o.answer, (o.at_starts, (o.at_ends, (o.at_kinds, o.bounds))))
+    step_over _ (by_cell _ asked _ _ c.in-AfterCell.is _ c.after_bytes-h.ensures _
+    c.after_cell.ensures) _ _ c.in-To-after_cell.is _ c.closes_cell-in-To-after_cell.ensures _ _ _ (c.store_cell-in-To-after_cell.ensures.starts_after, (c.store_cell-in-To-after_cell.ensures.ends_after, c.store_cell-in-To-after_cell.ensures.kinds_after)) _ c.after_byte-h-in-To-after_cell.ensures _ c.ends_record-in-To-after_cell.ensures c.if-ends_record-2.true in
+    record { value = o.answer; starts_after = o.at_starts; ends_after = o.at_ends; kinds_after = o.at_kinds; scan_in_bounds = o.bounds }
 
 pub loop-i-smaller-in-To-after_cell : goal.loop-i-smaller-in-To-after_cell
 loop-i-smaller-in-To-after_cell c =
-    let asked : (let l = c.loop-i in Asked (call c) l.state l.i l.h l.starts l.ends l.kinds c.next_token.result) =
-        record {
-      scanning = c.loop-i.invariant;
-      inside = c.loop-i-test.true;
-      under = c.if-limit-i.false;
-      fits = sym c.is_full.ensures ∙ c.if-is_full.false;
-      lies = c.next_token.ensures.lies;
-      comes = c.next_token.ensures.token_correct;
-    } in
-    let n = lies_cell _ (asked (c)) _ _ c.in-AfterCell.is in let j1 = n.0 in let j2 = n.1 in omega arith
+    let asked = ask _ c.loop-i.invariant c.loop-i-test.true c.if-limit-i.false (sym c.is_full.ensures ∙ c.if-is_full.false) c.next_token.ensures.lies c.next_token.ensures.token_correct in
+    let n = lies_cell _ asked _ _ c.in-AfterCell.is in let j1 = n.0 in let j2 = n.1 in omega arith
 
 pub loop-i-preserved-in-To-after_cell : goal.loop-i-preserved-in-To-after_cell
 loop-i-preserved-in-To-after_cell c =
-    let asked : (let l = c.loop-i in Asked (call c) l.state l.i l.h l.starts l.ends l.kinds c.next_token.result) =
-        record {
-      scanning = c.loop-i.invariant;
-      inside = c.loop-i-test.true;
-      under = c.if-limit-i.false;
-      fits = sym c.is_full.ensures ∙ c.if-is_full.false;
-      lies = c.next_token.ensures.lies;
-      comes = c.next_token.ensures.token_correct;
-    } in
-    step_on _ (by_cell _ (asked) _ _ c.in-AfterCell.is _
+    let asked = ask _ c.loop-i.invariant c.loop-i-test.true c.if-limit-i.false (sym c.is_full.ensures ∙ c.if-is_full.false) c.next_token.ensures.lies c.next_token.ensures.token_correct in
+    step_on _ (by_cell _ asked _ _ c.in-AfterCell.is _
     c.after_bytes-h.ensures _
-    c.after_cell.ensures) _ _ c.in-To-after_cell.is _ c.closes_cell-in-To-after_cell.ensures _ _ _ c.store_cell-in-To-after_cell.ensures _ c.after_byte-h-in-To-after_cell.ensures _ c.ends_record-in-To-after_cell.ensures c.if-ends_record-2.false
+    c.after_cell.ensures) _ _ c.in-To-after_cell.is _ c.closes_cell-in-To-after_cell.ensures _ _ _ (c.store_cell-in-To-after_cell.ensures.starts_after, (c.store_cell-in-To-after_cell.ensures.ends_after, c.store_cell-in-To-after_cell.ensures.kinds_after)) _ c.after_byte-h-in-To-after_cell.ensures _ c.ends_record-in-To-after_cell.ensures c.if-ends_record-2.false
 
 pub shape_of-starts-in-Refused : goal.shape_of-starts-in-Refused
 shape_of-starts-in-Refused c =
-    let asked : (let l = c.loop-i in Asked (call c) l.state l.i l.h l.starts l.ends l.kinds c.next_token.result) =
-        record {
-      scanning = c.loop-i.invariant;
-      inside = c.loop-i-test.true;
-      under = c.if-limit-i.false;
-      fits = sym c.is_full.ensures ∙ c.if-is_full.false;
-      lies = c.next_token.ensures.lies;
-      comes = c.next_token.ensures.token_correct;
-    } in
-    (lengths _ (asked).scanning.lists).0
+    let asked = ask _ c.loop-i.invariant c.loop-i-test.true c.if-limit-i.false (sym c.is_full.ensures ∙ c.if-is_full.false) c.next_token.ensures.lies c.next_token.ensures.token_correct in
+    (lengths _ asked.scanning.lists).0
 
 pub shape_of-ends-in-Refused : goal.shape_of-ends-in-Refused
 shape_of-ends-in-Refused c =
-    let asked : (let l = c.loop-i in Asked (call c) l.state l.i l.h l.starts l.ends l.kinds c.next_token.result) =
-        record {
-      scanning = c.loop-i.invariant;
-      inside = c.loop-i-test.true;
-      under = c.if-limit-i.false;
-      fits = sym c.is_full.ensures ∙ c.if-is_full.false;
-      lies = c.next_token.ensures.lies;
-      comes = c.next_token.ensures.token_correct;
-    } in
-    (lengths _ (asked).scanning.lists).1
+    let asked = ask _ c.loop-i.invariant c.loop-i-test.true c.if-limit-i.false (sym c.is_full.ensures ∙ c.if-is_full.false) c.next_token.ensures.lies c.next_token.ensures.token_correct in
+    (lengths _ asked.scanning.lists).1
 
 pub shape_of-kinds-in-Refused : goal.shape_of-kinds-in-Refused
 shape_of-kinds-in-Refused c =
-    let asked : (let l = c.loop-i in Asked (call c) l.state l.i l.h l.starts l.ends l.kinds c.next_token.result) =
-        record {
-      scanning = c.loop-i.invariant;
-      inside = c.loop-i-test.true;
-      under = c.if-limit-i.false;
-      fits = sym c.is_full.ensures ∙ c.if-is_full.false;
-      lies = c.next_token.ensures.lies;
-      comes = c.next_token.ensures.token_correct;
-    } in
-    (lengths _ (asked).scanning.lists).2
+    let asked = ask _ c.loop-i.invariant c.loop-i-test.true c.if-limit-i.false (sym c.is_full.ensures ∙ c.if-is_full.false) c.next_token.ensures.lies c.next_token.ensures.token_correct in
+    (lengths _ asked.scanning.lists).2
 
 pub returns-in-Refused : goal.returns-in-Refused
 returns-in-Refused c =
-    let asked : (let l = c.loop-i in Asked (call c) l.state l.i l.h l.starts l.ends l.kinds c.next_token.result) =
-        record {
-      scanning = c.loop-i.invariant;
-      inside = c.loop-i-test.true;
-      under = c.if-limit-i.false;
-      fits = sym c.is_full.ensures ∙ c.if-is_full.false;
-      lies = c.next_token.ensures.lies;
-      comes = c.next_token.ensures.token_correct;
-    } in
-    let o = by_refusal _ (asked) _ _ c.in-Refused.is in
-    (o.answer, (o.at_starts, (o.at_ends, (o.at_kinds, o.bounds))))
+    let asked = ask _ c.loop-i.invariant c.loop-i-test.true c.if-limit-i.false (sym c.is_full.ensures ∙ c.if-is_full.false) c.next_token.ensures.lies c.next_token.ensures.token_correct in
+    let o = by_refusal _ asked _ _ c.in-Refused.is in
+    record { value = o.answer; starts_after = o.at_starts; ends_after = o.at_ends; kinds_after = o.at_kinds; scan_in_bounds = o.bounds }
 
 pub overflow_sub-j-in-Open : goal.overflow_sub-j-in-Open
 overflow_sub-j-in-Open c =
-    let asked : (let l = c.loop-i in Asked (call c) l.state l.i l.h l.starts l.ends l.kinds c.next_token.result) =
-        record {
-      scanning = c.loop-i.invariant;
-      inside = c.loop-i-test.true;
-      under = c.if-limit-i.false;
-      fits = sym c.is_full.ensures ∙ c.if-is_full.false;
-      lies = c.next_token.ensures.lies;
-      comes = c.next_token.ensures.token_correct;
-    } in
-    let n = lies_open _ (asked) _ _ c.in-Open.is in let j1 = n.0 in omega arith
+    let asked = ask _ c.loop-i.invariant c.loop-i-test.true c.if-limit-i.false (sym c.is_full.ensures ∙ c.if-is_full.false) c.next_token.ensures.lies c.next_token.ensures.token_correct in
+    let n = lies_open _ asked _ _ c.in-Open.is in let j1 = n.0 in omega arith
 
 pub after_bytes-h-requires-in-Open : goal.after_bytes-h-requires-in-Open
 after_bytes-h-requires-in-Open c =
-    let asked : (let l = c.loop-i in Asked (call c) l.state l.i l.h l.starts l.ends l.kinds c.next_token.result) =
-        record {
-      scanning = c.loop-i.invariant;
-      inside = c.loop-i-test.true;
-      under = c.if-limit-i.false;
-      fits = sym c.is_full.ensures ∙ c.if-is_full.false;
-      lies = c.next_token.ensures.lies;
-      comes = c.next_token.ensures.token_correct;
-    } in
+    let asked = ask _ c.loop-i.invariant c.loop-i-test.true c.if-limit-i.false (sym c.is_full.ensures ∙ c.if-is_full.false) c.next_token.ensures.lies c.next_token.ensures.token_correct in
     let a = c.args in
     let l = c.loop-i in
     let few : a.base + l.h.cells ≤ l.i = l.invariant.place.few in
     let sized : l.h.size ≤ MAXRECORD + l.i = l.invariant.place.sized in
     let low : a.limit ≤ MAXFILE = l.invariant.place.low in
-    let n = lies_open _ (asked) _ _ c.in-Open.is in let j1 = n.0 in let j2 = n.2 in omega arith
+    let n = lies_open _ asked _ _ c.in-Open.is in let j1 = n.0 in let j2 = n.2 in omega arith
 
 pub loop-i-smaller : goal.loop-i-smaller
 loop-i-smaller c =
-    let asked : (let l = c.loop-i in Asked (call c) l.state l.i l.h l.starts l.ends l.kinds c.next_token.result) =
-        record {
-      scanning = c.loop-i.invariant;
-      inside = c.loop-i-test.true;
-      under = c.if-limit-i.false;
-      fits = sym c.is_full.ensures ∙ c.if-is_full.false;
-      lies = c.next_token.ensures.lies;
-      comes = c.next_token.ensures.token_correct;
-    } in
-    let n = lies_open _ (asked) _ _ c.in-Open.is in let j1 = n.0 in let j2 = n.1 in omega arith
+    let asked = ask _ c.loop-i.invariant c.loop-i-test.true c.if-limit-i.false (sym c.is_full.ensures ∙ c.if-is_full.false) c.next_token.ensures.lies c.next_token.ensures.token_correct in
+    let n = lies_open _ asked _ _ c.in-Open.is in let j1 = n.0 in let j2 = n.1 in omega arith
 
 pub loop-i-preserved : goal.loop-i-preserved
 loop-i-preserved c =
-    let asked : (let l = c.loop-i in Asked (call c) l.state l.i l.h l.starts l.ends l.kinds c.next_token.result) =
-        record {
-      scanning = c.loop-i.invariant;
-      inside = c.loop-i-test.true;
-      under = c.if-limit-i.false;
-      fits = sym c.is_full.ensures ∙ c.if-is_full.false;
-      lies = c.next_token.ensures.lies;
-      comes = c.next_token.ensures.token_correct;
-    } in
-    by_open _ (asked) _ _ c.in-Open.is _ c.after_bytes-h-in-Open.ensures
+    let asked = ask _ c.loop-i.invariant c.loop-i-test.true c.if-limit-i.false (sym c.is_full.ensures ∙ c.if-is_full.false) c.next_token.ensures.lies c.next_token.ensures.token_correct in
+    by_open _ asked _ _ c.in-Open.is _ c.after_bytes-h-in-Open.ensures
 
 pub shape_of-starts : goal.shape_of-starts
 shape_of-starts c = (lengths _ c.loop-i.invariant.lists).0
@@ -687,5 +348,5 @@ shape_of-kinds c = (lengths _ c.loop-i.invariant.lists).2
 pub returns : goal.returns
 returns c =
     let l = c.loop-i in
-    let o = pending _ l.invariant c.loop-i-test.false c.requires.size_bound.0.0 in
-    (o.answer, (o.at_starts, (o.at_ends, (o.at_kinds, o.bounds))))
+    let o = pending _ l.invariant c.loop-i-test.false c.requires.size_bound.0 in
+    record { value = o.answer; starts_after = o.at_starts; ends_after = o.at_ends; kinds_after = o.at_kinds; scan_in_bounds = o.bounds }

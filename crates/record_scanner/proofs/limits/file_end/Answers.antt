@@ -2,7 +2,6 @@
 use Rattle.model.proofs.Tests.{tests}
 use Rattle.model.specs.rules.File.{file_end}
 use borrow.Author.Rules.{rules}
-
 use Rattle.record_scanner.proofs.limits.file_end.Goals as goal
 
 pub returns-in-Top : goal.returns-in-Top

@@ -2,7 +2,6 @@
 use borrow.Author.Rules.{rules}
 use Rattle.model.proofs.Tests.{tests}
 use Rattle.record_scanner.specs.CurrentRecord.{one_more}
-
 use Rattle.record_scanner.proofs.record_state.after_byte.Goals as goal
 
 pub returns-in-Outside : goal.returns-in-Outside

@@ -3,7 +3,6 @@ use borrow.Author.Rules.{rules}
 use Rattle.model.proofs.Tests.{tests}
 use Rattle.model.specs.rules.Base.{choose◌then◌else◌}
 use Rattle.record_scanner.specs.CurrentRecord.{one_more}
-
 use Rattle.record_scanner.proofs.record_state.one_more.Goals as goal
 
 pub returns-then-closes : goal.returns-then-closes

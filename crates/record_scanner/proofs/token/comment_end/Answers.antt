@@ -3,25 +3,17 @@ use borrow.Author.Rules.{rules}
 use Prim.Native.Nat.{ℕ, ◌<◌}
 use native.Mathlib.Omega.{arith}
 use mathlib.Core.Path.{◌≡◌, refl}
-use mathlib.Core.List.{List, [], ◌∷◌}
 use lib.ListN.{length}
-use types.Run.{OneOf, miss}
-use denote.Enum.Declared as declared
 use Rattle.model.specs.rules.Base.{Bytes}
 use Rattle.model.specs.rules.Api.{least}
+use Rattle.model.specs.declared.Char.{Char}
 use Rattle.model.specs.declared.FileState.{FileState}
 use Rattle.model.specs.declared.FileState.TheVariants.{Top, Begin, Ended, Bom1, Bom2, PlainBom1, PlainBom2, Comment, Blanks, ExpectCell, Inside, After, Cr}
-use Rattle.model.specs.contracts.FileState.{the_type}
 use Rattle.codes.proofs.Least.{least_first, least_above}
 use Rattle.record_scanner.specs.Tokens.{comment_end}
-
 use Rattle.record_scanner.proofs.token.comment_end.Goals as goal
 
--- the other states' indices in the enum
-abbrev others : List ℕ
-others = 0 ∷ 1 ∷ 2 ∷ 3 ∷ 4 ∷ 5 ∷ 6 ∷ 8 ∷ 9 ∷ 10 ∷ 11 ∷ 12 ∷ []
-
-no-comment : (f : FileState) (part : Bytes) (limit i : ℕ) → OneOf others (declared.tag_of the_type f) → i ≡ comment_end f part limit i
+no-comment : (f : FileState) (part : Bytes) (limit i : ℕ) → ((t : Char) → f ≡ Comment t → ⊥) → i ≡ comment_end f part limit i
 no-comment Top part limit i h = refl
 no-comment Begin part limit i h = refl
 no-comment Ended part limit i h = refl
@@ -29,7 +21,7 @@ no-comment Bom1 part limit i h = refl
 no-comment Bom2 part limit i h = refl
 no-comment PlainBom1 part limit i h = refl
 no-comment PlainBom2 part limit i h = refl
-no-comment (Comment t) part limit i h = absurd (miss others 7 tt h)
+no-comment (Comment t) part limit i h = absurd (h t refl)
 no-comment Blanks part limit i h = refl
 no-comment ExpectCell part limit i h = refl
 no-comment (Inside c) part limit i h = refl
@@ -50,4 +42,4 @@ pub returns-in-Whole : goal.returns-in-Whole
 returns-in-Whole c = search (← c.comment_run.ensures, ← c.min_of.ensures, c.in-Whole.is, c.in-Comment.is)
 
 pub returns-in_default : goal.returns-in_default
-returns-in_default c = let a = c.args in no-comment a.f a.part.now a.limit a.i c.in_default.keys2
+returns-in_default c = let a = c.args in no-comment a.f a.part.now a.limit a.i c.in_default.not-Comment
