@@ -5,18 +5,29 @@
 // the bytes it writes are those of the piece calls.
 #![tactic(auto)]
 
+mod failure;
 mod stream;
 
+use std::env::FillError;
+use std::rt::Env;
+
 // The dialect that an argument names, 0 if it names none. The longest name has four bytes.
-fn argument(i: usize) -> u32 {
+fn argument(rt: &HostRuntime, i: usize) -> u32 {
     let mut word = [0u8; 4];
-    let length = os::arg(i, &mut word);
-    messages::dialects::dialect_named(&word[..length])
+    match rt.arg(i, &mut word) {
+        Ok(length) => messages::dialects::dialect_named(&word[..length]),
+        Err(_) => 0,
+    }
 }
 
-fn help() {
-    io::write_all(
-        libc::STDERR_FILENO,
+// Whether the program was started with an argument of this number, 0 being its own name.
+fn has_argument(rt: &HostRuntime, i: usize) -> bool {
+    let mut word = [0u8; 4];
+    !matches!(rt.arg(i, &mut word), Err(FillError::NotPresent))
+}
+
+fn help(rt: &HostRuntime) {
+    let _ = rt.stderr().write_all(
         b"usage: program FROM TO\n\
           Converts the table on standard input and writes it to standard output.\n\
           FROM and TO are dialects, by name or by number: csvj (1), tdif (2), csv+ (3).\n\
@@ -26,12 +37,12 @@ fn help() {
     );
 }
 
-fn main() {
-    let source = argument(1);
-    let target = argument(2);
-    if os::arg_count() != 3 || source == 0 || target == 0 {
-        help();
+fn main(rt: HostRuntime) {
+    let source = argument(&rt, 1);
+    let target = argument(&rt, 2);
+    if has_argument(&rt, 3) || source == 0 || target == 0 {
+        help(&rt);
         return;
     }
-    stream::convert(source, target);
+    stream::convert(&rt, source, target);
 }

@@ -1,44 +1,46 @@
 // Standard input to standard output, one piece at a time. A step is loop-free: it reads once, converts what came and writes what that
 // completed.
-ghost use Rattle.io.specs.Counts.{IsPrefixLen};
+ghost use Rattle.std.specs.Prelude.{◌≤◌, length};
 
+use crate::failure;
 use codes::{LEAST_OUTPUT, MAX_COLUMNS, MAX_FILE, MAX_PIECE, MAX_RECORD, TextAnswer};
-use libc::{STDERR_FILENO, STDIN_FILENO, STDOUT_FILENO};
 use messages::refusal;
 use model::Report;
 use piece_converter::lent;
+use std::io::Read;
 
 // How many bytes of the output a call wrote. No call returns a length over that of the output; checking it here spares proving it here.
 fn written_length(length: usize, out: &[u8]) -> usize
-    ensures { IsPrefixLen result out.now }
+    ensures { result ≤ length out.now }
 {
     codes::min_of(length, out.len())
 }
 
 // Writes a refusal in words to standard error.
-fn say(e: Report) {
-    let mut text = io::buffer();
+fn say(rt: &HostRuntime, e: Report) {
+    let mut text = [0u8; 4096];
     let n = refusal::sentence(e, &mut text);
-    io::write_all(STDERR_FILENO, &text[..n]);
+    let _ = rt.stderr().write_all(&text[..n]);
 }
 
 // Writes the output of a call, and returns whether the conversion continues after it.
-fn deliver(answer: TextAnswer, out: &[u8]) -> bool {
+fn deliver(rt: &HostRuntime, answer: TextAnswer, out: &[u8]) -> bool {
     let n = written_length(answer.length, out);
-    if !io::write_all(STDOUT_FILENO, &out[..n]) {
-        os::fail(b"standard output could not be written in full");
+    if let Err(e) = rt.stdout().write_all(&out[..n]) {
+        failure::tell(rt, "standard output could not be written in full", e);
         return false;
     }
     let e = answer.report;
     if e.number == 0 {
         return true;
     }
-    say(e);
+    say(rt, e);
     false
 }
 
 // One read and the call that follows from it. Returns whether there may be more to read.
 fn step(
+    rt: &HostRuntime,
     source: u32,
     target: u32,
     numbers: &mut [usize; 14],
@@ -49,15 +51,16 @@ fn step(
     out: &mut [u8; LEAST_OUTPUT],
 ) -> bool {
     let mut input = [0u8; MAX_PIECE];
-    let got = libc::read(STDIN_FILENO, &mut input);
-    if got < 0 {
-        os::fail(b"standard input could not be read to its end");
-        return false;
-    }
-    let n = io::count(got, &input);
+    let n = match rt.stdin().read(&mut input) {
+        Ok(n) => n,
+        Err(e) => {
+            failure::tell(rt, "standard input could not be read to its end", e);
+            return false;
+        }
+    };
     if n == 0 {
         let answer = lent::end(source, target, numbers, ends, name_ends, bytes, names, out);
-        deliver(answer, out);
+        deliver(rt, answer, out);
         return false;
     }
     let answer = lent::piece(
@@ -71,12 +74,12 @@ fn step(
         &input[..n],
         out,
     );
-    deliver(answer, out)
+    deliver(rt, answer, out)
 }
 
 // Converts all of standard input. A loop has to end, and nothing says that standard input does; but a step after which there may be more
 // has read at least a byte, and a file of more than MAX_FILE bytes is refused. So the steps never run out.
-pub fn convert(source: u32, target: u32) {
+pub fn convert(rt: &HostRuntime, source: u32, target: u32) {
     let mut numbers = [0usize; 14];
     let mut ends = [0usize; MAX_COLUMNS];
     let mut name_ends = [0usize; MAX_COLUMNS];
@@ -86,6 +89,7 @@ pub fn convert(source: u32, target: u32) {
     let mut turns = MAX_FILE + 1;
     while 0 < turns
         && step(
+            rt,
             source,
             target,
             &mut numbers,

@@ -2,7 +2,6 @@
 use Rattle.model.specs.rules.Cell.{cell_step}
 use Rattle.model.proofs.Tests.{tests}
 use borrow.Author.Rules.{rules}
-
 use Rattle.cell_lexer.proofs.classify_text.Goals as goal
 
 pub returns-in-Whole : goal.returns-in-Whole

@@ -2,7 +2,6 @@
 use Rattle.model.specs.rules.Base.{choose◌then◌else◌}
 use Rattle.model.proofs.Tests.{tests}
 use borrow.Author.Rules.{rules}
-
 use Rattle.cell_lexer.proofs.is_separator.Goals as goal
 
 pub returns-then-b-delimiter_of : goal.returns-then-b-delimiter_of

@@ -2,7 +2,6 @@
 use Rattle.model.specs.rules.Base.{choose◌then◌else◌}
 use Rattle.model.specs.rules.Dialect.{dialect_of}
 use Rattle.model.proofs.Tests.{tests}
-
 use Rattle.codes.proofs.dialect_of.Goals as goal
 
 pub returns-then-number-eq1 : goal.returns-then-number-eq1

@@ -2,7 +2,6 @@
 use Rattle.model.specs.rules.Base.{choose◌then◌else◌}
 use Rattle.model.specs.rules.Api.{kind_named}
 use Rattle.model.proofs.Tests.{tests}
-
 use Rattle.codes.proofs.kind_named.Goals as goal
 
 pub returns-then-number-eq1 : goal.returns-then-number-eq1

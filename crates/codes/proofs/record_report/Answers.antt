@@ -1,5 +1,4 @@
 -- `codes::record_report` meets its contract: number and column are read off the tables.
-use borrow.Author.Rules.{rules}
 
 use Rattle.codes.proofs.record_report.Goals as goal
 

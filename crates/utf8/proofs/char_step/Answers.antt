@@ -2,12 +2,10 @@
 use mathlib.Core.Path.{sym, ◌∙◌}
 use Prim.Native.Nat.{zero-le}
 use native.Mathlib.Omega.{arith}
-use borrow.Author.Rules.{rules}
 use borrow.Author.Tests.{le-leb, lt-leb}
 use Rattle.model.specs.rules.Base.{choose◌then◌else◌}
 use Rattle.model.specs.rules.Utf8.{inner_step, char_step}
 use Rattle.model.proofs.cell_laws.Utf8.{ascii_whole}
-
 use Rattle.utf8.proofs.char_step.Goals as goal
 
 pub returns-then-b-lt128 : goal.returns-then-b-lt128

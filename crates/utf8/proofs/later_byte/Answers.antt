@@ -1,8 +1,6 @@
 -- `utf8::later_byte` meets its contract, by its two tests.
-use borrow.Author.Rules.{rules}
 use borrow.Author.Tests.{le-leb, lt-leb}
 use Rattle.model.specs.rules.Base.{choose◌then◌else◌}
-
 use Rattle.utf8.proofs.later_byte.Goals as goal
 
 pub returns-then-b : goal.returns-then-b

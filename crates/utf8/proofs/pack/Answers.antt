@@ -4,9 +4,7 @@ use mathlib.Core.List.{[], ◌∷◌}
 use Prim.Native.Nat.{◌+◌, ◌/◌}
 use native.Mathlib.Omega.{arith}
 use lib.Bits.{bit_or, or_lt, or_shifted_r}
-use borrow.Author.Rules.{rules}
 use Rattle.utf8.proofs.Codes.{packs_of, packed_one, packed_two, packed_three, packed_four, packed_none}
-
 use Rattle.utf8.proofs.pack.Goals as goal
 
 pub returns-then-u-le127 : goal.returns-then-u-le127

@@ -1,9 +1,7 @@
 -- `utf8::row_of` meets its contract: each name has its index in the definition's list.
 use mathlib.Core.Path.{sym}
 use lib.Dec.{lit<}
-use borrow.Author.Rules.{rules}
 use Rattle.model.specs.rules.Utf8.{leads}
-
 use Rattle.utf8.proofs.row_of.Goals as goal
 
 pub returns-in-C2ToDf : goal.returns-in-C2ToDf

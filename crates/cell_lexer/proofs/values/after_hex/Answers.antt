@@ -2,7 +2,6 @@
 use Rattle.model.specs.rules.Base.{choose◌then◌else◌}
 use Rattle.model.proofs.Tests.{tests}
 use borrow.Author.Rules.{rules}
-
 use Rattle.cell_lexer.proofs.values.after_hex.Goals as goal
 
 pub returns-in-Four : goal.returns-in-Four

@@ -2,7 +2,6 @@
 use Rattle.model.specs.rules.Base.{choose◌then◌else◌}
 use Rattle.model.specs.rules.Cell.{numeral_step}
 use Rattle.model.proofs.Tests.{tests}
-
 use Rattle.cell_lexer.proofs.values.after_integer.Goals as goal
 
 pub returns-then-b-eq46 : goal.returns-then-b-eq46

@@ -1,7 +1,6 @@
 -- `cell_lexer::values::is_short` meets its contract, by its tests.
 use Rattle.model.specs.rules.Base.{choose◌then◌else◌}
 use Rattle.model.proofs.Tests.{tests}
-
 use Rattle.cell_lexer.proofs.values.is_short.Goals as goal
 
 pub returns-then-b-eq34 : goal.returns-then-b-eq34

@@ -2,7 +2,6 @@
 use Rattle.model.specs.rules.Base.{choose◌then◌else◌}
 use Rattle.model.proofs.Tests.{tests}
 use Rattle.codes.specs.FirstByte.{kind_by}
-
 use Rattle.codes.proofs.cell.csvj_kind.Goals as goal
 
 pub returns-then-b-eq34 : goal.returns-then-b-eq34

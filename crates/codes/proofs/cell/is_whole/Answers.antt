@@ -1,7 +1,5 @@
 -- `codes::cell::is_whole` meets its contract: each arm returns the definition's result for its state.
-use borrow.Author.Rules.{rules}
 use Rattle.model.specs.rules.Cell.{is_whole}
-
 use Rattle.codes.proofs.cell.is_whole.Goals as goal
 
 pub returns-in-Fresh : goal.returns-in-Fresh

@@ -1,7 +1,5 @@
 -- `codes::cell::kind_by` meets its contract: each arm returns the definition's result for its dialect.
-use borrow.Author.Rules.{rules}
 use Rattle.codes.specs.FirstByte.{kind_by}
-
 use Rattle.codes.proofs.cell.kind_by.Goals as goal
 
 pub returns-in-Csvj : goal.returns-in-Csvj

@@ -1,9 +1,7 @@
 -- `codes::cell::kind_of` meets its contract: the first byte decides the kind.
 use mathlib.Core.Path.{ap, ◌∙◌}
-use borrow.Author.Rules.{rules}
 use Rattle.codes.specs.FirstByte.{kind_by}
 use Rattle.codes.proofs.FirstByte.{kind_first}
-
 use Rattle.codes.proofs.cell.kind_of.Goals as goal
 
 pub returns : goal.returns

@@ -3,7 +3,6 @@ use Prim.Native.Nat.{◌-◌, ◌≤◌}
 use native.Mathlib.Omega.{arith}
 use lib.ListN.{length, get_or}
 use Rattle.piece_state.proofs.BufferedLists.{Preserving, keeping, cell_fits, end_fits, kept_next, kept_all}
-
 use Rattle.piece_state.proofs.cells.buffer_cells.Given as goal
 
 abbrev pub invariant-loop-k : goal.invariant-loop-k

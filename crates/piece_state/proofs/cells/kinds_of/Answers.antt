@@ -5,7 +5,6 @@ use lib.ListN.{length, get_or}
 use borrow.Author.Rules.{rules}
 use Rattle.model.specs.rules.Decode.{kind_number}
 use Rattle.piece_state.proofs.BufferedLists.{Sorting, sorting, kind_fits, sorted, sorted_all}
-
 use Rattle.piece_state.proofs.cells.kinds_of.Goals as goal
 
 pub loop-k-init : goal.loop-k-init
@@ -26,7 +25,7 @@ bounds-ends-k c = omega (arith, c.loop-k.invariant.stand.in_stops)
 pub slice_bounds-kind_of-count : goal.slice_bounds-kind_of-count
 slice_bounds-kind_of-count c =
     let stands : (let s = c.args in let k = c.loop-k.k in (get_or s.starts.now k 0 ≤ get_or s.ends.now k 0) × (get_or s.ends.now k 0 ≤ length s.bytes.now)) =
-        let l = c.loop-k in
+    let l = c.loop-k in
     let h = c.loop-k-test.true in
     (l.invariant.stand.forward l.k (omega arith) h, l.invariant.stand.within l.k (omega arith) h) in
     (stands).0
@@ -34,7 +33,7 @@ slice_bounds-kind_of-count c =
 pub slice_bounds-kind_of-start : goal.slice_bounds-kind_of-start
 slice_bounds-kind_of-start c =
     let stands : (let s = c.args in let k = c.loop-k.k in (get_or s.starts.now k 0 ≤ get_or s.ends.now k 0) × (get_or s.ends.now k 0 ≤ length s.bytes.now)) =
-        let l = c.loop-k in
+    let l = c.loop-k in
     let h = c.loop-k-test.true in
     (l.invariant.stand.forward l.k (omega arith) h, l.invariant.stand.within l.k (omega arith) h) in
     (stands).0
@@ -42,7 +41,7 @@ slice_bounds-kind_of-start c =
 pub slice_bounds-kind_of-end : goal.slice_bounds-kind_of-end
 slice_bounds-kind_of-end c =
     let stands : (let s = c.args in let k = c.loop-k.k in (get_or s.starts.now k 0 ≤ get_or s.ends.now k 0) × (get_or s.ends.now k 0 ≤ length s.bytes.now)) =
-        let l = c.loop-k in
+    let l = c.loop-k in
     let h = c.loop-k-test.true in
     (l.invariant.stand.forward l.k (omega arith) h, l.invariant.stand.within l.k (omega arith) h) in
     (stands).1

@@ -6,7 +6,6 @@ use lib.ListN.{length, get_or}
 use borrow.Author.Rules.{rules}
 use Rattle.model.specs.rules.Decode.{kind_number}
 use Rattle.piece_state.proofs.BufferedLists.{Sorting, sorting, kind_fits, sorted, sorted_all}
-
 use Rattle.piece_state.proofs.cells.kinds_of.Given as goal
 
 abbrev pub invariant-loop-k : goal.invariant-loop-k

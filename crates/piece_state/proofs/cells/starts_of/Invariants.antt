@@ -2,7 +2,6 @@
 use Prim.Native.Nat.{◌-◌}
 use native.Mathlib.Omega.{arith}
 use Rattle.piece_state.proofs.BufferedLists.{Starting, starting, start_fits, started, started_all}
-
 use Rattle.piece_state.proofs.cells.starts_of.Given as goal
 
 abbrev pub invariant-loop-k : goal.invariant-loop-k

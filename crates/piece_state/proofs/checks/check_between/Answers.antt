@@ -3,7 +3,6 @@ use borrow.Author.Rules.{rules}
 use Rattle.model.specs.rules.Base.{choose◌then◌else◌}
 use Rattle.model.proofs.Tests.{tests}
 use Rattle.piece_state.specs.Checks.{check_between}
-
 use Rattle.piece_state.proofs.checks.check_between.Goals as goal
 
 pub returns-then-fault-gt0 : goal.returns-then-fault-gt0

@@ -5,7 +5,6 @@ use borrow.Author.Rules.{rules}
 use borrow.Author.Tests.{le-leb, lt-leb}
 use Rattle.model.specs.laws.Scans.{in_record}
 use Rattle.piece_state.specs.Sound.{buffered_in_record}
-
 use Rattle.piece_state.proofs.checks.is_buffered_in_record.Goals as goal
 
 pub returns-then-in_record : goal.returns-then-in_record

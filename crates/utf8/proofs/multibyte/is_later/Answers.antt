@@ -1,7 +1,5 @@
 -- `utf8::multibyte::is_later` meets its contract, by its two tests.
-use borrow.Author.Rules.{rules}
 use borrow.Author.Tests.{le-leb, lt-leb}
-
 use Rattle.utf8.proofs.multibyte.is_later.Goals as goal
 
 pub returns-then-b : goal.returns-then-b

@@ -2,10 +2,7 @@
 -- tested.
 use native.Mathlib.Omega.{arith}
 use mathlib.Core.Path.{sym, ◌∙◌}
-use borrow.Author.Rules.{rules}
-use borrow.Author.Tests.{not-false}
 use Rattle.utf8.proofs.MultibyteRuns.{wide_none, row_length, row_longest, run_three, run_four}
-
 use Rattle.utf8.proofs.multibyte.long_end.Goals as goal
 
 pub returns-then-r-eq0 : goal.returns-then-r-eq0
@@ -39,7 +36,7 @@ returns-then-not-is_later c = let a = c.args in wide_none a.s.now a.i a.stop (om
 pub returns-then-r-eq3 : goal.returns-then-r-eq3
 returns-then-r-eq3 c =
     run_three c.args.s.now c.args.i c.args.stop c.requires.1 c.row_for-r.ensures c.if-r-eq3.true (omega arith)
-    c.if-b-r.false c.if-r-b.false (sym c.is_later.ensures ∙ not-false _ c.if-not-is_later.false)
+    c.if-b-r.false c.if-r-b.false (sym c.is_later.ensures ∙ c.if-not-is_later.false)
 
 pub bounds-s-i-4 : goal.bounds-s-i-4
 bounds-s-i-4 c =
@@ -53,5 +50,5 @@ pub returns : goal.returns
 returns c =
     run_four c.args.s.now c.args.i c.args.stop c.requires.1 c.row_for-r.ensures
     (row_longest c.row_for-r.ensures c.if-r-eq0.false c.if-r-eq3.false) (omega arith)
-    c.if-b-r.false c.if-r-b.false (sym c.is_later.ensures ∙ not-false _ c.if-not-is_later.false)
-    (sym c.is_later-2.ensures ∙ not-false _ c.if-not-is_later-2.false)
+    c.if-b-r.false c.if-r-b.false (sym c.is_later.ensures ∙ c.if-not-is_later.false)
+    (sym c.is_later-2.ensures ∙ c.if-not-is_later-2.false)

@@ -1,8 +1,4 @@
-use Prim.Native.Nat.{◌-◌}
-use native.Mathlib.Omega.{arith}
-use Rattle.utf8.specs.Multibyte.{WideRun}
 use Rattle.utf8.proofs.MultibyteRuns.{wide_none, wide_join}
-
 use Rattle.utf8.proofs.multibyte.multibyte_run.Goals as goal
 
 pub loop-i-init : goal.loop-i-init

@@ -1,9 +1,6 @@
 -- `utf8::multibyte::multibyte_run` meets its contract. The invariant: whole characters lie from `at` to here.
 use Prim.Native.Nat.{◌-◌}
-use native.Mathlib.Omega.{arith}
 use Rattle.utf8.specs.Multibyte.{WideRun}
-use Rattle.utf8.proofs.MultibyteRuns.{wide_none, wide_join}
-
 use Rattle.utf8.proofs.multibyte.multibyte_run.Given as goal
 
 abbrev pub invariant-loop-i : goal.invariant-loop-i

@@ -1,9 +1,7 @@
 -- `utf8::multibyte::row_for` meets its contract: rows ascend without gaps, so the first row whose last first byte is not below b is b's
 -- row.
-use borrow.Author.Rules.{rules}
 use Rattle.utf8.specs.Multibyte.{no_row}
 use Rattle.utf8.proofs.MultibyteRuns.{row_e0, row_e1, row_ed, row_ee, row_f0, row_f1, row_f4}
-
 use Rattle.utf8.proofs.multibyte.row_for.Goals as goal
 
 pub returns-then-b : goal.returns-then-b

@@ -1,8 +1,6 @@
 -- `utf8::multibyte::two_end` meets its contract, by its tests of the two bytes.
 use native.Mathlib.Omega.{arith}
-use borrow.Author.Rules.{rules}
 use Rattle.utf8.proofs.MultibyteRuns.{wide_none, run_two}
-
 use Rattle.utf8.proofs.multibyte.two_end.Goals as goal
 
 pub returns-then-stop-i-lt2 : goal.returns-then-stop-i-lt2
