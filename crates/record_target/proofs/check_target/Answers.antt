@@ -17,32 +17,30 @@ use Rattle.record_target.proofs.Reasons.{no_cells, lacks, clashes, by_length}
 
 use Rattle.record_target.proofs.check_target.Goals as goal
 
--- look: cites tie
-abbrev cells : tie.Start → List Value
-cells c = let a = c.args in cells_in a.src a.s.now a.starts.now a.ends.now a.kinds.now
-
 pub returns-then-lacks_cells : goal.returns-then-lacks_cells
 returns-then-lacks_cells c =
-    let counted : length (cells c) ≡ length c.args.starts.now =
+    let cells : List Value = cells_in c.args.src c.args.s.now c.args.starts.now c.args.ends.now c.args.kinds.now in
+    let counted : length cells ≡ length c.args.starts.now =
         let a = c.args in cells_length a.src a.s.now a.starts.now a.ends.now a.kinds.now c.requires.cells.with_ends c.requires.cells.with_kinds in
     let a = c.args in (
       c.refused.ensures
           ∙ sym
-          (no_cells a.t a.header a.written (cells c)
-          (sym (c.lacks_cells.ensures (cells c) (counted)) ∙ c.if-lacks_cells.true)),
+          (no_cells a.t a.header a.written cells
+          (sym (c.lacks_cells.ensures cells (counted)) ∙ c.if-lacks_cells.true)),
       λ s. fault_sound (sym c.refused.ensures ∙ s),
     )
 
 pub returns-in-Faulty : goal.returns-in-Faulty
 returns-in-Faulty c =
-    let counted : length (cells c) ≡ length c.args.starts.now =
+    let cells : List Value = cells_in c.args.src c.args.s.now c.args.starts.now c.args.ends.now c.args.kinds.now in
+    let counted : length cells ≡ length c.args.starts.now =
         let a = c.args in cells_length a.src a.s.now a.starts.now a.ends.now a.kinds.now c.requires.cells.with_ends c.requires.cells.with_kinds in
-    let has : (c.args.header && is_empty (cells c) && not (is_csvj c.args.t)) ≡ false =
-        sym (c.lacks_cells.ensures (cells c) (counted)) ∙ c.if-lacks_cells.false in
+    let has : (c.args.header && is_empty cells && not (is_csvj c.args.t)) ≡ false =
+        sym (c.lacks_cells.ensures cells (counted)) ∙ c.if-lacks_cells.false in
     let a = c.args in (
       c.refused-in-Faulty.ensures
           ∙ sym
-          (lacks a.t a.header a.written (cells c) (has) _
+          (lacks a.t a.header a.written cells (has) _
           (sym c.measure-x.ensures.carries_value ∙ c.in-Faulty.is)),
       λ s. fault_sound (sym c.refused-in-Faulty.ensures ∙ s),
     )
@@ -52,16 +50,17 @@ name_clash-requires c = cells_named c.requires.cells
 
 pub returns-in-Faulty-name_clash : goal.returns-in-Faulty-name_clash
 returns-in-Faulty-name_clash c =
-    let counted : length (cells c) ≡ length c.args.starts.now =
+    let cells : List Value = cells_in c.args.src c.args.s.now c.args.starts.now c.args.ends.now c.args.kinds.now in
+    let counted : length cells ≡ length c.args.starts.now =
         let a = c.args in cells_length a.src a.s.now a.starts.now a.ends.now a.kinds.now c.requires.cells.with_ends c.requires.cells.with_kinds in
-    let has : (c.args.header && is_empty (cells c) && not (is_csvj c.args.t)) ≡ false =
-        sym (c.lacks_cells.ensures (cells c) (counted)) ∙ c.if-lacks_cells.false in
-    let carries : uncarried_from c.args.t 1 (cells c) ≡ Sound =
+    let has : (c.args.header && is_empty cells && not (is_csvj c.args.t)) ≡ false =
+        sym (c.lacks_cells.ensures cells (counted)) ∙ c.if-lacks_cells.false in
+    let carries : uncarried_from c.args.t 1 cells ≡ Sound =
         sym c.measure-x.ensures.carries_value ∙ c.in_default.is in
-    let clash : clash_fault c.args.t c.args.header (cells c) ≡ c.name_clash.result =
+    let clash : clash_fault c.args.t c.args.header cells ≡ c.name_clash.result =
         sym (c.name_clash.ensures c.args.kinds.now (sym c.requires.cells.with_kinds)) in
     let a = c.args in (
-      c.refused-in-Faulty-name_clash.ensures ∙ sym (clashes a.t a.header a.written (cells c) (has) (carries) _ (clash ∙ c.in-Faulty-name_clash.is)),
+      c.refused-in-Faulty-name_clash.ensures ∙ sym (clashes a.t a.header a.written cells (has) (carries) _ (clash ∙ c.in-Faulty-name_clash.is)),
       λ s. fault_sound (sym c.refused-in-Faulty-name_clash.ensures ∙ s),
     )
 
@@ -70,14 +69,15 @@ check_size-requires c = c.requires.clean_record.1
 
 pub returns : goal.returns
 returns c =
-    let counted : length (cells c) ≡ length c.args.starts.now =
+    let cells : List Value = cells_in c.args.src c.args.s.now c.args.starts.now c.args.ends.now c.args.kinds.now in
+    let counted : length cells ≡ length c.args.starts.now =
         let a = c.args in cells_length a.src a.s.now a.starts.now a.ends.now a.kinds.now c.requires.cells.with_ends c.requires.cells.with_kinds in
-    let has : (c.args.header && is_empty (cells c) && not (is_csvj c.args.t)) ≡ false =
-        sym (c.lacks_cells.ensures (cells c) (counted)) ∙ c.if-lacks_cells.false in
-    let carries : uncarried_from c.args.t 1 (cells c) ≡ Sound =
+    let has : (c.args.header && is_empty cells && not (is_csvj c.args.t)) ≡ false =
+        sym (c.lacks_cells.ensures cells (counted)) ∙ c.if-lacks_cells.false in
+    let carries : uncarried_from c.args.t 1 cells ≡ Sound =
         sym c.measure-x.ensures.carries_value ∙ c.in_default.is in
-    let clash : clash_fault c.args.t c.args.header (cells c) ≡ c.name_clash.result =
+    let clash : clash_fault c.args.t c.args.header cells ≡ c.name_clash.result =
         sym (c.name_clash.ensures c.args.kinds.now (sym c.requires.cells.with_kinds)) in
     let a = c.args in
-    let z = c.check_size.ensures (record_text (into a.t) a.header (cells c)) c.measure-x.ensures.end_value in
-    (z.says ∙ sym (by_length a.t a.header a.written (cells c) (has) (carries) (clash ∙ c.in_default-name_clash.is)), z.long)
+    let z = c.check_size.ensures (record_text (into a.t) a.header cells) c.measure-x.ensures.end_value in
+    (z.says ∙ sym (by_length a.t a.header a.written cells (has) (carries) (clash ∙ c.in_default-name_clash.is)), z.long)

@@ -13,18 +13,13 @@ use Rattle.record_target.proofs.Reasons.{place_measured, room_measured}
 
 use Rattle.record_target.proofs.measure.Goals as goal
 
--- look: cites tie
-abbrev text : tie.Start → Bytes
-text c =
-    let a = c.args in
-    record_text (into a.t) a.header (cells_in a.src a.s.now a.starts.now a.ends.now a.kinds.now)
-
 pub write_text-requires : goal.write_text-requires
 write_text-requires c = (c.requires.cells, (c.requires.clean_record, room_measured _ _ _ (omega arith)))
 
 pub returns : goal.returns
 returns c =
-    let w = text c in
+    let text : Bytes = record_text (into c.args.t) c.args.header (cells_in c.args.src c.args.s.now c.args.starts.now c.args.ends.now c.args.kinds.now) in
+    let w = text in
     let from_zero : 0 + length w ≡ length w = omega arith in
     let p = c.write_text.ensures in
     (place_measured p.0 ∙ ap measure from_zero, p.1)

@@ -4,7 +4,6 @@ use mathlib.Core.Bool.{Bool}
 use mathlib.Core.List.{List}
 use Prim.Native.Nat.{ℕ}
 use borrow.Author.Rules.{rules}
-use borrow.Author.Tests.{not-true, not-false}
 use Rattle.model.specs.declared.Fault.TheVariants.{Clash}
 use Rattle.model.specs.declared.CheckResult.{CheckResult}
 use Rattle.model.specs.rules.Records.{clash_fault}
@@ -19,14 +18,14 @@ abbrev answer : tie.Start → List ℕ → Bool → CheckResult
 answer c kinds header = let a = c.args in clash_fault a.t header (cells_in a.src a.s.now a.starts.now a.ends.now kinds)
 
 pub returns-then-not-header : goal.returns-then-not-header
-returns-then-not-header c = ap (answer c kinds) (sym (not-true c.args.header c.if-not-header.true))
+returns-then-not-header c = ap (answer c kinds) (sym (c.if-not-header.true))
 
 pub returns-in-NoRepeat : goal.returns-in-NoRepeat
 returns-in-NoRepeat c =
     sym (ap (repeated_as Clash) c.in-NoRepeat.is) ∙ c.first_repeat.ensures Clash kinds k
-    ∙ ap (answer c kinds) (sym (not-false c.args.header c.if-not-header.false))
+    ∙ ap (answer c kinds) (sym (c.if-not-header.false))
 
 pub returns-in-AtColumn : goal.returns-in-AtColumn
 returns-in-AtColumn c =
     sym (ap (repeated_as Clash) c.in-AtColumn.is) ∙ c.first_repeat.ensures Clash kinds k
-    ∙ ap (answer c kinds) (sym (not-false c.args.header c.if-not-header.false))
+    ∙ ap (answer c kinds) (sym (c.if-not-header.false))

@@ -9,22 +9,19 @@ use Rattle.table_writer.proofs.Answers.{refuses, answers_as, in_dialect, no_dial
 
 use Rattle.table_writer.proofs.write.Goals as goal
 
--- look: cites tie
--- the table that is given
-abbrev table : tie.Start → Table
-table c = given c.args.content.now c.args.starts.now c.args.ends.now c.args.kinds.now c.args.columns c.args.records
-
 pub returns-in-Known : goal.returns-in-Known
 unfolding writer_leaves
 returns-in-Known c =
+    let table : Table = given c.args.content.now c.args.starts.now c.args.ends.now c.args.kinds.now c.args.columns c.args.records in
     let told = c.t-1.given in
     answers_as c.args.room.now
-    (in_dialect c.args.dialect told.0.0 (table c) (length c.args.room.now)
+    (in_dialect c.args.dialect told.0.0 table (length c.args.room.now)
     (sym c.dialect_of.ensures ∙ ap dialect_in told.1)) c.write_in.ensures
 
 pub returns-in-Unknown : goal.returns-in-Unknown
 unfolding writer_leaves
 returns-in-Unknown c =
+    let table : Table = given c.args.content.now c.args.starts.now c.args.ends.now c.args.kinds.now c.args.columns c.args.records in
     refuses c.refusal.ensures c.call_report.ensures
-    (no_dialect c.args.dialect (table c) (length c.args.room.now)
+    (no_dialect c.args.dialect table (length c.args.room.now)
     (sym c.dialect_of.ensures ∙ ap dialect_in c.in-Unknown.is))

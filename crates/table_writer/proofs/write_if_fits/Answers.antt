@@ -12,20 +12,14 @@ use Rattle.table_writer.proofs.Answers.{refuses, writes, too_short, long_enough}
 
 use Rattle.table_writer.proofs.write_if_fits.Goals as goal
 
--- look: cites tie
--- the table's text
-abbrev text : tie.Start → Bytes
-text c =
-    table_text (into c.args.t)
-    (rows_of c.args.records c.args.columns
-    (cells_in Contents c.args.content.now c.args.starts.now c.args.ends.now c.args.kinds.now))
-
 pub returns-then-room-size : goal.returns-then-room-size
 returns-then-room-size c =
+    let text : Bytes = table_text (into c.args.t) (rows_of c.args.records c.args.columns (cells_in Contents c.args.content.now c.args.starts.now c.args.ends.now c.args.kinds.now)) in
     refuses c.refusal.ensures c.call_report.ensures
-    (too_short (length c.args.room.now) (text c) (omega (arith, c.if-room-size.true, c.requires.starts_len.1)))
+    (too_short (length c.args.room.now) text (omega (arith, c.if-room-size.true, c.requires.starts_len.1)))
 
 pub returns : goal.returns
 returns c =
-    writes c.args.room.now (long_enough (length c.args.room.now) (text c) (omega (arith, c.if-room-size.false, c.requires.starts_len.1)))
+    let text : Bytes = table_text (into c.args.t) (rows_of c.args.records c.args.columns (cells_in Contents c.args.content.now c.args.starts.now c.args.ends.now c.args.kinds.now)) in
+    writes c.args.room.now (long_enough (length c.args.room.now) text (omega (arith, c.if-room-size.false, c.requires.starts_len.1)))
     c.call_report-2.ensures c.requires.starts_len.1 c.write_records.ensures

@@ -2,7 +2,6 @@
 use mathlib.Core.Path.{sym, ap, ◌∙◌}
 use lib.ListN.{length}
 use borrow.Author.Rules.{rules}
-use borrow.Author.Tests.{not-true, not-false}
 use Rattle.model.specs.rules.Api.{Table}
 use Rattle.table_writer.specs.TableParts.{given}
 use Rattle.table_writer.proofs.Tables.{Tabled, tabled}
@@ -11,23 +10,19 @@ use Rattle.table_writer.proofs.Answers.{refuses, answers_as, no_table}
 
 use Rattle.table_writer.proofs.write_in.Goals as goal
 
--- look: cites tie
--- the table that is given
-abbrev table : tie.Start → Table
-table c = given c.args.content.now c.args.starts.now c.args.ends.now c.args.kinds.now c.args.columns c.args.records
-
 pub returns-then-not-is_table : goal.returns-then-not-is_table
 returns-then-not-is_table c =
+    let table : Table = given c.args.content.now c.args.starts.now c.args.ends.now c.args.kinds.now c.args.columns c.args.records in
     refuses c.refusal.ensures c.call_report.ensures
-    (no_table c.args.t (table c) (length c.args.room.now)
-    (sym c.is_table.ensures ∙ not-true c.is_table.result c.if-not-is_table.true))
+    (no_table c.args.t table (length c.args.room.now)
+    (sym c.is_table.ensures ∙ c.if-not-is_table.true))
 
 pub write_table-requires : goal.write_table-requires
 write_table-requires c =
     let is_one : (let a = c.args in Tabled a.content.now a.starts.now a.ends.now a.kinds.now a.columns a.records) =
         let a = c.args in
     tabled a.content.now a.starts.now a.ends.now a.kinds.now a.columns a.records
-    (sym c.is_table.ensures ∙ not-false c.is_table.result c.if-not-is_table.false) in
+    (sym c.is_table.ensures ∙ c.if-not-is_table.false) in
     ((is_one).cells, (is_one).count)
 
 pub returns : goal.returns
@@ -35,5 +30,5 @@ returns c =
     let is_one : (let a = c.args in Tabled a.content.now a.starts.now a.ends.now a.kinds.now a.columns a.records) =
         let a = c.args in
     tabled a.content.now a.starts.now a.ends.now a.kinds.now a.columns a.records
-    (sym c.is_table.ensures ∙ not-false c.is_table.result c.if-not-is_table.false) in
+    (sym c.is_table.ensures ∙ c.if-not-is_table.false) in
     answers_as c.args.room.now (ap (written_in c.args.t (length c.args.room.now)) (is_one).rows) c.write_table.ensures

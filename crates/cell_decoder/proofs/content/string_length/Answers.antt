@@ -4,7 +4,6 @@ use native.Mathlib.Omega.{arith}
 use lib.ListN.{length}
 use Rattle.cell_decoder.specs.Strings.{string_from}
 use Rattle.cell_decoder.proofs.Strings.{proceeds_length, string_end, string_quote, string_byte}
-
 use Rattle.cell_decoder.proofs.content.string_length.Goals as goal
 
 pub loop-i-init : goal.loop-i-init

@@ -6,7 +6,6 @@ use native.Mathlib.Omega.{arith}
 use lib.ListN.{length}
 use Rattle.cell_decoder.specs.Strings.{string_from}
 use Rattle.cell_decoder.proofs.Strings.{proceeds_length, string_end, string_quote, string_byte}
-
 use Rattle.cell_decoder.proofs.content.string_length.Given as goal
 
 abbrev pub invariant-loop-i : goal.invariant-loop-i

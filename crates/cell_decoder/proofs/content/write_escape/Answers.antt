@@ -5,7 +5,6 @@ use lib.ListN.{take}
 use borrow.Author.Rules.{rules}
 use Rattle.buffer.proofs.WriteProgress.{taken_whole}
 use Rattle.cell_decoder.proofs.Strings.{proceeds_length}
-
 use Rattle.cell_decoder.proofs.content.write_escape.Goals as goal
 
 pub slice_bounds-bytes-end : goal.slice_bounds-bytes-end

@@ -3,7 +3,6 @@ use mathlib.Core.Path.{◌∙◌}
 use native.Mathlib.Omega.{arith}
 use borrow.Author.Rules.{rules}
 use Rattle.buffer.proofs.WriteProgress.{written_first}
-
 use Rattle.cell_decoder.proofs.content.write_in.Goals as goal
 
 pub copy-requires : goal.copy-requires

@@ -7,7 +7,6 @@ use lib.ListN.{length, get_or}
 use Rattle.cell_decoder.specs.Strings.{string_from}
 use Rattle.cell_decoder.proofs.Strings.{string_end, string_quote, string_byte, stepped}
 use Rattle.buffer.proofs.WriteProgress.{Writing, start, here, store, room_left, filled}
-
 use Rattle.cell_decoder.proofs.content.write_string.Given as goal
 
 abbrev pub invariant-loop-i : goal.invariant-loop-i

@@ -9,7 +9,6 @@ use lib.ListN.{length, drop, get_or}
 use Rattle.model.specs.rules.Decode.{undouble}
 use Rattle.cell_decoder.proofs.DoubledQuotes.{at_end, at_other, at_double, at_close, at_last}
 use Rattle.buffer.proofs.WriteProgress.{Writing, start, here, store, filled}
-
 use Rattle.cell_decoder.proofs.content.write_undoubled.Given as goal
 
 abbrev pub invariant-loop-i : goal.invariant-loop-i

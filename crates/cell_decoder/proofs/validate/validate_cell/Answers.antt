@@ -4,7 +4,6 @@ use lib.ListN.{length}
 use borrow.Author.Rules.{rules}
 use Rattle.model.specs.rules.Base.{choose◌then◌else◌}
 use Rattle.cell_decoder.proofs.CellValidation.{validated_by, validated}
-
 use Rattle.cell_decoder.proofs.validate.validate_cell.Goals as goal
 
 pub returns-then-is_whole : goal.returns-then-is_whole

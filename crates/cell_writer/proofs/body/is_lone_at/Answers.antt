@@ -2,7 +2,6 @@
 use mathlib.Core.Path.{sym, ◌∙◌}
 use borrow.Author.Rules.{rules}
 use Rattle.cell_writer.proofs.Bodies.{lone_cut, lone_by}
-
 use Rattle.cell_writer.proofs.body.is_lone_at.Goals as goal
 
 pub returns-then-content-i-lt3 : goal.returns-then-content-i-lt3

@@ -2,7 +2,6 @@
 use borrow.Author.Rules.{rules}
 use Rattle.cell_writer.proofs.Contents.{legible_doubled, legible_string}
 use Rattle.cell_writer.proofs.Bodies.{stops_nothing}
-
 use Rattle.cell_writer.proofs.body.stop_text.Goals as goal
 
 pub unit_stop-requires : goal.unit_stop-requires

@@ -2,7 +2,6 @@
 use native.Mathlib.Omega.{arith}
 use borrow.Author.Rules.{rules}
 use Rattle.cell_writer.proofs.Bodies.{stops_end, stops_unit}
-
 use Rattle.cell_writer.proofs.body.unit_stop.Goals as goal
 
 pub returns-then-size-eq0 : goal.returns-then-size-eq0

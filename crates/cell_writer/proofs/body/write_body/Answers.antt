@@ -12,7 +12,6 @@ use Rattle.cell_writer.specs.Units.{body_text}
 use Rattle.cell_writer.specs.Contents.{content_from}
 use Rattle.cell_writer.proofs.Contents.{part_inside, content_end}
 use Rattle.cell_writer.proofs.Bodies.{text_part, lone_part, text_end, lone_end, lone_first, lone_step, lone_done}
-
 use Rattle.cell_writer.proofs.body.write_body.Goals as goal
 
 pub loop-i-init : goal.loop-i-init
@@ -35,7 +34,7 @@ slice_bounds-emit-end c =
 pub emit-o-requires : goal.emit-o-requires
 emit-o-requires c =
     let run-next : (let l = c.loop-i in let a = c.args in Emitting a.write a.out.now a.at (body_text a.t (content_in a.c a.raw.now)) l.out l.o (take (c.plain_run-j.result - l.i) (drop l.i a.raw.now) ++ body_text a.t (content_from a.c a.raw.now c.plain_run-j.result))) =
-        let a = c.args in
+    let a = c.args in
     let source = c.quote_in-q in
     let target = c.quote_of-p in
     rw (text_part a.raw.now c.loop-i.i c.plain_run-j.result target.result source.result a.c source.ensures
@@ -48,33 +47,33 @@ emit-o-requires c =
 pub shape_of-out-then-raw-j : goal.shape_of-out-then-raw-j
 shape_of-out-then-raw-j c =
     let run-next : (let l = c.loop-i in let a = c.args in Emitting a.write a.out.now a.at (body_text a.t (content_in a.c a.raw.now)) l.out l.o (take (c.plain_run-j.result - l.i) (drop l.i a.raw.now) ++ body_text a.t (content_from a.c a.raw.now c.plain_run-j.result))) =
-        let a = c.args in
+    let a = c.args in
     let source = c.quote_in-q in
     let target = c.quote_of-p in
     rw (text_part a.raw.now c.loop-i.i c.plain_run-j.result target.result source.result a.c source.ensures
     c.plain_run-j.ensures a.t target.ensures) at c.loop-i.invariant.0 in
     let stop-next : (let a = c.args in Emitting a.write a.out.now a.at (body_text a.t (content_in a.c a.raw.now)) c.emit-o.new.0 c.emit-o.result (body_text a.t (content_from a.c a.raw.now c.plain_run-j.result))) =
-        let a = c.args in
+    let a = c.args in
     put_next (take (c.plain_run-j.result - c.loop-i.i) (drop c.loop-i.i a.raw.now)) (run-next) c.emit-o.ensures in
     same_long (stop-next)
 
 pub returns-then-raw-j : goal.returns-then-raw-j
 returns-then-raw-j c =
     let run-tells : (let l = c.loop-i in let a = c.args in holds_lone (content_in a.c a.raw.now) ≡ (l.lone || holds_lone (content_from a.c a.raw.now c.plain_run-j.result))) =
-        let a = c.args in
+    let a = c.args in
     let source = c.quote_in-q in
     let target = c.quote_of-p in
     c.loop-i.invariant.1
     ∙ ap (λ (x : Bool). c.loop-i.lone || x) (lone_part a.raw.now c.loop-i.i c.plain_run-j.result target.result source.result
     a.c source.ensures c.plain_run-j.ensures) in
     let run-next : (let l = c.loop-i in let a = c.args in Emitting a.write a.out.now a.at (body_text a.t (content_in a.c a.raw.now)) l.out l.o (take (c.plain_run-j.result - l.i) (drop l.i a.raw.now) ++ body_text a.t (content_from a.c a.raw.now c.plain_run-j.result))) =
-        let a = c.args in
+    let a = c.args in
     let source = c.quote_in-q in
     let target = c.quote_of-p in
     rw (text_part a.raw.now c.loop-i.i c.plain_run-j.result target.result source.result a.c source.ensures
     c.plain_run-j.ensures a.t target.ensures) at c.loop-i.invariant.0 in
     let stop-next : (let a = c.args in Emitting a.write a.out.now a.at (body_text a.t (content_in a.c a.raw.now)) c.emit-o.new.0 c.emit-o.result (body_text a.t (content_from a.c a.raw.now c.plain_run-j.result))) =
-        let a = c.args in
+    let a = c.args in
     put_next (take (c.plain_run-j.result - c.loop-i.i) (drop c.loop-i.i a.raw.now)) (run-next) c.emit-o.ensures in
     let l = c.loop-i in
     let a = c.args in (
@@ -85,13 +84,13 @@ returns-then-raw-j c =
 pub write_stop-x-requires : goal.write_stop-x-requires
 write_stop-x-requires c =
     let run-next : (let l = c.loop-i in let a = c.args in Emitting a.write a.out.now a.at (body_text a.t (content_in a.c a.raw.now)) l.out l.o (take (c.plain_run-j.result - l.i) (drop l.i a.raw.now) ++ body_text a.t (content_from a.c a.raw.now c.plain_run-j.result))) =
-        let a = c.args in
+    let a = c.args in
     let source = c.quote_in-q in
     let target = c.quote_of-p in
     rw (text_part a.raw.now c.loop-i.i c.plain_run-j.result target.result source.result a.c source.ensures
     c.plain_run-j.ensures a.t target.ensures) at c.loop-i.invariant.0 in
     let stop-next : (let a = c.args in Emitting a.write a.out.now a.at (body_text a.t (content_in a.c a.raw.now)) c.emit-o.new.0 c.emit-o.result (body_text a.t (content_from a.c a.raw.now c.plain_run-j.result))) =
-        let a = c.args in
+    let a = c.args in
     put_next (take (c.plain_run-j.result - c.loop-i.i) (drop c.loop-i.i a.raw.now)) (run-next) c.emit-o.ensures in
     (c.if-raw-j.false, (c.requires.legible, room_rest (stop-next)))
 
@@ -103,20 +102,20 @@ loop-i-smaller c =
 pub loop-i-preserved : goal.loop-i-preserved
 loop-i-preserved c =
     let run-tells : (let l = c.loop-i in let a = c.args in holds_lone (content_in a.c a.raw.now) ≡ (l.lone || holds_lone (content_from a.c a.raw.now c.plain_run-j.result))) =
-        let a = c.args in
+    let a = c.args in
     let source = c.quote_in-q in
     let target = c.quote_of-p in
     c.loop-i.invariant.1
     ∙ ap (λ (x : Bool). c.loop-i.lone || x) (lone_part a.raw.now c.loop-i.i c.plain_run-j.result target.result source.result
     a.c source.ensures c.plain_run-j.ensures) in
     let run-next : (let l = c.loop-i in let a = c.args in Emitting a.write a.out.now a.at (body_text a.t (content_in a.c a.raw.now)) l.out l.o (take (c.plain_run-j.result - l.i) (drop l.i a.raw.now) ++ body_text a.t (content_from a.c a.raw.now c.plain_run-j.result))) =
-        let a = c.args in
+    let a = c.args in
     let source = c.quote_in-q in
     let target = c.quote_of-p in
     rw (text_part a.raw.now c.loop-i.i c.plain_run-j.result target.result source.result a.c source.ensures
     c.plain_run-j.ensures a.t target.ensures) at c.loop-i.invariant.0 in
     let stop-next : (let a = c.args in Emitting a.write a.out.now a.at (body_text a.t (content_in a.c a.raw.now)) c.emit-o.new.0 c.emit-o.result (body_text a.t (content_from a.c a.raw.now c.plain_run-j.result))) =
-        let a = c.args in
+    let a = c.args in
     put_next (take (c.plain_run-j.result - c.loop-i.i) (drop c.loop-i.i a.raw.now)) (run-next) c.emit-o.ensures in
     let x = c.write_stop-x in
     let t = x.ensures in

@@ -14,7 +14,6 @@ use Rattle.cell_writer.specs.Units.{body_text}
 use Rattle.cell_writer.specs.Contents.{content_from}
 use Rattle.cell_writer.proofs.Contents.{part_inside, content_end}
 use Rattle.cell_writer.proofs.Bodies.{text_part, lone_part, text_end, lone_end, lone_first, lone_step, lone_done}
-
 use Rattle.cell_writer.proofs.body.write_body.Given as goal
 
 abbrev pub invariant-loop-i : goal.invariant-loop-i

@@ -5,7 +5,6 @@ use borrow.Author.Rules.{rules}
 use Rattle.buffer.proofs.WriteProgress.{taken_whole, room_as, emitting, room_next}
 use Rattle.cell_writer.specs.Units.{body_text}
 use Rattle.cell_writer.specs.Contents.{content_from}
-
 use Rattle.cell_writer.proofs.body.write_stop.Goals as goal
 
 pub slice_bounds-bytes-end : goal.slice_bounds-bytes-end

@@ -22,7 +22,6 @@ use Rattle.cell_writer.proofs.Cells.{
   word_no_text,
   written_long,
 }
-
 use Rattle.cell_writer.proofs.cell.write_cell.Goals as goal
 
 -- look: cites tie
@@ -32,7 +31,7 @@ cell c = let a = c.args in cell_text a.t a.only a.first (value_of a.src a.kind a
 pub write_text-requires : goal.write_text-requires
 write_text-requires c =
     let as-text : (let a = c.args in text_cell a.t a.only a.first (content_in c.spelling_in-c.result a.raw.now) ≡ cell c) =
-        let a = c.args in
+    let a = c.args in
     ap (text_cell a.t a.only a.first) c.spelling_in-c.ensures.raw_value
     ∙ sym (cell_as_text a.only a.first a.t (value_of a.src a.kind a.raw.now) (sym c.in-AsText.is ∙ c.form_in.ensures)) in
     (legible_as c.spelling_in-c.ensures.value (encoded_legible c.requires.encoded), room_as (as-text) c.requires.room)
@@ -40,7 +39,7 @@ write_text-requires c =
 pub write_number-end-requires : goal.write_number-end-requires
 write_number-end-requires c =
     let as_number : number_in c.spelling_in-c-in-AsNumber.result c.args.raw.now ≡ cell c =
-        let a = c.args in
+    let a = c.args in
     let way : AsNumber ≡ written_as a.t a.kind = sym c.in-AsNumber.is ∙ c.form_in.ensures in
     ap (λ (s : Spelling). number_in s a.raw.now) c.spelling_in-c-in-AsNumber.ensures.value
     ∙ sym (cell_as_number a.only a.first a.t (value_of a.src a.kind a.raw.now) way ∙ encoded_number c.requires.encoded
@@ -50,7 +49,7 @@ write_number-end-requires c =
 pub write_word-end-requires : goal.write_word-end-requires
 write_word-end-requires c =
     let as-word : word_for c.args.t c.args.kind ≡ cell c =
-        let a = c.args in
+    let a = c.args in
     sym (cell_as_word a.only a.first a.t (value_of a.src a.kind a.raw.now) (sym c.in-AsWord.is ∙ c.form_in.ensures)) in
     room_as (as-word) c.requires.room
 
@@ -62,7 +61,7 @@ shape_of-out-in-AsText c =
 pub returns-in-AsText : goal.returns-in-AsText
 returns-in-AsText c =
     let as-text : (let a = c.args in text_cell a.t a.only a.first (content_in c.spelling_in-c.result a.raw.now) ≡ cell c) =
-        let a = c.args in
+    let a = c.args in
     ap (text_cell a.t a.only a.first) c.spelling_in-c.ensures.raw_value
     ∙ sym (cell_as_text a.only a.first a.t (value_of a.src a.kind a.raw.now) (sym c.in-AsText.is ∙ c.form_in.ensures)) in
     let x = c.write_text in
@@ -76,7 +75,7 @@ shape_of-out-in-AsNumber c =
 pub returns-in-AsNumber : goal.returns-in-AsNumber
 returns-in-AsNumber c =
     let as_number : number_in c.spelling_in-c-in-AsNumber.result c.args.raw.now ≡ cell c =
-        let a = c.args in
+    let a = c.args in
     let way : AsNumber ≡ written_as a.t a.kind = sym c.in-AsNumber.is ∙ c.form_in.ensures in
     ap (λ (s : Spelling). number_in s a.raw.now) c.spelling_in-c-in-AsNumber.ensures.value
     ∙ sym (cell_as_number a.only a.first a.t (value_of a.src a.kind a.raw.now) way ∙ encoded_number c.requires.encoded
@@ -94,7 +93,7 @@ shape_of-out-in-AsWord c =
 pub returns-in-AsWord : goal.returns-in-AsWord
 returns-in-AsWord c =
     let as-word : word_for c.args.t c.args.kind ≡ cell c =
-        let a = c.args in
+    let a = c.args in
     sym (cell_as_word a.only a.first a.t (value_of a.src a.kind a.raw.now) (sym c.in-AsWord.is ∙ c.form_in.ensures)) in
     let a = c.args in (
       emitted_as (sym (as-word)) c.write_word-end.ensures,

@@ -12,7 +12,6 @@ use Rattle.cell_decoder.specs.declared.first_byte.Spelling.TheVariants.{Nothing,
 use Rattle.cell_decoder.specs.contracts.first_byte.Spelling.{the_type}
 use Rattle.cell_writer.specs.Cells.{number_in}
 use Rattle.cell_writer.proofs.Cells.{written_nothing, written_long}
-
 use Rattle.cell_writer.proofs.cell.write_number.Goals as goal
 
 -- the other encodings' indices in the enum

@@ -3,7 +3,6 @@ use mathlib.Core.Path.{sym}
 use borrow.Author.Rules.{rules}
 use Rattle.buffer.proofs.WriteProgress.{room_as, emitted_as}
 use Rattle.cell_writer.proofs.Cells.{quote_is, quote_none, written_nothing, written_long}
-
 use Rattle.cell_writer.proofs.cell.write_quote.Goals as goal
 
 pub emit_byte-requires : goal.emit_byte-requires

@@ -6,7 +6,6 @@ use Prim.Native.Nat.{ℕ}
 use Rattle.model.specs.rules.Base.{choose◌then◌else◌, BACKSLASH}
 use Rattle.model.specs.rules.Text.{escaped}
 use Rattle.cell_writer.proofs.Units.{spells_as, escaped_code, code_spells}
-
 use Rattle.cell_writer.proofs.escape.control.Goals as goal
 
 -- the bytes that have a letter

@@ -2,7 +2,6 @@
 use mathlib.Core.Path.{refl}
 use borrow.Author.Rules.{rules}
 use Rattle.cell_writer.proofs.Units.{spells_as, doubled_quote, doubled_itself}
-
 use Rattle.cell_writer.proofs.escape.double.Goals as goal
 
 pub returns-then-b-q : goal.returns-then-b-q

@@ -3,7 +3,6 @@ use mathlib.Core.Path.{sym}
 use native.Mathlib.Omega.{arith}
 use borrow.Author.Rules.{rules}
 use Rattle.cell_writer.proofs.Units.{lone_not, lone_none, lone_leb}
-
 use Rattle.cell_writer.proofs.escape.is_lone.Goals as goal
 
 pub returns-then-size-ne3 : goal.returns-then-size-ne3

@@ -4,7 +4,6 @@ use Prim.Native.Nat.{ℕ, ◌+◌, ◌-◌, ◌*◌, ◌/◌, ◌%◌}
 use borrow.Author.Rules.{rules}
 use Rattle.model.specs.rules.Text.{hex_digit}
 use Rattle.cell_writer.proofs.Units.{lone_spells}
-
 use Rattle.cell_writer.proofs.escape.lone.Goals as goal
 
 pub returns : goal.returns

@@ -9,7 +9,6 @@ use Rattle.model.specs.rules.Dialect.{is_csvj}
 use Rattle.model.proofs.Tests.{impossible}
 use Rattle.cell_writer.specs.Units.{body_text, is_lone}
 use Rattle.cell_writer.proofs.Units.{spells_as, first_one, lone_high, lone_text, stands, four_spell}
-
 use Rattle.cell_writer.proofs.escape.unit_text.Goals as goal
 
 pub returns-then-size-eq1 : goal.returns-then-size-eq1

@@ -5,7 +5,6 @@ use lib.ListN.{length, drop}
 use borrow.Author.Rules.{rules}
 use Rattle.cell_writer.specs.PlainRuns.{plain_run}
 use Rattle.cell_writer.proofs.PlainSteps.{run_on, run_stops, run_ends}
-
 use Rattle.cell_writer.proofs.plain.single_steps.Goals as goal
 
 pub loop-i-init : goal.loop-i-init

@@ -6,7 +6,6 @@ use lib.ListN.{length, drop}
 use borrow.Author.Rules.{rules}
 use Rattle.cell_writer.specs.PlainRuns.{plain_run}
 use Rattle.cell_writer.proofs.PlainSteps.{word_on, word_ends}
-
 use Rattle.cell_writer.proofs.plain.word_steps.Given as goal
 
 abbrev pub invariant-loop-i : goal.invariant-loop-i

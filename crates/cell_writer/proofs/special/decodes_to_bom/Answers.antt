@@ -8,7 +8,6 @@ use Rattle.model.specs.rules.Text.{begins_bom}
 use Rattle.cell_decoder.specs.FirstByte.{content_in}
 use Rattle.cell_writer.proofs.Contents.{decoded_short}
 use Rattle.cell_writer.proofs.QuoteDecision.{Held, held}
-
 use Rattle.cell_writer.proofs.special.decodes_to_bom.Goals as goal
 
 abbrev zeros : Bytes
@@ -24,17 +23,17 @@ write_in-requires c = decoded_short c.requires
 pub slice_bounds-room-end : goal.slice_bounds-room-end
 slice_bounds-room-end c =
     let holds : Held (content c) c.write_in.new.1.1.0 c.length_in-size.result =
-        held (content (c)) zeros _ _ c.write_in.ensures c.length_in-size.ensures in
+    held (content (c)) zeros _ _ c.write_in.ensures c.length_in-size.ensures in
     (holds).inside
 
 pub slice_bounds-is_bom-end : goal.slice_bounds-is_bom-end
 slice_bounds-is_bom-end c =
     let holds : Held (content c) c.write_in.new.1.1.0 c.length_in-size.result =
-        held (content (c)) zeros _ _ c.write_in.ensures c.length_in-size.ensures in
+    held (content (c)) zeros _ _ c.write_in.ensures c.length_in-size.ensures in
     (holds).whole
 
 pub returns : goal.returns
 returns c =
     let holds : Held (content c) c.write_in.new.1.1.0 c.length_in-size.result =
-        held (content (c)) zeros _ _ c.write_in.ensures c.length_in-size.ensures in
+    held (content (c)) zeros _ _ c.write_in.ensures c.length_in-size.ensures in
     c.is_bom.ensures ∙ ap begins_bom (holds).front

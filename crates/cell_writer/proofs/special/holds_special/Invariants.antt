@@ -9,7 +9,6 @@ use Rattle.model.specs.rules.Text.{special}
 use Rattle.cell_decoder.specs.FirstByte.{content_in}
 use Rattle.cell_writer.specs.Contents.{content_from}
 use Rattle.cell_writer.proofs.QuoteDecision.{special_on, special_end, special_there, special_next}
-
 use Rattle.cell_writer.proofs.special.holds_special.Given as goal
 
 abbrev pub invariant-loop-i : goal.invariant-loop-i

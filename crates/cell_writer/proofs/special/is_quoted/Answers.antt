@@ -6,7 +6,6 @@ use borrow.Author.Rules.{rules}
 use Rattle.model.specs.rules.Base.{Bytes, is_empty}
 use Rattle.cell_decoder.specs.FirstByte.{content_in}
 use Rattle.cell_writer.proofs.QuoteDecision.{quotes_special, quotes_empty, quotes_mark, quotes_none, not_only, not_empty}
-
 use Rattle.cell_writer.proofs.special.is_quoted.Goals as goal
 
 -- look: cites tie
@@ -27,7 +26,7 @@ returns-then-length_in-eq0 c =
 pub returns-then-first : goal.returns-then-first
 returns-then-first c =
     let neither : (c.args.only && is_empty (content c)) ≡ false =
-        let a = c.args in
+    let a = c.args in
     ⊎_elim (λ w. not_empty a.s a.only a.first (content c) (λ e. w.2.false (w.1.ensures ∙ e)))
     (λ w. not_only a.s a.only a.first (content c) w.false) c.if-only.branch in
     let a = c.args in
@@ -38,7 +37,7 @@ returns-then-first c =
 pub returns : goal.returns
 returns c =
     let neither : (c.args.only && is_empty (content c)) ≡ false =
-        let a = c.args in
+    let a = c.args in
     ⊎_elim (λ w. not_empty a.s a.only a.first (content c) (λ e. w.2.false (w.1.ensures ∙ e)))
     (λ w. not_only a.s a.only a.first (content c) w.false) c.if-only.branch in
     let a = c.args in

@@ -3,7 +3,6 @@ use mathlib.Core.Path.{sym, ◌∙◌}
 use native.Mathlib.Omega.{arith}
 use borrow.Author.Rules.{rules}
 use Rattle.cell_writer.proofs.QuoteDecision.{unit_byte, unit_more}
-
 use Rattle.cell_writer.proofs.special.is_special_unit.Goals as goal
 
 pub returns-then-size-eq1 : goal.returns-then-size-eq1

@@ -2,7 +2,6 @@
 use mathlib.Core.List.{[]}
 use borrow.Author.Rules.{rules}
 use Rattle.cell_writer.proofs.Contents.{quote_part, escape_part, char_part}
-
 use Rattle.cell_writer.proofs.unit.string_at.Goals as goal
 
 pub returns-then-b-eq34 : goal.returns-then-b-eq34

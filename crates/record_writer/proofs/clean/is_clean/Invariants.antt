@@ -4,10 +4,8 @@ use mathlib.Core.Path.{sym, ◌∙◌}
 use native.Mathlib.Omega.{arith}
 use lib.ListN.{length, get_or}
 use borrow.Author.Rules.{rules}
-use borrow.Author.Tests.{not-false}
 use Rattle.model.proofs.Tests.{impossible}
 use Rattle.record_writer.proofs.CleanCells.{CleanBefore, clean_none, clean_next, clean_all}
-
 use Rattle.record_writer.proofs.clean.is_clean.Given as goal
 
 abbrev pub invariant-loop-n : goal.invariant-loop-n

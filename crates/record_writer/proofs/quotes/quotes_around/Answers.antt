@@ -1,7 +1,6 @@
 -- `record_writer::quotes::quotes_around` meets its contract, test by test.
 use native.Mathlib.Omega.{arith}
 use Rattle.record_writer.specs.Verbatim.{no_quotes, a_quote}
-
 use Rattle.record_writer.proofs.quotes.quotes_around.Goals as goal
 
 pub returns-then-raw-lt2 : goal.returns-then-raw-lt2

@@ -2,7 +2,6 @@
 use mathlib.Core.Path.{sym, ap, ◌∙◌}
 use Rattle.record_writer.specs.Columns.{check_of}
 use Rattle.record_writer.proofs.Columns.{said_nothing, says_lone, says_lacks}
-
 use Rattle.record_writer.proofs.record.check_result.Goals as goal
 
 pub returns-then-column-eq0 : goal.returns-then-column-eq0

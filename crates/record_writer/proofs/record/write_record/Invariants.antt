@@ -18,7 +18,6 @@ use Rattle.cell_decoder.specs.Sources.{kind_from, content_by, cells_in, CellSpan
 use Rattle.cell_writer.specs.Cells.{value_of}
 use Rattle.record_writer.specs.Columns.{column_text, uncarried_cell, check_of}
 use Rattle.record_writer.proofs.Columns.{WrittenUpTo, text_at, written_none, text_at_lem, text_end, says_next, uncarried_end, or_else_sound}
-
 use Rattle.record_writer.proofs.record.write_record.Given as goal
 
 abbrev pub invariant-loop-n : goal.invariant-loop-n

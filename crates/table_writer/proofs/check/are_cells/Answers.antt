@@ -3,7 +3,6 @@ use Prim.Native.Nat.{◌-◌, ◌≤◌}
 use native.Mathlib.Omega.{arith}
 use lib.ListN.{length}
 use borrow.Author.Rules.{rules}
-use borrow.Author.Tests.{not-true, not-false}
 use Rattle.model.specs.rules.Api.{table_cells}
 use Rattle.table_writer.specs.TableParts.{is_there}
 use Rattle.table_writer.proofs.Tables.{cells_from, cells_here, cells_next, cells_end}
@@ -27,7 +26,7 @@ returns-then-not-is_cell c =
     (l.invariant.1
     ∙ cells_here a.content.now a.starts.now a.ends.now a.kinds.now l.n c.requires.0 c.requires.1
     c.loop-n-test.true
-    (sym c.is_cell.ensures ∙ not-true c.is_cell.result c.if-not-is_cell.true))
+    (sym c.is_cell.ensures ∙ c.if-not-is_cell.true))
 
 pub loop-n-preserved : goal.loop-n-preserved
 loop-n-preserved c =
@@ -37,7 +36,7 @@ loop-n-preserved c =
       l.invariant.1
           ∙ cells_next a.content.now a.starts.now a.ends.now a.kinds.now l.n c.requires.0 c.requires.1
           c.loop-n-test.true
-          (sym c.is_cell.ensures ∙ not-false c.is_cell.result c.if-not-is_cell.false),
+          (sym c.is_cell.ensures ∙ c.if-not-is_cell.false),
     )
 
 pub returns : goal.returns

@@ -4,7 +4,6 @@ use Prim.Native.Nat.{◌-◌, ◌≤◌}
 use native.Mathlib.Omega.{arith}
 use lib.ListN.{length}
 use borrow.Author.Rules.{rules}
-use borrow.Author.Tests.{not-true, not-false}
 use Rattle.model.specs.rules.Api.{table_cells}
 use Rattle.table_writer.specs.TableParts.{is_there}
 use Rattle.table_writer.proofs.Tables.{cells_from, cells_here, cells_next, cells_end}

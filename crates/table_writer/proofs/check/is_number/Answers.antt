@@ -3,7 +3,6 @@ use mathlib.Core.Path.{◌≡◌, refl, sym, ap, ◌∙◌}
 use Prim.Native.Nat.{ℕ}
 use mathlib.Core.Bool.{false}
 use borrow.Author.Rules.{rules}
-use borrow.Author.Tests.{not-true, not-false}
 use Rattle.model.specs.declared.CellCheck.{CellCheck}
 use Rattle.model.specs.declared.CellCheck.TheVariants.{WholeCell, Unsound}
 use Rattle.model.specs.declared.Dialect.TheVariants.{Csvj}
@@ -35,7 +34,7 @@ returns-then-not-is_number_kind c =
     let by_kind : c.is_number_kind.result ≡ is_number (kind_of Csvj c.args.s.now) WholeCell =
         c.is_number_kind.ensures ∙ ap (λ (k : Kind). is_number k WholeCell) c.kind_of.ensures in
     let s = c.args.s.now in
-    sym (other-kind (kind_of Csvj s) (validate_cell Csvj s) (sym (by_kind) ∙ not-true c.is_number_kind.result c.if-not-is_number_kind.true))
+    sym (other-kind (kind_of Csvj s) (validate_cell Csvj s) (sym (by_kind) ∙ c.if-not-is_number_kind.true))
 
 pub returns-in-WholeCell : goal.returns-in-WholeCell
 returns-in-WholeCell c =
@@ -44,7 +43,7 @@ returns-in-WholeCell c =
     let s = c.args.s.now in
     sym
     (ap (is_number (kind_of Csvj s)) (sym c.validate_cell.ensures ∙ c.in-WholeCell.is) ∙ sym (by_kind)
-    ∙ not-false c.is_number_kind.result c.if-not-is_number_kind.false)
+    ∙ c.if-not-is_number_kind.false)
 
 pub returns-in-Unsound : goal.returns-in-Unsound
 returns-in-Unsound c =

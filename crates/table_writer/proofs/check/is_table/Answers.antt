@@ -2,7 +2,6 @@
 use mathlib.Core.Path.{sym, ◌∙◌}
 use native.Mathlib.Omega.{arith}
 use borrow.Author.Rules.{rules}
-use borrow.Author.Tests.{not-true, not-false}
 use Rattle.table_writer.proofs.Tables.{no_ends, no_kinds, no_record, no_product, by_cells}
 
 use Rattle.table_writer.proofs.check.is_table.Goals as goal
@@ -27,7 +26,7 @@ returns-then-not-is_product c =
     let a = c.args in
     sym
     (no_product a.content.now a.starts.now a.ends.now a.kinds.now a.columns a.records
-    (sym c.is_product.ensures ∙ not-true c.is_product.result c.if-not-is_product.true))
+    (sym c.is_product.ensures ∙ c.if-not-is_product.true))
 
 pub returns : goal.returns
 returns c =
@@ -36,4 +35,4 @@ returns c =
     ∙ sym
     (by_cells a.content.now a.starts.now a.ends.now a.kinds.now a.columns a.records
     c.if-records-eq0.false
-    (sym c.is_product.ensures ∙ not-false c.is_product.result c.if-not-is_product.false))
+    (sym c.is_product.ensures ∙ c.if-not-is_product.false))

@@ -11,16 +11,12 @@ use Rattle.table_writer.proofs.Rows.{header_faulty, header_sound}
 
 use Rattle.table_writer.proofs.records.check_record.Goals as goal
 
--- look: cites tie
--- the record's cells
-abbrev cells : tie.Start → List Value
-cells c = cells_in Contents c.args.content.now c.args.starts.now c.args.ends.now c.args.kinds.now
-
 pub returns-in-Faulty : goal.returns-in-Faulty
 returns-in-Faulty c =
+    let cells : List Value = cells_in Contents c.args.content.now c.args.starts.now c.args.ends.now c.args.kinds.now in
     let a = c.args in
     let told = c.e-1.given in
-    (header_faulty a.t a.header a.written (cells c) told.0.0 (sym c.header_fault.ensures ∙ told.1), λ e. fault_sound e)
+    (header_faulty a.t a.header a.written cells told.0.0 (sym c.header_fault.ensures ∙ told.1), λ e. fault_sound e)
 
 -- a record of contents is never flagged clean
 pub check_target-requires : goal.check_target-requires
@@ -28,9 +24,10 @@ check_target-requires c = (c.requires.cells, (λ e. impossible e, c.requires.wri
 
 pub returns : goal.returns
 returns c =
+    let cells : List Value = cells_in Contents c.args.content.now c.args.starts.now c.args.ends.now c.args.kinds.now in
     let a = c.args in (
       c.check_target.ensures.verdict_value
-          ∙ header_sound a.t a.header a.written (cells c)
+          ∙ header_sound a.t a.header a.written cells
           (sym c.header_fault.ensures ∙ c.in_default.is),
       c.check_target.ensures.length_value,
     )

@@ -18,21 +18,18 @@ use Rattle.table_writer.proofs.Rows.{row_at, row_inside, Measuring, measuring, m
 
 use Rattle.table_writer.proofs.records.measure.Goals as goal
 
--- look: cites tie
--- all cells
-abbrev cells : tie.Start invariant-loop decreases-loop → List Value
-cells c = cells_in Contents c.args.content.now c.args.starts.now c.args.ends.now c.args.kinds.now
-
 pub loop-n-init : goal.loop-n-init
 loop-n-init c =
-    let count : length (cells c) ≡ length c.args.starts.now =
+    let cells : List Value = cells_in Contents c.args.content.now c.args.starts.now c.args.ends.now c.args.kinds.now in
+    let count : length cells ≡ length c.args.starts.now =
         cells_length Contents c.args.content.now c.args.starts.now c.args.ends.now c.args.kinds.now c.requires.cells.with_ends
     c.requires.cells.with_kinds in
     measuring (count ∙ c.requires.starts_len)
 
 pub overflow_add-next : goal.overflow_add-next
 overflow_add-next c =
-    let count : length (cells c) ≡ length c.args.starts.now =
+    let cells : List Value = cells_in Contents c.args.content.now c.args.starts.now c.args.ends.now c.args.kinds.now in
+    let count : length cells ≡ length c.args.starts.now =
         cells_length Contents c.args.content.now c.args.starts.now c.args.ends.now c.args.kinds.now c.requires.cells.with_ends
     c.requires.cells.with_kinds in
     let inside : c.loop-n.at + c.args.columns ≤ length c.args.starts.now =
@@ -41,7 +38,8 @@ overflow_add-next c =
 
 pub offset_bounds-starts-at : goal.offset_bounds-starts-at
 offset_bounds-starts-at c =
-    let count : length (cells c) ≡ length c.args.starts.now =
+    let cells : List Value = cells_in Contents c.args.content.now c.args.starts.now c.args.ends.now c.args.kinds.now in
+    let count : length cells ≡ length c.args.starts.now =
         cells_length Contents c.args.content.now c.args.starts.now c.args.ends.now c.args.kinds.now c.requires.cells.with_ends
     c.requires.cells.with_kinds in
     let inside : c.loop-n.at + c.args.columns ≤ length c.args.starts.now =
@@ -50,7 +48,8 @@ offset_bounds-starts-at c =
 
 pub slice_bounds-check_record-end : goal.slice_bounds-check_record-end
 slice_bounds-check_record-end c =
-    let count : length (cells c) ≡ length c.args.starts.now =
+    let cells : List Value = cells_in Contents c.args.content.now c.args.starts.now c.args.ends.now c.args.kinds.now in
+    let count : length cells ≡ length c.args.starts.now =
         cells_length Contents c.args.content.now c.args.starts.now c.args.ends.now c.args.kinds.now c.requires.cells.with_ends
     c.requires.cells.with_kinds in
     let inside : c.loop-n.at + c.args.columns ≤ length c.args.starts.now =
@@ -59,7 +58,8 @@ slice_bounds-check_record-end c =
 
 pub offset_bounds-ends-at : goal.offset_bounds-ends-at
 offset_bounds-ends-at c =
-    let count : length (cells c) ≡ length c.args.starts.now =
+    let cells : List Value = cells_in Contents c.args.content.now c.args.starts.now c.args.ends.now c.args.kinds.now in
+    let count : length cells ≡ length c.args.starts.now =
         cells_length Contents c.args.content.now c.args.starts.now c.args.ends.now c.args.kinds.now c.requires.cells.with_ends
     c.requires.cells.with_kinds in
     let inside : c.loop-n.at + c.args.columns ≤ length c.args.starts.now =
@@ -70,7 +70,8 @@ offset_bounds-ends-at c =
 
 pub slice_bounds-check_record-end-in-loop-n : goal.slice_bounds-check_record-end-in-loop-n
 slice_bounds-check_record-end-in-loop-n c =
-    let count : length (cells c) ≡ length c.args.starts.now =
+    let cells : List Value = cells_in Contents c.args.content.now c.args.starts.now c.args.ends.now c.args.kinds.now in
+    let count : length cells ≡ length c.args.starts.now =
         cells_length Contents c.args.content.now c.args.starts.now c.args.ends.now c.args.kinds.now c.requires.cells.with_ends
     c.requires.cells.with_kinds in
     let inside : c.loop-n.at + c.args.columns ≤ length c.args.starts.now =
@@ -81,7 +82,8 @@ slice_bounds-check_record-end-in-loop-n c =
 
 pub slice_bounds-check_record-end-in-loop-n-2 : goal.slice_bounds-check_record-end-in-loop-n-2
 slice_bounds-check_record-end-in-loop-n-2 c =
-    let count : length (cells c) ≡ length c.args.starts.now =
+    let cells : List Value = cells_in Contents c.args.content.now c.args.starts.now c.args.ends.now c.args.kinds.now in
+    let count : length cells ≡ length c.args.starts.now =
         cells_length Contents c.args.content.now c.args.starts.now c.args.ends.now c.args.kinds.now c.requires.cells.with_ends
     c.requires.cells.with_kinds in
     let inside : c.loop-n.at + c.args.columns ≤ length c.args.starts.now =
@@ -92,7 +94,8 @@ slice_bounds-check_record-end-in-loop-n-2 c =
 
 pub check_record-r-requires : goal.check_record-r-requires
 check_record-r-requires c =
-    let count : length (cells c) ≡ length c.args.starts.now =
+    let cells : List Value = cells_in Contents c.args.content.now c.args.starts.now c.args.ends.now c.args.kinds.now in
+    let count : length cells ≡ length c.args.starts.now =
         cells_length Contents c.args.content.now c.args.starts.now c.args.ends.now c.args.kinds.now c.requires.cells.with_ends
     c.requires.cells.with_kinds in
     let inside : c.loop-n.at + c.args.columns ≤ length c.args.starts.now =
@@ -103,7 +106,8 @@ check_record-r-requires c =
 
 pub returns-in-Faulty : goal.returns-in-Faulty
 returns-in-Faulty c =
-    let verdict-at : (let l = c.loop-n in c.check_record-r.result.verdict ≡ row_check c.args.t (eqb l.n 0) l.size (row_at (cells c) c.args.columns l.at)) =
+    let cells : List Value = cells_in Contents c.args.content.now c.args.starts.now c.args.ends.now c.args.kinds.now in
+    let verdict-at : (let l = c.loop-n in c.check_record-r.result.verdict ≡ row_check c.args.t (eqb l.n 0) l.size (row_at cells c.args.columns l.at)) =
         let l = c.loop-n in
     let a = c.args in
     c.check_record-r.ensures.verdict_value
@@ -115,18 +119,19 @@ returns-in-Faulty c =
 
 pub overflow_add-size : goal.overflow_add-size
 overflow_add-size c =
-    let verdict-at : (let l = c.loop-n in c.check_record-r.result.verdict ≡ row_check c.args.t (eqb l.n 0) l.size (row_at (cells c) c.args.columns l.at)) =
+    let cells : List Value = cells_in Contents c.args.content.now c.args.starts.now c.args.ends.now c.args.kinds.now in
+    let verdict-at : (let l = c.loop-n in c.check_record-r.result.verdict ≡ row_check c.args.t (eqb l.n 0) l.size (row_at cells c.args.columns l.at)) =
         let l = c.loop-n in
     let a = c.args in
     c.check_record-r.ensures.verdict_value
     ∙ ap (row_check a.t (eqb l.n 0) l.size) (part_cells Contents a.content.now a.starts.now a.ends.now a.kinds.now l.at a.columns) in
-    let length_at : (let l = c.loop-n in c.check_record-r.result.verdict ≡ Sound → c.check_record-r.result.length ≡ length (record_text (into c.args.t) (eqb l.n 0) (row_at (cells c) c.args.columns l.at) ++ ending c.args.t)) =
+    let length_at : (let l = c.loop-n in c.check_record-r.result.verdict ≡ Sound → c.check_record-r.result.length ≡ length (record_text (into c.args.t) (eqb l.n 0) (row_at cells c.args.columns l.at) ++ ending c.args.t)) =
         λ e. let l = c.loop-n in
     let a = c.args in
     c.check_record-r.ensures.length_value e
     ∙ ap (λ (r : List Value). length (record_text (into a.t) (eqb l.n 0) r ++ ending a.t))
     (part_cells Contents a.content.now a.starts.now a.ends.now a.kinds.now l.at a.columns) in
-    let passed : Measuring c.args.t (cells c) c.args.columns c.args.records (c.loop-n.n + 1) (c.loop-n.at + c.args.columns) (c.loop-n.size + c.check_record-r.result.length) =
+    let passed : Measuring c.args.t cells c.args.columns c.args.records (c.loop-n.n + 1) (c.loop-n.at + c.args.columns) (c.loop-n.size + c.check_record-r.result.length) =
         let sound = c.in_default.is in
     measured_next c.loop-n.invariant c.loop-n-test.true c.check_record-r.result.length
     (sym (verdict-at) ∙ sound) (length_at sound) in
@@ -134,18 +139,19 @@ overflow_add-size c =
 
 pub loop-n-preserved : goal.loop-n-preserved
 loop-n-preserved c =
-    let verdict-at : (let l = c.loop-n in c.check_record-r.result.verdict ≡ row_check c.args.t (eqb l.n 0) l.size (row_at (cells c) c.args.columns l.at)) =
+    let cells : List Value = cells_in Contents c.args.content.now c.args.starts.now c.args.ends.now c.args.kinds.now in
+    let verdict-at : (let l = c.loop-n in c.check_record-r.result.verdict ≡ row_check c.args.t (eqb l.n 0) l.size (row_at cells c.args.columns l.at)) =
         let l = c.loop-n in
     let a = c.args in
     c.check_record-r.ensures.verdict_value
     ∙ ap (row_check a.t (eqb l.n 0) l.size) (part_cells Contents a.content.now a.starts.now a.ends.now a.kinds.now l.at a.columns) in
-    let length_at : (let l = c.loop-n in c.check_record-r.result.verdict ≡ Sound → c.check_record-r.result.length ≡ length (record_text (into c.args.t) (eqb l.n 0) (row_at (cells c) c.args.columns l.at) ++ ending c.args.t)) =
+    let length_at : (let l = c.loop-n in c.check_record-r.result.verdict ≡ Sound → c.check_record-r.result.length ≡ length (record_text (into c.args.t) (eqb l.n 0) (row_at cells c.args.columns l.at) ++ ending c.args.t)) =
         λ e. let l = c.loop-n in
     let a = c.args in
     c.check_record-r.ensures.length_value e
     ∙ ap (λ (r : List Value). length (record_text (into a.t) (eqb l.n 0) r ++ ending a.t))
     (part_cells Contents a.content.now a.starts.now a.ends.now a.kinds.now l.at a.columns) in
-    let passed : Measuring c.args.t (cells c) c.args.columns c.args.records (c.loop-n.n + 1) (c.loop-n.at + c.args.columns) (c.loop-n.size + c.check_record-r.result.length) =
+    let passed : Measuring c.args.t cells c.args.columns c.args.records (c.loop-n.n + 1) (c.loop-n.at + c.args.columns) (c.loop-n.size + c.check_record-r.result.length) =
         let sound = c.in_default.is in
     measured_next c.loop-n.invariant c.loop-n-test.true c.check_record-r.result.length
     (sym (verdict-at) ∙ sound) (length_at sound) in

@@ -6,7 +6,6 @@ use borrow.Author.Rules.{rules}
 use Rattle.model.specs.rules.Base.{holds}
 use Rattle.swar.specs.Words.{is_byte}
 use Rattle.record_writer.proofs.ByteMembership.{word_held, word_on}
-
 use Rattle.record_writer.proofs.clean.plus.holds_byte.Goals as goal
 
 pub loop-i-init : goal.loop-i-init

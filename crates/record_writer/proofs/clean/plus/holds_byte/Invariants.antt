@@ -7,7 +7,6 @@ use borrow.Author.Rules.{rules}
 use Rattle.model.specs.rules.Base.{holds}
 use Rattle.swar.specs.Words.{is_byte}
 use Rattle.record_writer.proofs.ByteMembership.{word_held, word_on}
-
 use Rattle.record_writer.proofs.clean.plus.holds_byte.Given as goal
 
 abbrev pub invariant-loop-i : goal.invariant-loop-i

@@ -2,7 +2,6 @@
 use mathlib.Core.Path.{sym, ◌∙◌}
 use borrow.Author.Rules.{rules}
 use Rattle.record_writer.proofs.ByteMembership.{needs_held, needs_only, needs_none}
-
 use Rattle.record_writer.proofs.clean.plus.needs_quotes.Goals as goal
 
 pub returns-then-holds_byte : goal.returns-then-holds_byte

@@ -7,7 +7,6 @@ use Rattle.buffer.proofs.WriteProgress.{same_long}
 use Rattle.record_writer.specs.Joined.{Lies}
 use Rattle.record_writer.specs.CleanCellText.{plus_cell}
 use Rattle.record_writer.proofs.Joined.{WrittenUpTo, written_none, room_cell, put_cell, put_all}
-
 use Rattle.record_writer.proofs.clean.plus.write_csv_plus.Given as goal
 
 abbrev pub invariant-loop-n : goal.invariant-loop-n

@@ -2,7 +2,6 @@
 use mathlib.Core.Path.{sym, ◌∙◌}
 use borrow.Author.Rules.{rules}
 use Rattle.record_writer.proofs.Lengths.{length_own, length_two}
-
 use Rattle.record_writer.proofs.clean.quoted.cell_length.Goals as goal
 
 pub returns-then-has_quotes : goal.returns-then-has_quotes

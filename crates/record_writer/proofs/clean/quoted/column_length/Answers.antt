@@ -5,7 +5,6 @@ use native.Mathlib.Omega.{arith}
 use borrow.Author.Rules.{rules}
 use Rattle.record_writer.specs.CleanCellText.{quoted_cell}
 use Rattle.record_writer.proofs.Lengths.{length_cell, length_first, length_later}
-
 use Rattle.record_writer.proofs.clean.quoted.column_length.Goals as goal
 
 pub returns-then-n-eq0 : goal.returns-then-n-eq0

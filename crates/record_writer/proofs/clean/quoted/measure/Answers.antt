@@ -11,7 +11,6 @@ use Rattle.buffer.proofs.WriteProgress.{put_measured}
 use Rattle.record_writer.specs.Joined.{Lies}
 use Rattle.record_writer.specs.CleanCellText.{quoted_cell}
 use Rattle.record_writer.proofs.Joined.{WrittenUpTo, written_none, room_cell, put_cell, put_all}
-
 use Rattle.record_writer.proofs.clean.quoted.measure.Goals as goal
 
 pub loop-n-init : goal.loop-n-init
@@ -23,29 +22,29 @@ bounds-ends-n c = omega (arith, c.requires.spans.with_ends)
 pub slice_bounds-column_length-count : goal.slice_bounds-column_length-count
 slice_bounds-column_length-count c =
     let at_n : (let a = c.args in let n = c.loop-n.n in Lies a.s.now (get_or a.starts.now n 0) (get_or a.ends.now n 0)) =
-        c.requires.spans.each c.loop-n.n c.loop-n-test.true in
+    c.requires.spans.each c.loop-n.n c.loop-n-test.true in
     (at_n).forward
 
 pub slice_bounds-column_length-start : goal.slice_bounds-column_length-start
 slice_bounds-column_length-start c =
     let at_n : (let a = c.args in let n = c.loop-n.n in Lies a.s.now (get_or a.starts.now n 0) (get_or a.ends.now n 0)) =
-        c.requires.spans.each c.loop-n.n c.loop-n-test.true in
+    c.requires.spans.each c.loop-n.n c.loop-n-test.true in
     (at_n).forward
 
 pub slice_bounds-column_length-end : goal.slice_bounds-column_length-end
 slice_bounds-column_length-end c =
     let at_n : (let a = c.args in let n = c.loop-n.n in Lies a.s.now (get_or a.starts.now n 0) (get_or a.ends.now n 0)) =
-        c.requires.spans.each c.loop-n.n c.loop-n-test.true in
+    c.requires.spans.each c.loop-n.n c.loop-n-test.true in
     (at_n).inside
 
 pub column_length-requires : goal.column_length-requires
 column_length-requires c =
     let at_n : (let a = c.args in let n = c.loop-n.n in Lies a.s.now (get_or a.starts.now n 0) (get_or a.ends.now n 0)) =
-        c.requires.spans.each c.loop-n.n c.loop-n-test.true in
+    c.requires.spans.each c.loop-n.n c.loop-n-test.true in
     (at_n).short
 
 pub measured-o-requires : goal.measured-o-requires
-measured-o-requires c = (room_cell c.requires.spans.with_ends c.loop-n.invariant c.loop-n-test.true).decreases refl
+measured-o-requires c = (room_cell c.requires.spans.with_ends c.loop-n.invariant c.loop-n-test.true).measured refl
 
 pub loop-n-preserved : goal.loop-n-preserved
 loop-n-preserved c =

@@ -12,7 +12,6 @@ use Rattle.buffer.proofs.WriteProgress.{put_measured}
 use Rattle.record_writer.specs.Joined.{Lies}
 use Rattle.record_writer.specs.CleanCellText.{quoted_cell}
 use Rattle.record_writer.proofs.Joined.{WrittenUpTo, written_none, room_cell, put_cell, put_all}
-
 use Rattle.record_writer.proofs.clean.quoted.measure.Given as goal
 
 -- nothing is written, so any buffer serves

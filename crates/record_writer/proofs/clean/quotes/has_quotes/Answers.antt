@@ -2,7 +2,6 @@
 use mathlib.Core.Path.{sym}
 use borrow.Author.Rules.{rules}
 use Rattle.record_writer.proofs.Lengths.{begins_none, begins_by}
-
 use Rattle.record_writer.proofs.clean.quotes.has_quotes.Goals as goal
 
 pub returns-then-raw-eq0 : goal.returns-then-raw-eq0

@@ -6,7 +6,6 @@ use Rattle.buffer.proofs.WriteProgress.{room_as, emitted_as}
 use Rattle.cell_writer.proofs.Cells.{written_nothing}
 use Rattle.record_writer.specs.Joined.{before}
 use Rattle.record_writer.proofs.Joined.{before_first, before_later}
-
 use Rattle.record_writer.proofs.clean.quotes.write_delimiter.Goals as goal
 
 pub returns-then-n-eq0 : goal.returns-then-n-eq0

@@ -4,7 +4,6 @@ use borrow.Author.Rules.{rules}
 use Rattle.buffer.proofs.WriteProgress.{room_as, emitted_as}
 use Rattle.cell_writer.proofs.Cells.{written_nothing}
 use Rattle.record_writer.proofs.Lengths.{quote_is, quote_none}
-
 use Rattle.record_writer.proofs.clean.quotes.write_quote.Goals as goal
 
 pub emit_byte-requires : goal.emit_byte-requires
