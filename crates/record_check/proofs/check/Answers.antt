@@ -3,7 +3,6 @@ use borrow.Author.Rules.{rules}
 use Rattle.model.specs.rules.Base.{choose◌then◌else◌}
 use Rattle.cell_decoder.specs.Sources.{cells_in}
 use Rattle.cell_decoder.proofs.CellsIn.{cells_length}
-
 use Rattle.record_check.proofs.check.Goals as goal
 
 pub returns-then-header : goal.returns-then-header

@@ -4,11 +4,9 @@ use Prim.Native.Nat.{◌-◌, ◌≤◌}
 use native.Mathlib.Omega.{arith}
 use lib.ListN.{length, get_or}
 use borrow.Author.Rules.{rules}
-use borrow.Author.Tests.{not-true, not-false}
 use Rattle.model.specs.rules.Text.{is_text}
 use Rattle.cell_decoder.specs.Sources.{kind_from}
 use Rattle.record_check.proofs.Records.{not_text_at, not_text_end, not_text_here, not_text_next}
-
 use Rattle.record_check.proofs.first_not_text.Given as goal
 
 abbrev pub invariant-loop-n : goal.invariant-loop-n

@@ -6,7 +6,6 @@ use native.Mathlib.Omega.{arith}
 use lib.ListN.{length}
 use Rattle.model.specs.declared.Fault.{Fault}
 use Rattle.record_check.proofs.RepeatedNames.{repeat_at, repeat_start, repeat_end, repeat_here, repeat_next}
-
 use Rattle.record_check.proofs.names.first_repeat.Given as goal
 
 abbrev pub invariant-loop-n : goal.invariant-loop-n

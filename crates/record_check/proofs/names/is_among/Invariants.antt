@@ -8,7 +8,6 @@ use Rattle.model.specs.rules.Report.{MAXRECORD}
 use Rattle.model.specs.rules.Records.{name_key, among}
 use Rattle.record_check.specs.Keys.{NameIn, keys_before}
 use Rattle.record_check.proofs.Keys.{among_none, among_last, among_before}
-
 use Rattle.record_check.proofs.names.is_among.Given as goal
 
 abbrev pub invariant-loop-j : goal.invariant-loop-j
