@@ -6,7 +6,7 @@ use Rattle.file_cursor.proofs.RecordChecks.{source_checked, asked_reading, asked
 use Rattle.file_cursor.proofs.check_record.Goals as goal
 
 pub check_record-requires : goal.check_record-requires
-check_record-requires c = (c.requires.cells, (λ e. impossible e, c.requires.written_bound))
+check_record-requires c = record { cells = c.requires.cells; clean_in = λ e. impossible e; written_bound = c.requires.written_bound }
 
 pub returns-in-Reading : goal.returns-in-Reading
 returns-in-Reading c =
