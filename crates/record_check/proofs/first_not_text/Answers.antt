@@ -1,11 +1,9 @@
 use mathlib.Core.Path.{◌≡◌, refl, sym, ap, ◌∙◌}
-use Prim.Native.Nat.{◌-◌, ◌≤◌}
 use native.Mathlib.Omega.{arith}
-use lib.ListN.{length, get_or}
-use borrow.Author.Rules.{rules}
+use lib.ListN.{get_or}
 use Rattle.model.specs.rules.Text.{is_text}
 use Rattle.cell_decoder.specs.Sources.{kind_from}
-use Rattle.record_check.proofs.Records.{not_text_at, not_text_end, not_text_here, not_text_next}
+use Rattle.record_check.proofs.Records.{not_text_end, not_text_here, not_text_next}
 use Rattle.record_check.proofs.first_not_text.Goals as goal
 
 pub loop-n-init : goal.loop-n-init

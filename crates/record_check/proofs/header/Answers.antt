@@ -2,7 +2,6 @@
 use mathlib.Core.Path.{◌≡◌, sym, ap, ◌∙◌}
 use native.Mathlib.Omega.{arith}
 use lib.ListN.{length}
-use borrow.Author.Rules.{rules}
 use Rattle.model.specs.declared.Fault.TheVariants.{RepeatedName}
 use Rattle.model.specs.rules.Records.{header_kind_from, header_fault}
 use Rattle.cell_decoder.specs.Sources.{cells_in}

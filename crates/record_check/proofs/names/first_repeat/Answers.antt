@@ -1,10 +1,6 @@
-use mathlib.Core.Path.{◌≡◌, refl, sym, ◌∙◌}
-use mathlib.Core.List.{List}
-use Prim.Native.Nat.{ℕ, ◌-◌, ◌≤◌}
+use mathlib.Core.Path.{refl, sym, ◌∙◌}
 use native.Mathlib.Omega.{arith}
-use lib.ListN.{length}
-use Rattle.model.specs.declared.Fault.{Fault}
-use Rattle.record_check.proofs.RepeatedNames.{repeat_at, repeat_start, repeat_end, repeat_here, repeat_next}
+use Rattle.record_check.proofs.RepeatedNames.{repeat_start, repeat_end, repeat_here, repeat_next}
 use Rattle.record_check.proofs.names.first_repeat.Goals as goal
 
 pub loop-n-init : goal.loop-n-init

@@ -1,10 +1,9 @@
 use mathlib.Core.Path.{◌≡◌, refl, sym, ◌∙◌}
-use Prim.Native.Nat.{◌-◌, ◌≤◌}
+use Prim.Native.Nat.{◌-◌}
 use native.Mathlib.Omega.{arith}
-use lib.ListN.{length, get_or}
-use Rattle.model.specs.rules.Report.{MAXRECORD}
-use Rattle.model.specs.rules.Records.{name_key, among}
-use Rattle.record_check.specs.Keys.{NameIn, keys_before}
+use lib.ListN.{get_or}
+use Rattle.model.specs.rules.Records.{name_key}
+use Rattle.record_check.specs.Keys.{NameIn}
 use Rattle.record_check.proofs.Keys.{among_none, among_last, among_before}
 use Rattle.record_check.proofs.names.is_among.Goals as goal
 

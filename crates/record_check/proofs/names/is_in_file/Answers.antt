@@ -1,7 +1,5 @@
 -- `record_check::names::is_in_file` meets its contract: the room holds the cell's name, which is compared with the other.
 use mathlib.Core.Path.{ap, ◌∙◌}
-use native.Mathlib.Omega.{arith}
-use borrow.Author.Rules.{rules}
 use Rattle.model.specs.rules.Base.{Bytes, same}
 use Rattle.model.specs.rules.Decode.{content_of}
 use Rattle.model.specs.rules.Records.{name_key}

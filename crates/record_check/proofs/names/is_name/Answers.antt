@@ -1,6 +1,5 @@
 -- By the source: a cell of a file is decoded first, a content is compared as it is.
-use mathlib.Core.Path.{◌≡◌, sym, ap, ◌∙◌}
-use borrow.Author.Rules.{rules}
+use mathlib.Core.Path.{sym, ap, ◌∙◌}
 use Rattle.model.specs.rules.Base.{same}
 use Rattle.model.specs.rules.Records.{name_key}
 use Rattle.cell_decoder.specs.declared.source.Source.{Source}

@@ -1,9 +1,7 @@
 -- `record_check::names::repeats` meets its contract, by what the bytes of a cell are.
-use mathlib.Core.Path.{◌≡◌, sym, ap, ◌∙◌}
-use mathlib.Core.Bool.{Bool}
+use mathlib.Core.Path.{sym, ap, ◌∙◌}
 use native.Mathlib.Omega.{arith}
 use lib.ListN.{get_or}
-use borrow.Author.Rules.{rules}
 use Rattle.model.specs.rules.Records.{among}
 use Rattle.cell_decoder.specs.declared.source.Source.{Source}
 use Rattle.record_check.specs.Keys.{NameIn, key_at, keys_before}

@@ -1,7 +1,6 @@
 -- `record_check::names::repeats_in_file` meets its contract: the room holds the name, which is looked for among the earlier ones.
 use mathlib.Core.Path.{ap, ◌∙◌}
 use lib.ListN.{replicate}
-use borrow.Author.Rules.{rules}
 use Rattle.model.specs.rules.Base.{Bytes}
 use Rattle.model.specs.rules.Decode.{content_of}
 use Rattle.model.specs.rules.Records.{name_key, among}

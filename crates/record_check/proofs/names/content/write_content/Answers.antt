@@ -1,5 +1,4 @@
 -- The decoder refuses nothing here, and returns the content.
-use borrow.Author.Rules.{rules}
 use Rattle.record_check.proofs.DecodedNames.{never_refused, decoded}
 use Rattle.record_check.proofs.names.content.write_content.Goals as goal
 
