@@ -1,10 +1,5 @@
-use Prim.Native.Nat.{◌-◌}
-use native.Mathlib.Omega.{arith}
 use lib.ListN.{get_or}
-use Rattle.swar.specs.Words.{clean_ascii}
-use Rattle.cell_fast.specs.TextRuns.{PassRun}
 use Rattle.cell_fast.proofs.PassRuns.{pass_none, pass_byte, clean_byte}
-
 use Rattle.cell_fast.proofs.runs.single_steps.Goals as goal
 
 pub loop-i-init : goal.loop-i-init

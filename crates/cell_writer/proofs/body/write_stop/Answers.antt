@@ -17,4 +17,4 @@ emit-next-requires c =
     let x = c.stop_text-x in
     room_next (take x.result.size x.result.bytes)
     (body_text c.args.t (content_from c.args.c c.args.raw.now x.result.next))
-    (emitting c.args.write (room_as (sym x.ensures.stands) c.requires.legible.1))
+    (emitting c.args.write (room_as (sym x.ensures.stands) c.requires.room))

@@ -28,7 +28,7 @@ pub unit_at-u-requires : goal.unit_at-u-requires
 unit_at-u-requires c = c.if-raw-j.false
 
 pub is_special_unit-requires : goal.is_special_unit-requires
-is_special_unit-requires c = let u = c.unit_at-u.ensures in (u.few, u.unit)
+is_special_unit-requires c = let u = c.unit_at-u.ensures in record { size_bound = u.few; unit = u.unit }
 
 pub returns-then-is_special_unit : goal.returns-then-is_special_unit
 returns-then-is_special_unit c =
