@@ -6,7 +6,6 @@ use lib.ListN.{length}
 use lib.Seq.{length-take-le}
 use borrow.Author.Rules.{rules}
 use Rattle.file_cursor.proofs.RecordChecks.{too_many, ruled_faulty, ruled_sound}
-
 use Rattle.file_cursor.proofs.finish_record.Goals as goal
 
 -- one record more can be counted

@@ -18,7 +18,6 @@ use Rattle.record_writer.specs.CleanRecord.{clean_data}
 use Rattle.file_cursor.specs.NextRecord.{Columns}
 use Rattle.file_cursor.proofs.RecordChecks.{data_checked, asked_faulty, asked_reading, asked_into}
 use Rattle.file_cursor.proofs.FastNext.{no_header}
-
 use Rattle.file_cursor.proofs.fast.check_record.Goals as goal
 
 pub returns-in-Faulty : goal.returns-in-Faulty
@@ -30,7 +29,7 @@ returns-in-Faulty c =
     asked_faulty a.d a.cursor cells _ source a.aim _ c.in-Faulty.is
 
 pub check_target-requires : goal.check_target-requires
-check_target-requires c = record { cells = c.requires.cells; clean_in = λ e. clean_data (c.requires.clean_in e); written_bound = c.requires.fact.1 }
+check_target-requires c = record { cells = c.requires.cells; clean_record = λ e. clean_data (c.requires.clean_in e); written_bound = c.requires.fact.1 }
 
 pub returns-in-Reading : goal.returns-in-Reading
 returns-in-Reading c =

@@ -6,7 +6,6 @@ use borrow.Author.Rules.{rules}
 use Rattle.file_cursor.proofs.NextRecords.{now_long, now_stand, now_shown, record_counts}
 use Rattle.file_cursor.specs.FastNext.{nothing}
 use Rattle.file_cursor.proofs.FastNext.{met, kept, clean_cells, tells}
-
 use Rattle.file_cursor.proofs.fast.next_data_record.Goals as goal
 
 pub returns-then-done-eq0 : goal.returns-then-done-eq0

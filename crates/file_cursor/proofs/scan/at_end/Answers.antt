@@ -5,7 +5,6 @@ use borrow.Author.Rules.{rules}
 use Rattle.model.specs.declared.Ending.{Ending}
 use Rattle.file_cursor.specs.Ends.{is_final, end_event}
 use Rattle.record_scanner.proofs.StoreLaws.{not_stored, same_stored}
-
 use Rattle.file_cursor.proofs.scan.at_end.Goals as goal
 
 pub returns-in-Clean : goal.returns-in-Clean

@@ -2,17 +2,15 @@
 use borrow.Author.Rules.{rules}
 use Rattle.record_scanner.proofs.StoreLaws.{still_room}
 use Rattle.file_cursor.proofs.WholeFile.{at_record, at_fault, at_end, in_hand}
-
 use Rattle.file_cursor.proofs.scan.scan_next.Goals as goal
 
 pub at_end-requires : goal.at_end-requires
 at_end-requires c =
     let a = c.args in
     let t = c.scan.ensures in
-    let v = (t.value, (t.starts_after, (t.ends_after, (t.kinds_after, t.scan_in_bounds)))) in
     let h
     = in_hand a.d a.file.now a.first a.from a.room a.base a.starts.now a.ends.now a.kinds.now
-    c.requires.from_in_bounds.0 _ _ _ _ v _ _ c.in-NeedInput.is in
+    c.requires.from_in_bounds.0 _ _ _ _ (t.value, (t.starts_after, (t.ends_after, (t.kinds_after, t.scan_in_bounds)))) _ _ c.in-NeedInput.is in
     let q = c.requires.room_in_bounds in
     record {
       file_len_bound = (h.under, h.opened, h.few);
