@@ -4,20 +4,18 @@ use mathlib.Core.Path.{sym, ap, ◌∙◌}
 use lib.ListN.{length}
 use borrow.Author.Rules.{rules}
 use Rattle.piece_record.proofs.BufferedCells.{starts_made, starts_count}
-
 use Rattle.piece_record.proofs.complete.Goals as goal
 
 pub starts_of-requires : goal.starts_of-requires
 starts_of-requires c =
-    let few = c.requires.ends_len_bound.0.0 in
-    let long = c.requires.ends_len_bound.1 in
+    let few = c.requires.ends_len_bound.0 in
+    let long = c.requires.starts_len in
     (omega arith, omega arith)
 
 pub slice_bounds-complete_spans-end : goal.slice_bounds-complete_spans-end
 slice_bounds-complete_spans-end c =
-    let few = c.requires.ends_len_bound.0.0 in
-    let long = c.requires.ends_len_bound.1 in
-    let same = c.starts-1.given in
+    let few = c.requires.ends_len_bound.0 in
+    let long = c.requires.starts_len in
     omega arith
 
 pub slice_bounds-complete_spans-end-2 : goal.slice_bounds-complete_spans-end-2
@@ -28,6 +26,9 @@ slice_bounds-complete_spans-end-2 c =
 pub complete_spans-requires : goal.complete_spans-requires
 complete_spans-requires c =
     let made = starts_made c.args.ends.now _ _ c.starts_of.ensures in
-    let q = c.requires.ends_len_bound.0 in
-    let l = c.requires.ends_len_bound.1 in
-    (made, (c.requires.in_order, ((q.0, q.1, q.2, q.3), l.1)))
+    record {
+      starts_value = made;
+      in_order = c.requires.in_order;
+      ends_len_bound = c.requires.ends_len_bound;
+      kinds_len = c.requires.starts_len.1;
+    }

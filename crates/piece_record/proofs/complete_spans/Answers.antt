@@ -10,29 +10,27 @@ use Rattle.model.specs.rules.Text.{Value}
 use Rattle.model.proofs.Tests.{impossible}
 use Rattle.piece_record.specs.Completion.{fault_at, text_at, FinishSound, not_encoded, ruled}
 use Rattle.piece_record.proofs.BufferedCells.{starts_stand, kinds_made, made_cells, made_values, kinds_count}
-
 use Rattle.piece_record.proofs.complete_spans.Goals as goal
 
 pub may_be_written-requires : goal.may_be_written-requires
-may_be_written-requires c = c.requires.in_order.0
+may_be_written-requires c = c.requires.in_order
 
 pub returns-then-not-may_be_written : goal.returns-then-not-may_be_written
 returns-then-not-may_be_written c =
     let asked = c.may_be_written in
-    not_encoded refl (λ f. impossible (sym (not-true asked.result c.if-not-may_be_written.true) ∙ asked.ensures.1 f)) refl
+    not_encoded refl (λ f. impossible (sym c.if-not-may_be_written.true ∙ asked.ensures.value f)) refl
 
 pub kinds_of-requires : goal.kinds_of-requires
 kinds_of-requires c =
     let a = c.args in
-    let few = c.requires.in_order.1.0.0 in
-    let long = c.requires.in_order.1.1 in
-    (starts_stand a.d a.bytes.now a.starts.now a.ends.now c.requires.starts_value c.requires.in_order.0, omega arith)
+    let few = c.requires.ends_len_bound.0 in
+    let long = c.requires.kinds_len in
+    record { spans_in = starts_stand a.d a.bytes.now a.starts.now a.ends.now c.requires.starts_value c.requires.in_order; n_in_bounds = omega arith }
 
 pub slice_bounds-finish-end : goal.slice_bounds-finish-end
 slice_bounds-finish-end c =
-    let few = c.requires.in_order.1.0.0 in
-    let long = c.requires.in_order.1.1 in
-    let same = c.kinds-1.given in
+    let few = c.requires.ends_len_bound.0 in
+    let long = c.requires.kinds_len in
     omega arith
 
 pub slice_bounds-finish-end-2 : goal.slice_bounds-finish-end-2
@@ -47,18 +45,19 @@ pub finish-requires : goal.finish-requires
 finish-requires c =
     let a = c.args in
     let asked = c.may_be_written in
-    let w = asked.ensures.0 (not-false asked.result c.if-not-may_be_written.false) in (
-      made_cells a.d a.bytes.now a.starts.now a.ends.now c.requires.starts_value _ _
-          c.kinds_of.ensures c.requires.in_order.1.0.1 c.requires.in_order.0 w,
-      (c.requires.in_order.1.0.2, c.requires.in_order.1.0.3),
-    )
+    let w = asked.ensures.ed_followed c.if-not-may_be_written.false in
+    record {
+      cells = made_cells a.d a.bytes.now a.starts.now a.ends.now c.requires.starts_value _ _
+          c.kinds_of.ensures c.requires.ends_len_bound.1 c.requires.in_order w;
+      written_bound = (c.requires.ends_len_bound.2, c.requires.ends_len_bound.3);
+    }
 
 pub returns : goal.returns
 returns c =
     let a = c.args in
     let f = c.finish in
     ruled (subst (λ (vs : List Value). FinishSound (fault_at a.d (into a.t) a.p vs) (text_at (into a.t) a.p vs) a.o
-    a.out.now f.new.1.1.1.1.1.1.1.0 f.result)
+    a.out.now f.new.out f.result)
     (made_values a.d a.bytes.now a.starts.now a.ends.now c.requires.starts_value _ _
     c.kinds_of.ensures)
     f.ensures)

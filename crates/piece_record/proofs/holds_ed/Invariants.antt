@@ -7,7 +7,6 @@ use mathlib.Core.Logic.{⊎_elim}
 use lib.ListN.{length, get_or}
 use Rattle.model.proofs.Tests.{impossible}
 use Rattle.piece_record.proofs.BufferedCells.{no_ed_next}
-
 use Rattle.piece_record.proofs.holds_ed.Given as goal
 
 abbrev pub invariant-loop-i : goal.invariant-loop-i

@@ -6,7 +6,6 @@ use mathlib.Core.Logic.{⊎_elim}
 use lib.ListN.{length}
 use Rattle.model.proofs.Tests.{impossible}
 use Rattle.piece_record.proofs.BufferedCells.{FollowedTo, followed_next, followed_whole, not_followed}
-
 use Rattle.piece_record.proofs.is_ed_followed.Given as goal
 
 abbrev pub invariant-loop-i : goal.invariant-loop-i

@@ -4,7 +4,6 @@ use mathlib.Core.Path.{refl}
 use lib.ListN.{length}
 use borrow.Author.Rules.{rules}
 use Rattle.piece_record.proofs.BufferedCells.{end_none, end_some}
-
 use Rattle.piece_record.proofs.last_end.Goals as goal
 
 pub returns-then-n-eq0 : goal.returns-then-n-eq0

@@ -18,9 +18,6 @@ use Rattle.cell_fast.specs.Ends.{EndsFrom}
 use Rattle.record_fast.specs.FastScan.{RecordEndSound, is_fallback}
 use Rattle.record_fast.specs.declared.RecordEnd.{RecordEnd}
 use Rattle.record_fast.proofs.FastScanInvariant.{Bounds, Row, Writes, begins_on, row_begins, cell_lies_in, next_cell_lem, last_cell_lem, odd}
-use Rattle.record_fast.proofs.scan.Reads as reads
-use Rattle.record_fast.proofs.scan.Lts as lts
-
 use Rattle.record_fast.proofs.scan.Goals as goal
 
 pub returns-then-most-start : goal.returns-then-most-start
@@ -47,8 +44,8 @@ loop-at-init c =
     let s2 : stop ≤ start + MAXRECORD = rw s (least_second most (start + MAXRECORD)) in
     let on : start < most = c.if-most-start.false in
     let s3 : start < stop = rw s (least_above start most (start + MAXRECORD) on (omega arith)) in
-    row_begins _ _ _ _ _ _ _ _ _ _ _ pre.0.0 pre.0.1 pre.0.2 pre.0.3 pre.1 (record { inside = omega arith; under = omega arith; short = s2 })
-    (begins_on _ _ _ _ c.record_start-start.ensures pre.0.0) (omega arith) (omega arith) (omega arith)
+    row_begins _ _ _ _ _ _ _ _ _ _ _ pre.from_in_bounds.0 pre.from_in_bounds.1 pre.from_in_bounds.2 pre.from_in_bounds.3 pre.room_in_bounds (record { inside = omega arith; under = omega arith; short = s2 })
+    (begins_on _ _ _ _ c.record_start-start.ensures pre.from_in_bounds.0) (omega arith) (omega arith) (omega arith)
     λ z. sym c.quote_of-q.ensures ∙ eqb-true _ _ z
 
 pub cell_end-x-requires : goal.cell_end-x-requires
@@ -68,14 +65,10 @@ returns-then-stop-e c = odd _ _ _ _ _ _ _ _ _ _ _ c.loop-at.invariant _ c.record
 
 pub bounds-part-e : goal.bounds-part-e
 bounds-part-e c =
-    let ends_at : (let a = c.args in EndsFrom a.d a.part.now c.min_of-stop.result Fresh c.loop-at.at c.cell_end-x.result.at) =
-        c.cell_end-x.ensures.ends c.if-stop-e.false in
-    let lies : (c.loop-at.at ≤ c.cell_end-x.result.at) × (c.cell_end-x.result.at < length c.args.part.now) =
-        let x =
-    cell_lies_in _ _ _ _ _ _ _ _ _ _ _ c.loop-at.invariant c.loop-at-test.true
-    (ends_at) _ c.record_start-start.ensures in
-    (x.0, x.1) in
-    (lies).1
+    let ends_at = c.cell_end-x.ensures.ends c.if-stop-e.false in
+    let found = cell_lies_in _ _ _ _ _ _ _ _ _ _ _ c.loop-at.invariant c.loop-at-test.true ends_at _ c.record_start-start.ensures in
+    let lies : (c.loop-at.at ≤ c.cell_end-x.result.at) × (c.cell_end-x.result.at < length c.args.part.now) = (found.0, found.1) in
+    lies.1
 
 pub record_end_at-requires : goal.record_end_at-requires
 record_end_at-requires c = (c.if-stop-e.false, c.loop-at.invariant.bounds.inside)
@@ -94,180 +87,97 @@ returns-in-Fallback c = odd _ _ _ _ _ _ _ _ _ _ _ c.loop-at.invariant _ c.record
 
 pub overflow_add-base : goal.overflow_add-base
 overflow_add-base c =
-    let ends_at : (let a = c.args in EndsFrom a.d a.part.now c.min_of-stop.result Fresh c.loop-at.at c.cell_end-x.result.at) =
-        c.cell_end-x.ensures.ends c.if-stop-e.false in
-    let lies : (c.loop-at.at ≤ c.cell_end-x.result.at) × (c.cell_end-x.result.at < length c.args.part.now) =
-        let x =
-    cell_lies_in _ _ _ _ _ _ _ _ _ _ _ c.loop-at.invariant c.loop-at-test.true
-    (ends_at) _ c.record_start-start.ensures in
-    (x.0, x.1) in
-    let small : (c.args.base + c.loop-at.n ≤ c.loop-at.at) × (c.cell_end-x.result.at < MAXFILE) =
-        let l = c.loop-at in
+    let ends_at = c.cell_end-x.ensures.ends c.if-stop-e.false in
+    let found = cell_lies_in _ _ _ _ _ _ _ _ _ _ _ c.loop-at.invariant c.loop-at-test.true ends_at _ c.record_start-start.ensures in
+    let lies : (c.loop-at.at ≤ c.cell_end-x.result.at) × (c.cell_end-x.result.at < length c.args.part.now) = (found.0, found.1) in
+    let few : c.args.base + c.loop-at.n ≤ c.loop-at.at = c.loop-at.invariant.few in
     let e : c.cell_end-x.result.at < c.min_of-stop.result = c.if-stop-e.false in
-    let s : c.min_of-stop.result
-    ≤ c.args.limit
-    =
-    l.invariant.bounds.under in
-    let m : c.args.limit ≤ MAXFILE =
-    l.invariant.low in
-    (l.invariant.few, omega arith) in
-    let x = (small).0 in let y = (small).1 in let z = (lies).0 in omega arith
+    let s : c.min_of-stop.result ≤ c.args.limit = c.loop-at.invariant.bounds.under in
+    let m : c.args.limit ≤ MAXFILE = c.loop-at.invariant.low in omega arith
 
 pub store_cell-requires : goal.store_cell-requires
 store_cell-requires c =
-    let ends_at : (let a = c.args in EndsFrom a.d a.part.now c.min_of-stop.result Fresh c.loop-at.at c.cell_end-x.result.at) =
-        c.cell_end-x.ensures.ends c.if-stop-e.false in
-    let lies : (c.loop-at.at ≤ c.cell_end-x.result.at) × (c.cell_end-x.result.at < length c.args.part.now) =
-        let x =
-    cell_lies_in _ _ _ _ _ _ _ _ _ _ _ c.loop-at.invariant c.loop-at-test.true
-    (ends_at) _ c.record_start-start.ensures in
-    (x.0, x.1) in
+    let ends_at = c.cell_end-x.ensures.ends c.if-stop-e.false in
+    let found = cell_lies_in _ _ _ _ _ _ _ _ _ _ _ c.loop-at.invariant c.loop-at-test.true ends_at _ c.record_start-start.ensures in
+    let lies : (c.loop-at.at ≤ c.cell_end-x.result.at) × (c.cell_end-x.result.at < length c.args.part.now) = (found.0, found.1) in
     let v = c.loop-at.invariant in
-    let x = lies in
-    let i : c.cell_end-x.result.at
-    < length
-    c.args.part.now
-    =
-    x.1 in
-    ((x.0, omega arith), (rw v.long.0 v.roomy.0, rw v.long.1 v.roomy.1, rw v.long.2 v.roomy.2))
+    record { opened_le_i = (lies.0, omega arith); room_in_bounds = (rw v.long.0 v.roomy.0, rw v.long.1 v.roomy.1, rw v.long.2 v.roomy.2) }
 
 pub overflow_add-result : goal.overflow_add-result
 overflow_add-result c =
-    let ends_at : (let a = c.args in EndsFrom a.d a.part.now c.min_of-stop.result Fresh c.loop-at.at c.cell_end-x.result.at) =
-        c.cell_end-x.ensures.ends c.if-stop-e.false in
-    let lies : (c.loop-at.at ≤ c.cell_end-x.result.at) × (c.cell_end-x.result.at < length c.args.part.now) =
-        let x =
-    cell_lies_in _ _ _ _ _ _ _ _ _ _ _ c.loop-at.invariant c.loop-at-test.true
-    (ends_at) _ c.record_start-start.ensures in
-    (x.0, x.1) in
-    let small : (c.args.base + c.loop-at.n ≤ c.loop-at.at) × (c.cell_end-x.result.at < MAXFILE) =
-        let l = c.loop-at in
+    let ends_at = c.cell_end-x.ensures.ends c.if-stop-e.false in
+    let found = cell_lies_in _ _ _ _ _ _ _ _ _ _ _ c.loop-at.invariant c.loop-at-test.true ends_at _ c.record_start-start.ensures in
+    let lies : (c.loop-at.at ≤ c.cell_end-x.result.at) × (c.cell_end-x.result.at < length c.args.part.now) = (found.0, found.1) in
+    let few : c.args.base + c.loop-at.n ≤ c.loop-at.at = c.loop-at.invariant.few in
     let e : c.cell_end-x.result.at < c.min_of-stop.result = c.if-stop-e.false in
-    let s : c.min_of-stop.result
-    ≤ c.args.limit
-    =
-    l.invariant.bounds.under in
-    let m : c.args.limit ≤ MAXFILE =
-    l.invariant.low in
-    (l.invariant.few, omega arith) in
-    let x = (small).0 in let y = (small).1 in let z = (lies).0 in omega arith
+    let s : c.min_of-stop.result ≤ c.args.limit = c.loop-at.invariant.bounds.under in
+    let m : c.args.limit ≤ MAXFILE = c.loop-at.invariant.low in omega arith
 
 pub shape_of-starts-in-After : goal.shape_of-starts-in-After
-shape_of-starts-in-After c = ap length c.store_cell.ensures.starts_after ∙ length_stored_if true _ _ _ _ ∙ c.loop-at.inv.long.0
+shape_of-starts-in-After c = ap length c.store_cell.ensures.starts_after ∙ length_stored_if true _ _ _ _ ∙ c.loop-at.invariant.long.0
 
 pub shape_of-ends-in-After : goal.shape_of-ends-in-After
-shape_of-ends-in-After c = ap length c.store_cell.ensures.ends_after.0 ∙ length_stored_if true _ _ _ _ ∙ c.loop-at.inv.long.1
+shape_of-ends-in-After c = ap length c.store_cell.ensures.ends_after ∙ length_stored_if true _ _ _ _ ∙ c.loop-at.invariant.long.1
 
 pub shape_of-kinds-in-After : goal.shape_of-kinds-in-After
-shape_of-kinds-in-After c = ap length c.store_cell.ensures.ends_after.1 ∙ length_stored_if true _ _ _ _ ∙ c.loop-at.inv.long.2
+shape_of-kinds-in-After c = ap length c.store_cell.ensures.kinds_after ∙ length_stored_if true _ _ _ _ ∙ c.loop-at.invariant.long.2
 
 pub returns-in-After : goal.returns-in-After
 returns-in-After c =
-    let ends_at : (let a = c.args in EndsFrom a.d a.part.now c.min_of-stop.result Fresh c.loop-at.at c.cell_end-x.result.at) =
-        c.cell_end-x.ensures.ends c.if-stop-e.false in
-    let lies : (c.loop-at.at ≤ c.cell_end-x.result.at) × (c.cell_end-x.result.at < length c.args.part.now) =
-        let x =
-    cell_lies_in _ _ _ _ _ _ _ _ _ _ _ c.loop-at.invariant c.loop-at-test.true
-    (ends_at) _ c.record_start-start.ensures in
-    (x.0, x.1) in
+    let ends_at = c.cell_end-x.ensures.ends c.if-stop-e.false in
+    let found = cell_lies_in _ _ _ _ _ _ _ _ _ _ _ c.loop-at.invariant c.loop-at-test.true ends_at _ c.record_start-start.ensures in
+    let lies : (c.loop-at.at ≤ c.cell_end-x.result.at) × (c.cell_end-x.result.at < length c.args.part.now) = (found.0, found.1) in
     let l = c.loop-at in
     rw c.both-clean.ensures
-    (last_cell_lem _ _ _ _ _ _ _ _ _ _ _ l.invariant c.loop-at-test.true (ends_at) (lies).0 c.if-stop-e.false
+    (last_cell_lem _ _ _ _ _ _ _ _ _ _ _ l.invariant c.loop-at-test.true ends_at lies.0 c.if-stop-e.false
     (subst (λ (r : RecordEnd). RecordEndSound c.args.d c.args.part.now c.cell_end-x.result.at c.min_of-stop.result r) c.in-After.is c.record_end_at.ensures)
-    (c.cell_end-x.ensures.content c.if-stop-e.false) (record { put = c.store_cell.ensures }) _
+    (c.cell_end-x.ensures.content c.if-stop-e.false) (record { put = (c.store_cell.ensures.starts_after, (c.store_cell.ensures.ends_after, c.store_cell.ensures.kinds_after)) }) _
     c.record_start-start.ensures)
 
 pub overflow_add-base-in-loop-at : goal.overflow_add-base-in-loop-at
 overflow_add-base-in-loop-at c =
-    let ends_at : (let a = c.args in EndsFrom a.d a.part.now c.min_of-stop.result Fresh c.loop-at.at c.cell_end-x.result.at) =
-        c.cell_end-x.ensures.ends c.if-stop-e.false in
-    let lies : (c.loop-at.at ≤ c.cell_end-x.result.at) × (c.cell_end-x.result.at < length c.args.part.now) =
-        let x =
-    cell_lies_in _ _ _ _ _ _ _ _ _ _ _ c.loop-at.invariant c.loop-at-test.true
-    (ends_at) _ c.record_start-start.ensures in
-    (x.0, x.1) in
-    let small : (c.args.base + c.loop-at.n ≤ c.loop-at.at) × (c.cell_end-x.result.at < MAXFILE) =
-        let l = c.loop-at in
+    let ends_at = c.cell_end-x.ensures.ends c.if-stop-e.false in
+    let found = cell_lies_in _ _ _ _ _ _ _ _ _ _ _ c.loop-at.invariant c.loop-at-test.true ends_at _ c.record_start-start.ensures in
+    let lies : (c.loop-at.at ≤ c.cell_end-x.result.at) × (c.cell_end-x.result.at < length c.args.part.now) = (found.0, found.1) in
+    let few : c.args.base + c.loop-at.n ≤ c.loop-at.at = c.loop-at.invariant.few in
     let e : c.cell_end-x.result.at < c.min_of-stop.result = c.if-stop-e.false in
-    let s : c.min_of-stop.result
-    ≤ c.args.limit
-    =
-    l.invariant.bounds.under in
-    let m : c.args.limit ≤ MAXFILE =
-    l.invariant.low in
-    (l.invariant.few, omega arith) in
-    let x = (small).0 in let y = (small).1 in let z = (lies).0 in omega arith
+    let s : c.min_of-stop.result ≤ c.args.limit = c.loop-at.invariant.bounds.under in
+    let m : c.args.limit ≤ MAXFILE = c.loop-at.invariant.low in omega arith
 
 pub store_cell-requires-in-loop-at : goal.store_cell-requires-in-loop-at
 store_cell-requires-in-loop-at c =
-    let ends_at : (let a = c.args in EndsFrom a.d a.part.now c.min_of-stop.result Fresh c.loop-at.at c.cell_end-x.result.at) =
-        c.cell_end-x.ensures.ends c.if-stop-e.false in
-    let lies : (c.loop-at.at ≤ c.cell_end-x.result.at) × (c.cell_end-x.result.at < length c.args.part.now) =
-        let x =
-    cell_lies_in _ _ _ _ _ _ _ _ _ _ _ c.loop-at.invariant c.loop-at-test.true
-    (ends_at) _ c.record_start-start.ensures in
-    (x.0, x.1) in
+    let ends_at = c.cell_end-x.ensures.ends c.if-stop-e.false in
+    let found = cell_lies_in _ _ _ _ _ _ _ _ _ _ _ c.loop-at.invariant c.loop-at-test.true ends_at _ c.record_start-start.ensures in
+    let lies : (c.loop-at.at ≤ c.cell_end-x.result.at) × (c.cell_end-x.result.at < length c.args.part.now) = (found.0, found.1) in
     let v = c.loop-at.invariant in
-    let x = lies in
-    let i : c.cell_end-x.result.at
-    < length
-    c.args.part.now
-    =
-    x.1 in
-    ((x.0, omega arith), (rw v.long.0 v.roomy.0, rw v.long.1 v.roomy.1, rw v.long.2 v.roomy.2))
+    record { opened_le_i = (lies.0, omega arith); room_in_bounds = (rw v.long.0 v.roomy.0, rw v.long.1 v.roomy.1, rw v.long.2 v.roomy.2) }
 
 pub overflow_add-n : goal.overflow_add-n
 overflow_add-n c =
-    let ends_at : (let a = c.args in EndsFrom a.d a.part.now c.min_of-stop.result Fresh c.loop-at.at c.cell_end-x.result.at) =
-        c.cell_end-x.ensures.ends c.if-stop-e.false in
-    let lies : (c.loop-at.at ≤ c.cell_end-x.result.at) × (c.cell_end-x.result.at < length c.args.part.now) =
-        let x =
-    cell_lies_in _ _ _ _ _ _ _ _ _ _ _ c.loop-at.invariant c.loop-at-test.true
-    (ends_at) _ c.record_start-start.ensures in
-    (x.0, x.1) in
-    let small : (c.args.base + c.loop-at.n ≤ c.loop-at.at) × (c.cell_end-x.result.at < MAXFILE) =
-        let l = c.loop-at in
+    let ends_at = c.cell_end-x.ensures.ends c.if-stop-e.false in
+    let found = cell_lies_in _ _ _ _ _ _ _ _ _ _ _ c.loop-at.invariant c.loop-at-test.true ends_at _ c.record_start-start.ensures in
+    let lies : (c.loop-at.at ≤ c.cell_end-x.result.at) × (c.cell_end-x.result.at < length c.args.part.now) = (found.0, found.1) in
+    let few : c.args.base + c.loop-at.n ≤ c.loop-at.at = c.loop-at.invariant.few in
     let e : c.cell_end-x.result.at < c.min_of-stop.result = c.if-stop-e.false in
-    let s : c.min_of-stop.result
-    ≤ c.args.limit
-    =
-    l.invariant.bounds.under in
-    let m : c.args.limit ≤ MAXFILE =
-    l.invariant.low in
-    (l.invariant.few, omega arith) in
-    let x = (small).0 in let y = (small).1 in let z = (lies).0 in omega arith
+    let s : c.min_of-stop.result ≤ c.args.limit = c.loop-at.invariant.bounds.under in
+    let m : c.args.limit ≤ MAXFILE = c.loop-at.invariant.low in omega arith
 
 pub overflow_add-at : goal.overflow_add-at
 overflow_add-at c =
-    let ends_at : (let a = c.args in EndsFrom a.d a.part.now c.min_of-stop.result Fresh c.loop-at.at c.cell_end-x.result.at) =
-        c.cell_end-x.ensures.ends c.if-stop-e.false in
-    let lies : (c.loop-at.at ≤ c.cell_end-x.result.at) × (c.cell_end-x.result.at < length c.args.part.now) =
-        let x =
-    cell_lies_in _ _ _ _ _ _ _ _ _ _ _ c.loop-at.invariant c.loop-at-test.true
-    (ends_at) _ c.record_start-start.ensures in
-    (x.0, x.1) in
-    let small : (c.args.base + c.loop-at.n ≤ c.loop-at.at) × (c.cell_end-x.result.at < MAXFILE) =
-        let l = c.loop-at in
+    let ends_at = c.cell_end-x.ensures.ends c.if-stop-e.false in
+    let found = cell_lies_in _ _ _ _ _ _ _ _ _ _ _ c.loop-at.invariant c.loop-at-test.true ends_at _ c.record_start-start.ensures in
+    let lies : (c.loop-at.at ≤ c.cell_end-x.result.at) × (c.cell_end-x.result.at < length c.args.part.now) = (found.0, found.1) in
+    let few : c.args.base + c.loop-at.n ≤ c.loop-at.at = c.loop-at.invariant.few in
     let e : c.cell_end-x.result.at < c.min_of-stop.result = c.if-stop-e.false in
-    let s : c.min_of-stop.result
-    ≤ c.args.limit
-    =
-    l.invariant.bounds.under in
-    let m : c.args.limit ≤ MAXFILE =
-    l.invariant.low in
-    (l.invariant.few, omega arith) in
-    let x = (small).0 in let y = (small).1 in let z = (lies).0 in omega arith
+    let s : c.min_of-stop.result ≤ c.args.limit = c.loop-at.invariant.bounds.under in
+    let m : c.args.limit ≤ MAXFILE = c.loop-at.invariant.low in omega arith
 
 pub loop-at-smaller : goal.loop-at-smaller
 loop-at-smaller c =
-    let ends_at : (let a = c.args in EndsFrom a.d a.part.now c.min_of-stop.result Fresh c.loop-at.at c.cell_end-x.result.at) =
-        c.cell_end-x.ensures.ends c.if-stop-e.false in
-    let lies : (c.loop-at.at ≤ c.cell_end-x.result.at) × (c.cell_end-x.result.at < length c.args.part.now) =
-        let x =
-    cell_lies_in _ _ _ _ _ _ _ _ _ _ _ c.loop-at.invariant c.loop-at-test.true
-    (ends_at) _ c.record_start-start.ensures in
-    (x.0, x.1) in
-    let x = (lies).0 in let y = c.if-stop-e.false in let z = c.loop-at-test.true in
+    let ends_at = c.cell_end-x.ensures.ends c.if-stop-e.false in
+    let found = cell_lies_in _ _ _ _ _ _ _ _ _ _ _ c.loop-at.invariant c.loop-at-test.true ends_at _ c.record_start-start.ensures in
+    let lies : (c.loop-at.at ≤ c.cell_end-x.result.at) × (c.cell_end-x.result.at < length c.args.part.now) = (found.0, found.1) in
+    let x = lies.0 in let y = c.if-stop-e.false in let z = c.loop-at-test.true in
     let w : c.min_of-stop.result -
     (c.cell_end-x.result.at + 1)
     < c.min_of-stop.result - c.loop-at.at =
@@ -276,18 +186,14 @@ loop-at-smaller c =
 
 pub loop-at-preserved : goal.loop-at-preserved
 loop-at-preserved c =
-    let ends_at : (let a = c.args in EndsFrom a.d a.part.now c.min_of-stop.result Fresh c.loop-at.at c.cell_end-x.result.at) =
-        c.cell_end-x.ensures.ends c.if-stop-e.false in
-    let lies : (c.loop-at.at ≤ c.cell_end-x.result.at) × (c.cell_end-x.result.at < length c.args.part.now) =
-        let x =
-    cell_lies_in _ _ _ _ _ _ _ _ _ _ _ c.loop-at.invariant c.loop-at-test.true
-    (ends_at) _ c.record_start-start.ensures in
-    (x.0, x.1) in
+    let ends_at = c.cell_end-x.ensures.ends c.if-stop-e.false in
+    let found = cell_lies_in _ _ _ _ _ _ _ _ _ _ _ c.loop-at.invariant c.loop-at-test.true ends_at _ c.record_start-start.ensures in
+    let lies : (c.loop-at.at ≤ c.cell_end-x.result.at) × (c.cell_end-x.result.at < length c.args.part.now) = (found.0, found.1) in
     let l = c.loop-at in
     rw c.both-clean.ensures
-    (next_cell_lem _ _ _ _ _ _ _ _ _ _ _ l.invariant c.loop-at-test.true (ends_at) c.if-stop-e.false
+    (next_cell_lem _ _ _ _ _ _ _ _ _ _ _ l.invariant c.loop-at-test.true ends_at c.if-stop-e.false
     (c.if-part-e.false ∙ c.delimiter_of-p.ensures)
-    (c.cell_end-x.ensures.content c.if-stop-e.false) (record { put = c.store_cell-in-loop-at.ensures }) (lies).0)
+    (c.cell_end-x.ensures.content c.if-stop-e.false) (record { put = (c.store_cell-in-loop-at.ensures.starts_after, (c.store_cell-in-loop-at.ensures.ends_after, c.store_cell-in-loop-at.ensures.kinds_after)) }) lies.0)
 
 pub shape_of-starts : goal.shape_of-starts
 shape_of-starts c = c.loop-at.invariant.long.0

@@ -2,7 +2,6 @@
 use native.Mathlib.Omega.{arith}
 use lib.Count.{trailing_le}
 use Rattle.swar.proofs.WordReads.{zeros_word}
-
 use Rattle.swar.proofs.before_flag.Goals as goal
 
 pub overflow_cast-result : goal.overflow_cast-result

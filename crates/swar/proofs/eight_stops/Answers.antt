@@ -1,9 +1,7 @@
 -- `swar::eight_stops` meets its contract, by its test.
-use borrow.Author.Rules.{rules}
 use borrow.Author.Tests.{lt-ltb, le-ltb}
 use Rattle.model.specs.rules.Base.{choose◌then◌else◌}
 use Rattle.swar.specs.Words.{ascii_stop}
-
 use Rattle.swar.proofs.eight_stops.Goals as goal
 
 pub returns-then-p-lt128 : goal.returns-then-p-lt128

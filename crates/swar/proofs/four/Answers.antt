@@ -1,9 +1,6 @@
 -- `swar::four` meets its contract: the four bytes of the slice, joined.
 use mathlib.Core.Path.{sym, ◌∙◌}
-use native.Mathlib.Omega.{arith}
-use borrow.Author.Rules.{rules}
 use Rattle.swar.proofs.WordReads.{four_bytes}
-
 use Rattle.swar.proofs.four.Goals as goal
 
 pub returns : goal.returns

@@ -1,10 +1,7 @@
 -- `swar::fours` meets its contract: the two groups have no bits in common.
 use mathlib.Core.Path.{ap₂, ◌∙◌}
 use mathlib.Core.List.{◌++◌}
-use borrow.Author.Rules.{rules}
-use native.Mathlib.Omega.{arith}
 use Rattle.swar.proofs.WordReads.{fours_joined}
-
 use Rattle.swar.proofs.fours.Goals as goal
 
 pub returns : goal.returns

@@ -2,7 +2,6 @@
 use native.Mathlib.Omega.{arith}
 use lib.Bits.{and_le_r}
 use Rattle.swar.proofs.ThresholdTests.{from_20_flags}
-
 use Rattle.swar.proofs.from_20.Goals as goal
 
 pub overflow_add-result : goal.overflow_add-result

@@ -1,7 +1,5 @@
 -- `swar::guess` has no contract. The difference is not below 0, since no byte of the low bits is above 7F hex.
-use borrow.Author.Rules.{rules}
 use Rattle.swar.proofs.OrdinaryTest.{stop_fits}
-
 use Rattle.swar.proofs.guess.Goals as goal
 
 pub overflow_sub-near : goal.overflow_sub-near

@@ -1,7 +1,6 @@
 -- `swar::joined` meets its contract: each byte is shifted above those before it, so that the disjunction adds.
 use native.Mathlib.Omega.{arith}
 use Rattle.swar.proofs.WordReads.{joined_word}
-
 use Rattle.swar.proofs.joined.Goals as goal
 
 pub returns : goal.returns

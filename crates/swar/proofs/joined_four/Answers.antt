@@ -1,7 +1,6 @@
 -- `swar::joined_four` meets its contract, as `swar::joined` does.
 use native.Mathlib.Omega.{arith}
 use Rattle.swar.proofs.WordReads.{joined_four}
-
 use Rattle.swar.proofs.joined_four.Goals as goal
 
 pub returns : goal.returns

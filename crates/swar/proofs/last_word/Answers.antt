@@ -1,8 +1,6 @@
 -- `swar::last_word` meets its contract: for each length of the span the bytes that are read cover it.
-use borrow.Author.Rules.{rules}
 use native.Mathlib.Omega.{arith}
 use Rattle.swar.proofs.Spans.{last_eight, last_fours, last_none, last_three}
-
 use Rattle.swar.proofs.last_word.Goals as goal
 
 pub returns-then-n-ge8 : goal.returns-then-n-ge8

@@ -2,7 +2,6 @@
 use native.Mathlib.Omega.{arith}
 use lib.Bits.{and_le_r}
 use Rattle.swar.proofs.DigitTest.{digit_flags}
-
 use Rattle.swar.proofs.no_digit.Goals as goal
 
 pub overflow_add-above : goal.overflow_add-above

@@ -2,10 +2,8 @@
 use native.Mathlib.Omega.{arith}
 use Prim.Native.Nat.{◌*◌}
 use lib.Bits.{bit_xor, and_le_r}
-use borrow.Author.Rules.{rules}
 use Rattle.swar.specs.Words.{ONES}
 use Rattle.swar.proofs.ThresholdTests.{other_flags}
-
 use Rattle.swar.proofs.other_than.Goals as goal
 
 pub overflow_add-result : goal.overflow_add-result

@@ -2,9 +2,7 @@
 use Prim.Native.Nat.{ℕ, ◌<◌}
 use lib.ListN.{get_or}
 use native.Mathlib.Omega.{arith}
-use borrow.Author.Rules.{rules}
 use Rattle.swar.proofs.WordReads.{three_bytes}
-
 use Rattle.swar.proofs.three.Goals as goal
 
 pub returns : goal.returns

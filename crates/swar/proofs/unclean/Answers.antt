@@ -1,10 +1,8 @@
 -- `swar::unclean` meets its contract. No difference is below 0, since no byte of the low bits is above 7F hex.
 use native.Mathlib.Omega.{arith}
 use lib.Bits.{bit_and, and_le_r, xor_lt}
-use borrow.Author.Rules.{rules}
 use Rattle.swar.proofs.OrdinaryTest.{stop_fits}
 use Rattle.swar.proofs.CleanTest.{clean_flags}
-
 use Rattle.swar.proofs.unclean.Goals as goal
 
 pub overflow_sub-is_first : goal.overflow_sub-is_first

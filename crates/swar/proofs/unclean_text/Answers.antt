@@ -1,7 +1,6 @@
 -- `swar::unclean_text` meets its contract. No sum leaves 64 bits, since no byte of the low bits is above 7F hex.
 use native.Mathlib.Omega.{arith}
 use Rattle.swar.proofs.TextBytes.{sum_fits, clean_flags}
-
 use Rattle.swar.proofs.unclean_text.Goals as goal
 
 pub overflow_add-no_mark : goal.overflow_add-no_mark

@@ -2,9 +2,7 @@
 -- hex.
 use native.Mathlib.Omega.{arith}
 use lib.Bits.{and_le_r}
-use borrow.Author.Rules.{rules}
 use Rattle.swar.proofs.OrdinaryTest.{stop_fits, flags}
-
 use Rattle.swar.proofs.unordinary.Goals as goal
 
 pub overflow_sub-is_first : goal.overflow_sub-is_first

@@ -2,9 +2,7 @@
 use Prim.Native.Nat.{ℕ, ◌<◌}
 use native.Mathlib.Omega.{arith}
 use lib.ListN.{get_or}
-use borrow.Author.Rules.{rules}
 use Rattle.swar.proofs.WordReads.{word_read}
-
 use Rattle.swar.proofs.word.Goals as goal
 
 pub returns : goal.returns

@@ -1,7 +1,6 @@
 -- `cell_decoder::escape::short_escape` meets its contract, by its tests.
 use Rattle.model.specs.rules.Base.{choose◌then◌else◌}
 use Rattle.model.proofs.Tests.{tests}
-
 use Rattle.cell_decoder.proofs.escape.short_escape.Goals as goal
 
 pub returns-then-b-eq98 : goal.returns-then-b-eq98

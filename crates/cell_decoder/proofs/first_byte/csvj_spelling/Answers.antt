@@ -2,7 +2,6 @@
 use Rattle.model.specs.rules.Base.{choose◌then◌else◌}
 use Rattle.cell_decoder.specs.FirstByte.{spelling_by}
 use Rattle.model.proofs.Tests.{tests}
-
 use Rattle.cell_decoder.proofs.first_byte.csvj_spelling.Goals as goal
 
 pub returns-then-b-eq34 : goal.returns-then-b-eq34

@@ -1,7 +1,5 @@
 -- `cell_decoder::first_byte::spelling_by` meets its contract: each arm returns the definition's result for its dialect.
-use borrow.Author.Rules.{rules}
 use Rattle.cell_decoder.proofs.FirstByte.{encoded_tdif, encoded_plus}
-
 use Rattle.cell_decoder.proofs.first_byte.spelling_by.Goals as goal
 
 pub returns-in-Csvj : goal.returns-in-Csvj

@@ -1,12 +1,10 @@
 -- `cell_writer::escape::control` meets its contract: a letter for each of five bytes, and digits for the others.
 use mathlib.Core.Path.{◌≡◌}
 use mathlib.Core.List.{[], ◌∷◌}
-use borrow.Author.Rules.{rules}
 use Prim.Native.Nat.{ℕ}
 use Rattle.model.specs.rules.Base.{choose◌then◌else◌, BACKSLASH}
 use Rattle.model.specs.rules.Text.{escaped}
 use Rattle.cell_writer.proofs.Units.{spells_as, escaped_code, code_spells}
-
 use Rattle.cell_writer.proofs.escape.control.Goals as goal
 
 -- the bytes that have a letter

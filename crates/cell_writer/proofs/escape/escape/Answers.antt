@@ -1,7 +1,5 @@
 -- `cell_writer::escape::escape` meets its contract, by its tests.
-use borrow.Author.Rules.{rules}
 use Rattle.cell_writer.proofs.Units.{spells_as, escaped_quote, escaped_backslash, escaped_itself}
-
 use Rattle.cell_writer.proofs.escape.escape.Goals as goal
 
 pub returns-then-b-eq34 : goal.returns-then-b-eq34

@@ -1,7 +1,6 @@
 -- `cell_writer::plain::is_plain` meets its contract: it tests as the definition does.
 use Rattle.model.proofs.Tests.{tests}
 use Rattle.cell_writer.specs.PlainRuns.{is_plain}
-
 use Rattle.cell_writer.proofs.plain.is_plain.Goals as goal
 
 pub returns-then-b-lt32 : goal.returns-then-b-lt32

@@ -2,10 +2,8 @@
 use Prim.Native.Nat.{ℕ, ◌+◌}
 use mathlib.Core.Path.{sym, ap, ◌∙◌}
 use lib.ListN.{drop}
-use borrow.Author.Rules.{rules}
 use Rattle.cell_writer.specs.PlainRuns.{plain_run}
 use Rattle.cell_writer.proofs.PlainSteps.{same_run}
-
 use Rattle.cell_writer.proofs.plain.plain_run.Goals as goal
 
 pub returns-then-p-q : goal.returns-then-p-q

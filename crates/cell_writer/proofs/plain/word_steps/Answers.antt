@@ -1,11 +1,9 @@
 use mathlib.Core.Path.{◌≡◌, refl, sym, ◌∙◌}
-use Prim.Native.Nat.{◌+◌, ◌-◌, ◌≤◌, ◌<◌}
+use Prim.Native.Nat.{◌<◌}
 use native.Mathlib.Omega.{arith}
-use lib.ListN.{length, drop}
-use borrow.Author.Rules.{rules}
+use lib.ListN.{drop}
 use Rattle.cell_writer.specs.PlainRuns.{plain_run}
 use Rattle.cell_writer.proofs.PlainSteps.{word_on, word_ends}
-
 use Rattle.cell_writer.proofs.plain.word_steps.Goals as goal
 
 pub loop-i-init : goal.loop-i-init
@@ -14,7 +12,7 @@ loop-i-init c = (c.requires, refl)
 pub overflow_add-result : goal.overflow_add-result
 overflow_add-result c =
     let ends_here : (let l = c.loop-i in let a = c.args in (c.before_flag.result ≡ plain_run a.p a.q a.q (drop l.i a.s.now)) × (c.before_flag.result < 8)) =
-        let a = c.args in
+    let a = c.args in
     let ends =
     word_ends a.p a.q a.q a.s.now c.loop-i.i c.word.ensures
     c.unplain-flags.ensures c.if-flags-ne0.true in
@@ -26,7 +24,7 @@ overflow_add-result c =
 pub returns-then-flags-ne0 : goal.returns-then-flags-ne0
 returns-then-flags-ne0 c =
     let ends_here : (let l = c.loop-i in let a = c.args in (c.before_flag.result ≡ plain_run a.p a.q a.q (drop l.i a.s.now)) × (c.before_flag.result < 8)) =
-        let a = c.args in
+    let a = c.args in
     let ends =
     word_ends a.p a.q a.q a.s.now c.loop-i.i c.word.ensures
     c.unplain-flags.ensures c.if-flags-ne0.true in

@@ -1,14 +1,10 @@
 use mathlib.Core.Path.{◌≡◌, sym, ap, ◌∙◌}
-use Prim.Native.Nat.{◌-◌}
 use native.Mathlib.Omega.{arith}
-use lib.ListN.{length}
-use borrow.Author.Rules.{rules}
 use Rattle.model.specs.rules.Base.{holds}
 use Rattle.model.specs.rules.Text.{special}
 use Rattle.cell_decoder.specs.FirstByte.{content_in}
 use Rattle.cell_writer.specs.Contents.{content_from}
 use Rattle.cell_writer.proofs.QuoteDecision.{special_on, special_end, special_there, special_next}
-
 use Rattle.cell_writer.proofs.special.holds_special.Goals as goal
 
 pub loop-i-init : goal.loop-i-init
@@ -17,7 +13,7 @@ loop-i-init c = let a = c.args in ap (holds (special a.s)) (sym c.content_start-
 pub returns-then-raw-j : goal.returns-then-raw-j
 returns-then-raw-j c =
     let passed : (let a = c.args in holds (special a.s) (content_in a.c a.raw.now) ≡ holds (special a.s) (content_from a.c a.raw.now c.plain_run-j.result)) =
-        let a = c.args in
+    let a = c.args in
     c.loop-i.invariant
     ∙ special_on a.s a.c a.raw.now c.loop-i.i c.plain_run-j.result c.quote_of-p.result
     c.quote_in-q.result c.delimiter_of-r.result
@@ -29,12 +25,12 @@ pub unit_at-u-requires : goal.unit_at-u-requires
 unit_at-u-requires c = c.if-raw-j.false
 
 pub is_special_unit-requires : goal.is_special_unit-requires
-is_special_unit-requires c = let u = c.unit_at-u.ensures in (u.few, u.unit)
+is_special_unit-requires c = let u = c.unit_at-u.ensures in record { size_bound = u.few; unit = u.unit }
 
 pub returns-then-is_special_unit : goal.returns-then-is_special_unit
 returns-then-is_special_unit c =
     let passed : (let a = c.args in holds (special a.s) (content_in a.c a.raw.now) ≡ holds (special a.s) (content_from a.c a.raw.now c.plain_run-j.result)) =
-        let a = c.args in
+    let a = c.args in
     c.loop-i.invariant
     ∙ special_on a.s a.c a.raw.now c.loop-i.i c.plain_run-j.result c.quote_of-p.result
     c.quote_in-q.result c.delimiter_of-r.result
@@ -48,7 +44,7 @@ loop-i-smaller c = omega (arith, c.unit_at-u.ensures.on, c.unit_at-u.ensures.ins
 pub loop-i-preserved : goal.loop-i-preserved
 loop-i-preserved c =
     let passed : (let a = c.args in holds (special a.s) (content_in a.c a.raw.now) ≡ holds (special a.s) (content_from a.c a.raw.now c.plain_run-j.result)) =
-        let a = c.args in
+    let a = c.args in
     c.loop-i.invariant
     ∙ special_on a.s a.c a.raw.now c.loop-i.i c.plain_run-j.result c.quote_of-p.result
     c.quote_in-q.result c.delimiter_of-r.result

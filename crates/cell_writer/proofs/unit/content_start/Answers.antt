@@ -1,7 +1,5 @@
 -- `cell_writer::unit::content_start` meets its contract, encoding by encoding.
-use borrow.Author.Rules.{rules}
 use Rattle.cell_writer.proofs.Contents.{nothing_end}
-
 use Rattle.cell_writer.proofs.unit.content_start.Goals as goal
 
 pub returns-in-Nothing : goal.returns-in-Nothing

@@ -1,8 +1,6 @@
 -- `cell_writer::unit::string_at` meets its contract, by the byte there.
 use mathlib.Core.List.{[]}
-use borrow.Author.Rules.{rules}
 use Rattle.cell_writer.proofs.Contents.{quote_part, escape_part, char_part}
-
 use Rattle.cell_writer.proofs.unit.string_at.Goals as goal
 
 pub returns-then-b-eq34 : goal.returns-then-b-eq34
