@@ -2,7 +2,6 @@
 use mathlib.Core.Path.{sym}
 use native.Mathlib.Omega.{arith}
 use lib.ListN.{take}
-use borrow.Author.Rules.{rules}
 use Rattle.buffer.proofs.WriteProgress.{taken_whole}
 use Rattle.cell_decoder.proofs.Strings.{proceeds_length}
 use Rattle.cell_decoder.proofs.content.write_escape.Goals as goal

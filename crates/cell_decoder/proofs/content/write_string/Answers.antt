@@ -1,7 +1,7 @@
 use mathlib.Core.List.{◌∷◌}
-use Prim.Native.Nat.{◌+◌, ◌-◌}
+use Prim.Native.Nat.{◌+◌}
 use native.Mathlib.Omega.{arith}
-use lib.ListN.{length, get_or}
+use lib.ListN.{get_or}
 use Rattle.cell_decoder.specs.Strings.{string_from}
 use Rattle.cell_decoder.proofs.Strings.{string_end, string_quote, string_byte, stepped}
 use Rattle.buffer.proofs.WriteProgress.{Writing, start, here, store, room_left, filled}

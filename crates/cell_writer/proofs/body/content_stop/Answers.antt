@@ -3,7 +3,6 @@ use mathlib.Core.Bool.{true, false}
 use mathlib.Core.Path.{◌≡◌, sym, ◌∙◌}
 use native.Mathlib.Omega.{arith}
 use lib.ListN.{drop}
-use borrow.Author.Rules.{rules}
 use Rattle.model.specs.rules.Dialect.{is_csvj}
 use Rattle.model.proofs.Tests.{impossible}
 use Rattle.cell_writer.specs.Units.{begins_lone}

@@ -1,5 +1,4 @@
 -- `cell_writer::body::stop_text` meets its contract, encoding by encoding.
-use borrow.Author.Rules.{rules}
 use Rattle.cell_writer.proofs.Contents.{legible_doubled, legible_string}
 use Rattle.cell_writer.proofs.Bodies.{stops_nothing}
 use Rattle.cell_writer.proofs.body.stop_text.Goals as goal

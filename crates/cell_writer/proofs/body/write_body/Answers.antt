@@ -3,8 +3,7 @@ use mathlib.Core.Bool.{Bool, ◌||◌}
 use mathlib.Core.List.{◌++◌}
 use Prim.Native.Nat.{◌-◌}
 use native.Mathlib.Omega.{arith}
-use lib.ListN.{length, take, drop}
-use borrow.Author.Rules.{rules}
+use lib.ListN.{take, drop}
 use Rattle.model.specs.rules.Utf8.{holds_lone}
 use Rattle.buffer.proofs.WriteProgress.{Emitting, emitting, same_long, room_next, room_rest, put_next, put_whole}
 use Rattle.cell_decoder.specs.FirstByte.{content_in}

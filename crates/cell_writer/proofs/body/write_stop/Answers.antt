@@ -1,7 +1,6 @@
 -- `cell_writer::body::write_stop` meets its contract: the text of the stop is written.
 use mathlib.Core.Path.{sym}
 use lib.ListN.{take}
-use borrow.Author.Rules.{rules}
 use Rattle.buffer.proofs.WriteProgress.{taken_whole, room_as, emitting, room_next}
 use Rattle.cell_writer.specs.Units.{body_text}
 use Rattle.cell_writer.specs.Contents.{content_from}

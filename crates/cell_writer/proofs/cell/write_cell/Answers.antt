@@ -1,7 +1,5 @@
 -- `cell_writer::cell::write_cell` meets its contract, by the written form of the kind in the target.
 use mathlib.Core.Path.{◌≡◌, sym, ap, ◌∙◌}
-use borrow.Author.Rules.{rules}
-use Rattle.model.specs.rules.Base.{Bytes}
 use Rattle.model.specs.rules.Utf8.{holds_lone}
 use Rattle.model.specs.rules.Text.{cell_text}
 use Rattle.buffer.proofs.WriteProgress.{room_as, emitted_as}

@@ -1,7 +1,6 @@
 -- `cell_writer::cell::write_number` meets its contract: all bytes, or nothing.
 use mathlib.Core.Path.{◌≡◌, refl, sym, ap}
 use mathlib.Core.List.{[]}
-use borrow.Author.Rules.{rules}
 use Rattle.model.specs.rules.Base.{Bytes}
 use Rattle.buffer.proofs.WriteProgress.{room_as, emitted_as}
 use Rattle.cell_decoder.specs.declared.first_byte.Spelling.{Spelling}

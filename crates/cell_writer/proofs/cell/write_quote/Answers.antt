@@ -1,6 +1,5 @@
 -- `cell_writer::cell::write_quote` meets its contract: the quote, or nothing.
 use mathlib.Core.Path.{sym}
-use borrow.Author.Rules.{rules}
 use Rattle.buffer.proofs.WriteProgress.{room_as, emitted_as}
 use Rattle.cell_writer.proofs.Cells.{quote_is, quote_none, written_nothing, written_long}
 use Rattle.cell_writer.proofs.cell.write_quote.Goals as goal

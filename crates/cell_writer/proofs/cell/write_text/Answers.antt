@@ -2,7 +2,6 @@
 use mathlib.Core.Path.{◌≡◌, sym, ap, ◌∙◌}
 use mathlib.Core.Bool.{Bool}
 use mathlib.Core.List.{[], ◌++◌, append-nil}
-use Rattle.model.specs.rules.Base.{Bytes}
 use Rattle.buffer.proofs.WriteProgress.{Emitting, emitting, same_long, room_as, emitted_as, room_next, room_rest, put_next, put_whole}
 use Rattle.cell_decoder.specs.FirstByte.{content_in}
 use Rattle.cell_writer.specs.Units.{body_text}

@@ -1,7 +1,6 @@
 -- `cell_writer::escape::is_lone` meets its contract, by its tests.
 use mathlib.Core.Path.{sym}
 use native.Mathlib.Omega.{arith}
-use borrow.Author.Rules.{rules}
 use Rattle.cell_writer.proofs.Units.{lone_not, lone_none, lone_leb}
 use Rattle.cell_writer.proofs.escape.is_lone.Goals as goal
 

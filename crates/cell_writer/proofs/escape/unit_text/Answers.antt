@@ -3,7 +3,6 @@ use mathlib.Core.Bool.{true, false}
 use mathlib.Core.Path.{◌≡◌, sym, ap, ◌∙◌}
 use native.Mathlib.Omega.{arith}
 use lib.ListN.{length, take, length-take}
-use borrow.Author.Rules.{rules}
 use Rattle.model.specs.rules.Dialect.{is_csvj}
 use Rattle.model.proofs.Tests.{impossible}
 use Rattle.cell_writer.specs.Units.{body_text, is_lone}

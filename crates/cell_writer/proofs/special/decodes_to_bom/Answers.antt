@@ -1,7 +1,6 @@
 -- `cell_writer::special::decodes_to_bom` meets its contract: the room holds the content, whose first bytes are tested.
 use mathlib.Core.Path.{ap, ◌∙◌}
 use lib.ListN.{replicate}
-use borrow.Author.Rules.{rules}
 use Rattle.model.specs.rules.Base.{Bytes}
 use Rattle.model.specs.rules.Report.{MAXRECORD}
 use Rattle.model.specs.rules.Text.{begins_bom}

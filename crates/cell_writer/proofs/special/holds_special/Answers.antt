@@ -1,8 +1,5 @@
 use mathlib.Core.Path.{◌≡◌, sym, ap, ◌∙◌}
-use Prim.Native.Nat.{◌-◌}
 use native.Mathlib.Omega.{arith}
-use lib.ListN.{length}
-use borrow.Author.Rules.{rules}
 use Rattle.model.specs.rules.Base.{holds}
 use Rattle.model.specs.rules.Text.{special}
 use Rattle.cell_decoder.specs.FirstByte.{content_in}

@@ -1,8 +1,7 @@
 -- `cell_writer::special::is_quoted` meets its contract, by its tests.
 use mathlib.Core.Bool.{false, ◌&&◌}
 use mathlib.Core.Path.{◌≡◌, sym, ◌∙◌}
-use borrow.Author.Rules.{rules}
-use Rattle.model.specs.rules.Base.{Bytes, is_empty}
+use Rattle.model.specs.rules.Base.{is_empty}
 use Rattle.cell_decoder.specs.FirstByte.{content_in}
 use Rattle.cell_writer.proofs.QuoteDecision.{quotes_special, quotes_empty, quotes_mark, quotes_none, not_only, not_empty}
 use Rattle.cell_writer.proofs.special.is_quoted.Goals as goal

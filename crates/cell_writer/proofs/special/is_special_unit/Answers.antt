@@ -1,7 +1,6 @@
 -- `cell_writer::special::is_special_unit` meets its contract: a unit of more than one byte has no ASCII byte.
 use mathlib.Core.Path.{sym, ◌∙◌}
 use native.Mathlib.Omega.{arith}
-use borrow.Author.Rules.{rules}
 use Rattle.cell_writer.proofs.QuoteDecision.{unit_byte, unit_more}
 use Rattle.cell_writer.proofs.special.is_special_unit.Goals as goal
 
