@@ -22,21 +22,26 @@ links := target/staticlib/$(loader_name) target/staticlib/$(linker_name)
 .PHONY: all install install-library uninstall uninstall-library program
 all: $(library) $(shared) $(links)
 
-# The names of the sources are in a file that is newer only once one was added or deleted.
+# The names of the sources are in a file that is newer only once one was added or deleted. `rt` keeps its work in each crate's out/.
 names := target/staticlib/sources
 proved_sources := crates.txt $(shell mkdir -p target/staticlib && \
-	find crates -name must-fail -prune -o \( -name '*.rt' -o -name '*.antt' \) -print | LC_ALL=C sort | tee $(names).found && \
+	find crates \( -name must-fail -o -name out \) -prune -o \( -name '*.rt' -o -name '*.antt' \) -print | LC_ALL=C sort | tee $(names).found && \
 	{ cmp -s $(names).found $(names) || cp $(names).found $(names); })
+
+# What proves and compiles a static library in the folder of its crate, as out/libNAME.a.
+STATIC_LIBRARY ?= rt lib
 
 # Five object files, each with a lexer of its own: docs/DECISIONS.md, "Code". The library has the time at which its proof began, so that a
 # source that was changed meanwhile is newer.
 $(library): $(names) $(proved_sources)
 	touch $@.begun
-	rt staticlib c_files
-	rt staticlib c_convert
-	rt staticlib c_pieces
-	rt staticlib c_ends
-	rt staticlib c_cells
+	cd crates/c_files && $(STATIC_LIBRARY)
+	cd crates/c_convert && $(STATIC_LIBRARY)
+	cd crates/c_pieces && $(STATIC_LIBRARY)
+	cd crates/c_ends && $(STATIC_LIBRARY)
+	cd crates/c_cells && $(STATIC_LIBRARY)
+	cp crates/c_files/out/libc_files.a crates/c_convert/out/libc_convert.a crates/c_pieces/out/libc_pieces.a \
+		crates/c_ends/out/libc_ends.a crates/c_cells/out/libc_cells.a target/staticlib
 	cd target/staticlib && ar x libc_files.a && ar x libc_convert.a && ar x libc_pieces.a && ar x libc_ends.a && ar x libc_cells.a
 	rm -f $@
 	ar rcsD $@ target/staticlib/c_files.o target/staticlib/c_convert.o target/staticlib/c_pieces.o \
@@ -54,11 +59,15 @@ $(shared): $(library) include/hemakuliwi.h Makefile
 $(links): $(shared)
 	ln -sf $(shared_name) $@
 
-# The program that converts standard input: `target/bin/program FROM TO`.
+# The program that converts standard input: `target/bin/program FROM TO`. `rt run` proves, compiles and runs it, here on what the crate has
+# for that.
 program: target/bin/program
-target/bin/program: $(proved_sources)
-	rt check program
-	touch $@
+target/bin/program: $(names) $(proved_sources)
+	mkdir -p target/bin
+	touch $@.begun
+	cd crates/program && rt run -- $$(cat args) <stdin >../../$@.ran && cmp ../../$@.ran stdout
+	cp crates/program/out/program $@
+	touch -r $@.begun $@
 
 # Speed beside other libraries, and the same only for the jobs that have a threshold: docs/TESTING.md. `make benchmark ARGS='FOLDER ROUNDS'`
 # measures the tables of a folder; ARGS and ROUNDS may be left out.

@@ -10,10 +10,10 @@ use piece_converter::lent;
 use std::io::Read;
 
 // How many bytes of the output a call wrote. No call returns a length over that of the output; checking it here spares proving it here.
-fn written_length(length: usize, out: &[u8]) -> usize
+fn written_length(written: usize, out: &[u8]) -> usize
     ensures { result ≤ length out.now }
 {
-    codes::min_of(length, out.len())
+    codes::min_of(written, out.len())
 }
 
 // Writes a refusal in words to standard error.

@@ -33,11 +33,18 @@ const OTHERS: [&str; 4] = [
     "rust/command/tests/usage.rs",
 ];
 
+/// It is started in the folder of a crate, and says of that one and of the one below that it is proved.
 const RT: &str = "#!/usr/bin/env bash
 cat >/dev/null
-echo \"rt $2\" >>runs
-: >\"target/staticlib/lib$2.a\"
-printf 'rt: model proved (1 s)\\nrt: target/staticlib/lib%s.a has the functions of it\\n' \"$2\"
+[[ $* == lib ]] || exit 2
+name=${PWD##*/}
+echo \"rt $name\" >>../../runs
+mkdir -p out/rlib/src
+: >\"out/lib$name.a\"
+: >out/rlib/src/lib.rt
+for crate in model \"$name\"; do
+  printf 'crate %s: modules loaded=0 checked=1\\nlogic=proved functions=1\\n' \"$crate\"
+done
 ";
 const AR: &str = "#!/bin/sh\n[ \"$1\" = x ] || : >\"$2\"\n";
 const CARGO: &str = "#!/bin/sh
@@ -66,7 +73,7 @@ fn archives() -> Vec<String> {
     let makefile = fs::read_to_string(repository().join("Makefile")).expect("the Makefile");
     let names = makefile
         .lines()
-        .filter_map(|line| line.strip_prefix("\trt staticlib "));
+        .filter_map(|line| line.strip_prefix("\tcd crates/")?.strip_suffix(" && $(STATIC_LIBRARY)"));
     names.map(str::to_string).collect()
 }
 
@@ -80,7 +87,7 @@ fn small_repository(name: &str, rt: &str) -> PathBuf {
     };
     let archives: String = archives()
         .iter()
-        .map(|archive| format!("{archive}: model\n"))
+        .map(|archive| format!("{archive} staticlib: model\n"))
         .collect();
     write(
         "crates.txt",
@@ -88,6 +95,9 @@ fn small_repository(name: &str, rt: &str) -> PathBuf {
     );
     for file in PROVED.iter().chain(&COMPILED).chain(&OTHERS) {
         write(file, "");
+    }
+    for archive in self::archives() {
+        write(&format!("crates/{archive}/src/lib.rt"), "");
     }
     for (program, content) in [("rt", rt), ("ar", AR), ("cargo", CARGO)] {
         write(&format!("bin/{program}"), content);
@@ -206,7 +216,7 @@ fn the_first_run_builds_and_says_so_and_the_next_one_starts_at_once() {
     );
     let lines: Vec<&str> = first.said.lines().collect();
     assert!(
-        lines[0].contains("proved and the command built first; this takes about 7 minutes"),
+        lines[0].contains("proved and the command built first; this takes many minutes"),
         "{}",
         first.said
     );
@@ -354,7 +364,7 @@ fn a_source_that_was_deleted_or_added_is_built() {
 #[test]
 fn a_source_that_changes_during_the_build_is_built_by_the_next_call() {
     let editing = format!(
-        "{RT}sleep 0.05; [ -e edited ] || touch edited crates/model/src/lib.rt; sleep 0.05\n"
+        "{RT}sleep 0.05; [ -e ../../edited ] || touch ../../edited ../model/src/lib.rt; sleep 0.05\n"
     );
     let folder = small_repository("script_meanwhile", &editing);
     assert_eq!(convert(&folder).status, Some(0));

@@ -60,19 +60,17 @@ pub fn module(cases: &[Case]) -> Module {
 
 const HEAD: &str = "\
 -- Every vector as an equation that the prover computes.
-use Prim.Native.Nat.{ℕ}
-use mathlib.Core.Path.{_≡_, refl}
-use mathlib.Core.List.{List, [], _∷_, _++_}
-use lib.ListN.{replicate}
-use Rattle·model.specs.declared.Report.{Report}
-use Rattle·model.specs.rules.Base.{Bytes, concat}
-use Rattle·model.specs.laws.Computes.{computes}
-use Rattle·model.specs.rules.Report.{report}
-use Rattle·model.specs.rules.Api.{ReadCall, readCall, reader, Answer, Decoded, decoder, decoderLeaves, Written, converter, converterLeaves, Table, writer, writerLeaves}
-use Rattle·model.specs.rules.Ledger.{Call, piece, finish, ledger}
+use mathlib.Core.Path.{refl}
+use Rattle.std.specs.Prelude.{ℕ, ◌≡◌, List, [], ◌∷◌, ◌++◌, replicate}
+use Rattle.model.specs.rules.Types.{Report}
+use Rattle.model.specs.rules.Base.{Bytes, concat}
+use Rattle.model.specs.laws.Computes.{computes}
+use Rattle.model.specs.rules.Report.{report}
+use Rattle.model.specs.rules.Api.{ReadCall, read_call, reader, Decoded, decoder, decoder_leaves, Written, converter, converter_leaves, Table, writer, writer_leaves}
+use Rattle.model.specs.rules.Ledger.{piece, finish, ledger}
 
-abbrev readAnswer : Report → (columns records cells : ℕ) → (starts ends kinds : List ℕ) → ReadCall
-readAnswer e c r n ss es ks = record { report = e; columns = c; records = r; cells = n; starts = ss; ends = es; kinds = ks }
+abbrev read_as : Report → (columns records cells : ℕ) → (starts ends kinds : List ℕ) → ReadCall
+read_as e c r n ss es ks = record { report = e; columns = c; records = r; cells = n; starts = ss; ends = es; kinds = ks }
 
 abbrev decoded : Report → ℕ → Bytes → Decoded
 decoded e k bs = record { report = e; kind = k; content = bs }
@@ -91,12 +89,12 @@ fn identifier(index: usize, name: &str) -> String {
             if c.is_ascii_alphanumeric() {
                 c.to_ascii_lowercase()
             } else {
-                '-'
+                '_'
             }
         })
         .collect();
-    let words: Vec<&str> = words.split('-').filter(|word| !word.is_empty()).collect();
-    format!("case-{}-{}", index + 1, words.join("-"))
+    let words: Vec<&str> = words.split('_').filter(|word| !word.is_empty()).collect();
+    format!("case_{}_{}", index + 1, words.join("_"))
 }
 
 /// The bytes that the case gives to its calls.
@@ -136,7 +134,7 @@ fn equations(call: &Call) -> Vec<String> {
             let file = bytes(file);
             text_call(
                 &format!("converter {source} {target} {file}"),
-                &format!("converterLeaves {source} {target} {file}"),
+                &format!("converter_leaves {source} {target} {file}"),
                 *room,
                 expected,
             )
@@ -150,7 +148,7 @@ fn equations(call: &Call) -> Vec<String> {
             let table = written_table(table);
             text_call(
                 &format!("writer {target} {table}"),
-                &format!("writerLeaves {target} {table}"),
+                &format!("writer_leaves {target} {table}"),
                 *room,
                 expected,
             )
@@ -190,7 +188,7 @@ fn decode(
             bytes(&content)
         ),
         format!(
-            "(decoderLeaves {dialect} {raw} {} ≡ {})",
+            "(decoder_leaves {dialect} {raw} {} ≡ {})",
             lent(room),
             left(&bytes(&content), room - content.len())
         ),
@@ -229,7 +227,7 @@ fn read(
             let ends: Vec<usize> = cells.iter().map(|cell| cell.1).collect();
             let kinds: Vec<u8> = cells.iter().map(|cell| cell.2).collect();
             vec![format!(
-                "(readCall {dialect} {file} {} {} {} ≡ readAnswer {} {columns} {records} {} {} {} {})",
+                "(read_call {dialect} {file} {} {} {} ≡ read_as {} {columns} {records} {} {} {} {})",
                 lent(room),
                 lent(room + 1),
                 lent(room + 2),
@@ -248,17 +246,17 @@ fn read(
             let room = room.unwrap_or(columns * (records + 1));
             vec![
                 format!(
-                    "(reader {dialect} {file} {room} .report ≡ {})",
+                    "((reader {dialect} {file} {room}).report ≡ {})",
                     report(None)
                 ),
-                format!("(reader {dialect} {file} {room} .columns ≡ {columns})"),
-                format!("(reader {dialect} {file} {room} .records ≡ {records})"),
+                format!("((reader {dialect} {file} {room}).columns ≡ {columns})"),
+                format!("((reader {dialect} {file} {room}).records ≡ {records})"),
             ]
         }
         Err(fault) => {
             let room = room.unwrap_or(2);
             vec![format!(
-                "(readCall {dialect} {file} {} {} {} ≡ readAnswer {} 0 0 0 {} {} {})",
+                "(read_call {dialect} {file} {} {} {} ≡ read_as {} 0 0 0 {} {} {})",
                 lent(room),
                 lent(room + 1),
                 lent(room + 2),

@@ -1,30 +1,46 @@
-//! What refused each must-fail edit, read from what the prover printed of it.
+//! What refused each must-fail edit, read from what `rt ci` or `rt must-fail` printed of it.
 //!
 //! An edit says something only if a fact refuses it: the same program with the right fact would pass. A proof that does not fit the edited
-//! code, or code that the borrow checker does not cover, would be refused with any fact.
+//! code, or a limit of the prover, would refuse it with any fact.
 
-use std::collections::BTreeSet;
+use std::collections::{BTreeMap, BTreeSet};
 use std::fs;
 use std::path::Path;
 
-/// In an error: the proof does not fit the code. It names a need, a clause or a step that is not there.
-const UNFIT: [&str; 3] = ["that can be named from here", "has no clause for", "has no field `"];
+/// The line of an edit begins so; the edit follows, as CRATE/NAME.edit, a colon and what came of it.
+const LINE: &str = "rt: must-fail ";
 
-/// In an error: it only follows from another one.
-const FOLLOWS: &str = "was not admitted (";
+/// What came of it if it was refused. The first message that says why follows.
+const REFUSED: &str = "refused, as it must be";
 
-/// In the line of a function: there can be no proof of it.
-const UNCOVERED: &str = "the borrow checker does not cover";
+/// In place of a message: each names what the edit took away, or what follows from that.
+const NAMES_ONLY: &str = " (only because a proof file names what the edit took away";
 
-/// In a note: the proof that was made of a function with no proof file does not show its contract, or that of a function that it calls.
-const CONTRACTS: [&str; 2] = ["what the function ensures holds", "requires holds at this call"];
+/// In place of a message: there was no verdict.
+const LIMIT_ONLY: &str = " (only by a limit of the prover";
+
+/// In an error: the proof does not fit the code. It names a goal, a clause or a step that is not there.
+const UNFIT: [&str; 5] = [
+    "that can be named from here",
+    "write the clause",
+    "no clause covers",
+    "has no field `",
+    "is not in scope",
+];
+
+/// In a note: the proof that was made of a function does not show its contract, or that of a function that it calls, or that a loop ends.
+const FACTS: [&str; 3] = [
+    "what the function ensures holds",
+    "requires holds at this call",
+    "measure",
+];
 
 /// An edit, as CRATE/NAME, and what refused it: the place and the fact, or why that is none.
 pub type Verdict = (String, Result<String, String>);
 
-/// The verdicts on all edits below this folder by the logs that `rt must-fail` left there, in the order of their names. An edit without a
-/// log is among them, and so is a log without an edit.
-pub fn verdicts(root: &Path) -> Result<Vec<Verdict>, String> {
+/// The verdicts on all edits below this folder by what a run printed, in the order of their names. An edit of which nothing was printed is
+/// among them, and so is one of which something was printed and that is not there.
+pub fn verdicts(root: &Path, printed: &str) -> Result<Vec<Verdict>, String> {
     let mut edits = BTreeSet::new();
     for name in entries(&root.join("crates"))? {
         let folder = root.join("crates").join(&name).join("must-fail");
@@ -32,23 +48,23 @@ pub fn verdicts(root: &Path) -> Result<Vec<Verdict>, String> {
         let labels = files.filter_map(|file| file.strip_suffix(".edit").map(str::to_string));
         edits.extend(labels.map(|label| format!("{name}/{label}")));
     }
-    let mut names = edits.clone();
-    let logs = root.join("target/must-fail");
-    for name in entries(&logs)? {
-        let folders = entries(&logs.join(&name))?.into_iter();
-        let tried = folders.filter(|label| logs.join(&name).join(label).is_dir());
-        names.extend(tried.map(|label| format!("{name}/{label}")));
-    }
+    let told: BTreeMap<&str, &str> = printed.lines().filter_map(line_of_edit).collect();
+    let printed_of = told.keys().map(|name| (*name).to_string());
+    let names: BTreeSet<String> = edits.iter().cloned().chain(printed_of).collect();
     let verdict = |name: String| {
-        let log = fs::read_to_string(logs.join(&name).join(".log"));
-        let refused = match log {
-            _ if !edits.contains(&name) => Err("there is a log of it, and no edit".to_string()),
-            Ok(log) => refused_by(&name, &log),
-            Err(error) => Err(format!("there is no log of it: {error}")),
+        let refused = match told.get(name.as_str()) {
+            _ if !edits.contains(&name) => Err("something was printed of it, and there is no edit".to_string()),
+            Some(outcome) => refused_by(outcome),
+            None => Err("nothing was printed of it".to_string()),
         };
         (name, refused)
     };
     Ok(names.into_iter().map(verdict).collect())
+}
+
+/// The edit of which a line is, as CRATE/NAME, and what came of it.
+fn line_of_edit(line: &str) -> Option<(&str, &str)> {
+    line.strip_prefix(LINE)?.split_once(".edit: ")
 }
 
 /// The names in a folder; none where there is no such folder.
@@ -64,82 +80,47 @@ fn entries(folder: &Path) -> Result<Vec<String>, String> {
     Ok(names)
 }
 
-/// What refused an edit, CRATE/NAME, by its log: the first error that does not follow from another one.
-pub fn refused_by(edit: &str, log: &str) -> Result<String, String> {
-    let short = |message: &str| excerpt(edit, message);
-    let mut functions = log.lines().filter(|line| line.starts_with("fn "));
-    if let Some(line) = functions.find(|line| line.contains(UNCOVERED)) {
-        return Err(format!("its code has a form that is not covered: {}", short(line)));
+/// What refused an edit, by what came of it: the first message that does not only name what the edit took away.
+pub fn refused_by(outcome: &str) -> Result<String, String> {
+    let Some(why) = outcome.strip_prefix(REFUSED) else {
+        return Err(format!("it is not refused: {outcome}"));
+    };
+    if why.starts_with(NAMES_ONLY) {
+        return Err(format!("the proof does not fit its code: {}", after_bracket(why)));
     }
-    let messages = messages(log);
-    let is_error = |message: &&String| first_line(message).contains(": error: ");
-    let mut errors = messages.iter().filter(is_error);
-    if let Some(error) = errors.find(|error| !error.contains(FOLLOWS)) {
-        return if UNFIT.iter().any(|words| error.contains(words)) {
-            Err(format!("the proof does not fit its code: {}", short(error)))
-        } else if is_in_proof(edit, error) {
-            Ok(short(error))
+    if why.starts_with(LIMIT_ONLY) {
+        return Err(format!("only a limit refuses it: {}", after_bracket(why)));
+    }
+    let Some(message) = why.strip_prefix(": ") else {
+        return Err("no message says what refused it".to_string());
+    };
+    if let Some(note) = message.strip_prefix("note: ") {
+        return if note.contains(": it is not proved that ") && FACTS.iter().any(|words| note.contains(words)) {
+            Ok(message.to_string())
         } else {
-            Err(format!("its error has no place in a proof or a law: {}", short(error)))
+            Err(format!("no contract, no proof and no law refuses it: {message}"))
         };
     }
-    let mut notes = messages.iter().filter(|message| message.starts_with("note: "));
-    match notes.find(|note| note.contains(": it is not proved that ")) {
-        Some(note) if CONTRACTS.iter().any(|words| note.contains(words)) => Ok(short(note)),
-        Some(note) => Err(format!("no contract, no proof and no law refuses it: {}", short(note))),
-        None => Err("its log has no error".to_string()),
+    if UNFIT.iter().any(|words| message.contains(words)) {
+        Err(format!("the proof does not fit its code: {message}"))
+    } else if is_in_proof(message) {
+        Ok(message.to_string())
+    } else {
+        Err(format!("its error has no place in a proof or a law: {message}"))
     }
 }
 
-/// The messages of a log, each with the lines that continue it.
-fn messages(log: &str) -> Vec<String> {
-    let mut found: Vec<String> = Vec::new();
-    for line in log.lines() {
-        match found.last_mut() {
-            Some(message) if line.starts_with("  ") => {
-                message.push('\n');
-                message.push_str(line);
-            }
-            _ => found.push(line.to_string()),
-        }
-    }
-    found
-}
-
-fn first_line(message: &str) -> &str {
-    message.lines().next().unwrap_or_default()
-}
-
-/// The folder in which an edit was tried, as it ends.
-fn folder(edit: &str) -> String {
-    format!("/must-fail/{edit}/")
+/// The message after what stands in brackets before it.
+fn after_bracket(why: &str) -> &str {
+    why.split_once("): ").map_or(why, |(_, message)| message)
 }
 
 /// Whether an error is at a line of a file below specs/ or proofs/.
-fn is_in_proof(edit: &str, error: &str) -> bool {
-    let folder = folder(edit);
-    let Some((_, rest)) = first_line(error).split_once(&folder) else {
-        return false;
-    };
-    let mut parts = rest.split(':');
+fn is_in_proof(error: &str) -> bool {
+    let mut parts = error.split(':');
     let file = parts.next().unwrap_or_default();
+    let file = file.strip_prefix("./").unwrap_or(file);
     let is_number = |part: Option<&str>| part.is_some_and(|part| part.parse::<usize>().is_ok());
     let is_law = file.starts_with("specs/") || file.starts_with("proofs/");
-    is_law && file.ends_with(".antt") && is_number(parts.next()) && is_number(parts.next())
-}
-
-/// The beginning of a message, with places from the crate's folder on.
-fn excerpt(edit: &str, message: &str) -> String {
-    const MOST: usize = 200;
-    let folder = folder(edit);
-    let words = first_line(message).split(' ').map(|word| match word.split_once(&folder) {
-        Some((_, place)) => place,
-        None => word,
-    });
-    let line = words.collect::<Vec<_>>().join(" ");
-    if line.chars().count() <= MOST {
-        return line;
-    }
-    let begin: String = line.chars().take(MOST).collect();
-    format!("{begin}..")
+    is_law && file.ends_with(".antt") && is_number(parts.next()) && is_number(parts.next()) && parts.next() == Some(" error")
 }

@@ -1,13 +1,8 @@
-//! The command `edit_logs` on logs of each kind: which edits it names, with which reason, and when it fails.
+//! The command `edit_logs` on lines of each kind: which edits it names, with which reason, and when it fails.
 
 use harness::programs::run;
 use std::fs;
 use std::path::{Path, PathBuf};
-
-/// The folder in which the prover has a crate `c` with this edit, at the beginning of each place in a log.
-fn tried(edit: &str) -> String {
-    format!("/somewhere/tables/target/must-fail/c/{edit}")
-}
 
 /// An empty folder for a test of this name.
 fn empty_folder(name: &str) -> PathBuf {
@@ -29,129 +24,148 @@ fn add_edit(root: &Path, edit: &str) {
     write(&root.join(format!("crates/c/must-fail/{edit}.edit")), text);
 }
 
-fn add_log(root: &Path, edit: &str, log: &str) {
-    write(&root.join(format!("target/must-fail/c/{edit}/.log")), log);
-    write(&root.join(format!("target/must-fail/c/{edit}.res")), "refused\n");
+/// The line of an edit, as `rt ci` prints it.
+fn line(edit: &str, outcome: &str) -> String {
+    format!("rt: must-fail c/{edit}.edit: {outcome}\n")
 }
 
-/// What the command prints of this folder, line by line, and whether it succeeds.
-fn checked(root: &Path) -> (Vec<String>, bool) {
-    let folder = root.to_str().expect("a path in UTF-8");
-    let output = run(env!("CARGO_BIN_EXE_edit_logs"), &[folder], b"");
+/// What `rt ci` prints around the lines of the edits.
+fn log(lines: &str) -> String {
+    format!(
+        "== c\nfn c::f: proved\nlogic=proved functions=1\nrt: c proved\nrt: c: trying its must-fail edits (1)\n{lines}\
+         rt: ok; handles allowed: none; must-fail edits: 1 refused\n2 passed, 0 failed\n"
+    )
+}
+
+/// What the command prints of this folder after these lines were printed, line by line, and whether it succeeds.
+fn checked(root: &Path, lines: &str) -> (Vec<String>, bool) {
+    let file = root.join("log");
+    write(&file, &log(lines));
+    let [file, folder] = [file.as_path(), root].map(|path| path.to_str().expect("a path in UTF-8"));
+    let output = run(env!("CARGO_BIN_EXE_edit_logs"), &[file, folder], b"");
     let printed = String::from_utf8(output.stdout).expect("UTF-8");
     (printed.lines().map(str::to_string).collect(), output.status.success())
 }
 
-/// A log with these lines in place of PLACE, between those that every log has.
-fn log_of(edit: &str, lines: &str) -> String {
-    let lines = lines.replace("PLACE", &tried(edit));
-    format!("{lines}\nfn c::f: not proved\nlibrary std: modules loaded=0 checked=0\nlogic=not-proved\n")
-}
-
-/// Logs by which a fact refuses the edit.
-const GOOD: [(&str, &str); 5] = [
+/// Lines by which a fact refuses the edit.
+const GOOD: [(&str, &str); 6] = [
     (
         "by_a_law",
-        "note: no function with a body is declared, so nothing was lowered\n\
-         PLACE/proofs/Absent.antt:17:52: error: `leading-zero`: `omega`: the goal does not follow from what it read.",
+        "refused, as it must be: ./proofs/Absent.antt:17:52: error: `leading_zero`: `omega`: the goal does not follow from what it read.",
     ),
     (
         "by_a_statement",
-        "PLACE/specs/Laws.antt:3:1: error: `law`: expected type `1 ≡ 2`, but this has type `1 ≡ 1`",
+        "refused, as it must be: specs/Laws.antt:3:1: error: `law`: expected type `1 ≡ 2`, but this has type `1 ≡ 1`",
     ),
     (
         "by_a_proof",
-        "PLACE/proofs/f/Proof.antt:53:16: note: large solution: the implicit argument {y} of `ap`\n\
-         PLACE/proofs/f/Proof.antt:35:22: error: `returns-3`: the two types differ only where one has `2` (expected)\n  \
-         and the other has `1` (found)\n\
-         PLACE/proofs/g/Proof.antt:9:5: error: `g-spec`: record `lts.Start` has no field `before`",
+        "refused, as it must be: proofs/f/Answers.antt:35:22: error: `returns_3`: the two types differ only where one has `2` (expected)",
     ),
     (
         "by_a_contract",
-        "note: PLACE/src/lib.rt:22:22: it is not proved that what the function ensures holds when it returns (`returns`)\n\
-         note: what antt said of a `search` in the proof that rattle made: PLACE/src/lib.rt:10:19: `returns`: `search`: no proof",
+        "refused, as it must be: note: src/lib.rt:22:22: it is not proved that what the function ensures holds when it returns (`returns`)",
     ),
     (
         "by_a_contract_below",
-        "PLACE/proofs/g/Proof.antt:38:5: error: `g-spec`: `close` was not admitted (it has holes), so this cannot be checked\n\
-         note: PLACE/src/lib.rt:8:1: it is not proved that what `f` requires holds at this call (`f-requires`)",
+        "refused, as it must be: note: src/lib.rt:8:1: it is not proved that what `f` requires holds at this call (`f-requires`)",
+    ),
+    (
+        "by_a_measure",
+        "refused, as it must be: note: src/lib.rt:8:1: it is not proved that the loop's measure decreases (`decreases-loop`)",
     ),
 ];
 
-/// Logs by which nothing is said of the edit's fact, and what the command says of each.
-const BAD: [(&str, &str, &str); 9] = [
+/// Lines by which nothing is said of the edit's fact, and what the command says of each.
+const BAD: [(&str, &str, &str); 12] = [
     (
-        "no_need",
-        "PLACE/proofs/f/Proof.antt:55:22: error: `g-requires-2`: `tie.Need-g-requires-2`: module `f.Tie` has no `Need-g-requires-2` that can be named from here",
-        "the proof does not fit its code: proofs/f/Proof.antt:55:22: error: `g-requires-2`",
+        "names_only",
+        "refused, as it must be (only because a proof file names what the edit took away, so this says little of the contract: change a \
+         value and keep the names): ./proofs/f/Answers.antt:55:22: error: `g`: module `f.Goals` has no `g`",
+        "the proof does not fit its code: ./proofs/f/Answers.antt:55:22: error: `g`",
+    ),
+    (
+        "by_a_limit",
+        "refused, as it must be (only by a limit of the prover, which gave no verdict, so this says less of the contract: choose a change \
+         that it refuses sooner): src/lib.rt:3:1: error: antt ran out of stack",
+        "only a limit refuses it: src/lib.rt:3:1: error: antt ran out of stack",
+    ),
+    (
+        "no_goal",
+        "refused, as it must be: ./proofs/f/Answers.antt:55:22: error: `g`: `goal.g`: module `f.Goals` has no `g` that can be named from here",
+        "the proof does not fit its code: ./proofs/f/Answers.antt:55:22: error: `g`",
     ),
     (
         "no_clause",
-        "PLACE/proofs/Absent.antt:17:1: error: `leading-zero`: `leading-zero` has no clause for 1 case; the missing clause is:\n  \
-         leading-zero (json.zero-led _ _) = ?",
-        "the proof does not fit its code: proofs/Absent.antt:17:1: error: `leading-zero`",
+        "refused, as it must be: proofs/Absent.antt:17:1: error: `leading_zero`: write the clause `leading_zero (json.zero_led _ _) = ?`",
+        "the proof does not fit its code: proofs/Absent.antt:17:1: error: `leading_zero`",
     ),
     (
         "no_step",
-        "PLACE/proofs/f/Proof.antt:17:106: error: `f-spec`: record `f.Lts.Else1` has no field `args`",
+        "refused, as it must be: proofs/f/Proof.antt:17:106: error: `f_spec`: record `f.Lts.Else1` has no field `args`",
         "the proof does not fit its code: proofs/f/Proof.antt:17:106",
     ),
     (
-        "not_covered",
-        "PLACE/proofs/f/Proof.antt:15:5: error: `f-spec`: expected type `1 ≡ 2`\n\
-         fn c::f: not proved; the borrow checker does not cover this function yet: PLACE/src/lib.rt:27:5: a pattern reaches into an enum",
-        "its code has a form that is not covered: fn c::f: not proved; the borrow checker does not cover this function yet: src/lib.rt:27:5",
-    ),
-    (
         "in_the_code",
-        "PLACE/src/lib.rt:3:1: error: the clause has no plain reading",
+        "refused, as it must be: src/lib.rt:3:1: error: the clause has no plain reading",
         "its error has no place in a proof or a law: src/lib.rt:3:1",
     ),
     (
-        "elsewhere",
-        "/elsewhere/made/proofs/f/Proof.antt:3:1: error: `f-spec`: expected type `1 ≡ 2`",
-        "its error has no place in a proof or a law: /elsewhere/made/proofs/f/Proof.antt:3:1",
-    ),
-    (
         "no_line",
-        "PLACE/proofs/Absent.antt: error: the file could not be read",
+        "refused, as it must be: proofs/Absent.antt: error: the file could not be read",
         "its error has no place in a proof or a law: proofs/Absent.antt:",
     ),
     (
         "by_an_overflow",
-        "note: PLACE/src/lib.rt:8:1: it is not proved that the sum fits its type (`add-t`)",
+        "refused, as it must be: note: src/lib.rt:8:1: it is not proved that the sum fits its type (`add-t`)",
         "no contract, no proof and no law refuses it: note: src/lib.rt:8:1: it is not proved that the sum",
     ),
-    ("nothing", "", "its log has no error"),
+    ("nothing", "refused, as it must be", "no message says what refused it"),
+    (
+        "not_refused",
+        "NOT REFUSED: the crate is still proved with this edit",
+        "it is not refused: NOT REFUSED: the crate is still proved",
+    ),
+    (
+        "not_tried",
+        "NOT TRIED: its check was killed, most likely for memory",
+        "it is not refused: NOT TRIED: its check was killed",
+    ),
+    (
+        "bad",
+        "BAD EDIT: an 'old:' text is in src/lib.rt 0 times, and not once",
+        "it is not refused: BAD EDIT: an 'old:' text is in",
+    ),
 ];
 
 #[test]
 fn edits_that_a_fact_refuses_pass() {
     let root = empty_folder("edit_logs_good");
-    for (edit, lines) in GOOD {
+    let mut lines = String::new();
+    for (edit, outcome) in GOOD {
         add_edit(&root, edit);
-        add_log(&root, edit, &log_of(edit, lines));
+        lines += &line(edit, outcome);
     }
-    let (printed, passed) = checked(&root);
-    assert_eq!(printed, ["5 edits refused by a law or a proof's fact"]);
+    let (printed, passed) = checked(&root, &lines);
+    assert_eq!(printed, ["6 edits refused by a law or a proof's fact"]);
     assert!(passed);
 }
 
 #[test]
 fn each_other_edit_is_named_with_its_reason() {
     let root = empty_folder("edit_logs_bad");
-    for (edit, lines) in GOOD {
+    let mut lines = String::new();
+    for (edit, outcome) in GOOD {
         add_edit(&root, edit);
-        add_log(&root, edit, &log_of(edit, lines));
+        lines += &line(edit, outcome);
     }
-    for (edit, lines, _) in BAD {
+    for (edit, outcome, _) in BAD {
         add_edit(&root, edit);
-        add_log(&root, edit, &log_of(edit, lines));
+        lines += &line(edit, outcome);
     }
-    let (mut printed, passed) = checked(&root);
+    let (mut printed, passed) = checked(&root, &lines);
     assert!(!passed);
     let closing = printed.pop().expect("a closing line");
-    assert_eq!(closing, "5 of 14 edits refused by a law or a proof's fact");
+    assert_eq!(closing, "6 of 18 edits refused by a law or a proof's fact");
     assert_eq!(printed.len(), BAD.len(), "{printed:?}");
     for (edit, _, reason) in BAD {
         let begin = format!("c/{edit}: {reason}");
@@ -161,13 +175,12 @@ fn each_other_edit_is_named_with_its_reason() {
 
 #[test]
 fn one_bad_edit_is_enough_to_fail() {
-    for (edit, lines, reason) in BAD {
+    for (edit, outcome, reason) in BAD {
         let root = empty_folder(&format!("edit_logs_one_{edit}"));
         add_edit(&root, "by_a_law");
-        add_log(&root, "by_a_law", &log_of("by_a_law", GOOD[0].1));
         add_edit(&root, edit);
-        add_log(&root, edit, &log_of(edit, lines));
-        let (printed, passed) = checked(&root);
+        let lines = line("by_a_law", GOOD[0].1) + &line(edit, outcome);
+        let (printed, passed) = checked(&root, &lines);
         assert!(!passed, "{edit}");
         assert_eq!(printed.len(), 2, "{printed:?}");
         let [named, closing] = &printed[..] else { panic!("{printed:?}") };
@@ -177,30 +190,29 @@ fn one_bad_edit_is_enough_to_fail() {
 }
 
 #[test]
-fn an_edit_without_a_log_and_a_log_without_an_edit_are_named() {
+fn an_edit_without_a_line_and_a_line_without_an_edit_are_named() {
     let root = empty_folder("edit_logs_missing");
-    let log = log_of("by_a_law", GOOD[0].1);
+    let lines = line("by_a_law", GOOD[0].1);
     add_edit(&root, "by_a_law");
-    add_log(&root, "by_a_law", &log);
-    assert!(checked(&root).1);
+    assert!(checked(&root, &lines).1);
     add_edit(&root, "untried");
-    let (printed, passed) = checked(&root);
+    let (printed, passed) = checked(&root, &lines);
     assert!(!passed);
-    assert!(printed[0].starts_with("c/untried: there is no log of it"), "{printed:?}");
+    assert!(printed[0].starts_with("c/untried: nothing was printed of it"), "{printed:?}");
     fs::remove_file(root.join("crates/c/must-fail/untried.edit")).expect("it is removed");
-    assert!(checked(&root).1);
+    assert!(checked(&root, &lines).1);
     fs::remove_file(root.join("crates/c/must-fail/by_a_law.edit")).expect("it is removed");
-    let (printed, passed) = checked(&root);
+    let (printed, passed) = checked(&root, &lines);
     assert!(!passed);
     assert_eq!(
         printed,
-        ["c/by_a_law: there is a log of it, and no edit", "0 of 1 edits refused by a law or a proof's fact"]
+        ["c/by_a_law: something was printed of it, and there is no edit", "0 of 1 edits refused by a law or a proof's fact"]
     );
 }
 
 #[test]
 fn no_edit_at_all_fails() {
-    let (printed, passed) = checked(&empty_folder("edit_logs_none"));
+    let (printed, passed) = checked(&empty_folder("edit_logs_none"), "");
     assert!(!passed);
     assert_eq!(printed, ["0 of 0 edits refused by a law or a proof's fact"]);
 }

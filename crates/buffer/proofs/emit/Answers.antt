@@ -1,8 +1,6 @@
 -- `buffer::emit` meets its contract: a copy, or a sum alone.
 use mathlib.Core.Path.{refl}
-use borrow.Author.Rules.{rules}
 use Rattle.buffer.proofs.WriteProgress.{put_written, put_measured}
-
 use Rattle.buffer.proofs.emit.Goals as goal
 
 pub copy-requires : goal.copy-requires

@@ -3,7 +3,6 @@ use mathlib.Core.Path.{refl}
 use native.Mathlib.Omega.{arith}
 use borrow.Author.Rules.{rules}
 use Rattle.buffer.proofs.WriteProgress.{set_written, put_written, put_measured}
-
 use Rattle.buffer.proofs.emit_byte.Goals as goal
 
 pub bounds-out-o : goal.bounds-out-o

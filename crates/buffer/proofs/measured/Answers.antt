@@ -2,9 +2,7 @@
 use Prim.Native.Nat.{◌+◌}
 use mathlib.Core.Path.{sym}
 use native.Mathlib.Omega.{arith}
-use borrow.Author.Rules.{rules}
 use Rattle.buffer.proofs.WriteProgress.{measure_within, measure_beyond}
-
 use Rattle.buffer.proofs.measured.Goals as goal
 
 pub returns-then-o-n : goal.returns-then-o-n

@@ -4,10 +4,8 @@ use mathlib.Core.Path.{sym, ap, ◌∙◌}
 use mathlib.Core.List.{◌∷◌}
 use Prim.Native.Nat.{ℕ}
 use lib.ListN.{get_or}
-use borrow.Author.Rules.{rules}
 use Rattle.model.specs.laws.Folding.{fold_at}
 use Rattle.model.proofs.name_laws.Folding.{fold_at_lem}
-
 use Rattle.case_fold.proofs.byte_at.Goals as goal
 
 pub returns : goal.returns

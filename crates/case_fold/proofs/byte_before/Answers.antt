@@ -1,9 +1,7 @@
 -- `case_fold::byte_before` meets its contract.
 -- Assumes nothing.
 use mathlib.Core.Path.{◌∙◌}
-use borrow.Author.Rules.{rules}
 use Rattle.case_fold.proofs.Letters.{before_place}
-
 use Rattle.case_fold.proofs.byte_before.Goals as goal
 
 pub returns : goal.returns

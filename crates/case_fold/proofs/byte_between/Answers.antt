@@ -2,15 +2,13 @@
 -- Assumes nothing.
 use mathlib.Core.Path.{◌≡◌, sym, ap, ◌∙◌}
 use mathlib.Core.Bool.{true, false}
-use borrow.Author.Rules.{rules}
 use Rattle.model.specs.rules.Names.{is_pair}
 use Rattle.model.specs.laws.Folding.{first_of, second_of}
 use Rattle.case_fold.proofs.Letters.{at_second, at_first, at_alone}
-
 use Rattle.case_fold.proofs.byte_between.Goals as goal
 
 pub folded_pair-requires : goal.folded_pair-requires
-folded_pair-requires c = (c.requires, sym c.is_pair.ensures ∙ c.if-is_pair.true)
+folded_pair-requires c = record { fold_table = c.requires; b_value = sym c.is_pair.ensures ∙ c.if-is_pair.true }
 
 pub returns-then-is_pair : goal.returns-then-is_pair
 returns-then-is_pair c =
@@ -19,7 +17,7 @@ returns-then-is_pair c =
     ∙ sym (at_second a.a a.b a.c (sym c.is_pair.ensures ∙ c.if-is_pair.true))
 
 pub folded_pair-requires-then-is_pair-2 : goal.folded_pair-requires-then-is_pair-2
-folded_pair-requires-then-is_pair-2 c = (c.requires, sym c.is_pair-2.ensures ∙ c.if-is_pair-2.true)
+folded_pair-requires-then-is_pair-2 c = record { fold_table = c.requires; b_value = sym c.is_pair-2.ensures ∙ c.if-is_pair-2.true }
 
 pub returns-then-is_pair-2 : goal.returns-then-is_pair-2
 returns-then-is_pair-2 c =

@@ -3,8 +3,6 @@
 use mathlib.Core.Path.{sym}
 use native.Mathlib.Omega.{arith}
 use lib.ListN.{get_or-eq_default}
-use borrow.Author.Rules.{rules}
-
 use Rattle.case_fold.proofs.byte_or_none.Goals as goal
 
 pub returns : goal.returns

@@ -1,12 +1,8 @@
-use mathlib.Core.Path.{◌≡◌, refl, sym, ap, ◌∙◌}
-use Prim.Native.Nat.{◌-◌, ◌≤◌}
+use mathlib.Core.Path.{refl, sym, ◌∙◌}
 use native.Mathlib.Omega.{arith}
-use lib.ListN.{length}
-use borrow.Author.Rules.{rules}
 use Rattle.case_fold.specs.AsciiNames.{same_in_ascii, different_in_ascii, falls_back}
 use Rattle.case_fold.proofs.Letters.{ascii_at}
-use Rattle.case_fold.proofs.FoldedNames.{same_from, same_end, same_differs, same_next}
-
+use Rattle.case_fold.proofs.FoldedNames.{same_end, same_differs, same_next}
 use Rattle.case_fold.proofs.compare_ascii.Goals as goal
 
 pub loop-i-init : goal.loop-i-init

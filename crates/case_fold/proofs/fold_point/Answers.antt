@@ -2,9 +2,7 @@
 -- Assumes nothing.
 use mathlib.Core.Path.{sym}
 use native.Mathlib.Omega.{arith}
-use borrow.Author.Rules.{rules}
 use Rattle.model.proofs.name_laws.Folding.{stays_above}
-
 use Rattle.case_fold.proofs.fold_point.Goals as goal
 
 pub returns-then-u-lt1280 : goal.returns-then-u-lt1280

@@ -1,10 +1,8 @@
 -- `case_fold::folded_pair` meets its contract.
 -- Assumes nothing.
 use native.Mathlib.Omega.{arith}
-use borrow.Author.Rules.{rules}
 use Rattle.model.specs.rules.Names.{pair_point}
 use Rattle.model.proofs.name_laws.Folding.{a_pair, pair_low, pair_high, folded_pair}
-
 use Rattle.case_fold.proofs.folded_pair.Goals as goal
 
 pub overflow_sub-a : goal.overflow_sub-a

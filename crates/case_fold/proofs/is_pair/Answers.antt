@@ -1,8 +1,6 @@
 -- `case_fold::is_pair` meets its contract.
 -- Assumes nothing.
 use Rattle.model.proofs.Tests.{tests}
-use mathlib.Core.Bool.{and-false}
-
 use Rattle.case_fold.proofs.is_pair.Goals as goal
 
 pub returns-then-a-lt194 : goal.returns-then-a-lt194

@@ -2,9 +2,7 @@
 -- Assumes nothing.
 use mathlib.Core.Path.{sym}
 use native.Mathlib.Omega.{arith}
-use borrow.Author.Rules.{rules}
 use Rattle.case_fold.proofs.Letters.{low_stays, letter_falls, high_stays}
-
 use Rattle.case_fold.proofs.lower_case.Goals as goal
 
 pub returns-then-b-lt65 : goal.returns-then-b-lt65

@@ -1,12 +1,10 @@
 -- `case_fold::same_at` meets its contract: ASCII bytes fold by themselves, others by their neighbours.
-use mathlib.Core.Path.{◌≡◌, sym, ap₂, ◌∙◌}
+use mathlib.Core.Path.{sym, ap₂, ◌∙◌}
 use Prim.Native.Nat.{◌≤◌}
 use native.Mathlib.Omega.{arith}
 use lib.ListN.{get_or}
 use lib.Dec.{eqb}
-use borrow.Author.Rules.{rules}
 use Rattle.case_fold.proofs.Letters.{ascii_at}
-
 use Rattle.case_fold.proofs.same_at.Goals as goal
 
 pub returns-then-y-lt128 : goal.returns-then-y-lt128

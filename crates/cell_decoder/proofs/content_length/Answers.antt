@@ -1,7 +1,6 @@
 -- `cell_decoder::content_length` meets its contract: the first byte determines the encoding.
 use mathlib.Core.Path.{◌≡◌, ap, ◌∙◌}
 use lib.ListN.{length}
-use borrow.Author.Rules.{rules}
 use Rattle.model.specs.rules.Decode.{content_of}
 use Rattle.cell_decoder.specs.FirstByte.{spelling_by, content_in}
 use Rattle.cell_decoder.specs.declared.first_byte.Spelling.{Spelling}

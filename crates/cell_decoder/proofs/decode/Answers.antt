@@ -1,6 +1,5 @@
 -- `cell_decoder::decode` meets its contract, by the dialect that the number names.
 use mathlib.Core.Path.{sym, ap, ◌∙◌}
-use borrow.Author.Rules.{rules}
 use Rattle.codes.specs.Named.{dialect_in}
 use Rattle.cell_decoder.proofs.DecoderAnswers.{known, unknown}
 use Rattle.cell_decoder.proofs.decode.Goals as goal

@@ -1,6 +1,5 @@
 -- `cell_decoder::decode_cell` meets its contract: the check decides, and a refusal names its fault.
 use mathlib.Core.Path.{sym, ◌∙◌}
-use borrow.Author.Rules.{rules}
 use Rattle.cell_decoder.proofs.DecoderAnswers.{sound, unsound}
 use Rattle.cell_decoder.proofs.decode_cell.Goals as goal
 

@@ -1,6 +1,5 @@
 -- `cell_decoder::decode_sound` meets its contract: content that fits is written, and other content is refused.
 use native.Mathlib.Omega.{arith}
-use borrow.Author.Rules.{rules}
 use Rattle.cell_decoder.proofs.DecoderAnswers.{too_long, fits}
 use Rattle.cell_decoder.proofs.decode_sound.Goals as goal
 

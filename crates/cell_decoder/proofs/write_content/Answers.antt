@@ -1,6 +1,5 @@
 -- `cell_decoder::write_content` meets its contract: the first byte determines the encoding.
 use mathlib.Core.Path.{◌≡◌, ap, ◌∙◌}
-use borrow.Author.Rules.{rules}
 use Rattle.model.specs.rules.Base.{Bytes, over}
 use Rattle.model.specs.rules.Decode.{content_of}
 use Rattle.cell_decoder.specs.FirstByte.{spelling_by, content_in}

@@ -2,16 +2,14 @@
 use Prim.Native.Nat.{◌≤◌}
 use mathlib.Core.Path.{◌≡◌, sym, ap, ◌∙◌}
 use mathlib.Core.Bool.{true}
-use mathlib.Core.Logic.{⊎_elim}
 use native.Mathlib.Omega.{arith}
 use lib.ListN.{get_or}
-use borrow.Author.Rules.{rules}
 use Rattle.model.specs.rules.Dialect.{delimiter_of, quote_of}
 use Rattle.model.specs.rules.Cell.{may_be_empty}
 use Rattle.model.proofs.cell_laws.Utf8.{quote_ascii, delimiter_ascii}
 use Rattle.cell_fast.proofs.CellOutcomes.{value_found}
-
 use Rattle.cell_fast.proofs.cell_end.Goals as goal
+use Rattle.cell_fast.proofs.cell_end.Goals.{in-Csvj+else-s-at-ne34, in-Tdif+else-s-at-ne34-2, in-CsvPlus+else-s-at}
 
 pub returns-then-s-at-ne34 : goal.returns-then-s-at-ne34
 returns-then-s-at-ne34 c = rw c.in-Csvj.is (value_found c.value_end.ensures)
@@ -32,9 +30,12 @@ returns-then-s-at c =
 
 pub quoted_end-requires : goal.quoted_end-requires
 quoted_end-requires c =
-    let opened : (let a = c.args in get_or a.s.now a.at 0 ≡ a.q) =
-        ⊎_elim (λ w. w.3.false ∙ sym (c.requires.3 ∙ ap quote_of w.1.given.1))
-    (⊎_elim (λ w. w.3.false ∙ sym (c.requires.3 ∙ ap quote_of w.1.given.1)) λ w. w.3.false) c.match-d.branch in
+    let opened : get_or c.args.s.now c.args.at 0 ≡ c.args.q =
+    elim c.match-d.branch [
+      | in-Csvj+else-s-at-ne34 w ↦ w.if-s-at-ne34.false ∙ sym (c.requires.3 ∙ ap quote_of w.in-Csvj.is)
+      | in-Tdif+else-s-at-ne34-2 w ↦ w.if-s-at-ne34-2.false ∙ sym (c.requires.3 ∙ ap quote_of w.in-Tdif.is)
+      | in-CsvPlus+else-s-at w ↦ w.if-s-at.false
+    ] in
     (c.requires.0, c.requires.1, c.requires.3, opened)
 
 pub returns : goal.returns

@@ -1,6 +1,5 @@
 -- `cell_fast::is_end` meets its contract, by its tests.
 use Rattle.model.proofs.Tests.{tests}
-
 use Rattle.cell_fast.proofs.is_end.Goals as goal
 
 pub returns-then-b-p : goal.returns-then-b-p

@@ -4,7 +4,6 @@ use native.Mathlib.Omega.{arith}
 use mathlib.Core.Path.{◌≡◌, refl, sym, ◌∙◌}
 use mathlib.Core.Bool.{true}
 use lib.ListN.{get_or}
-use borrow.Author.Rules.{rules}
 use borrow.Author.Tests.{eq-eqb}
 use Rattle.model.specs.rules.Dialect.{delimiter_of, quote_of}
 use Rattle.cell_fast.specs.TextRuns.{TextRun, is_open}
@@ -12,11 +11,10 @@ use Rattle.cell_fast.specs.CellOutcome.{is_end}
 use Rattle.cell_fast.proofs.PassRuns.{pass_none, pass_zeros}
 use Rattle.cell_fast.proofs.TextRuns.{ascii_text}
 use Rattle.cell_fast.proofs.PlainCells.{plain_found}
-
 use Rattle.cell_fast.proofs.plain_end.Goals as goal
 
 pub returns-then-n-before_flag : goal.returns-then-n-before_flag
-returns-then-n-before_flag c =
+returns-then-n-before_flag c = λ d m ep eq.
     let a = c.args in
     let n = c.guess-n.result in
     let passed =

@@ -1,11 +1,9 @@
 -- `cell_fast::quoted_end` meets its contract: the guess is tested, and otherwise `quoted_rest_end` finds the end.
 use native.Mathlib.Omega.{arith}
 use mathlib.Core.Path.{◌∙◌}
-use borrow.Author.Rules.{rules}
 use Rattle.cell_fast.proofs.PassRuns.{pass_zeros}
 use Rattle.cell_fast.proofs.TextRuns.{quoted_run}
 use Rattle.cell_fast.proofs.QuotedCells.{quoted_found}
-
 use Rattle.cell_fast.proofs.quoted_end.Goals as goal
 
 pub returns-then-closes : goal.returns-then-closes

@@ -1,6 +1,5 @@
 -- `cell_lexer::cell_step` meets its contract: `classify` returns the step, or the text whose UTF-8 step decides it.
 use Rattle.model.proofs.Tests.{tests}
-use borrow.Author.Rules.{rules}
 use Rattle.cell_lexer.proofs.cell_step.Goals as goal
 
 pub returns-in-Is : goal.returns-in-Is

@@ -1,7 +1,6 @@
 -- `cell_lexer::classify` meets its contract: each arm is the definition's step of its state.
 use Rattle.model.specs.rules.Cell.{cell_step}
 use Rattle.model.proofs.Tests.{tests}
-use borrow.Author.Rules.{rules}
 use Rattle.cell_lexer.proofs.classify.Goals as goal
 
 pub returns-in-Fresh : goal.returns-in-Fresh

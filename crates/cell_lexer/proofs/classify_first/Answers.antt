@@ -1,6 +1,5 @@
 -- `cell_lexer::classify_first` meets its contract, dialect by dialect.
 use Rattle.model.proofs.Tests.{tests}
-use borrow.Author.Rules.{rules}
 use Rattle.cell_lexer.proofs.classify_first.Goals as goal
 
 pub returns-in-Csvj : goal.returns-in-Csvj

@@ -4,7 +4,6 @@ use Rattle.model.specs.rules.Base.{choose◌then◌else◌}
 use Rattle.model.specs.rules.Cell.{plain_byte}
 use Rattle.model.proofs.Tests.{tests}
 use Rattle.model.proofs.cell_laws.Utf8.{ascii_whole}
-use borrow.Author.Rules.{rules}
 use Rattle.cell_lexer.proofs.classify_plain.Goals as goal
 
 pub returns-then-b-quote_of : goal.returns-then-b-quote_of

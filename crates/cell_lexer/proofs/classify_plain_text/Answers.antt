@@ -1,7 +1,6 @@
 -- `cell_lexer::classify_plain_text` meets its contract: within a character the UTF-8 step decides.
 use Rattle.model.specs.rules.Cell.{cell_step}
 use Rattle.model.proofs.Tests.{tests}
-use borrow.Author.Rules.{rules}
 use Rattle.cell_lexer.proofs.classify_plain_text.Goals as goal
 
 pub returns-in-Whole : goal.returns-in-Whole

@@ -1,6 +1,5 @@
 -- `cell_lexer::classify_quoted` meets its contract, dialect by dialect.
 use Rattle.model.proofs.Tests.{tests}
-use borrow.Author.Rules.{rules}
 use Rattle.cell_lexer.proofs.classify_quoted.Goals as goal
 
 pub returns-in-Csvj : goal.returns-in-Csvj

@@ -1,7 +1,6 @@
 -- `cell_lexer::is_separator` meets its contract, by its tests.
 use Rattle.model.specs.rules.Base.{choose◌then◌else◌}
 use Rattle.model.proofs.Tests.{tests}
-use borrow.Author.Rules.{rules}
 use Rattle.cell_lexer.proofs.is_separator.Goals as goal
 
 pub returns-then-b-delimiter_of : goal.returns-then-b-delimiter_of

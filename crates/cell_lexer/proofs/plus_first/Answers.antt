@@ -4,7 +4,6 @@ use Rattle.model.specs.rules.Base.{choose◌then◌else◌}
 use Rattle.model.specs.rules.Cell.{first_byte}
 use Rattle.model.proofs.Tests.{tests}
 use Rattle.model.proofs.cell_laws.Utf8.{ascii_whole}
-use borrow.Author.Rules.{rules}
 use Rattle.cell_lexer.proofs.plus_first.Goals as goal
 
 pub returns-then-b-quote_of : goal.returns-then-b-quote_of

@@ -2,7 +2,6 @@
 use Rattle.model.specs.rules.Base.{choose◌then◌else◌}
 use Rattle.model.specs.rules.Cell.{quoted_byte}
 use Rattle.model.proofs.Tests.{tests}
-use borrow.Author.Rules.{rules}
 use Rattle.cell_lexer.proofs.plus_quoted.Goals as goal
 
 pub returns-then-b-quote_of : goal.returns-then-b-quote_of

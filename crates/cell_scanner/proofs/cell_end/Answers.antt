@@ -1,15 +1,13 @@
-use Prim.Native.Nat.{ℕ, ◌+◌, ◌-◌, ◌≤◌}
+use Prim.Native.Nat.{ℕ, ◌+◌, ◌≤◌}
 use native.Mathlib.Omega.{arith}
 use mathlib.Core.Path.{◌≡◌, refl, sym, ap, ◌∙◌}
-use lib.ListN.{length, get_or}
-use borrow.Author.Rules.{rules}
+use lib.ListN.{get_or}
 use Rattle.model.specs.declared.Cell.{Cell}
 use Rattle.model.specs.declared.CellStep.TheVariants.{More}
 use Rattle.model.specs.rules.Cell.{cell_step}
 use Rattle.model.specs.rules.Api.{slice}
 use Rattle.cell_scanner.specs.Run.{run_stop, run_length, cell_run}
 use Rattle.cell_scanner.proofs.Runs.{run_rest, run_short, rest_more, rest_stops, rest_refused, rest_open}
-
 use Rattle.cell_scanner.proofs.cell_end.Goals as goal
 
 pub loop-i-init : goal.loop-i-init

@@ -1,16 +1,9 @@
 -- `cell_scanner::cell_end` meets its contract. The invariant: `cell_run` from `from` equals `cell_run` from here, in the current state.
-use Prim.Native.Nat.{ℕ, ◌+◌, ◌-◌, ◌≤◌}
-use native.Mathlib.Omega.{arith}
-use mathlib.Core.Path.{◌≡◌, refl, sym, ap, ◌∙◌}
-use lib.ListN.{length, get_or}
-use borrow.Author.Rules.{rules}
-use Rattle.model.specs.declared.Cell.{Cell}
-use Rattle.model.specs.declared.CellStep.TheVariants.{More}
-use Rattle.model.specs.rules.Cell.{cell_step}
+use Prim.Native.Nat.{◌-◌, ◌≤◌}
+use mathlib.Core.Path.{◌≡◌}
+use lib.ListN.{length}
 use Rattle.model.specs.rules.Api.{slice}
-use Rattle.cell_scanner.specs.Run.{run_stop, run_length, cell_run}
-use Rattle.cell_scanner.proofs.Runs.{run_rest, run_short, rest_more, rest_stops, rest_refused, rest_open}
-
+use Rattle.cell_scanner.specs.Run.{cell_run}
 use Rattle.cell_scanner.proofs.cell_end.Given as goal
 
 abbrev pub invariant-loop-i : goal.invariant-loop-i

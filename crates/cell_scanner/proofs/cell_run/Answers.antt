@@ -3,8 +3,6 @@ use mathlib.Core.Path.{◌≡◌, sym, ◌∙◌}
 use native.Mathlib.Omega.{arith}
 use Rattle.cell_scanner.specs.declared.RunStop.TheVariants.{At, Fallback}
 use Rattle.cell_scanner.specs.Run.{run_stop}
-use borrow.Author.Rules.{rules}
-
 use Rattle.cell_scanner.proofs.cell_run.Goals as goal
 
 pub returns-in-At : goal.returns-in-At

@@ -1,8 +1,6 @@
 -- `cell_scanner::run` meets its contract. The run ends at `stop` or before it, so no sum overflows.
 use native.Mathlib.Omega.{arith}
-use borrow.Author.Rules.{rules}
 use Rattle.cell_scanner.proofs.Runs.{part_short}
-
 use Rattle.cell_scanner.proofs.run.Goals as goal
 
 pub overflow_mul-result : goal.overflow_mul-result

@@ -7,8 +7,6 @@ use Rattle.model.specs.declared.Cell.TheVariants.{Fresh, Quoted, Closed, Escape,
 use Rattle.model.proofs.Tests.{tests}
 use Rattle.cell_scanner.specs.declared.RunStop.TheVariants.{Fallback}
 use Rattle.cell_scanner.specs.Run.{run_stop}
-use borrow.Author.Rules.{rules}
-
 use Rattle.cell_scanner.proofs.run_stop.Goals as goal
 
 no_run : (d : Dialect) (c : Cell) → ((t : Char) → c ≡ Quoted t → ⊥) → ((t : Char) → c ≡ Plain t → ⊥) → Fallback ≡ run_stop d c

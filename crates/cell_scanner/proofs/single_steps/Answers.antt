@@ -1,12 +1,8 @@
-use Prim.Native.Nat.{◌+◌, ◌-◌, ◌≤◌}
 use native.Mathlib.Omega.{arith}
 use mathlib.Core.Path.{◌≡◌, refl, sym, ◌∙◌}
-use lib.ListN.{length, get_or}
-use Rattle.model.specs.rules.Api.{slice}
-use Rattle.cell_scanner.specs.Run.{leading}
+use lib.ListN.{get_or}
 use Rattle.swar.proofs.Ordinary.{below, above, first_stop, second_stop, proceeds_on}
 use Rattle.cell_scanner.proofs.Runs.{leading_on, leading_ends, leading_none}
-
 use Rattle.cell_scanner.proofs.single_steps.Goals as goal
 
 pub loop-i-init : goal.loop-i-init

@@ -1,13 +1,9 @@
 -- `cell_scanner::single_steps` meets its contract. The invariant: the end of the run from `at` is the end of the run from here.
 use Prim.Native.Nat.{◌+◌, ◌-◌, ◌≤◌}
-use native.Mathlib.Omega.{arith}
-use mathlib.Core.Path.{◌≡◌, refl, sym, ◌∙◌}
-use lib.ListN.{length, get_or}
+use mathlib.Core.Path.{◌≡◌}
+use lib.ListN.{length}
 use Rattle.model.specs.rules.Api.{slice}
 use Rattle.cell_scanner.specs.Run.{leading}
-use Rattle.swar.proofs.Ordinary.{below, above, first_stop, second_stop, proceeds_on}
-use Rattle.cell_scanner.proofs.Runs.{leading_on, leading_ends, leading_none}
-
 use Rattle.cell_scanner.proofs.single_steps.Given as goal
 
 abbrev pub invariant-loop-i : goal.invariant-loop-i

@@ -1,13 +1,10 @@
-use Prim.Native.Nat.{◌+◌, ◌*◌, ◌-◌, ◌≤◌, ◌<◌}
+use Prim.Native.Nat.{◌<◌}
 use native.Mathlib.Omega.{arith}
 use mathlib.Core.Path.{◌≡◌, ◌∙◌}
-use lib.ListN.{length}
-use borrow.Author.Rules.{rules}
 use Rattle.model.specs.rules.Api.{slice}
 use Rattle.cell_scanner.specs.Run.{leading}
 use Rattle.cell_scanner.proofs.Runs.{part_short}
 use Rattle.cell_scanner.proofs.WordSteps.{run_goes_on, run_ends}
-
 use Rattle.cell_scanner.proofs.word_steps.Goals as goal
 
 pub loop-i-init : goal.loop-i-init

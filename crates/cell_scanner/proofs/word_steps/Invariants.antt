@@ -1,15 +1,10 @@
 -- `cell_scanner::word_steps` meets its contract. The invariant: the run from `at` is eight bytes for each step, and then the run from
 -- here.
-use Prim.Native.Nat.{◌+◌, ◌*◌, ◌-◌, ◌≤◌, ◌<◌}
-use native.Mathlib.Omega.{arith}
-use mathlib.Core.Path.{◌≡◌, ◌∙◌}
+use Prim.Native.Nat.{◌+◌, ◌*◌, ◌-◌, ◌≤◌}
+use mathlib.Core.Path.{◌≡◌}
 use lib.ListN.{length}
-use borrow.Author.Rules.{rules}
 use Rattle.model.specs.rules.Api.{slice}
 use Rattle.cell_scanner.specs.Run.{leading}
-use Rattle.cell_scanner.proofs.Runs.{part_short}
-use Rattle.cell_scanner.proofs.WordSteps.{run_goes_on, run_ends}
-
 use Rattle.cell_scanner.proofs.word_steps.Given as goal
 
 abbrev pub invariant-loop-i : goal.invariant-loop-i

@@ -11,7 +11,7 @@ returns-then-room-length c =
     = conversion_crowded a.d a.t a.file.now a.room.now c.measure.ensures _
     c.in-Accepted.is c.if-room-length.true _ c.call_report.ensures _
     c.refusal-then-room-length.ensures in
-    (o.answer, o.false)
+    record { value = o.answer; room_after = o.left }
 
 pub write_records-requires : goal.write_records-requires
 write_records-requires c =
@@ -25,7 +25,7 @@ returns-in-Refused c =
     let o
     = conversion_refused a.d a.t a.file.now a.room.now c.measure.ensures _
     c.in-Refused.is _ c.refusal.ensures in
-    (o.answer, o.false)
+    record { value = o.answer; room_after = o.left }
 
 pub shape_of-room : goal.shape_of-room
 shape_of-room c =
@@ -36,8 +36,10 @@ shape_of-room c =
 
 pub returns-else-room-length : goal.returns-else-room-length
 returns-else-room-length c =
-    let a = c.args in (
-      conversion_roomy a.d a.t a.file.now a.room.now c.measure.ensures _
-          c.in-Accepted.is c.if-room-length.false _ c.call_report-in-Accepted.ensures,
-      c.write_records.ensures,
-    )
+    let a = c.args in
+    record {
+      value =
+          conversion_roomy a.d a.t a.file.now a.room.now c.measure.ensures _
+          c.in-Accepted.is c.if-room-length.false _ c.call_report-in-Accepted.ensures;
+      room_after = c.write_records.ensures;
+    }

@@ -26,7 +26,7 @@ pub next_data_record-requires : goal.next_data_record-requires
 next_data_record-requires c =
     let inv = c.loop-v.invariant in
     let b = walk_bounds inv.0 in
-    (b.0, (b.1, full_long inv.1))
+    record { from_in_bounds = b.0; done_le_from = b.1; long = full_long inv.1 }
 
 pub loop-v-smaller-in-Record : goal.loop-v-smaller-in-Record
 loop-v-smaller-in-Record c =
@@ -59,7 +59,7 @@ pub next_record-requires : goal.next_record-requires
 next_record-requires c =
     let inv = c.loop-v.invariant in
     let b = walk_bounds inv.0 in
-    (b.0, (b.1, full_long (full_kept inv.1 c.next_data_record.ensures.same_lengths)))
+    record { offset_in_bounds = b.0; done_le_offset = b.1; long = full_long (full_kept inv.1 c.next_data_record.ensures.same_lengths) }
 
 pub loop-v-smaller : goal.loop-v-smaller
 loop-v-smaller c =

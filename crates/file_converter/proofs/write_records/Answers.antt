@@ -26,7 +26,7 @@ pub next_data_record-requires : goal.next_data_record-requires
 next_data_record-requires c =
     let inv = c.loop-v.invariant in
     let b = walk_bounds inv.0.walk in
-    (b.0, (b.1, full_long inv.1))
+    record { from_in_bounds = b.0; done_le_from = b.1; long = full_long inv.1 }
 
 pub slice_bounds-starts-end : goal.slice_bounds-starts-end
 slice_bounds-starts-end c =
@@ -74,7 +74,7 @@ pub write_data-at-requires : goal.write_data-at-requires
 write_data-at-requires c =
     let inv = c.loop-v.invariant in
     let r = data_came (c.next_data_record.ensures.fast_next_sound _ (by_fields inv.0.walk.after)) c.in-Record.is in
-    (r.next.stand, (r.cleans, room_data inv.0 c.requires r.next r.later))
+    record { cells = r.next.stand; clean_in = r.cleans; room = room_data inv.0 c.requires r.next r.later }
 
 pub loop-v-smaller-in-Record : goal.loop-v-smaller-in-Record
 loop-v-smaller-in-Record c =
@@ -107,7 +107,7 @@ pub next_record-requires : goal.next_record-requires
 next_record-requires c =
     let inv = c.loop-v.invariant in
     let b = walk_bounds inv.0.walk in
-    (b.0, (b.1, full_long (full_kept inv.1 c.next_data_record.ensures.same_lengths)))
+    record { offset_in_bounds = b.0; done_le_offset = b.1; long = full_long (full_kept inv.1 c.next_data_record.ensures.same_lengths) }
 
 pub slice_bounds-starts-end-in-Record-next_record : goal.slice_bounds-starts-end-in-Record-next_record
 slice_bounds-starts-end-in-Record-next_record c =
@@ -155,7 +155,7 @@ pub write_record-at-requires : goal.write_record-at-requires
 write_record-at-requires c =
     let inv = c.loop-v.invariant in
     let n = came (c.next_record.ensures.next_record_sound _ inv.0.walk.after) c.in-Record-next_record.is in
-    (n.stand, room_there inv.0 c.requires n)
+    record { cells = n.stand; room = room_there inv.0 c.requires n }
 
 pub loop-v-smaller : goal.loop-v-smaller
 loop-v-smaller c =

@@ -2,11 +2,10 @@
 use borrow.Author.Rules.{rules}
 use Rattle.model.proofs.Tests.{impossible}
 use Rattle.file_cursor.proofs.RecordChecks.{source_checked, asked_reading, asked_both}
-
 use Rattle.file_cursor.proofs.check_record.Goals as goal
 
 pub check_record-requires : goal.check_record-requires
-check_record-requires c = (c.requires.cells, (λ e. impossible e, c.requires.written_bound))
+check_record-requires c = record { cells = c.requires.cells; clean_record = λ e. impossible e; written_bound = c.requires.written_bound }
 
 pub returns-in-Reading : goal.returns-in-Reading
 returns-in-Reading c =

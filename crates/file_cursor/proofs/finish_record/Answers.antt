@@ -6,13 +6,12 @@ use lib.ListN.{length}
 use lib.Seq.{length-take-le}
 use borrow.Author.Rules.{rules}
 use Rattle.file_cursor.proofs.RecordChecks.{too_many, ruled_faulty, ruled_sound}
-
 use Rattle.file_cursor.proofs.finish_record.Goals as goal
 
 -- one record more can be counted
 pub overflow_add-cursor : goal.overflow_add-cursor
 overflow_add-cursor c =
-    let m : c.args.cursor.done ≤ 16777215 = c.requires.cells.1.0 in
+    let m : c.args.cursor.done ≤ 16777215 = c.requires.done_bound.0 in
     omega arith
 
 pub returns-then-cells-gt-MAX_COLUMNS : goal.returns-then-cells-gt-MAX_COLUMNS
@@ -44,11 +43,11 @@ slice_bounds-check_record-end-3 c =
     sym (length-take-le a.cells a.kinds.now (omega arith))
 
 pub check_record-r-requires : goal.check_record-r-requires
-check_record-r-requires c = (c.requires.cells.0 c.if-cells-gt-MAX_COLUMNS.false, c.requires.cells.1.1)
+check_record-r-requires c = record { cells = c.requires.cells c.if-cells-gt-MAX_COLUMNS.false; written_bound = c.requires.done_bound.1 }
 
 pub overflow_add-result : goal.overflow_add-result
 overflow_add-result c =
-    let m : c.args.cursor.done ≤ 16777215 = c.requires.cells.1.0 in
+    let m : c.args.cursor.done ≤ 16777215 = c.requires.done_bound.0 in
     omega arith
 
 pub overflow_add-result-in-Sound : goal.overflow_add-result-in-Sound
@@ -59,7 +58,7 @@ overflow_add-result-in-Sound c =
 
 pub overflow_add-cursor-in-Faulty : goal.overflow_add-cursor-in-Faulty
 overflow_add-cursor-in-Faulty c =
-    let m : c.args.cursor.done ≤ 16777215 = c.requires.cells.1.0 in
+    let m : c.args.cursor.done ≤ 16777215 = c.requires.done_bound.0 in
     omega arith
 
 pub returns-in-Sound : goal.returns-in-Sound

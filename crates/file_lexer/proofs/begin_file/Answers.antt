@@ -2,8 +2,6 @@
 use Rattle.model.specs.rules.Base.{choose◌then◌else◌}
 use Rattle.model.specs.rules.File.{begin_file}
 use Rattle.model.proofs.Tests.{tests}
-use borrow.Author.Rules.{rules}
-
 use Rattle.file_lexer.proofs.begin_file.Goals as goal
 
 pub returns-then-b-eq239 : goal.returns-then-b-eq239

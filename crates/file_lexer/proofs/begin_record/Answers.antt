@@ -2,8 +2,6 @@
 use Rattle.model.specs.rules.Base.{choose◌then◌else◌}
 use Rattle.model.specs.rules.File.{begin_record}
 use Rattle.model.proofs.Tests.{tests}
-use borrow.Author.Rules.{rules}
-
 use Rattle.file_lexer.proofs.begin_record.Goals as goal
 
 pub returns-then-is_blank : goal.returns-then-is_blank

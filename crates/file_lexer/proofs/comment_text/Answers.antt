@@ -1,8 +1,6 @@
 -- `file_lexer::comment_text` meets its contract: the UTF-8 step decides.
 use Rattle.model.specs.rules.Base.{choose◌then◌else◌}
 use Rattle.model.proofs.Tests.{tests}
-use borrow.Author.Rules.{rules}
-
 use Rattle.file_lexer.proofs.comment_text.Goals as goal
 
 pub returns-in-On : goal.returns-in-On

@@ -8,8 +8,6 @@ use Rattle.model.specs.declared.Char.TheVariants.{Whole, Within}
 use Rattle.model.specs.declared.FileState.TheVariants.{Comment}
 use Rattle.model.specs.rules.File.{file_step}
 use Rattle.model.proofs.Tests.{tests}
-use borrow.Author.Rules.{rules}
-
 use Rattle.file_lexer.proofs.dispatch.Goals as goal
 
 -- only TDIF has comments, and their step is the same in every dialect

@@ -2,7 +2,6 @@
 use Rattle.model.specs.rules.Base.{choose◌then◌else◌}
 use Rattle.model.specs.rules.File.{file_step}
 use Rattle.model.proofs.Tests.{tests}
-
 use Rattle.file_lexer.proofs.in_bom2.Goals as goal
 
 pub returns-then-b-eq191 : goal.returns-then-b-eq191

@@ -2,8 +2,6 @@
 use Rattle.model.specs.rules.Base.{choose◌then◌else◌}
 use Rattle.model.specs.rules.File.{file_step}
 use Rattle.model.proofs.Tests.{tests}
-use borrow.Author.Rules.{rules}
-
 use Rattle.file_lexer.proofs.in_comment.Goals as goal
 
 pub returns-then-b-eq10 : goal.returns-then-b-eq10

@@ -12,7 +12,7 @@ pub next_record-requires : goal.next_record-requires
 next_record-requires c =
     let a = c.args in
     let b = walk_bounds (sets_out a.d Reading a.file.now _ c.at_start.ensures) in
-    (b.0, (b.1, full_long (record { at_starts = refl; at_ends = refl; at_kinds = refl })))
+    record { offset_in_bounds = b.0; done_le_offset = b.1; long = full_long (record { at_starts = refl; at_ends = refl; at_kinds = refl }) }
 
 pub read_records-requires : goal.read_records-requires
 read_records-requires c =
@@ -20,14 +20,20 @@ read_records-requires c =
     let a = c.args in
     let lengths = shortest (length a.starts.now) (length a.ends.now) (length a.kinds.now) in
     let m = lengths _ _ c.min_of.ensures c.min_of-room.ensures in
-    (begins (from_start q c.next_record.ensures.next_record_sound) c.in-Record.is, m.1)
+    record { header_read = begins (from_start q c.next_record.ensures.next_record_sound) c.in-Record.is; room_in_bounds = m.1 }
 
 pub returns-in-Record : goal.returns-in-Record
 returns-in-Record c =
     let a = c.args in
     let lengths = shortest (length a.starts.now) (length a.ends.now) (length a.kinds.now) in
     let m = lengths _ _ c.min_of.ensures c.min_of-room.ensures in
-    rw (← m.0) c.read_records.ensures
+    let t = c.read_records.ensures in
+    record {
+      value = rw (← m.0) t.value;
+      starts_after = rw (← m.0) t.starts_after;
+      ends_after = rw (← m.0) t.ends_after;
+      kinds_after = rw (← m.0) t.kinds_after;
+    }
 
 pub returns-in-End : goal.returns-in-End
 returns-in-End c =
@@ -37,7 +43,7 @@ returns-in-End c =
     let o
     = no_records n _ a.starts.now a.ends.now a.kinds.now _ _ c.refused.ensures
     c.in-End.is c.call_report.ensures in
-    (o.answer, (o.at_starts, (o.at_ends, o.at_kinds)))
+    record { value = o.answer; starts_after = o.at_starts; ends_after = o.at_ends; kinds_after = o.at_kinds }
 
 pub returns-in-Refused : goal.returns-in-Refused
 returns-in-Refused c =
@@ -45,4 +51,4 @@ returns-in-Refused c =
     let a = c.args in
     let n = from_start q c.next_record.ensures.next_record_sound in
     let o = no_header n _ a.starts.now a.ends.now a.kinds.now _ _ c.refused-in-Refused.ensures c.in-Refused.is in
-    (o.answer, (o.at_starts, (o.at_ends, o.at_kinds)))
+    record { value = o.answer; starts_after = o.at_starts; ends_after = o.at_ends; kinds_after = o.at_kinds }

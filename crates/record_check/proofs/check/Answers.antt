@@ -1,9 +1,7 @@
 -- A header gets a header's checks, and any other record those of a data record, which need only the number of its cells.
-use borrow.Author.Rules.{rules}
 use Rattle.model.specs.rules.Base.{choose◌then◌else◌}
 use Rattle.cell_decoder.specs.Sources.{cells_in}
 use Rattle.cell_decoder.proofs.CellsIn.{cells_length}
-
 use Rattle.record_check.proofs.check.Goals as goal
 
 pub returns-then-header : goal.returns-then-header

@@ -1,14 +1,8 @@
 -- The invariant: the result for all kinds equals the result for those from n on.
-use mathlib.Core.Path.{◌≡◌, refl, sym, ap, ◌∙◌}
+use mathlib.Core.Path.{◌≡◌}
 use Prim.Native.Nat.{◌-◌, ◌≤◌}
-use native.Mathlib.Omega.{arith}
-use lib.ListN.{length, get_or}
-use borrow.Author.Rules.{rules}
-use borrow.Author.Tests.{not-true, not-false}
-use Rattle.model.specs.rules.Text.{is_text}
-use Rattle.cell_decoder.specs.Sources.{kind_from}
-use Rattle.record_check.proofs.Records.{not_text_at, not_text_end, not_text_here, not_text_next}
-
+use lib.ListN.{length}
+use Rattle.record_check.proofs.Records.{not_text_at}
 use Rattle.record_check.proofs.first_not_text.Given as goal
 
 abbrev pub invariant-loop-n : goal.invariant-loop-n

@@ -2,7 +2,6 @@
 use native.Mathlib.Omega.{arith}
 use borrow.Author.Rules.{rules}
 use Rattle.record_fast.specs.FastScan.{RecordEndSound, at_once, by_pair, nowhere}
-
 use Rattle.record_fast.proofs.crlf_end.Goals as goal
 
 pub returns-then-stop-e-lt2 : goal.returns-then-stop-e-lt2

@@ -8,7 +8,6 @@ use Rattle.model.specs.rules.Base.{CR}
 use Rattle.model.specs.rules.File.{after_cell}
 use Rattle.record_fast.specs.FastScan.{RecordEndSound, at_once, by_pair, nowhere}
 use Rattle.record_fast.proofs.Endings.{after_lf, after_cr_csvj, after_cr_tdif, after_cr_plus}
-
 use Rattle.record_fast.proofs.record_end_at.Goals as goal
 
 pub returns-then-b-eq10 : goal.returns-then-b-eq10

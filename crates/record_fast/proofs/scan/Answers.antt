@@ -18,7 +18,6 @@ use Rattle.cell_fast.specs.Ends.{EndsFrom}
 use Rattle.record_fast.specs.FastScan.{RecordEndSound, is_fallback}
 use Rattle.record_fast.specs.declared.RecordEnd.{RecordEnd}
 use Rattle.record_fast.proofs.FastScanInvariant.{Bounds, Row, Writes, begins_on, row_begins, cell_lies_in, next_cell_lem, last_cell_lem, odd}
-
 use Rattle.record_fast.proofs.scan.Goals as goal
 
 pub returns-then-most-start : goal.returns-then-most-start

@@ -2,7 +2,7 @@
 //! be proved by computation.
 //!
 //! `definitions FOLDER [COUNT [SEED]]` makes FOLDER a repository of two crates: `model`, copied from this one, and
-//! `vectors`. `rt check` in FOLDER then computes every case. COUNT is how many random cases there are.
+//! `vectors`. `rt check` in the folder of `vectors` then computes every case. COUNT is how many random cases there are.
 
 use std::fs;
 use std::io;
@@ -53,7 +53,7 @@ fn write_repository(folder: &Path, count: usize, seed: u64) -> Result<String, St
         fs::write(folder.join("crates.txt"), "model:\nvectors: model\n")?;
         fs::write(
             sources.join("lib.rt"),
-            "// The vectors, computed by the prover.\n",
+            "// The vectors, computed by the prover.\n#![tactic(auto)]\n",
         )?;
         fs::write(proofs.join("Lib.antt"), "pub mod Vectors\n")?;
         fs::write(proofs.join("Vectors.antt"), &module.text)?;

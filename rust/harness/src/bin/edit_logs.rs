@@ -1,23 +1,25 @@
-//! Whether each must-fail edit was refused by a fact: `edit_logs [FOLDER]` reads what `rt must-fail` left in the repository, or in another
-//! folder that is laid out so, and prints a line for each edit that says nothing.
+//! Whether each must-fail edit was refused by a fact: `edit_logs LOG [FOLDER]` reads what `rt ci` or `rt must-fail` printed, in the file
+//! LOG, of the edits of the repository or of another folder that is laid out so, and prints a line for each edit that says nothing.
 
 use harness::edit_logs::verdicts;
 use harness::repository;
 use std::env;
+use std::fs;
 use std::path::PathBuf;
 use std::process::ExitCode;
 
 fn main() -> ExitCode {
     let words: Vec<String> = env::args().skip(1).collect();
-    let root = match &words[..] {
-        [] => repository(),
-        [folder] if !folder.starts_with('-') => PathBuf::from(folder),
+    let (log, root) = match &words[..] {
+        [log] if !log.starts_with('-') => (log, repository()),
+        [log, folder] if !log.starts_with('-') => (log, PathBuf::from(folder)),
         _ => {
-            eprintln!("usage: edit_logs [FOLDER]");
+            eprintln!("usage: edit_logs LOG [FOLDER]");
             return ExitCode::from(2);
         }
     };
-    let verdicts = match verdicts(&root) {
+    let read = fs::read(log).map_err(|error| format!("{log}: {error}"));
+    let verdicts = match read.and_then(|printed| verdicts(&root, &String::from_utf8_lossy(&printed))) {
         Ok(verdicts) => verdicts,
         Err(error) => {
             eprintln!("edit_logs: {error}");

@@ -2,7 +2,6 @@
 use native.Mathlib.Omega.{arith}
 use lib.ListN.{length-set}
 use Rattle.buffer.proofs.Overlaps.{eight_stored}
-
 use Rattle.buffer.proofs.blocks.copy_eight.Goals as goal
 
 pub bounds-out-o-2 : goal.bounds-out-o-2

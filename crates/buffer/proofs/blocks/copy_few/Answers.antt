@@ -4,7 +4,6 @@ use Prim.Native.Nat.{◌-◌, ◌/◌}
 use native.Mathlib.Omega.{arith}
 use lib.ListN.{length, length-set}
 use Rattle.buffer.proofs.Overlaps.{few_stored}
-
 use Rattle.buffer.proofs.blocks.copy_few.Goals as goal
 
 pub bounds-out-at-2 : goal.bounds-out-at-2

@@ -2,7 +2,6 @@
 use native.Mathlib.Omega.{arith}
 use lib.ListN.{length-set}
 use Rattle.buffer.proofs.Overlaps.{four_stored}
-
 use Rattle.buffer.proofs.blocks.copy_four.Goals as goal
 
 pub bounds-out-o-2 : goal.bounds-out-o-2

@@ -1,10 +1,9 @@
 use mathlib.Core.Path.{refl, ap, ◌∙◌}
-use Prim.Native.Nat.{◌+◌, ◌-◌, ◌≤◌}
+use Prim.Native.Nat.{◌-◌}
 use native.Mathlib.Omega.{arith}
-use lib.ListN.{length, drop}
-use Rattle.buffer.proofs.BlockProgress.{length_written, Writing}
+use lib.ListN.{length}
+use Rattle.buffer.proofs.BlockProgress.{length_written}
 use Rattle.buffer.proofs.Overlaps.{first_block, next_block, last_block}
-
 use Rattle.buffer.proofs.blocks.copy_long.Goals as goal
 
 pub overflow_sub-last : goal.overflow_sub-last
@@ -26,12 +25,11 @@ pub loop-i-smaller : goal.loop-i-smaller
 loop-i-smaller c = omega (arith, c.loop-i-test.true)
 
 pub loop-i-preserved : goal.loop-i-preserved
-loop-i-preserved c =
-    (
-      omega (arith, c.loop-i-test.true),
-      next_block c.loop-i.i c.loop-i.invariant.1 8 (omega (arith, c.loop-i-test.true)) (omega arith)
-          c.copy_eight.ensures,
-    )
+loop-i-preserved c = (
+  omega (arith, c.loop-i-test.true),
+  next_block c.loop-i.i c.loop-i.invariant.1 8 (omega (arith, c.loop-i-test.true)) (omega arith)
+      c.copy_eight.ensures,
+)
 
 pub overflow_add-at-2 : goal.overflow_add-at-2
 overflow_add-at-2 c = omega (arith, c.requires.1)
@@ -39,12 +37,12 @@ overflow_add-at-2 c = omega (arith, c.requires.1)
 pub copy_eight-requires-2 : goal.copy_eight-requires-2
 copy_eight-requires-2 c = (omega (arith, c.loop-i.invariant.1.long, c.requires), omega (arith, c.requires.0))
 
-pub shape_of-out : goal.shape_of-out
-shape_of-out c =
-    ap length (returns c) ∙ length_written
-    c.args.out.now c.args.at c.args.src.now c.requires.1
-
 pub returns : goal.returns
 returns c =
     last_block c.loop-i.i c.loop-i.invariant.1 8 (length c.args.src.now - 8) refl c.loop-i-test.false
     c.loop-i.invariant.0 (omega (arith, c.requires.0)) c.copy_eight-2.ensures
+
+pub shape_of-out : goal.shape_of-out
+shape_of-out c =
+    ap length (returns c) ∙ length_written
+    c.args.out.now c.args.at c.args.src.now c.requires.1

@@ -1,11 +1,7 @@
 -- `buffer::blocks::copy_long` meets its contract. The invariant: what remains to be written is the rest of `src`.
-use mathlib.Core.Path.{refl, ap, ◌∙◌}
 use Prim.Native.Nat.{◌+◌, ◌-◌, ◌≤◌}
-use native.Mathlib.Omega.{arith}
 use lib.ListN.{length, drop}
-use Rattle.buffer.proofs.BlockProgress.{length_written, Writing}
-use Rattle.buffer.proofs.Overlaps.{first_block, next_block, last_block}
-
+use Rattle.buffer.proofs.BlockProgress.{Writing}
 use Rattle.buffer.proofs.blocks.copy_long.Given as goal
 
 abbrev pub invariant-loop-i : goal.invariant-loop-i

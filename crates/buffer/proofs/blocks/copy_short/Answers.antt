@@ -3,10 +3,8 @@ use mathlib.Core.Path.{refl}
 use Prim.Native.Nat.{◌-◌}
 use native.Mathlib.Omega.{arith}
 use lib.ListN.{length}
-use borrow.Author.Rules.{rules}
 use Rattle.buffer.proofs.BlockProgress.{start}
 use Rattle.buffer.proofs.Overlaps.{no_block, next_block, last_block}
-
 use Rattle.buffer.proofs.blocks.copy_short.Goals as goal
 
 pub returns-then-src-ge4 : goal.returns-then-src-ge4

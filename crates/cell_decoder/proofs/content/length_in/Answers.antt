@@ -1,5 +1,4 @@
 -- `cell_decoder::content::length_in` meets its contract: each encoding has its measure.
-use borrow.Author.Rules.{rules}
 use Rattle.cell_decoder.proofs.content.length_in.Goals as goal
 
 pub returns-in-Nothing : goal.returns-in-Nothing

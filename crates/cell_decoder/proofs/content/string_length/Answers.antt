@@ -1,8 +1,6 @@
-use mathlib.Core.Path.{◌≡◌, ap}
-use Prim.Native.Nat.{◌+◌, ◌-◌, ◌<◌}
+use mathlib.Core.Path.{ap}
 use native.Mathlib.Omega.{arith}
 use lib.ListN.{length}
-use Rattle.cell_decoder.specs.Strings.{string_from}
 use Rattle.cell_decoder.proofs.Strings.{proceeds_length, string_end, string_quote, string_byte}
 use Rattle.cell_decoder.proofs.content.string_length.Goals as goal
 

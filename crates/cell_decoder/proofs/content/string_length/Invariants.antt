@@ -1,11 +1,9 @@
 -- `cell_decoder::content::string_length` meets its contract. The invariant: the count plus the length of the rest is the length of the
 -- whole.
-use mathlib.Core.Path.{◌≡◌, ap}
+use mathlib.Core.Path.{◌≡◌}
 use Prim.Native.Nat.{◌+◌, ◌-◌, ◌<◌}
-use native.Mathlib.Omega.{arith}
 use lib.ListN.{length}
 use Rattle.cell_decoder.specs.Strings.{string_from}
-use Rattle.cell_decoder.proofs.Strings.{proceeds_length, string_end, string_quote, string_byte}
 use Rattle.cell_decoder.proofs.content.string_length.Given as goal
 
 abbrev pub invariant-loop-i : goal.invariant-loop-i

@@ -2,7 +2,6 @@
 use mathlib.Core.Path.{sym}
 use native.Mathlib.Omega.{arith}
 use lib.ListN.{take}
-use borrow.Author.Rules.{rules}
 use Rattle.buffer.proofs.WriteProgress.{taken_whole}
 use Rattle.cell_decoder.proofs.Strings.{proceeds_length}
 use Rattle.cell_decoder.proofs.content.write_escape.Goals as goal
@@ -14,7 +13,7 @@ pub slice_bounds-copy-end : goal.slice_bounds-copy-end
 slice_bounds-copy-end c = sym c.unescape_at-p.ensures.sized
 
 pub copy-write-requires : goal.copy-write-requires
-copy-write-requires c = omega (arith, c.unescape_at-p.ensures.sized, proceeds_length c.unescape_at-p.ensures, c.requires.i_in_bounds_2)
+copy-write-requires c = omega (arith, c.unescape_at-p.ensures.sized, proceeds_length c.unescape_at-p.ensures, c.requires.room)
 
 pub returns : goal.returns
 returns c =

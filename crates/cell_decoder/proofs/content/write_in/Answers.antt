@@ -1,7 +1,6 @@
 -- `cell_decoder::content::write_in` meets its contract: each encoding has its writer.
 use mathlib.Core.Path.{◌∙◌}
 use native.Mathlib.Omega.{arith}
-use borrow.Author.Rules.{rules}
 use Rattle.buffer.proofs.WriteProgress.{written_first}
 use Rattle.cell_decoder.proofs.content.write_in.Goals as goal
 

@@ -1,7 +1,7 @@
 use mathlib.Core.List.{◌∷◌}
-use Prim.Native.Nat.{◌+◌, ◌-◌}
+use Prim.Native.Nat.{◌+◌}
 use native.Mathlib.Omega.{arith}
-use lib.ListN.{length, get_or}
+use lib.ListN.{get_or}
 use Rattle.cell_decoder.specs.Strings.{string_from}
 use Rattle.cell_decoder.proofs.Strings.{string_end, string_quote, string_byte, stepped}
 use Rattle.buffer.proofs.WriteProgress.{Writing, start, here, store, room_left, filled}
@@ -19,7 +19,7 @@ returns-then-b-eq34 c =
     filled (rw (string_quote a.raw.now c.loop-i.i c.loop-i-test.true c.if-b-eq34.true) at c.loop-i.invariant)
 
 pub write_escape-p-requires : goal.write_escape-p-requires
-write_escape-p-requires c = record { i_in_bounds = (omega arith, c.if-b-eq92.true); i_in_bounds_2 = omega (arith, room_left c.loop-i.invariant) }
+write_escape-p-requires c = record { at_backslash = (omega arith, c.if-b-eq92.true); room = omega (arith, room_left c.loop-i.invariant) }
 
 pub loop-i-smaller-then-b-eq92 : goal.loop-i-smaller-then-b-eq92
 loop-i-smaller-then-b-eq92 c = omega (arith, c.write_escape-p.ensures.on)

@@ -1,12 +1,9 @@
 -- `cell_decoder::content::write_string` meets its contract. The invariant: what remains to be written is the string's content from here
 -- on.
-use mathlib.Core.List.{◌∷◌}
-use Prim.Native.Nat.{◌+◌, ◌-◌}
-use native.Mathlib.Omega.{arith}
-use lib.ListN.{length, get_or}
+use Prim.Native.Nat.{◌-◌}
+use lib.ListN.{length}
 use Rattle.cell_decoder.specs.Strings.{string_from}
-use Rattle.cell_decoder.proofs.Strings.{string_end, string_quote, string_byte, stepped}
-use Rattle.buffer.proofs.WriteProgress.{Writing, start, here, store, room_left, filled}
+use Rattle.buffer.proofs.WriteProgress.{Writing}
 use Rattle.cell_decoder.proofs.content.write_string.Given as goal
 
 abbrev pub invariant-loop-i : goal.invariant-loop-i

@@ -1,14 +1,9 @@
 -- `cell_decoder::content::write_undoubled` meets its contract. The invariant: what remains to be written is the text from here on.
 use mathlib.Core.Bool.{false}
-use mathlib.Core.List.{◌∷◌}
-use mathlib.Core.Logic.{⊎_elim}
-use mathlib.Core.Path.{◌≡◌}
-use Prim.Native.Nat.{◌+◌, ◌-◌, ◌<◌, ◌≤◌}
-use native.Mathlib.Omega.{arith}
-use lib.ListN.{length, drop, get_or}
+use Prim.Native.Nat.{◌-◌}
+use lib.ListN.{length, drop}
 use Rattle.model.specs.rules.Decode.{undouble}
-use Rattle.cell_decoder.proofs.DoubledQuotes.{at_end, at_other, at_double, at_close, at_last}
-use Rattle.buffer.proofs.WriteProgress.{Writing, start, here, store, filled}
+use Rattle.buffer.proofs.WriteProgress.{Writing}
 use Rattle.cell_decoder.proofs.content.write_undoubled.Given as goal
 
 abbrev pub invariant-loop-i : goal.invariant-loop-i

@@ -1,6 +1,5 @@
 -- `cell_decoder::escape::hex_of` meets its contract, by its two tests; a byte that is no digit has a value too, at most 168.
 use native.Mathlib.Omega.{arith}
-use borrow.Author.Rules.{rules}
 use Rattle.model.specs.rules.Base.{choose◌then◌else◌}
 use Rattle.model.proofs.Tests.{tests}
 use Rattle.cell_decoder.proofs.escape.hex_of.Goals as goal

@@ -1,7 +1,6 @@
 -- `cell_decoder::escape::low_at` meets its contract: after each test that fails nothing joins, and after the last there is a low
 -- surrogate.
 use native.Mathlib.Omega.{arith}
-use borrow.Author.Rules.{rules}
 use Rattle.cell_decoder.specs.Strings.{UnitThere}
 use Rattle.cell_decoder.proofs.Strings.{low_cut, low_other, low_short, low_below, low_above, low_there}
 use Rattle.cell_decoder.proofs.escape.low_at.Goals as goal

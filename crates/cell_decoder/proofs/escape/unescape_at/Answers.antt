@@ -1,6 +1,5 @@
 -- `cell_decoder::escape::unescape_at` meets its contract, by the bytes after the backslash.
 use native.Mathlib.Omega.{arith}
-use borrow.Author.Rules.{rules}
 use Rattle.cell_decoder.proofs.Strings.{proceeds_cut, proceeds_short, cut_backslash, cut_unit}
 use Rattle.cell_decoder.proofs.escape.unescape_at.Goals as goal
 

@@ -1,5 +1,4 @@
 -- `cell_decoder::escape::unescape_unit` meets its contract: a code unit alone is its own code point, and a surrogate pair is one.
-use borrow.Author.Rules.{rules}
 use Rattle.cell_decoder.proofs.Strings.{below, above, amid, goes_calm, goes_lone, goes_pair}
 use Rattle.cell_decoder.proofs.escape.unescape_unit.Goals as goal
 

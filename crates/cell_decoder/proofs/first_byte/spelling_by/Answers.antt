@@ -1,5 +1,4 @@
 -- `cell_decoder::first_byte::spelling_by` meets its contract: each arm returns the definition's result for its dialect.
-use borrow.Author.Rules.{rules}
 use Rattle.cell_decoder.proofs.FirstByte.{encoded_tdif, encoded_plus}
 use Rattle.cell_decoder.proofs.first_byte.spelling_by.Goals as goal
 

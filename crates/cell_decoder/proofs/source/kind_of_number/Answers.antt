@@ -1,6 +1,5 @@
 -- `cell_decoder::source::kind_of_number` meets its contract, arm by arm.
 use mathlib.Core.Path.{sym, ap, ◌∙◌}
-use borrow.Author.Rules.{rules}
 use Rattle.codes.specs.Named.{kind_in}
 use Rattle.cell_decoder.specs.Sources.{or_null}
 use Rattle.cell_decoder.proofs.source.kind_of_number.Goals as goal

@@ -1,7 +1,6 @@
 -- `cell_decoder::validate::validate_cell` meets its contract: the check result of the run's end is the definition's.
 use mathlib.Core.Path.{sym, ap, ◌∙◌}
 use lib.ListN.{length}
-use borrow.Author.Rules.{rules}
 use Rattle.model.specs.rules.Base.{choose◌then◌else◌}
 use Rattle.cell_decoder.proofs.CellValidation.{validated_by, validated}
 use Rattle.cell_decoder.proofs.validate.validate_cell.Goals as goal

@@ -1,11 +1,7 @@
 -- `cell_fast::runs::clean_run` meets its contract. The invariant: clean bytes lie from `at` to here.
 use Prim.Native.Nat.{◌-◌}
-use native.Mathlib.Omega.{arith}
-use borrow.Author.Rules.{rules}
 use Rattle.swar.specs.Words.{clean_ascii}
 use Rattle.cell_fast.specs.TextRuns.{PassRun}
-use Rattle.cell_fast.proofs.PassRuns.{pass_none, pass_join, pass_word, pass_flag}
-
 use Rattle.cell_fast.proofs.runs.clean_run.Given as goal
 
 abbrev pub invariant-loop-i : goal.invariant-loop-i

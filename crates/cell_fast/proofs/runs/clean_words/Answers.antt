@@ -1,10 +1,5 @@
-use Prim.Native.Nat.{◌-◌}
 use native.Mathlib.Omega.{arith}
-use borrow.Author.Rules.{rules}
-use Rattle.swar.specs.Words.{clean_ascii}
-use Rattle.cell_fast.specs.TextRuns.{PassRun}
 use Rattle.cell_fast.proofs.PassRuns.{pass_none, pass_word}
-
 use Rattle.cell_fast.proofs.runs.clean_words.Goals as goal
 
 pub loop-i-init : goal.loop-i-init

@@ -1,11 +1,7 @@
 -- `cell_fast::runs::single_steps` meets its contract. The invariant: clean bytes lie from `at` to here.
 use Prim.Native.Nat.{◌-◌}
-use native.Mathlib.Omega.{arith}
-use lib.ListN.{get_or}
 use Rattle.swar.specs.Words.{clean_ascii}
 use Rattle.cell_fast.specs.TextRuns.{PassRun}
-use Rattle.cell_fast.proofs.PassRuns.{pass_none, pass_byte, clean_byte}
-
 use Rattle.cell_fast.proofs.runs.single_steps.Given as goal
 
 abbrev pub invariant-loop-i : goal.invariant-loop-i

@@ -1,9 +1,7 @@
 -- `cell_fast::text::escape_end` meets its contract: a short escape, or one with four digits.
 use mathlib.Core.Path.{sym, ◌∙◌}
 use native.Mathlib.Omega.{arith}
-use borrow.Author.Rules.{rules}
 use Rattle.cell_fast.proofs.QuotedCells.{short_escape}
-
 use Rattle.cell_fast.proofs.text.escape_end.Goals as goal
 
 pub returns-then-is_short : goal.returns-then-is_short

@@ -2,13 +2,11 @@
 use mathlib.Core.Path.{◌≡◌}
 use mathlib.Core.Bool.{false}
 use native.Mathlib.Omega.{arith}
-use borrow.Author.Rules.{rules}
 use Rattle.model.specs.declared.Char.TheVariants.{Whole}
 use Rattle.model.specs.declared.Cell.TheVariants.{Quoted}
 use Rattle.model.specs.rules.Dialect.{is_csvj}
 use Rattle.cell_fast.proofs.CellOutcomes.{results_none}
 use Rattle.cell_fast.proofs.TextRuns.{wide_passed, ascii_passed}
-
 use Rattle.cell_fast.proofs.text.pass.Goals as goal
 
 pub returns-then-s-i-ge128 : goal.returns-then-s-i-ge128

@@ -1,9 +1,6 @@
 -- `cell_fast::text::plain_text` meets its contract. The invariant: clean characters lie from `at` to here.
 use Prim.Native.Nat.{◌-◌}
-use native.Mathlib.Omega.{arith}
 use Rattle.cell_fast.specs.TextRuns.{TextRun, is_open}
-use Rattle.cell_fast.proofs.TextRuns.{text_none, text_join, ascii_text, wide_text}
-
 use Rattle.cell_fast.proofs.text.plain_text.Given as goal
 
 abbrev pub invariant-loop-i : goal.invariant-loop-i

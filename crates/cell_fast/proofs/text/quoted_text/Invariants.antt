@@ -1,11 +1,7 @@
 -- `cell_fast::text::quoted_text` meets its contract. The invariant: the text inside the quotes lies from `at` to here, verbatim if
 -- `clean`.
 use Prim.Native.Nat.{◌-◌}
-use mathlib.Core.Bool.{true}
-use native.Mathlib.Omega.{arith}
 use Rattle.cell_fast.specs.CellOutcome.{QuotedText}
-use Rattle.cell_fast.proofs.TextRuns.{quoted_none, quoted_run_on, quoted_clean_on, quoted_other_on}
-
 use Rattle.cell_fast.proofs.text.quoted_text.Given as goal
 
 abbrev pub invariant-loop-i : goal.invariant-loop-i

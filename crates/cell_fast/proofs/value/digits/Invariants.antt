@@ -1,13 +1,7 @@
 -- `cell_fast::value::digits` meets its contract. The invariant: digits lie from `at` to here.
 use Prim.Native.Nat.{◌-◌}
-use native.Mathlib.Omega.{arith}
-use mathlib.Core.Path.{sym, ◌∙◌}
-use borrow.Author.Rules.{rules}
-use borrow.Author.Tests.{not-true, not-false}
 use Rattle.model.specs.rules.Cell.{is_digit}
 use Rattle.cell_fast.specs.TextRuns.{PassRun}
-use Rattle.cell_fast.proofs.PassRuns.{pass_none, pass_byte}
-
 use Rattle.cell_fast.proofs.value.digits.Given as goal
 
 abbrev pub invariant-loop-i : goal.invariant-loop-i

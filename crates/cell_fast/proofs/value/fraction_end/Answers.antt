@@ -1,7 +1,5 @@
 -- `cell_fast::value::fraction_end` meets its contract: at least one digit, or fallback.
-use borrow.Author.Rules.{rules}
 use Rattle.cell_fast.proofs.BareValues.{fraction_none, fraction_digits}
-
 use Rattle.cell_fast.proofs.value.fraction_end.Goals as goal
 
 pub returns-then-end-at : goal.returns-then-end-at

@@ -1,7 +1,5 @@
 -- `cell_fast::value::integer_end` meets its contract: a 0 alone, or digits.
-use borrow.Author.Rules.{rules}
 use Rattle.cell_fast.proofs.BareValues.{integer_zero, integer_digits}
-
 use Rattle.cell_fast.proofs.value.integer_end.Goals as goal
 
 pub returns-then-s-at-eq48 : goal.returns-then-s-at-eq48

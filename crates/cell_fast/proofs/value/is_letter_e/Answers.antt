@@ -1,6 +1,5 @@
 -- `cell_fast::value::is_letter_e` meets its contract, by its tests.
 use Rattle.model.proofs.Tests.{tests}
-
 use Rattle.cell_fast.proofs.value.is_letter_e.Goals as goal
 
 pub returns-then-b-eq101 : goal.returns-then-b-eq101

@@ -1,7 +1,6 @@
 -- `cell_lexer::values::after_letter` meets its contract, arm by arm.
 use Rattle.model.specs.rules.Base.{choose◌then◌else◌}
 use Rattle.model.proofs.Tests.{tests}
-use borrow.Author.Rules.{rules}
 use Rattle.cell_lexer.proofs.values.after_letter.Goals as goal
 
 pub returns-in-T : goal.returns-in-T

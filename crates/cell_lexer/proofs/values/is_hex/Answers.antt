@@ -1,7 +1,6 @@
 -- `cell_lexer::values::is_hex` meets its contract: the disjunction of its three ranges.
 use Rattle.model.specs.rules.Base.{choose◌then◌else◌}
 use Rattle.model.proofs.Tests.{tests}
-use borrow.Author.Rules.{rules}
 use Rattle.cell_lexer.proofs.values.is_hex.Goals as goal
 
 pub returns-then-is_digit : goal.returns-then-is_digit

@@ -2,7 +2,6 @@
 use Rattle.model.specs.rules.Base.{choose◌then◌else◌}
 use Rattle.model.specs.rules.Cell.{numeral_step}
 use Rattle.model.proofs.Tests.{tests}
-use borrow.Author.Rules.{rules}
 use Rattle.cell_lexer.proofs.values.numeral_step.Goals as goal
 
 pub returns-then-b-eq48 : goal.returns-then-b-eq48

@@ -1,6 +1,5 @@
 -- `cell_writer::body::is_lone_at` meets its contract: three bytes, of which the first two decide.
 use mathlib.Core.Path.{sym, ◌∙◌}
-use borrow.Author.Rules.{rules}
 use Rattle.cell_writer.proofs.Bodies.{lone_cut, lone_by}
 use Rattle.cell_writer.proofs.body.is_lone_at.Goals as goal
 

@@ -1,6 +1,5 @@
 -- `cell_writer::body::is_paired_at` meets its contract, by its tests.
 use mathlib.Core.Path.{sym}
-use borrow.Author.Rules.{rules}
 use Rattle.cell_writer.proofs.Bodies.{pair_cut, pair_other, pair_at}
 use Rattle.cell_writer.proofs.body.is_paired_at.Goals as goal
 

@@ -1,6 +1,5 @@
 -- `cell_writer::body::unit_stop` meets its contract: the text of the unit there.
 use native.Mathlib.Omega.{arith}
-use borrow.Author.Rules.{rules}
 use Rattle.cell_writer.proofs.Bodies.{stops_end, stops_unit}
 use Rattle.cell_writer.proofs.body.unit_stop.Goals as goal
 

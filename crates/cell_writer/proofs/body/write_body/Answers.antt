@@ -3,8 +3,7 @@ use mathlib.Core.Bool.{Bool, ◌||◌}
 use mathlib.Core.List.{◌++◌}
 use Prim.Native.Nat.{◌-◌}
 use native.Mathlib.Omega.{arith}
-use lib.ListN.{length, take, drop}
-use borrow.Author.Rules.{rules}
+use lib.ListN.{take, drop}
 use Rattle.model.specs.rules.Utf8.{holds_lone}
 use Rattle.buffer.proofs.WriteProgress.{Emitting, emitting, same_long, room_next, room_rest, put_next, put_whole}
 use Rattle.cell_decoder.specs.FirstByte.{content_in}
@@ -42,7 +41,7 @@ emit-o-requires c =
     let l = c.loop-i in
     let a = c.args in
     room_next (take (c.plain_run-j.result - l.i) (drop l.i a.raw.now))
-    (body_text a.t (content_from a.c a.raw.now c.plain_run-j.result)) (run-next)
+    (body_text a.t (content_from a.c a.raw.now c.plain_run-j.result)) run-next
 
 pub shape_of-out-then-raw-j : goal.shape_of-out-then-raw-j
 shape_of-out-then-raw-j c =
@@ -52,10 +51,10 @@ shape_of-out-then-raw-j c =
     let target = c.quote_of-p in
     rw (text_part a.raw.now c.loop-i.i c.plain_run-j.result target.result source.result a.c source.ensures
     c.plain_run-j.ensures a.t target.ensures) at c.loop-i.invariant.0 in
-    let stop-next : (let a = c.args in Emitting a.write a.out.now a.at (body_text a.t (content_in a.c a.raw.now)) c.emit-o.new.0 c.emit-o.result (body_text a.t (content_from a.c a.raw.now c.plain_run-j.result))) =
+    let stop-next : (let a = c.args in Emitting a.write a.out.now a.at (body_text a.t (content_in a.c a.raw.now)) c.emit-o.new.out c.emit-o.result (body_text a.t (content_from a.c a.raw.now c.plain_run-j.result))) =
     let a = c.args in
-    put_next (take (c.plain_run-j.result - c.loop-i.i) (drop c.loop-i.i a.raw.now)) (run-next) c.emit-o.ensures in
-    same_long (stop-next)
+    put_next (take (c.plain_run-j.result - c.loop-i.i) (drop c.loop-i.i a.raw.now)) run-next c.emit-o.ensures in
+    same_long stop-next
 
 pub returns-then-raw-j : goal.returns-then-raw-j
 returns-then-raw-j c =
@@ -72,14 +71,14 @@ returns-then-raw-j c =
     let target = c.quote_of-p in
     rw (text_part a.raw.now c.loop-i.i c.plain_run-j.result target.result source.result a.c source.ensures
     c.plain_run-j.ensures a.t target.ensures) at c.loop-i.invariant.0 in
-    let stop-next : (let a = c.args in Emitting a.write a.out.now a.at (body_text a.t (content_in a.c a.raw.now)) c.emit-o.new.0 c.emit-o.result (body_text a.t (content_from a.c a.raw.now c.plain_run-j.result))) =
+    let stop-next : (let a = c.args in Emitting a.write a.out.now a.at (body_text a.t (content_in a.c a.raw.now)) c.emit-o.new.out c.emit-o.result (body_text a.t (content_from a.c a.raw.now c.plain_run-j.result))) =
     let a = c.args in
-    put_next (take (c.plain_run-j.result - c.loop-i.i) (drop c.loop-i.i a.raw.now)) (run-next) c.emit-o.ensures in
+    put_next (take (c.plain_run-j.result - c.loop-i.i) (drop c.loop-i.i a.raw.now)) run-next c.emit-o.ensures in
     let l = c.loop-i in
-    let a = c.args in (
-      put_whole (rw (text_end a.t (content_end a.c a.raw.now c.plain_run-j.result c.if-raw-j.true)) at (stop-next)),
-      lone_done l.lone (run-tells) (lone_end (content_end a.c a.raw.now c.plain_run-j.result c.if-raw-j.true)),
-    )
+    let a = c.args in record {
+      written_at = put_whole (rw (text_end a.t (content_end a.c a.raw.now c.plain_run-j.result c.if-raw-j.true)) at stop-next);
+      lone_value = lone_done l.lone run-tells (lone_end (content_end a.c a.raw.now c.plain_run-j.result c.if-raw-j.true));
+    }
 
 pub write_stop-x-requires : goal.write_stop-x-requires
 write_stop-x-requires c =
@@ -89,10 +88,10 @@ write_stop-x-requires c =
     let target = c.quote_of-p in
     rw (text_part a.raw.now c.loop-i.i c.plain_run-j.result target.result source.result a.c source.ensures
     c.plain_run-j.ensures a.t target.ensures) at c.loop-i.invariant.0 in
-    let stop-next : (let a = c.args in Emitting a.write a.out.now a.at (body_text a.t (content_in a.c a.raw.now)) c.emit-o.new.0 c.emit-o.result (body_text a.t (content_from a.c a.raw.now c.plain_run-j.result))) =
+    let stop-next : (let a = c.args in Emitting a.write a.out.now a.at (body_text a.t (content_in a.c a.raw.now)) c.emit-o.new.out c.emit-o.result (body_text a.t (content_from a.c a.raw.now c.plain_run-j.result))) =
     let a = c.args in
-    put_next (take (c.plain_run-j.result - c.loop-i.i) (drop c.loop-i.i a.raw.now)) (run-next) c.emit-o.ensures in
-    (c.if-raw-j.false, (c.requires.legible, room_rest (stop-next)))
+    put_next (take (c.plain_run-j.result - c.loop-i.i) (drop c.loop-i.i a.raw.now)) run-next c.emit-o.ensures in
+    record { i_in_bounds = c.if-raw-j.false; legible = c.requires.legible; room = room_rest stop-next }
 
 pub loop-i-smaller : goal.loop-i-smaller
 loop-i-smaller c =
@@ -114,15 +113,15 @@ loop-i-preserved c =
     let target = c.quote_of-p in
     rw (text_part a.raw.now c.loop-i.i c.plain_run-j.result target.result source.result a.c source.ensures
     c.plain_run-j.ensures a.t target.ensures) at c.loop-i.invariant.0 in
-    let stop-next : (let a = c.args in Emitting a.write a.out.now a.at (body_text a.t (content_in a.c a.raw.now)) c.emit-o.new.0 c.emit-o.result (body_text a.t (content_from a.c a.raw.now c.plain_run-j.result))) =
+    let stop-next : (let a = c.args in Emitting a.write a.out.now a.at (body_text a.t (content_in a.c a.raw.now)) c.emit-o.new.out c.emit-o.result (body_text a.t (content_from a.c a.raw.now c.plain_run-j.result))) =
     let a = c.args in
-    put_next (take (c.plain_run-j.result - c.loop-i.i) (drop c.loop-i.i a.raw.now)) (run-next) c.emit-o.ensures in
+    put_next (take (c.plain_run-j.result - c.loop-i.i) (drop c.loop-i.i a.raw.now)) run-next c.emit-o.ensures in
     let x = c.write_stop-x in
     let t = x.ensures in
     let a = c.args in (
-      put_next t.w (rw t.stands at (stop-next)) t.put,
+      put_next t.w (rw t.stands at stop-next) t.put,
       lone_step c.loop-i.lone x.result.lone (holds_lone (content_from a.c a.raw.now x.result.read))
-          (run-tells) t.tells c.either-lone.ensures,
+          run-tells t.tells c.either-lone.ensures,
     )
 
 pub shape_of-out : goal.shape_of-out
@@ -131,7 +130,7 @@ shape_of-out c = same_long c.loop-i.invariant.0
 pub returns : goal.returns
 returns c =
     let l = c.loop-i in
-    let a = c.args in (
-      put_whole (rw (text_end a.t (content_end a.c a.raw.now l.i c.loop-i-test.false)) at l.invariant.0),
-      lone_done l.lone l.invariant.1 (lone_end (content_end a.c a.raw.now l.i c.loop-i-test.false)),
-    )
+    let a = c.args in record {
+      written_at = put_whole (rw (text_end a.t (content_end a.c a.raw.now l.i c.loop-i-test.false)) at l.invariant.0);
+      lone_value = lone_done l.lone l.invariant.1 (lone_end (content_end a.c a.raw.now l.i c.loop-i-test.false));
+    }

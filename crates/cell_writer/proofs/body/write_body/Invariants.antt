@@ -1,19 +1,14 @@
 -- `cell_writer::body::write_body` meets its contract. The invariant: what remains to be written is the text of the rest of the content,
 -- and the content holds a lone surrogate exactly if one was found or the rest holds one.
-use mathlib.Core.Path.{◌≡◌, ap, ◌∙◌}
-use mathlib.Core.Bool.{Bool, ◌||◌}
-use mathlib.Core.List.{◌++◌}
+use mathlib.Core.Path.{◌≡◌}
+use mathlib.Core.Bool.{◌||◌}
 use Prim.Native.Nat.{◌-◌}
-use native.Mathlib.Omega.{arith}
-use lib.ListN.{length, take, drop}
-use borrow.Author.Rules.{rules}
+use lib.ListN.{length}
 use Rattle.model.specs.rules.Utf8.{holds_lone}
-use Rattle.buffer.proofs.WriteProgress.{Emitting, emitting, same_long, room_next, room_rest, put_next, put_whole}
+use Rattle.buffer.proofs.WriteProgress.{Emitting}
 use Rattle.cell_decoder.specs.FirstByte.{content_in}
 use Rattle.cell_writer.specs.Units.{body_text}
 use Rattle.cell_writer.specs.Contents.{content_from}
-use Rattle.cell_writer.proofs.Contents.{part_inside, content_end}
-use Rattle.cell_writer.proofs.Bodies.{text_part, lone_part, text_end, lone_end, lone_first, lone_step, lone_done}
 use Rattle.cell_writer.proofs.body.write_body.Given as goal
 
 abbrev pub invariant-loop-i : goal.invariant-loop-i

@@ -1,7 +1,6 @@
 -- `cell_writer::body::write_stop` meets its contract: the text of the stop is written.
 use mathlib.Core.Path.{sym}
 use lib.ListN.{take}
-use borrow.Author.Rules.{rules}
 use Rattle.buffer.proofs.WriteProgress.{taken_whole, room_as, emitting, room_next}
 use Rattle.cell_writer.specs.Units.{body_text}
 use Rattle.cell_writer.specs.Contents.{content_from}
@@ -17,4 +16,4 @@ emit-next-requires c =
     let x = c.stop_text-x in
     room_next (take x.result.size x.result.bytes)
     (body_text c.args.t (content_from c.args.c c.args.raw.now x.result.next))
-    (emitting c.args.write (room_as (sym x.ensures.stands) c.requires.legible.1))
+    (emitting c.args.write (room_as (sym x.ensures.stands) c.requires.room))

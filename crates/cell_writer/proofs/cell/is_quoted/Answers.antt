@@ -1,5 +1,4 @@
 -- `cell_writer::cell::is_quoted` meets its contract, target by target.
-use borrow.Author.Rules.{rules}
 use Rattle.cell_writer.proofs.cell.is_quoted.Goals as goal
 
 pub returns-in-CsvPlus : goal.returns-in-CsvPlus

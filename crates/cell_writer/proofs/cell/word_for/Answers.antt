@@ -1,6 +1,5 @@
 -- `cell_writer::cell::word_for` meets its contract, target by target.
 use mathlib.Core.Path.{refl}
-use borrow.Author.Rules.{rules}
 use Rattle.cell_writer.proofs.cell.word_for.Goals as goal
 
 pub returns-in-Csvj : goal.returns-in-Csvj

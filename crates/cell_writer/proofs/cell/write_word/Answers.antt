@@ -1,7 +1,6 @@
 -- `cell_writer::cell::write_word` meets its contract: the word is written.
 use mathlib.Core.Path.{◌≡◌, sym, ap, ◌∙◌}
 use lib.ListN.{length, take}
-use borrow.Author.Rules.{rules}
 use Rattle.buffer.proofs.WriteProgress.{taken_whole, room_as, emitted_as}
 use Rattle.cell_writer.proofs.cell.write_word.Goals as goal
 

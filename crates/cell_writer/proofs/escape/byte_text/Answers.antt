@@ -1,5 +1,4 @@
 -- `cell_writer::escape::byte_text` meets its contract: a string's byte or a text's, by the target.
-use borrow.Author.Rules.{rules}
 use Rattle.model.specs.rules.Text.{json_body}
 use Rattle.cell_writer.proofs.escape.byte_text.Goals as goal
 

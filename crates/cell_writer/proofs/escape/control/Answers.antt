@@ -1,7 +1,6 @@
 -- `cell_writer::escape::control` meets its contract: a letter for each of five bytes, and digits for the others.
 use mathlib.Core.Path.{◌≡◌}
 use mathlib.Core.List.{[], ◌∷◌}
-use borrow.Author.Rules.{rules}
 use Prim.Native.Nat.{ℕ}
 use Rattle.model.specs.rules.Base.{choose◌then◌else◌, BACKSLASH}
 use Rattle.model.specs.rules.Text.{escaped}

@@ -1,6 +1,5 @@
 -- `cell_writer::escape::double` meets its contract: a quote is written twice.
 use mathlib.Core.Path.{refl}
-use borrow.Author.Rules.{rules}
 use Rattle.cell_writer.proofs.Units.{spells_as, doubled_quote, doubled_itself}
 use Rattle.cell_writer.proofs.escape.double.Goals as goal
 

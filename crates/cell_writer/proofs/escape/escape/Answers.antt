@@ -1,5 +1,4 @@
 -- `cell_writer::escape::escape` meets its contract, by its tests.
-use borrow.Author.Rules.{rules}
 use Rattle.cell_writer.proofs.Units.{spells_as, escaped_quote, escaped_backslash, escaped_itself}
 use Rattle.cell_writer.proofs.escape.escape.Goals as goal
 

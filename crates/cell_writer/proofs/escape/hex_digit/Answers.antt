@@ -1,5 +1,4 @@
 -- `cell_writer::escape::hex_digit` meets its contract, by its test.
-use borrow.Author.Rules.{rules}
 use Rattle.model.specs.rules.Base.{choose◌then◌else◌}
 use Rattle.model.proofs.Tests.{tests}
 use Rattle.cell_writer.proofs.escape.hex_digit.Goals as goal

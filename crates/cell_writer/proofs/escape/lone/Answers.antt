@@ -1,7 +1,6 @@
 -- `cell_writer::escape::lone` meets its contract: three digits, from the definition's bits.
 use mathlib.Core.Path.{ap, ◌∙◌}
 use Prim.Native.Nat.{ℕ, ◌+◌, ◌-◌, ◌*◌, ◌/◌, ◌%◌}
-use borrow.Author.Rules.{rules}
 use Rattle.model.specs.rules.Text.{hex_digit}
 use Rattle.cell_writer.proofs.Units.{lone_spells}
 use Rattle.cell_writer.proofs.escape.lone.Goals as goal

@@ -2,7 +2,6 @@
 use Prim.Native.Nat.{ℕ, ◌+◌}
 use mathlib.Core.Path.{sym, ap, ◌∙◌}
 use lib.ListN.{drop}
-use borrow.Author.Rules.{rules}
 use Rattle.cell_writer.specs.PlainRuns.{plain_run}
 use Rattle.cell_writer.proofs.PlainSteps.{same_run}
 use Rattle.cell_writer.proofs.plain.plain_run.Goals as goal

@@ -1,11 +1,8 @@
 -- `cell_writer::plain::single_steps` meets its contract. The invariant: the end of the run from `at` is the end of the run from here.
-use mathlib.Core.Path.{◌≡◌, refl, sym, ◌∙◌}
+use mathlib.Core.Path.{◌≡◌}
 use Prim.Native.Nat.{◌+◌, ◌-◌, ◌≤◌}
-use native.Mathlib.Omega.{arith}
 use lib.ListN.{length, drop}
-use borrow.Author.Rules.{rules}
 use Rattle.cell_writer.specs.PlainRuns.{plain_run}
-use Rattle.cell_writer.proofs.PlainSteps.{run_on, run_stops, run_ends}
 use Rattle.cell_writer.proofs.plain.single_steps.Given as goal
 
 abbrev pub invariant-loop-i : goal.invariant-loop-i

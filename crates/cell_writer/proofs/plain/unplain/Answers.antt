@@ -1,5 +1,4 @@
 -- `cell_writer::plain::unplain` meets its contract: the conjunction of five exact tests, inverted.
-use borrow.Author.Rules.{rules}
 use Rattle.cell_writer.proofs.PlainSteps.{plain_flags}
 use Rattle.cell_writer.proofs.plain.unplain.Goals as goal
 

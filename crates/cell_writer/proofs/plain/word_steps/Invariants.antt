@@ -1,11 +1,8 @@
 -- `cell_writer::plain::word_steps` meets its contract. The invariant: the end of the run from `at` is the end of the run from here.
-use mathlib.Core.Path.{◌≡◌, refl, sym, ◌∙◌}
-use Prim.Native.Nat.{◌+◌, ◌-◌, ◌≤◌, ◌<◌}
-use native.Mathlib.Omega.{arith}
+use mathlib.Core.Path.{◌≡◌}
+use Prim.Native.Nat.{◌+◌, ◌-◌, ◌≤◌}
 use lib.ListN.{length, drop}
-use borrow.Author.Rules.{rules}
 use Rattle.cell_writer.specs.PlainRuns.{plain_run}
-use Rattle.cell_writer.proofs.PlainSteps.{word_on, word_ends}
 use Rattle.cell_writer.proofs.plain.word_steps.Given as goal
 
 abbrev pub invariant-loop-i : goal.invariant-loop-i

@@ -1,5 +1,4 @@
 -- `cell_writer::special::begins_with_bom` meets its contract, encoding by encoding.
-use borrow.Author.Rules.{rules}
 use Rattle.cell_writer.proofs.Contents.{legible_doubled, legible_string}
 use Rattle.cell_writer.proofs.special.begins_with_bom.Goals as goal
 

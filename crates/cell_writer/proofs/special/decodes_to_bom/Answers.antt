@@ -1,7 +1,6 @@
 -- `cell_writer::special::decodes_to_bom` meets its contract: the room holds the content, whose first bytes are tested.
 use mathlib.Core.Path.{ap, ◌∙◌}
 use lib.ListN.{replicate}
-use borrow.Author.Rules.{rules}
 use Rattle.model.specs.rules.Base.{Bytes}
 use Rattle.model.specs.rules.Report.{MAXRECORD}
 use Rattle.model.specs.rules.Text.{begins_bom}
@@ -13,27 +12,23 @@ use Rattle.cell_writer.proofs.special.decodes_to_bom.Goals as goal
 abbrev zeros : Bytes
 zeros = replicate MAXRECORD 0
 
--- look: cites tie
-abbrev content : tie.Start → Bytes
-content c = content_in c.args.c c.args.raw.now
-
 pub write_in-requires : goal.write_in-requires
 write_in-requires c = decoded_short c.requires
 
 pub slice_bounds-room-end : goal.slice_bounds-room-end
 slice_bounds-room-end c =
-    let holds : Held (content c) c.write_in.new.1.1.0 c.length_in-size.result =
-    held (content (c)) zeros _ _ c.write_in.ensures c.length_in-size.ensures in
-    (holds).inside
+    let holds : Held (content_in c.args.c c.args.raw.now) c.write_in.new.out c.length_in-size.result =
+    held (content_in c.args.c c.args.raw.now) zeros _ _ c.write_in.ensures c.length_in-size.ensures in
+    holds.inside
 
 pub slice_bounds-is_bom-end : goal.slice_bounds-is_bom-end
 slice_bounds-is_bom-end c =
-    let holds : Held (content c) c.write_in.new.1.1.0 c.length_in-size.result =
-    held (content (c)) zeros _ _ c.write_in.ensures c.length_in-size.ensures in
-    (holds).whole
+    let holds : Held (content_in c.args.c c.args.raw.now) c.write_in.new.out c.length_in-size.result =
+    held (content_in c.args.c c.args.raw.now) zeros _ _ c.write_in.ensures c.length_in-size.ensures in
+    holds.whole
 
 pub returns : goal.returns
 returns c =
-    let holds : Held (content c) c.write_in.new.1.1.0 c.length_in-size.result =
-    held (content (c)) zeros _ _ c.write_in.ensures c.length_in-size.ensures in
-    c.is_bom.ensures ∙ ap begins_bom (holds).front
+    let holds : Held (content_in c.args.c c.args.raw.now) c.write_in.new.out c.length_in-size.result =
+    held (content_in c.args.c c.args.raw.now) zeros _ _ c.write_in.ensures c.length_in-size.ensures in
+    c.is_bom.ensures ∙ ap begins_bom holds.front

@@ -1,8 +1,5 @@
 use mathlib.Core.Path.{◌≡◌, sym, ap, ◌∙◌}
-use Prim.Native.Nat.{◌-◌}
 use native.Mathlib.Omega.{arith}
-use lib.ListN.{length}
-use borrow.Author.Rules.{rules}
 use Rattle.model.specs.rules.Base.{holds}
 use Rattle.model.specs.rules.Text.{special}
 use Rattle.cell_decoder.specs.FirstByte.{content_in}
@@ -28,7 +25,7 @@ pub unit_at-u-requires : goal.unit_at-u-requires
 unit_at-u-requires c = c.if-raw-j.false
 
 pub is_special_unit-requires : goal.is_special_unit-requires
-is_special_unit-requires c = let u = c.unit_at-u.ensures in (u.few, u.unit)
+is_special_unit-requires c = let u = c.unit_at-u.ensures in record { size_bound = u.few; unit = u.unit }
 
 pub returns-then-is_special_unit : goal.returns-then-is_special_unit
 returns-then-is_special_unit c =

@@ -1,14 +1,11 @@
 -- `cell_writer::special::holds_special` meets its contract. The invariant: the content needs quotes exactly if the rest of it does.
-use mathlib.Core.Path.{◌≡◌, sym, ap, ◌∙◌}
+use mathlib.Core.Path.{◌≡◌}
 use Prim.Native.Nat.{◌-◌}
-use native.Mathlib.Omega.{arith}
 use lib.ListN.{length}
-use borrow.Author.Rules.{rules}
 use Rattle.model.specs.rules.Base.{holds}
 use Rattle.model.specs.rules.Text.{special}
 use Rattle.cell_decoder.specs.FirstByte.{content_in}
 use Rattle.cell_writer.specs.Contents.{content_from}
-use Rattle.cell_writer.proofs.QuoteDecision.{special_on, special_end, special_there, special_next}
 use Rattle.cell_writer.proofs.special.holds_special.Given as goal
 
 abbrev pub invariant-loop-i : goal.invariant-loop-i

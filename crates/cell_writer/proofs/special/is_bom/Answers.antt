@@ -1,6 +1,5 @@
 -- `cell_writer::special::is_bom` meets its contract, by its tests.
 use mathlib.Core.Path.{sym}
-use borrow.Author.Rules.{rules}
 use Rattle.cell_writer.proofs.QuoteDecision.{bom_short, mark_first, mark_second, mark_third}
 use Rattle.cell_writer.proofs.special.is_bom.Goals as goal
 

@@ -1,6 +1,5 @@
 -- `cell_writer::special::is_special` meets its contract, by its tests.
 use mathlib.Core.Path.{sym, ◌∙◌}
-use borrow.Author.Rules.{rules}
 use Rattle.cell_writer.proofs.QuoteDecision.{by_quote, by_delimiter, by_cr, by_lf}
 use Rattle.cell_writer.proofs.special.is_special.Goals as goal
 

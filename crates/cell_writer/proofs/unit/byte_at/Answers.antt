@@ -1,5 +1,4 @@
 -- `cell_writer::unit::byte_at` meets its contract: one verbatim byte.
-use borrow.Author.Rules.{rules}
 use Rattle.cell_writer.proofs.Contents.{itself_part}
 use Rattle.cell_writer.proofs.unit.byte_at.Goals as goal
 

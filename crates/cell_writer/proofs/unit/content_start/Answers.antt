@@ -1,5 +1,4 @@
 -- `cell_writer::unit::content_start` meets its contract, encoding by encoding.
-use borrow.Author.Rules.{rules}
 use Rattle.cell_writer.proofs.Contents.{nothing_end}
 use Rattle.cell_writer.proofs.unit.content_start.Goals as goal
 

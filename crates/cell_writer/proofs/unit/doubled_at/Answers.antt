@@ -1,7 +1,6 @@
 -- `cell_writer::unit::doubled_at` meets its contract, by the bytes there.
 use native.Mathlib.Omega.{arith}
 use mathlib.Core.List.{[]}
-use borrow.Author.Rules.{rules}
 use Rattle.cell_writer.proofs.Contents.{other_part, last_part, close_part, double_part}
 use Rattle.cell_writer.proofs.unit.doubled_at.Goals as goal
 

@@ -1,6 +1,5 @@
 -- `cell_writer::unit::string_at` meets its contract, by the byte there.
 use mathlib.Core.List.{[]}
-use borrow.Author.Rules.{rules}
 use Rattle.cell_writer.proofs.Contents.{quote_part, escape_part, char_part}
 use Rattle.cell_writer.proofs.unit.string_at.Goals as goal
 

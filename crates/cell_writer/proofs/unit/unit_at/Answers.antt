@@ -1,5 +1,4 @@
 -- `cell_writer::unit::unit_at` meets its contract, encoding by encoding.
-use borrow.Author.Rules.{rules}
 use Rattle.cell_writer.proofs.Contents.{nothing_part}
 use Rattle.cell_writer.proofs.unit.unit_at.Goals as goal
 

@@ -18,42 +18,36 @@ use Rattle.record_writer.specs.CleanRecord.{clean_data}
 use Rattle.file_cursor.specs.NextRecord.{Columns}
 use Rattle.file_cursor.proofs.RecordChecks.{data_checked, asked_faulty, asked_reading, asked_into}
 use Rattle.file_cursor.proofs.FastNext.{no_header}
-
 use Rattle.file_cursor.proofs.fast.check_record.Goals as goal
-
--- look: cites tie
-abbrev cells : tie.Start → List Value
-cells c = let a = c.args in cells_in (File a.d) a.file.now a.starts.now a.ends.now a.kinds.now
 
 pub returns-in-Faulty : goal.returns-in-Faulty
 returns-in-Faulty c =
-    let source : (rs : List Rec) → length rs ≡ c.args.cursor.done → Columns rs c.args.cursor.columns → c.«data».result ≡ record_fault c.args.d none rs (cells c) =
-        let a = c.args in
+    let a = c.args in
+    let cells = cells_in (File a.d) a.file.now a.starts.now a.ends.now a.kinds.now in
     let long = cells_length (File a.d) a.file.now a.starts.now a.ends.now a.kinds.now c.requires.cells.with_ends c.requires.cells.with_kinds in
-    data_checked a.d (cells c) _ a.cursor.done a.cursor.columns c.requires.clean_in.1.0 (c.«data».ensures (cells c) long) in
-    asked_faulty c.args.d c.args.cursor (cells c) _ (source) c.args.aim _ c.in-Faulty.is
+    let source = data_checked a.d cells _ a.cursor.done a.cursor.columns c.requires.fact.0 (c.«data».ensures cells long) in
+    asked_faulty a.d a.cursor cells _ source a.aim _ c.in-Faulty.is
 
 pub check_target-requires : goal.check_target-requires
-check_target-requires c = (c.requires.cells, (λ e. clean_data (c.requires.clean_in.0 e), c.requires.clean_in.1.1))
+check_target-requires c = record { cells = c.requires.cells; clean_record = λ e. clean_data (c.requires.clean_in e); written_bound = c.requires.fact.1 }
 
 pub returns-in-Reading : goal.returns-in-Reading
 returns-in-Reading c =
-    let source : (rs : List Rec) → length rs ≡ c.args.cursor.done → Columns rs c.args.cursor.columns → c.«data».result ≡ record_fault c.args.d none rs (cells c) =
-        let a = c.args in
+    let a = c.args in
+    let cells = cells_in (File a.d) a.file.now a.starts.now a.ends.now a.kinds.now in
     let long = cells_length (File a.d) a.file.now a.starts.now a.ends.now a.kinds.now c.requires.cells.with_ends c.requires.cells.with_kinds in
-    data_checked a.d (cells c) _ a.cursor.done a.cursor.columns c.requires.clean_in.1.0 (c.«data».ensures (cells c) long) in
-    asked_reading c.args.d c.args.cursor (cells c) _ (source) c.args.aim _ c.in-Reading.is
-    (sym c.in_default.is) c.requires.clean_in.1.1
+    let source = data_checked a.d cells _ a.cursor.done a.cursor.columns c.requires.fact.0 (c.«data».ensures cells long) in
+    asked_reading a.d a.cursor cells _ source a.aim _ c.in-Reading.is
+    (sym c.in_default.is) c.requires.fact.1
 
 pub returns-in-Into : goal.returns-in-Into
 returns-in-Into c =
-    let source : (rs : List Rec) → length rs ≡ c.args.cursor.done → Columns rs c.args.cursor.columns → c.«data».result ≡ record_fault c.args.d none rs (cells c) =
-        let a = c.args in
-    let long = cells_length (File a.d) a.file.now a.starts.now a.ends.now a.kinds.now c.requires.cells.with_ends c.requires.cells.with_kinds in
-    data_checked a.d (cells c) _ a.cursor.done a.cursor.columns c.requires.clean_in.1.0 (c.«data».ensures (cells c) long) in
     let a = c.args in
+    let cells = cells_in (File a.d) a.file.now a.starts.now a.ends.now a.kinds.now in
+    let long = cells_length (File a.d) a.file.now a.starts.now a.ends.now a.kinds.now c.requires.cells.with_ends c.requires.cells.with_kinds in
+    let source = data_checked a.d cells _ a.cursor.done a.cursor.columns c.requires.fact.0 (c.«data».ensures cells long) in
     let t = c.in-Into.t in
-    let later : false ≡ eqb a.cursor.done 0 = no_header a.cursor.done c.requires.clean_in.1.0 in
-    asked_into a.d a.cursor (cells c) _ (source) a.aim _ _ c.in-Into.is c.in_default.is
-    (c.check_target.ensures.verdict_value ∙ ap (λ (h : Bool). target_fault (into t) h a.cursor.written (cells c)) later)
-    λ s. c.check_target.ensures.length_value s ∙ ap (λ (h : Bool). length (record_text (into t) h (cells c) ++ ending t)) later
+    let later : false ≡ eqb a.cursor.done 0 = no_header a.cursor.done c.requires.fact.0 in
+    asked_into a.d a.cursor cells _ source a.aim _ _ c.in-Into.is c.in_default.is
+    (c.check_target.ensures.verdict_value ∙ ap (λ (h : Bool). target_fault (into t) h a.cursor.written cells) later)
+    λ s. c.check_target.ensures.length_value s ∙ ap (λ (h : Bool). length (record_text (into t) h cells ++ ending t)) later

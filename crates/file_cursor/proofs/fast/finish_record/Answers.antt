@@ -7,7 +7,6 @@ use lib.Seq.{length-take-le}
 use borrow.Author.Rules.{rules}
 use Rattle.file_cursor.proofs.RecordChecks.{ruled_sound}
 use Rattle.file_cursor.specs.FastNext.{FastCheckSound, sound, unsure}
-
 use Rattle.file_cursor.proofs.fast.finish_record.Goals as goal
 
 pub returns-then-cells-gt-MAX_COLUMNS : goal.returns-then-cells-gt-MAX_COLUMNS
@@ -38,12 +37,12 @@ pub check_record-r-requires : goal.check_record-r-requires
 check_record-r-requires c =
     let q = c.requires in
     let m = c.if-cells-gt-MAX_COLUMNS.false in
-    (q.1.0 m, (q.1.1.0 m, (q.1.1.1.0, q.1.1.1.2)))
+    record { cells = q.cells m; clean_in = q.clean_in m; fact = (q.fact.0, q.fact.2) }
 
 -- one record more can be counted
 pub overflow_add-result : goal.overflow_add-result
 overflow_add-result c =
-    let m : c.args.cursor.done ≤ 16777215 = c.requires.cells.1.1.1 in
+    let m : c.args.cursor.done ≤ 16777215 = c.requires.fact.1 in
     omega arith
 
 pub overflow_add-result-in-Sound : goal.overflow_add-result-in-Sound

@@ -5,7 +5,6 @@ use borrow.Author.Rules.{rules}
 use Rattle.model.specs.declared.Ending.{Ending}
 use Rattle.file_cursor.specs.Ends.{is_final, end_event}
 use Rattle.record_scanner.proofs.StoreLaws.{not_stored, same_stored}
-
 use Rattle.file_cursor.proofs.scan.at_end.Goals as goal
 
 pub returns-in-Clean : goal.returns-in-Clean
@@ -13,21 +12,34 @@ returns-in-Clean c =
     let a = c.args in
     let e = sym c.file_end.ensures ∙ c.in-Clean.is in
     let n = ap is_final e in
-    (ap (λ (x : Ending). end_event x a.h (length a.file.now)) (sym e), (not_stored _ _ _ _ _ n, (not_stored _ _ _ _ _ n, not_stored _ _ _ _ _ n)))
+    record {
+      value = ap (λ (x : Ending). end_event x a.h (length a.file.now)) (sym e);
+      starts_after = not_stored _ _ _ _ _ n;
+      ends_after = not_stored _ _ _ _ _ n;
+      kinds_after = not_stored _ _ _ _ _ n;
+    }
 
 pub returns-in-Final : goal.returns-in-Final
 returns-in-Final c =
     let a = c.args in
     let e = sym c.file_end.ensures ∙ c.in-Final.is in
     let y = sym (ap is_final e) in
-    let p = c.store_cell.ensures in (
-      ap (λ (x : Ending). end_event x a.h (length a.file.now)) (sym e),
-      (same_stored _ _ _ _ _ _ _ y p.0, (same_stored _ _ _ _ _ _ _ y p.1.0, same_stored _ _ _ _ _ _ _ y p.1.1)),
-    )
+    let p = c.store_cell.ensures in
+    record {
+      value = ap (λ (x : Ending). end_event x a.h (length a.file.now)) (sym e);
+      starts_after = same_stored _ _ _ _ _ _ _ y p.starts_after;
+      ends_after = same_stored _ _ _ _ _ _ _ y p.ends_after;
+      kinds_after = same_stored _ _ _ _ _ _ _ y p.kinds_after;
+    }
 
 pub returns-in-Cut : goal.returns-in-Cut
 returns-in-Cut c =
     let a = c.args in
     let e = sym c.file_end.ensures ∙ c.in-Cut.is in
     let n = ap is_final e in
-    (ap (λ (x : Ending). end_event x a.h (length a.file.now)) (sym e), (not_stored _ _ _ _ _ n, (not_stored _ _ _ _ _ n, not_stored _ _ _ _ _ n)))
+    record {
+      value = ap (λ (x : Ending). end_event x a.h (length a.file.now)) (sym e);
+      starts_after = not_stored _ _ _ _ _ n;
+      ends_after = not_stored _ _ _ _ _ n;
+      kinds_after = not_stored _ _ _ _ _ n;
+    }

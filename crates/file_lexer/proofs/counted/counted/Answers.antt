@@ -3,8 +3,6 @@ use mathlib.Core.Path.{sym, ◌∙◌}
 use mathlib.Core.Bool.{or-false, or-true}
 use Rattle.model.specs.rules.File.{quotes_open, counts}
 use Rattle.model.proofs.Tests.{tests}
-use borrow.Author.Rules.{rules}
-
 use Rattle.file_lexer.proofs.counted.counted.Goals as goal
 
 pub returns-then-b-eq10 : goal.returns-then-b-eq10

@@ -1,7 +1,5 @@
 -- `file_lexer::separators::after_cell` meets its contract, dialect by dialect.
 use Rattle.model.proofs.Tests.{tests}
-use borrow.Author.Rules.{rules}
-
 use Rattle.file_lexer.proofs.separators.after_cell.Goals as goal
 
 pub returns-in-Csvj : goal.returns-in-Csvj

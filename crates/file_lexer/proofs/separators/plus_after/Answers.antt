@@ -2,8 +2,6 @@
 use Rattle.model.specs.rules.Base.{choose◌then◌else◌}
 use Rattle.model.specs.rules.File.{after_cell}
 use Rattle.model.proofs.Tests.{tests}
-use borrow.Author.Rules.{rules}
-
 use Rattle.file_lexer.proofs.separators.plus_after.Goals as goal
 
 pub returns-then-b-delimiter_of : goal.returns-then-b-delimiter_of

@@ -2,7 +2,6 @@
 use Rattle.model.specs.rules.Base.{choose◌then◌else◌}
 use Rattle.model.specs.rules.File.{after_cell}
 use Rattle.model.proofs.Tests.{tests}
-
 use Rattle.file_lexer.proofs.separators.tdif_after.Goals as goal
 
 pub returns-then-b-eq44 : goal.returns-then-b-eq44

@@ -12,7 +12,7 @@ use Rattle.file_reader.proofs.pass.data_records.Given as goal
 
 abbrev pub invariant-loop-start : goal.invariant-loop-start
 invariant-loop-start l = Going
-    (record { l.d = l.d; l.file = l.file; l.from = l.from; first = l.initial.state; l.columns = l.columns; l.room = l.room; s₀ = l.initial.starts; e₀ = l.initial.ends; k₀ = l.initial.kinds })
+    (record { d = l.d; file = l.file; from = l.from; first = l.initial.state; columns = l.columns; room = l.room; s₀ = l.initial.starts; e₀ = l.initial.ends; k₀ = l.initial.kinds })
     l.state l.i l.cells l.records l.starts l.ends l.kinds
 
 abbrev pub decreases-loop-start : goal.decreases-loop-start

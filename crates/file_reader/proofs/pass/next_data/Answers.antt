@@ -9,28 +9,33 @@ use Rattle.file_reader.proofs.pass.next_data.Goals as goal
 pub returns-in-Record : goal.returns-in-Record
 returns-in-Record c =
     let o = told_record _ _ _ _ _ _ c.scan.ensures c.in-Record.is c.requires.from_in_bounds.0 in
-    as_data o _ refl
+    let m = as_data o _ refl in
+    record { value = m.0; starts_after = m.1.0; ends_after = m.1.1.0; kinds_after = m.1.1.1.0; event_in_bounds = m.1.1.1.1 }
 
 pub returns-in-Completed : goal.returns-in-Completed
 returns-in-Completed c =
-    let o
-    = told_nothing _ _ _ _ _ _ c.scan.ensures c.in-Fallback.is c.scan_next.ensures in
-    as_data o _ c.in-Completed.is
+    let n = c.scan_next.ensures in
+    let o = told_nothing _ _ _ _ _ _ c.scan.ensures c.in-Fallback.is (n.value, (n.starts_after, (n.ends_after, (n.kinds_after, n.event_in_bounds)))) in
+    let m = as_data o _ c.in-Completed.is in
+    record { value = m.0; starts_after = m.1.0; ends_after = m.1.1.0; kinds_after = m.1.1.1.0; event_in_bounds = m.1.1.1.1 }
 
 pub returns-in-LastRecord : goal.returns-in-LastRecord
 returns-in-LastRecord c =
-    let o
-    = told_nothing _ _ _ _ _ _ c.scan.ensures c.in-Fallback.is c.scan_next.ensures in
-    as_data o _ c.in-LastRecord.is
+    let n = c.scan_next.ensures in
+    let o = told_nothing _ _ _ _ _ _ c.scan.ensures c.in-Fallback.is (n.value, (n.starts_after, (n.ends_after, (n.kinds_after, n.event_in_bounds)))) in
+    let m = as_data o _ c.in-LastRecord.is in
+    record { value = m.0; starts_after = m.1.0; ends_after = m.1.1.0; kinds_after = m.1.1.1.0; event_in_bounds = m.1.1.1.1 }
 
 pub returns-in-Failed : goal.returns-in-Failed
 returns-in-Failed c =
-    let o
-    = told_nothing _ _ _ _ _ _ c.scan.ensures c.in-Fallback.is c.scan_next.ensures in
-    as_data o _ c.in-Failed.is
+    let n = c.scan_next.ensures in
+    let o = told_nothing _ _ _ _ _ _ c.scan.ensures c.in-Fallback.is (n.value, (n.starts_after, (n.ends_after, (n.kinds_after, n.event_in_bounds)))) in
+    let m = as_data o _ c.in-Failed.is in
+    record { value = m.0; starts_after = m.1.0; ends_after = m.1.1.0; kinds_after = m.1.1.1.0; event_in_bounds = m.1.1.1.1 }
 
 pub returns-in-End : goal.returns-in-End
 returns-in-End c =
-    let o
-    = told_nothing _ _ _ _ _ _ c.scan.ensures c.in-Fallback.is c.scan_next.ensures in
-    as_data o _ c.in-End.is
+    let n = c.scan_next.ensures in
+    let o = told_nothing _ _ _ _ _ _ c.scan.ensures c.in-Fallback.is (n.value, (n.starts_after, (n.ends_after, (n.kinds_after, n.event_in_bounds)))) in
+    let m = as_data o _ c.in-End.is in
+    record { value = m.0; starts_after = m.1.0; ends_after = m.1.1.0; kinds_after = m.1.1.1.0; event_in_bounds = m.1.1.1.1 }

@@ -2,7 +2,6 @@
 use borrow.Author.Rules.{rules}
 use Rattle.model.specs.rules.Base.{choose◌then◌else◌}
 use Rattle.model.proofs.Tests.{tests}
-
 use Rattle.messages.proofs.dialects.lower_case.Goals as goal
 
 pub returns-then-b-lt65 : goal.returns-then-b-lt65

@@ -4,7 +4,6 @@ use lib.ListN.{length, drop}
 use Rattle.buffer.proofs.WriteProgress.{Writing, start}
 use Rattle.messages.specs.Sentences.{filled}
 use Rattle.messages.proofs.SentenceLaws.{filled_short, fill_room, fill_next, fill_done}
-
 use Rattle.messages.proofs.refusal.fill.Goals as goal
 
 pub loop-i-init : goal.loop-i-init

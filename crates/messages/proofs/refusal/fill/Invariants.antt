@@ -5,7 +5,6 @@ use lib.ListN.{length, drop}
 use Rattle.buffer.proofs.WriteProgress.{Writing, start}
 use Rattle.messages.specs.Sentences.{filled}
 use Rattle.messages.proofs.SentenceLaws.{filled_short, fill_room, fill_next, fill_done}
-
 use Rattle.messages.proofs.refusal.fill.Given as goal
 
 abbrev pub invariant-loop-i : goal.invariant-loop-i

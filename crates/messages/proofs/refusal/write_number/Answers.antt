@@ -2,20 +2,18 @@
 use mathlib.Core.Path.{◌≡◌, ap, ◌∙◌}
 use native.Mathlib.Omega.{arith}
 use lib.ListN.{length, take}
-use borrow.Author.Rules.{rules}
 use Rattle.messages.specs.Sentences.{decimal}
 use Rattle.messages.proofs.SentenceLaws.{digits_decimal}
-
 use Rattle.messages.proofs.refusal.write_number.Goals as goal
 
 pub copy-requires : goal.copy-requires
 copy-requires c =
-    let spelt : take c.decimal-k.result c.decimal-k.new.1.0 ≡ decimal c.args.n =
-        c.decimal-k.ensures.len.1 ∙ digits_decimal _ _ (omega (arith, c.ranges)) c.decimal-k.ensures.len.0 in
-    omega (arith, ap length (spelt), c.requires)
+    let spelt : take c.decimal-k.result c.decimal-k.new.out ≡ decimal c.args.n =
+    c.decimal-k.ensures.digits ∙ digits_decimal _ _ (omega (arith, c.ranges)) c.decimal-k.ensures.len in
+    omega (arith, ap length spelt, c.requires)
 
 pub returns : goal.returns
 returns c =
-    let spelt : take c.decimal-k.result c.decimal-k.new.1.0 ≡ decimal c.args.n =
-        c.decimal-k.ensures.len.1 ∙ digits_decimal _ _ (omega (arith, c.ranges)) c.decimal-k.ensures.len.0 in
+    let spelt : take c.decimal-k.result c.decimal-k.new.out ≡ decimal c.args.n =
+    c.decimal-k.ensures.digits ∙ digits_decimal _ _ (omega (arith, c.ranges)) c.decimal-k.ensures.len in
     rw (← spelt) c.copy.ensures

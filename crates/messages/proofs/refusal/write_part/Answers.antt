@@ -6,7 +6,6 @@ use borrow.Author.Tests.{eq-eqb, ne_eqb}
 use Rattle.model.specs.rules.Base.{choose◌then◌else◌}
 use Rattle.buffer.proofs.WriteProgress.{set_written}
 use Rattle.messages.specs.Sentences.{part_of}
-
 use Rattle.messages.proofs.refusal.write_part.Goals as goal
 
 pub write_number-requires : goal.write_number-requires

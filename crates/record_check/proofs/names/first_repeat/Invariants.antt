@@ -1,12 +1,10 @@
 -- The invariant: the result for all names equals the result for those from n on, given the keys of the ones before.
-use mathlib.Core.Path.{◌≡◌, refl, sym, ◌∙◌}
+use mathlib.Core.Path.{◌≡◌}
 use mathlib.Core.List.{List}
 use Prim.Native.Nat.{ℕ, ◌-◌, ◌≤◌}
-use native.Mathlib.Omega.{arith}
 use lib.ListN.{length}
 use Rattle.model.specs.declared.Fault.{Fault}
-use Rattle.record_check.proofs.RepeatedNames.{repeat_at, repeat_start, repeat_end, repeat_here, repeat_next}
-
+use Rattle.record_check.proofs.RepeatedNames.{repeat_at}
 use Rattle.record_check.proofs.names.first_repeat.Given as goal
 
 abbrev pub invariant-loop-n : goal.invariant-loop-n

@@ -1,6 +1,4 @@
 -- `record_check::names::fold_byte` meets its contract, dialect by dialect.
-use borrow.Author.Rules.{rules}
-
 use Rattle.record_check.proofs.names.fold_byte.Goals as goal
 
 pub returns-in-Tdif : goal.returns-in-Tdif

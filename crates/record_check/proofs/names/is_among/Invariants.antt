@@ -1,14 +1,11 @@
 -- `record_check::names::is_among` meets its contract. The invariant: the name is among the first n exactly when it is among those that are
 -- left.
-use mathlib.Core.Path.{◌≡◌, refl, sym, ◌∙◌}
-use Prim.Native.Nat.{◌-◌, ◌≤◌}
-use native.Mathlib.Omega.{arith}
-use lib.ListN.{length, get_or}
+use mathlib.Core.Path.{◌≡◌}
+use Prim.Native.Nat.{◌≤◌}
+use lib.ListN.{length}
 use Rattle.model.specs.rules.Report.{MAXRECORD}
 use Rattle.model.specs.rules.Records.{name_key, among}
-use Rattle.record_check.specs.Keys.{NameIn, keys_before}
-use Rattle.record_check.proofs.Keys.{among_none, among_last, among_before}
-
+use Rattle.record_check.specs.Keys.{keys_before}
 use Rattle.record_check.proofs.names.is_among.Given as goal
 
 abbrev pub invariant-loop-j : goal.invariant-loop-j

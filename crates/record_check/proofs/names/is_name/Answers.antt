@@ -1,12 +1,10 @@
 -- By the source: a cell of a file is decoded first, a content is compared as it is.
-use mathlib.Core.Path.{◌≡◌, sym, ap, ◌∙◌}
-use borrow.Author.Rules.{rules}
+use mathlib.Core.Path.{sym, ap, ◌∙◌}
 use Rattle.model.specs.rules.Base.{same}
 use Rattle.model.specs.rules.Records.{name_key}
 use Rattle.cell_decoder.specs.declared.source.Source.{Source}
 use Rattle.cell_decoder.specs.Sources.{content_by}
 use Rattle.record_check.proofs.Keys.{short_in_file}
-
 use Rattle.record_check.proofs.names.is_name.Goals as goal
 
 pub is_in_file-requires : goal.is_in_file-requires

@@ -1,8 +1,6 @@
 -- `record_check::names::lower_case` meets its contract: its tests are the definition's.
-use borrow.Author.Rules.{rules}
 use Rattle.model.specs.rules.Base.{choose◌then◌else◌}
 use Rattle.model.proofs.Tests.{tests}
-
 use Rattle.record_check.proofs.names.lower_case.Goals as goal
 
 pub returns-then-b-lt65 : goal.returns-then-b-lt65

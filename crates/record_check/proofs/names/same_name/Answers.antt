@@ -1,10 +1,6 @@
-use mathlib.Core.Path.{◌≡◌, refl, sym, ◌∙◌}
-use Prim.Native.Nat.{◌-◌, ◌≤◌}
+use mathlib.Core.Path.{refl, sym, ◌∙◌}
 use native.Mathlib.Omega.{arith}
-use lib.ListN.{length}
-use borrow.Author.Rules.{rules}
-use Rattle.record_check.proofs.Keys.{different_lengths, same_from, same_end, same_differs, same_next}
-
+use Rattle.record_check.proofs.Keys.{different_lengths, same_end, same_differs, same_next}
 use Rattle.record_check.proofs.names.same_name.Goals as goal
 
 pub returns-then-a-b : goal.returns-then-a-b

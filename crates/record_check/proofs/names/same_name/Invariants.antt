@@ -1,11 +1,8 @@
 -- `record_check::names::same_name` meets its contract. The invariant: the names are the same exactly when they are from here on.
-use mathlib.Core.Path.{◌≡◌, refl, sym, ◌∙◌}
+use mathlib.Core.Path.{◌≡◌}
 use Prim.Native.Nat.{◌-◌, ◌≤◌}
-use native.Mathlib.Omega.{arith}
 use lib.ListN.{length}
-use borrow.Author.Rules.{rules}
-use Rattle.record_check.proofs.Keys.{different_lengths, same_from, same_end, same_differs, same_next}
-
+use Rattle.record_check.proofs.Keys.{same_from}
 use Rattle.record_check.proofs.names.same_name.Given as goal
 
 abbrev pub invariant-loop-i : goal.invariant-loop-i
