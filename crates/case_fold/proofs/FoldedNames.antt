@@ -9,7 +9,7 @@ use Rattle.model.specs.rules.Names.{fold_name}
 use Rattle.model.proofs.name_laws.Folding.{fold_length}
 use Rattle.model.proofs.name_laws.SameBytes as bytes
 use Rattle.case_fold.specs.declared.AsciiNames.{AsciiNames}
-use Rattle.case_fold.specs.declared.AsciiNames.TheVariants.{Same, Different, Fallback}
+use Rattle.case_fold.specs.declared.AsciiNames.TheVariants.{Same, Different}
 use Rattle.case_fold.specs.AsciiNames.{ComparedAsAscii, same_in_ascii, different_in_ascii, falls_back}
 
 module _ (a b : Bytes) where

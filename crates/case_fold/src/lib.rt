@@ -5,7 +5,7 @@
 // Names in ASCII are compared without the table. For others it is copied once for each comparison, not at each look-up, which would build
 // it on the stack again.
 //
-// One computed test holds the table against the rule (proofs/Table.antt): where both change, no proof does.
+// One computed test holds the table against the rule (`folds_from` of the same file): where both change, no proof does.
 #![tactic(auto)]
 
 ghost use Rattle.std.specs.Prelude.{◌≡◌, true, ◌<◌, ◌≤◌, ◌∷◌, length, get_or, eqb};

@@ -93,8 +93,8 @@ struct Cursor {
 
 // The escape whose backslash is at i, written at o.
 fn write_escape(raw: &[u8], i: usize, out: &mut [u8], o: usize) -> Cursor
-    requires i_in_bounds { (i < length raw.now) × (get_or raw.now i 0 ≡ BACKSLASH) }
-    requires i_in_bounds_2 { o + length (string_from raw.now i) ≤ length out.old }
+    requires at_backslash { (i < length raw.now) × (get_or raw.now i 0 ≡ BACKSLASH) }
+    requires room { o + length (string_from raw.now i) ≤ length out.old }
     ensures { Stepped raw.now i out.old o out.new result.read result.write }
 {
     let p = escape::unescape_at(raw, i);

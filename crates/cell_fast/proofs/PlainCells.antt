@@ -1,6 +1,6 @@
 -- Laws of unquoted cells of CSV+: a cell that does not begin with a quote is read as its text is, and ends before a delimiter or a line
 -- break.
-use Prim.Native.Nat.{ℕ, ◌+◌, ◌≤◌, ◌<◌}
+use Prim.Native.Nat.{ℕ, ◌≤◌, ◌<◌}
 use native.Mathlib.Omega.{arith}
 use mathlib.Core.Path.{◌≡◌, refl, sym, ap, ◌∙◌}
 use mathlib.Core.Bool.{Bool, true, false, ◌||◌}

@@ -13,7 +13,7 @@ use Rattle.model.specs.declared.HexLeft.TheVariants.{Four, Three, Two, One}
 use Rattle.model.specs.declared.Char.TheVariants.{Whole}
 use Rattle.model.specs.declared.Cell.TheVariants.{Fresh, Quoted, Closed, Escape, Hex, Complete}
 use Rattle.model.specs.declared.CellStep.TheVariants.{More, Stop}
-use Rattle.model.specs.rules.Base.{Bytes, choose◌then◌else◌, ◌is◌, QUOTE}
+use Rattle.model.specs.rules.Base.{Bytes, choose◌then◌else◌, QUOTE}
 use Rattle.model.specs.rules.Dialect.{quote_of, is_csvj}
 use Rattle.model.specs.rules.Cell.{is_hex, is_short, after_hex, first_byte, quoted_byte, cell_step}
 use Rattle.model.specs.rules.Api.{slice}

@@ -290,6 +290,7 @@ recording (in_cell_lem c) r w =
     cc in
     e
 recording elsewhere r w = refl
+recording (in_comment _) r w = elim w [ ]
 
 resting : (k : Place) (rs : List Rec) (f : FileState) (o s : ℕ)
     → ran_at k (record { done = rs; state = f; offset = o; start = s; size = 0; opened = o; raw = []; cells = [] }) [] ≡ record

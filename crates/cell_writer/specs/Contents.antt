@@ -1,5 +1,5 @@
 -- The content of a raw cell by offset: what it is from an offset on, and the unit there.
-use Rattle.std.specs.Prelude.{ℕ, ◌+◌, ◌-◌, ◌<◌, ◌≤◌, ◌≡◌, false, ◌++◌, length, take, drop, get_or}
+use Rattle.std.specs.Prelude.{ℕ, ◌-◌, ◌<◌, ◌≤◌, ◌≡◌, false, ◌++◌, length, take, drop, get_or}
 use Rattle.model.specs.rules.Base.{Bytes, QUOTE}
 use Rattle.model.specs.rules.Report.{MAXRECORD}
 use Rattle.model.specs.rules.Decode.{undouble, between, units, text_of}

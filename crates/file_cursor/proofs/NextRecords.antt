@@ -101,6 +101,14 @@ pub record Met (d : Dialect) (file : Bytes) (f : FileState) (i : ℕ) (s₀ e₀
   pub at_kinds : k ≡ stored_from MAXCOLUMNS 0 (kinds_of (next_record d (between_records [] f i) (drop i file)).cells) k₀
   pub bounds : EventInBounds (length file) i 0 v
 
+pub met : {d : Dialect} {file : Bytes} {f : FileState} {i : ℕ} {s₀ e₀ k₀ s e k : List ℕ} {v : FileScan} → outer f ≡ true → i ≤ length file → Long s₀ e₀ k₀
+    → v ≡ (next_record d (between_records [] f i) (drop i file)).event
+    → s ≡ stored_from MAXCOLUMNS 0 (starts_of (next_record d (between_records [] f i) (drop i file)).cells) s₀
+    → e ≡ stored_from MAXCOLUMNS 0 (ends_of (next_record d (between_records [] f i) (drop i file)).cells) e₀
+    → k ≡ stored_from MAXCOLUMNS 0 (kinds_of (next_record d (between_records [] f i) (drop i file)).cells) k₀ → EventInBounds (length file) i 0 v
+    → Met d file f i s₀ e₀ k₀ s e k v
+met b l m x ys ye yk z = record { between = b; inside = l; long = m; event = x; at_starts = ys; at_ends = ye; at_kinds = yk; bounds = z }
+
 module _ {d : Dialect} {file : Bytes} {f : FileState} {i : ℕ} {s₀ e₀ k₀ s e k : List ℕ} {v : FileScan} (m : Met d file f i s₀ e₀ k₀ s e k v) where
   abbrev Here : Next
   Here = next_record d (between_records [] f i) (drop i file)

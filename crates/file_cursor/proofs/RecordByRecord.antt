@@ -115,7 +115,7 @@ module _ (d : Dialect) (target : Option Target) (file : Bytes) (rs : List Rec) w
   unfolding next_record read_from read_end read_byte file_full record_full
   reads_as [] r e l = at_end r (file_end d r.state) (omega arith)
   reads_as (b ∷ bs) r e l =
-      choose r b bs (next_drop file r.offset b bs e) (omega arith) (reads_as bs) (leb MAXFILE r.offset)
+      by_limits r b bs (next_drop file r.offset b bs e) (omega arith) (reads_as bs) (leb MAXFILE r.offset)
       (leb MAXRECORD r.size && counts r.state b) (file_step d r.state b)
 
   -- the same from between records

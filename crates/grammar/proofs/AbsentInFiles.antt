@@ -1,6 +1,6 @@
--- The productions make none of the mistakes (`FileMistakes`, `Misplacements`), by case analysis of each production; no automaton
--- takes part. It is checked before the theorems of this crate, so that a production that is widened to make one is refused here, at
--- the law of that name.
+-- The productions make none of the mistakes (`FileMistakes`), by case analysis of each production; no automaton takes part. It is
+-- checked before the theorems of this crate, so that a production that is widened to make one is refused here, at the law of that
+-- name, or in `Terminators.antt`. `Absent.antt` puts the laws together, so nothing here rests on one of them.
 use Prim.Native.Nat.{ℕ, ◌+◌, ◌≤◌}
 use native.Mathlib.Omega.{arith}
 use mathlib.Core.Path.{◌≡◌, refl, ap, ◌∙◌}
@@ -16,11 +16,11 @@ use Rattle.grammar.specs.rfc.Derived.{Derived, cell, Line, text_in, Every, every
 use Rattle.grammar.specs.dialects.Csvj as csvj
 use Rattle.grammar.specs.dialects.Tdif as tdif
 use Rattle.grammar.specs.dialects.CsvPlus as plus
-use Rattle.grammar.specs.FileMistakes.{FileMistakes, Misplacements}
+use Rattle.grammar.proofs.Terminators.{terminator_short, last_of, last_on, terminator_last}
 
 -- ---- TDIF: a line begins with #, a quote or a backslash
 
-data Opens : Bytes → Type 0 where
+pub data Opens : Bytes → Type 0 where
   with_hash : {xs : Bytes} → Opens (0x23 ∷ xs)
   with_quote : {xs : Bytes} → Opens (0x22 ∷ xs)
   with_backslash : {xs : Bytes} → Opens (0x5C ∷ xs)
@@ -44,57 +44,36 @@ record_opens (tdif.ended {es} f e) = opens_on es (fields_open f)
 comment_opens : {cs : Bytes} → tdif.Comment cs → Opens cs
 comment_opens (tdif.comment tdif.hash m e) = with_hash
 
-data Lined : Bytes → Type 0 where
+pub data Lined : Bytes → Type 0 where
   nothing : Lined []
   a_line : {xs : Bytes} → Opens xs → Lined xs
 
-empty_line : {xs : Bytes} {ls : List (Line Derived)} → tdif.Lines xs ls → Lined xs
+pub empty_line : {xs : Bytes} {ls : List (Line Derived)} → tdif.Lines xs ls → Lined xs
 empty_line tdif.no_line = nothing
 empty_line (tdif.a_comment {xs} c k) = a_line (opens_on xs (comment_opens c))
 empty_line (tdif.a_record {xs} r k) = a_line (opens_on xs (record_opens r))
 
 -- LF opens no line
-no_empty_line : Lined (0x0A ∷ []) → ⊥
+pub no_empty_line : Lined (0x0A ∷ []) → ⊥
 no_empty_line (a_line o) = elim o [ ]
 
 -- ---- CSV+ has no byte order mark
 
-mark_first : (xs : Bytes) (ls : List (Line Derived)) → plus.File standard (0xEF ∷ 0xBB ∷ 0xBF ∷ xs) ls → ⊥
+pub mark_first : (xs : Bytes) (ls : List (Line Derived)) → plus.File standard (0xEF ∷ 0xBB ∷ 0xBF ∷ xs) ls → ⊥
 mark_first xs ls (plus.file n k) = n plus.bom
 
 -- ---- CSVJ: a line's text is all but its ending, and lines end
 
--- a terminator has two bytes at most
-terminator_short : {es : Bytes} → csvj.Line-terminator es → length es ≤ 2
-terminator_short csvj.lf = omega arith
-terminator_short csvj.crlf = omega arith
-
 -- all of a line but two bytes at most is its text
-blanks_uncounted : {bs : Bytes} {l : Line Derived} → csvj.Line bs l → length bs ≤ length (text_in l) + 2
+pub blanks_uncounted : {bs : Bytes} {l : Line Derived} → csvj.Line bs l → length bs ≤ length (text_in l) + 2
 blanks_uncounted (csvj.ended {text} {es} t e) = let h = terminator_short e in rw (length-append text es) (omega arith)
 
--- the last byte, or b where there is none
-last_of : ℕ → Bytes → ℕ
-last_of b [] = b
-last_of b (c ∷ cs) = last_of c cs
-
-last_on : (b : ℕ) (xs ys : Bytes) → last_of b (xs ++ ys) ≡ last_of (last_of b xs) ys
-unfolding last_of
-last_on b [] ys = refl
-last_on b (c ∷ cs) ys = last_on c cs ys
-
--- a terminator's last byte is LF, whatever byte is before it
-terminator_last : {es : Bytes} (b : ℕ) → csvj.Line-terminator es → last_of b es ≡ LF
-unfolding last_of
-terminator_last b csvj.lf = refl
-terminator_last b csvj.crlf = refl
-
--- so is a line's
+-- a line's last byte is LF, whatever byte is before it
 line_last : {bs : Bytes} {l : Line Derived} (b : ℕ) → csvj.Line bs l → last_of b bs ≡ LF
 line_last b (csvj.ended {text} {es} t e) = last_on b text es ∙ terminator_last (last_of b text) e
 
 -- so is that of data lines
-missing_ending : {xs : Bytes} {ls : List (Line Derived)} → csvj.Data-lines xs ls → last_of LF xs ≡ LF
+pub missing_ending : {xs : Bytes} {ls : List (Line Derived)} → csvj.Data-lines xs ls → last_of LF xs ≡ LF
 unfolding last_of
 missing_ending csvj.no_line = refl
 missing_ending (csvj.a_line {bs} {xs} (csvj.data_line l) k) =
@@ -146,7 +125,7 @@ inner_none tdif.nothing e = refl
 inner_none (tdif.textdata {bs} t i) e = absurd (clear_some bs (textdata_clear t) e)
 inner_none (tdif.two_quotes i) e = let z : ◌≡◌ {A = ℕ} 0 1 = cc in absurd (omega arith)
 
-two_quotes : {bs ts : Bytes} → tdif.Inner bs ts → bs ≡ 0x22 ∷ 0x22 ∷ [] → ts ≡ 0x22 ∷ []
+pub two_quotes : {bs ts : Bytes} → tdif.Inner bs ts → bs ≡ 0x22 ∷ 0x22 ∷ [] → ts ≡ 0x22 ∷ []
 two_quotes tdif.nothing e = let z : ◌≡◌ {A = ℕ} 0 1 = cc in absurd (omega arith)
 two_quotes (tdif.textdata {bs} t i) e = absurd (clear_first bs (0x22 ∷ []) (textdata_clear t) e)
 two_quotes (tdif.two_quotes {bs} i) e = let z : bs ≡ [] = cc in ap (λ ts. 0x22 ∷ ts) (inner_none i z)
@@ -173,7 +152,7 @@ plain_clear (plus.textdata (plus.ascii r q c x y) m) = every_cons q (plain_clear
 plain_clear (plus.textdata (plus.utf8_data u) m) = clear_on (beyond_clear u) (plain_clear m)
 
 -- ` "a"`
-space_before : {kind : Kind} {content : Bytes} → plus.Field standard (cell (0x20 ∷ 0x22 ∷ 0x61 ∷ 0x22 ∷ []) kind content) → ⊥
+pub space_before : {kind : Kind} {content : Bytes} → plus.Field standard (cell (0x20 ∷ 0x22 ∷ 0x61 ∷ 0x22 ∷ []) kind content) → ⊥
 space_before (plus.an_escaped e) = let h : ◌≡◌ {A = ℕ} 0x20 0x22 = escaped_first e in omega arith
 space_before (plus.a_non_escaped m) = go (plain_clear m)
   where
@@ -181,31 +160,10 @@ space_before (plus.a_non_escaped m) = go (plain_clear m)
     go (every_cons n (every_cons m k)) = m refl
 
 -- `"a" `
-space_after : {kind : Kind} {content : Bytes} → plus.Field standard (cell (0x22 ∷ 0x61 ∷ 0x22 ∷ 0x20 ∷ []) kind content) → ⊥
+pub space_after : {kind : Kind} {content : Bytes} → plus.Field standard (cell (0x22 ∷ 0x61 ∷ 0x22 ∷ 0x20 ∷ []) kind content) → ⊥
 unfolding last_of
 space_after (plus.an_escaped e) = let h : ◌≡◌ {A = ℕ} 0x20 0x22 = escaped_last e in omega arith
 space_after (plus.a_non_escaped m) = go (plain_clear m)
   where
     go : {bs : Bytes} → Every (λ b. b ≢ 0x22) (0x22 ∷ bs) → ⊥
     go (every_cons n k) = n refl
-
--- ---- none of the mistakes
-
-blank_text : (l : Line Derived) → 3 ≤ length (text_in l) + 2 → text_in l ≢ []
-blank_text l h e = let k : length (text_in l) ≡ 0 = ap length e in omega arith
-
-pub absent : FileMistakes
-unfolding last_of
-absent =
-    record {
-      empty_line = λ ls k. no_empty_line (empty_line k);
-      space_before = λ kind content f. space_before f;
-      space_after = λ kind content f. space_after f;
-      missing_ending = λ ls k. let h : ◌≡◌ {A = ℕ} 0x22 0x0A = missing_ending k in omega arith;
-      mark_first = λ ls k. mark_first (0x61 ∷ []) ls k;
-      two_quotes = λ ts k. two_quotes k refl;
-      blanks_uncounted = λ l k. blank_text l (blanks_uncounted k);
-    }
-
-pub absent_places : Misplacements
-absent_places = record { equal_cells = λ n x a. refl }

@@ -204,6 +204,7 @@ roomy vs room (each_cons {x = h} {xs = rs} s k) some e = go (ltb room (length vs
     go : (t : Bool) → ltb room (length vs) ≡ t → length vs ≤ room
     go true p = ten (rw p at e)
     go false p = ltb-false room (length vs) p
+roomy vs room each_none x e = elim x [ ]
 
 has_room :
     {file : Bytes} {rs : List Rec} {ls : List (Line Derived)} (vs : List Value) (room : ℕ) → Each (ShowsRecord file) rs ls →

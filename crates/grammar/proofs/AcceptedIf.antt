@@ -341,6 +341,7 @@ module _ (d : Dialect) (file : Bytes) (total : List (Line Derived)) (limit : len
 
   some_done : (r : Read) {rs : List Rec} {ls : List (Line Derived)} → Each (ShowsRecord file) rs ls → Some ls → end_between r rs ≡ going r
   some_done r (each_cons s k) some = refl
+  some_done r each_none x = elim x [ ]
 
   at_clean : (f : FileState) → file_end d f ≡ Clean → Goes f [] []
   unfolding read_from read_end

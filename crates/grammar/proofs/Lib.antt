@@ -1,5 +1,6 @@
 pub mod AbsentInRfcs
 pub mod rfc
+pub mod Terminators
 pub mod AbsentInFiles
 pub mod dialects
 pub mod Absent

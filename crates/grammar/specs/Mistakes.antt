@@ -2,7 +2,7 @@
 -- or at what is required beside the productions. `proofs/Refused.antt` proves all from the statement of the theorems (`Exact`),
 -- whatever the productions are; `proofs/Absent.antt` from the productions. So a production that is widened to make one makes the
 -- theorems false.
-use Rattle.std.specs.Prelude.{ℕ, [], ◌∷◌, replicate}
+use Rattle.std.specs.Prelude.{[], ◌∷◌, replicate}
 use Rattle.grammar.specs.rfc.Types.{Text, Csvj}
 use Rattle.model.specs.rules.Base.{Bytes}
 use Rattle.grammar.specs.rfc.Derived.{Derived, cell, line}

@@ -4,4 +4,3 @@
 // when it is derived and satisfies the rules. If an equation of model's specs/rules/Cell.antt, File.antt or Decode.antt changes,
 // prove them again.
 #![tactic(auto)]
-

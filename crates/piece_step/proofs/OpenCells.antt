@@ -157,6 +157,8 @@ module _ (d : Dialect) (limit began : ℕ) where
   step_first s b bs ih i l (To g (Between k)) (go_between h u) = ih _ (then_closed h (omega arith) (closes_first k s i u)) (omega arith)
   step_first s b bs ih i l (To g (Tail k)) (go_tail h u) = ih _ (then_closed h (omega arith) (closes_first k s i u)) (omega arith)
   step_first s b bs ih i l (To g (Ends k)) (go_ends u) = first_completes (closes_first k s i u)
+  step_first s b bs ih i l (To g Outside) z = elim z [ ]
+  step_first s b bs ih i l (To g Passed) z = elim z [ ]
 
   firsts : (bs : Bytes) → Firsts bs
   unfolding scan
@@ -214,6 +216,8 @@ module _ (d : Dialect) (limit base : ℕ) where
       let m : base + (bytes_in (closing_raw k s) + 0) ≤ s.size = omega arith in
       ih _ h m
   step_grew s b bs ih l (To g (Ends k)) (go_ends u) = grew_completes (closing_grew base k s l)
+  step_grew s b bs ih l (To g Outside) z = elim z [ ]
+  step_grew s b bs ih l (To g Passed) z = elim z [ ]
 
   grow : (bs : Bytes) → Grow bs
   unfolding scan

@@ -14,10 +14,10 @@ use Rattle.model.specs.declared.Dialect.TheVariants.{Csvj, Tdif, CsvPlus}
 use Rattle.model.specs.declared.ByteFault.{ByteFault}
 use Rattle.model.specs.declared.ByteFault.TheVariants.{Syntax}
 use Rattle.model.specs.declared.Cell.{Cell}
-use Rattle.model.specs.declared.Cell.TheVariants.{Fresh}
+use Rattle.model.specs.declared.Cell.TheVariants.{Fresh, Quoted, Closed, Escape, Hex, InNumber, InWord, Plain, Complete}
 use Rattle.model.specs.declared.CellStep.TheVariants.{Refuse}
 use Rattle.model.specs.declared.FileState.{FileState}
-use Rattle.model.specs.declared.FileState.TheVariants.{Begin, Ended, Comment, ExpectCell, Inside, Cr}
+use Rattle.model.specs.declared.FileState.TheVariants.{Top, Begin, Ended, Bom1, Bom2, PlainBom1, PlainBom2, Comment, Blanks, ExpectCell, Inside, After, Cr}
 use Rattle.model.specs.declared.ByteRole.TheVariants.{Passed, Between, Tail, Ends}
 use Rattle.model.specs.declared.Step.{Step}
 use Rattle.model.specs.declared.Step.TheVariants.{To}
@@ -138,6 +138,23 @@ opens d b ExpectCell (at_wanting e) n =
     split (λ (s : Step). in_cell d Fresh b ≡ s) (is_blank b)
     (λ q. absurd (n (ap (λ (x : Dialect). cell_step x Fresh b) e ∙ blank_refused b q)))
     λ _. refl
+opens d b Top o n = elim o [ ]
+opens d b Bom1 o n = elim o [ ]
+opens d b Bom2 o n = elim o [ ]
+opens d b PlainBom1 o n = elim o [ ]
+opens d b PlainBom2 o n = elim o [ ]
+opens d b (Comment _) o n = elim o [ ]
+opens d b Blanks o n = elim o [ ]
+opens d b (Inside (Quoted _)) o n = elim o [ ]
+opens d b (Inside Closed) o n = elim o [ ]
+opens d b (Inside Escape) o n = elim o [ ]
+opens d b (Inside (Hex _)) o n = elim o [ ]
+opens d b (Inside (InNumber _)) o n = elim o [ ]
+opens d b (Inside (InWord _)) o n = elim o [ ]
+opens d b (Inside (Plain _)) o n = elim o [ ]
+opens d b (Inside Complete) o n = elim o [ ]
+opens d b After o n = elim o [ ]
+opens d b Cr o n = elim o [ ]
 
 -- ---- a cell and the byte after it
 

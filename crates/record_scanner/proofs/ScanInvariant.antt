@@ -473,6 +473,11 @@ module _ (call : Call) where
     pub lies : TokenInBounds d limit part f i met
     pub comes : TokenCorrect d limit part f i h.size met
 
+  pub ask : {f : FileState} {i : ℕ} {h : RecordState} {starts ends kinds : List ℕ} {met : Token} → Scanning f i h starts ends kinds
+      → i < length part → i < limit → (leb MAXRECORD h.size && counts f (get_or part i 0)) ≡ false → TokenInBounds d limit part f i met
+      → TokenCorrect d limit part f i h.size met → Asked f i h starts ends kinds met
+  ask s m u n l t = record { scanning = s; inside = m; under = u; fits = n; lies = l; comes = t }
+
   module _ {f : FileState} {i : ℕ} {h : RecordState} {starts ends kinds : List ℕ} {met : Token} (a : Asked f i h starts ends kinds met) where
     comes_to : Whole ≡ met_next d limit part f i h a.scanning.cs met
     comes_to = a.scanning.same ∙ a.comes.comes h a.scanning.cs refl a.scanning.place.opened a.fits

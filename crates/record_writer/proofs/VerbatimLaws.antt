@@ -177,6 +177,7 @@ inner_passed :
     {src : Source} {t : Dialect} {kind : Kind} {raw : Bytes} {i j : ℕ} → Encoded src kind raw → Direct src t → is_text kind ≡ true →
     Inner raw i j → Passed src t kind raw i j
 inner_passed (in_file {d} _ _ k) (is_direct h q) x p = run_passed q x (inner_run d h (ap is_text (sym k) ∙ x) p)
+inner_passed {t = t} {kind = kind} {raw = raw} {i = i} {j = j} Rattle.cell_decoder.specs.Sources.as_content x11 x p = elim x11 [ ]
 
 pub passed :
     {src : Source} {t : Dialect} {direct : Bool} {kind : Kind} {raw : Bytes} {i j : ℕ} → Encoded src kind raw →

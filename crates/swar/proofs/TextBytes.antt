@@ -2,8 +2,7 @@
 use Prim.Native.Nat.{ℕ, zero, suc, ◌+◌, ◌*◌, ◌^◌, ◌≤◌, ◌<◌}
 use native.Mathlib.Omega.{arith}
 use mathlib.Core.Path.{◌≡◌, refl}
-use mathlib.Core.Bool.{Bool, true, not, ◌&&◌}
-use lib.Dec.{leb}
+use mathlib.Core.Bool.{Bool, true, ◌&&◌}
 use lib.Bits.{bit_and, bit_or, bit_xor, mask_lt, xor_lt, and_le_r}
 use borrow.Author.Tests.{eqb-true, eqb-false}
 use Rattle.model.specs.rules.Base.{choose◌then◌else◌, ◌is◌, QUOTE}

@@ -56,6 +56,7 @@ module _ (t : Target) where
   not_both : {e : Fault} {kept : List Rec} {start : ℕ} {done added : List Rec} {A : Type 0} → Passes t done added → Refuses t e kept start done added → A
   not_both (passes_more p ps) (refuses_here q s) = let z : ◌≡◌ {A = ℕ} 0 1 = cc in absurd (omega arith)
   not_both (passes_more p ps) (refuses_later q r) = not_both ps r
+  not_both passes_none x = elim x [ ]
 
   accepts_from :
       {needs : List Rec → ℕ} {room : ℕ} (p : Progress) (x : Report) → ReportsFile needs room p x → x ≡ accepted →

@@ -8,7 +8,7 @@ use mathlib.Core.Bool.{Bool, true, false}
 use mathlib.Core.List.{List, [], ◌∷◌, ◌++◌, map, append_assoc}
 use borrow.Author.Tests.{ne_eqb}
 use Rattle.grammar.specs.rfc.Types.{Tdif, Char, Whole, Cell, Fresh, More}
-use Rattle.grammar.specs.rfc.Types.{FileState, Top, Begin, Ended, Comment, Inside, Outside, Ends, Step, To}
+use Rattle.grammar.specs.rfc.Types.{FileState, Top, Begin, Ended, Comment, Inside, Outside, Ends, Step, To, Clean}
 use Rattle.model.specs.rules.Base.{Bytes, COMMA, ◌is◌, choose◌then◌else◌}
 use Rattle.model.specs.rules.Utf8.{char_step}
 use Rattle.model.specs.rules.Cell.{first_byte, cell_step, is_whole}
@@ -156,11 +156,14 @@ record_reads o {xs} (ended {text} {es} m b) k =
     rw (append_assoc text es xs, ← (fields_placed o m))
     (from_first (cells_first (es ++ xs) n) (cells_read d_tdif o n (break_follows b (rw (past_append text es o) at k))))
 
-none_reads : (o : ℕ) → FromLine o [] [] []
+clean_end : {f : FileState} → Opening f → file_end Tdif f ≡ Clean
 unfolding file_end
-none_reads o Top at_top = ends_clean refl
-none_reads o Begin at_begin = ends_clean refl
-none_reads o Ended at_ended = ends_clean refl
+clean_end at_top = refl
+clean_end at_begin = refl
+clean_end at_ended = refl
+
+none_reads : (o : ℕ) → FromLine o [] [] []
+none_reads o f g = ends_clean (clean_end g)
 
 lines_read : (o : ℕ) {xs : Bytes} {ls : List (Line Derived)} (k : tdif.Lines xs ls) → FromLine o xs (map spelling ls) (tdif_lines o k)
 lines_read o no_line = none_reads o

@@ -3,11 +3,10 @@
 use Prim.Native.Nat.{ℕ}
 use mathlib.Core.Path.{◌≡◌, refl}
 use mathlib.Core.Bool.{Bool, true, false}
-use Rattle.model.specs.rules.Types.{Dialect, Csvj, Tdif, CsvPlus, EeToEf, Second, Last, Within}
-use Rattle.model.specs.rules.Types.{Cell, Fresh, Plain, More, ByteFault}
+use Rattle.model.specs.rules.Types.{Dialect, Csvj, Tdif, CsvPlus}
+use Rattle.model.specs.rules.Types.{Cell, Fresh, More, ByteFault}
 use Rattle.model.specs.rules.Types.{FileState, Top, Begin, Ended, Bom1, Bom2, PlainBom1, PlainBom2, Comment, Blanks, ExpectCell, Inside, After}
 use Rattle.model.specs.rules.Types.{Cr, Outside, Passed, OfCell, Between, Tail, Ends, Step, To, Reject, Ending, Clean, Final, Cut}
-use Rattle.model.specs.rules.Types as types
 use Rattle.model.specs.rules.Cell.{cell_step, is_whole}
 use Rattle.model.specs.rules.File.{file_step, file_end, last_cell}
 unfoldable pub use Rattle.model.specs.rules.File.{cell_at}

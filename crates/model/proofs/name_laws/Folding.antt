@@ -1,6 +1,6 @@
 -- A name folded code point by code point is folded byte for byte by its neighbours (`fold_places`), from which its length, its bytes
 -- and that folding twice is folding once are read off.
-use Prim.Native.Nat.{ℕ, zero, suc, ◌+◌, ◌-◌, ◌*◌, ◌/◌, ◌%◌, ◌<◌, ◌≤◌}
+use Prim.Native.Nat.{ℕ, zero, suc, ◌+◌, ◌/◌, ◌%◌, ◌<◌, ◌≤◌}
 use native.Mathlib.Omega.{arith}
 use native.Mathlib.Numerals.{add-one}
 use native.Mathlib.Nat.{add-zero, zero-add, add-suc, suc-add, le_of_suc-le-suc, not-suc-le-zero}
@@ -9,7 +9,7 @@ use mathlib.Core.Bool.{Bool, true, false, ◌&&◌}
 use mathlib.Core.List.{List, [], ◌∷◌, ◌++◌, map}
 use lib.ListN.{length, get_or}
 use lib.Dec.{leb, T, eqb→eq}
-use borrow.Author.Tests.{eq-eqb, ne_eqb, le-leb, lt-leb, leb-true, leb-false, eqb-false}
+use borrow.Author.Tests.{ne_eqb, le-leb, lt-leb, leb-true, leb-false, eqb-false}
 use Rattle.model.specs.rules.Base.{choose◌then◌else◌, ◌is◌, within, Bytes}
 use Rattle.model.specs.rules.Utf8.{pack, packed, is_later}
 use Rattle.model.specs.rules.Names.{fold_point, is_pair, pair_point, fold_byte, fold_name}

@@ -9,14 +9,13 @@ use mathlib.Core.List.{List, [], ◌∷◌, ◌++◌, map}
 use lib.ListN.{length, drop, get_or}
 use lib.Dec.{leb}
 use borrow.Author.Tests.{leb-true, leb-false}
-use Rattle.model.specs.rules.Types.{Lead, C2ToDf, E0, E1ToEc, Ed, EeToEf, F0, F1ToF3, F4, Inner, Second, LastTwo, Last, Char, Whole}
-use Rattle.model.specs.rules.Types.{Within, Advance, On, Broken}
+use Rattle.model.specs.rules.Types.{Lead, C2ToDf, E0, E1ToEc, Ed, EeToEf, F0, F1ToF3, F4, Second, LastTwo, Last}
 use Rattle.model.specs.rules.Base.{choose◌then◌else◌, ◌is◌, within, Bytes}
 use Rattle.model.specs.rules.Utf8.{row_of, leads, lead_byte, after_second, inner_step, char_step, pack, packed, Wide, gap, ed, lone, inner, settled}
 use Rattle.model.specs.rules.Utf8.{settle, wide_step, wide_from, is_content}
 use Rattle.model.specs.rules.Names.{fold_point, fold_name}
-use Rattle.model.specs.laws.Laws.{All, all_none, all_cons}
-use Rattle.model.specs.laws.Folding.{Points, PointsOf}
+use Rattle.model.specs.laws.Laws.{all_none, all_cons}
+use Rattle.model.specs.laws.Folding.{PointsOf}
 use Rattle.model.proofs.Tests.{split_on, impossible, is→eq, within_true}
 use Rattle.model.proofs.name_laws.Folding.{pack_short, pack_pair, pack_three, pack_four, each_point}
 

@@ -2,7 +2,7 @@
 -- by record. Proved in proofs/TargetLaws.antt.
 use Rattle.std.specs.Prelude.{ℕ, suc, ◌≡◌, List, [], ◌∷◌, ◌++◌, length}
 use Rattle.std.proofs.Math.Option.{none, some}
-use Rattle.model.specs.rules.Types.{Report, Dialect, Target, Fault, CheckResult, Sound, Faulty}
+use Rattle.model.specs.rules.Types.{Report, Dialect, Target, Fault, Sound, Faulty}
 use Rattle.model.specs.rules.Base.{Bytes}
 use Rattle.model.specs.rules.Text.{Value}
 use Rattle.model.specs.rules.Report.{report, number_of, column_of}

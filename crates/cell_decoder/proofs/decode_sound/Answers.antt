@@ -1,0 +1,20 @@
+-- `cell_decoder::decode_sound` meets its contract: content that fits is written, and other content is refused.
+use native.Mathlib.Omega.{arith}
+use Rattle.cell_decoder.proofs.DecoderAnswers.{too_long, fits}
+use Rattle.cell_decoder.proofs.decode_sound.Goals as goal
+
+pub returns-then-room-size : goal.returns-then-room-size
+returns-then-room-size c =
+    let a = c.args in
+    let p = too_long a.d a.raw.now a.room.now _ (omega (arith, c.content_length-size.ensures, c.if-room-size.true)) c.call_report.ensures in
+    record { result_value = p.0; room_after = p.1 }
+
+pub write_content-requires : goal.write_content-requires
+write_content-requires c = omega (arith, c.content_length-size.ensures, c.if-room-size.false)
+
+pub returns : goal.returns
+returns c =
+    let a = c.args in
+    let p = fits a.d a.raw.now a.room.now _ _ _ (omega (arith, c.content_length-size.ensures, c.if-room-size.false))
+    c.content_length-size.ensures c.kind_of.ensures c.write_content.ensures in
+    record { result_value = p.0; room_after = p.1 }

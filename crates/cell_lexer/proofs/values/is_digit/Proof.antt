@@ -1,9 +1,0 @@
--- `cell_lexer::values::is_digit` meets its contract, by its tests.
-use Rattle.model.specs.rules.Base.{choose◌then◌else◌}
-use Rattle.model.proofs.Tests.{tests}
-use Rattle.cell_lexer.proofs.values.is_digit.Statement.{statement}
-use Rattle.cell_lexer.proofs.values.is_digit.Tie as tie
-
-pub is-digit-spec : {M : Type 1} → statement M
-unfolding choose◌then◌else◌
-is-digit-spec = tie.close (tie.spec (λ c. search tests) (λ c. search tests))

@@ -1,0 +1,84 @@
+use Prim.Native.Nat.{◌-◌}
+use lib.ListN as lists
+use mathlib.Core.Path.{refl}
+use native.Mathlib.Omega.{arith}
+use borrow.Author.Rules.{rules}
+use Rattle.file_cursor.specs.declared.Aim.TheVariants.{Into}
+use Rattle.file_cursor.proofs.Traversal.{Walking, by_fields, sets_out, walks_on, walk_bounds, walk_less, came, Full, full_long, full_kept}
+use Rattle.file_cursor.proofs.FastNext.{data_came}
+use Rattle.file_converter.proofs.Passes.{measured_all, measured_refused}
+
+use Rattle.file_converter.proofs.measure.Goals as goal
+
+pub loop-v-init : goal.loop-v-init
+loop-v-init c = (sets_out _ _ _ _ c.at_start-cursor.ensures, record { at_starts = refl; at_ends = refl; at_kinds = refl })
+
+pub slice_bounds-next_data_record-end : goal.slice_bounds-next_data_record-end
+slice_bounds-next_data_record-end c = c.loop-v.invariant.1.at_starts
+
+pub slice_bounds-next_data_record-end-in-loop-v : goal.slice_bounds-next_data_record-end-in-loop-v
+slice_bounds-next_data_record-end-in-loop-v c = c.loop-v.invariant.1.at_ends
+
+pub slice_bounds-next_data_record-end-in-loop-v-2 : goal.slice_bounds-next_data_record-end-in-loop-v-2
+slice_bounds-next_data_record-end-in-loop-v-2 c = c.loop-v.invariant.1.at_kinds
+
+pub next_data_record-requires : goal.next_data_record-requires
+next_data_record-requires c =
+    let inv = c.loop-v.invariant in
+    let b = walk_bounds inv.0 in
+    record { from_in_bounds = b.0; done_le_from = b.1; long = full_long inv.1 }
+
+pub loop-v-smaller-in-Record : goal.loop-v-smaller-in-Record
+loop-v-smaller-in-Record c =
+    let inv = c.loop-v.invariant in
+    let r = data_came (c.next_data_record.ensures.fast_next_sound _ (by_fields inv.0.after)) c.in-Record.is in
+    walk_less inv.0 r.next
+
+pub loop-v-preserved-in-Record : goal.loop-v-preserved-in-Record
+loop-v-preserved-in-Record c =
+    let inv = c.loop-v.invariant in
+    let r = data_came (c.next_data_record.ensures.fast_next_sound _ (by_fields inv.0.after)) c.in-Record.is in
+    (walks_on inv.0 r.next, full_kept inv.1 c.next_data_record.ensures.same_lengths)
+
+pub slice_bounds-next_record-end : goal.slice_bounds-next_record-end
+slice_bounds-next_record-end c =
+    let inv = c.loop-v.invariant in
+    (full_kept inv.1 c.next_data_record.ensures.same_lengths).at_starts
+
+pub slice_bounds-next_record-end-in-Fallback : goal.slice_bounds-next_record-end-in-Fallback
+slice_bounds-next_record-end-in-Fallback c =
+    let inv = c.loop-v.invariant in
+    (full_kept inv.1 c.next_data_record.ensures.same_lengths).at_ends
+
+pub slice_bounds-next_record-end-in-Fallback-2 : goal.slice_bounds-next_record-end-in-Fallback-2
+slice_bounds-next_record-end-in-Fallback-2 c =
+    let inv = c.loop-v.invariant in
+    (full_kept inv.1 c.next_data_record.ensures.same_lengths).at_kinds
+
+pub next_record-requires : goal.next_record-requires
+next_record-requires c =
+    let inv = c.loop-v.invariant in
+    let b = walk_bounds inv.0 in
+    record { offset_in_bounds = b.0; done_le_offset = b.1; long = full_long (full_kept inv.1 c.next_data_record.ensures.same_lengths) }
+
+pub loop-v-smaller : goal.loop-v-smaller
+loop-v-smaller c =
+    let inv = c.loop-v.invariant in
+    let n = came (c.next_record.ensures.next_record_sound _ inv.0.after) c.in-Record-next_record.is in
+    walk_less inv.0 n
+
+pub loop-v-preserved : goal.loop-v-preserved
+loop-v-preserved c =
+    let inv = c.loop-v.invariant in
+    let n = came (c.next_record.ensures.next_record_sound _ inv.0.after) c.in-Record-next_record.is in
+    (walks_on inv.0 n, full_kept (full_kept inv.1 c.next_data_record.ensures.same_lengths) c.next_record.ensures.same_lengths)
+
+pub returns-in-End : goal.returns-in-End
+returns-in-End c =
+    let inv = c.loop-v.invariant in
+    measured_all inv.0 (c.next_record.ensures.next_record_sound _ inv.0.after) c.in-End.is
+
+pub returns-in-Refused : goal.returns-in-Refused
+returns-in-Refused c =
+    let inv = c.loop-v.invariant in
+    measured_refused inv.0 (c.next_record.ensures.next_record_sound _ inv.0.after) c.in-Refused.is

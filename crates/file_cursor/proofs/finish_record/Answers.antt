@@ -1,0 +1,78 @@
+-- `file_cursor::finish_record` meets its contract, by the number of cells and the check result.
+use native.Mathlib.Omega.{arith}
+use mathlib.Core.Path.{sym}
+use Prim.Native.Nat.{◌+◌, ◌≤◌}
+use lib.ListN.{length}
+use lib.Seq.{length-take-le}
+use borrow.Author.Rules.{rules}
+use Rattle.file_cursor.proofs.RecordChecks.{too_many, ruled_faulty, ruled_sound}
+use Rattle.file_cursor.proofs.finish_record.Goals as goal
+
+-- one record more can be counted
+pub overflow_add-cursor : goal.overflow_add-cursor
+overflow_add-cursor c =
+    let m : c.args.cursor.done ≤ 16777215 = c.requires.done_bound.0 in
+    omega arith
+
+pub returns-then-cells-gt-MAX_COLUMNS : goal.returns-then-cells-gt-MAX_COLUMNS
+returns-then-cells-gt-MAX_COLUMNS c =
+    let a = c.args in
+    λ rs vs y z.
+    too_many a.d a.aim a.file.now a.starts.now a.ends.now a.kinds.now a.cursor a.start a.cells a.state a.next rs vs y z
+    _ c.if-cells-gt-MAX_COLUMNS.true c.record_report.ensures
+
+pub slice_bounds-check_record-end : goal.slice_bounds-check_record-end
+slice_bounds-check_record-end c =
+    let a = c.args in
+    let m : a.cells ≤ 64 = c.if-cells-gt-MAX_COLUMNS.false in
+    let k : 64 ≤ length a.starts.now = c.requires.long.at_starts in
+    sym (length-take-le a.cells a.starts.now (omega arith))
+
+pub slice_bounds-check_record-end-2 : goal.slice_bounds-check_record-end-2
+slice_bounds-check_record-end-2 c =
+    let a = c.args in
+    let m : a.cells ≤ 64 = c.if-cells-gt-MAX_COLUMNS.false in
+    let k : 64 ≤ length a.ends.now = c.requires.long.at_ends in
+    sym (length-take-le a.cells a.ends.now (omega arith))
+
+pub slice_bounds-check_record-end-3 : goal.slice_bounds-check_record-end-3
+slice_bounds-check_record-end-3 c =
+    let a = c.args in
+    let m : a.cells ≤ 64 = c.if-cells-gt-MAX_COLUMNS.false in
+    let k : 64 ≤ length a.kinds.now = c.requires.long.at_kinds in
+    sym (length-take-le a.cells a.kinds.now (omega arith))
+
+pub check_record-r-requires : goal.check_record-r-requires
+check_record-r-requires c = record { cells = c.requires.cells c.if-cells-gt-MAX_COLUMNS.false; written_bound = c.requires.done_bound.1 }
+
+pub overflow_add-result : goal.overflow_add-result
+overflow_add-result c =
+    let m : c.args.cursor.done ≤ 16777215 = c.requires.done_bound.0 in
+    omega arith
+
+pub overflow_add-result-in-Sound : goal.overflow_add-result-in-Sound
+overflow_add-result-in-Sound c =
+    let a = c.args in
+    let f : a.cursor.written + c.check_record-r.result.length ≤ 16777215 = c.check_record-r.ensures.fits c.in-Sound.is in
+    omega arith
+
+pub overflow_add-cursor-in-Faulty : goal.overflow_add-cursor-in-Faulty
+overflow_add-cursor-in-Faulty c =
+    let m : c.args.cursor.done ≤ 16777215 = c.requires.done_bound.0 in
+    omega arith
+
+pub returns-in-Sound : goal.returns-in-Sound
+returns-in-Sound c =
+    let a = c.args in
+    let sound = c.in-Sound.is in
+    λ rs vs y z.
+    ruled_sound a.d a.aim a.file.now a.starts.now a.ends.now a.kinds.now a.cursor a.start a.cells a.state a.next rs vs y z
+    _ z.values c.if-cells-gt-MAX_COLUMNS.false _ c.check_record-r.ensures sound
+
+pub returns-in-Faulty : goal.returns-in-Faulty
+returns-in-Faulty c =
+    let a = c.args in
+    λ rs vs y z.
+    ruled_faulty a.d a.aim a.file.now a.starts.now a.ends.now a.kinds.now a.cursor a.start a.cells a.state a.next rs vs y z
+    _ z.values c.if-cells-gt-MAX_COLUMNS.false _ c.check_record-r.ensures _ _
+    c.in-Faulty.is c.record_report-in-Faulty.ensures

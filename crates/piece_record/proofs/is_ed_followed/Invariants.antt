@@ -1,0 +1,15 @@
+-- `piece_record::is_ed_followed` meets its contract. The invariant: each ED before the byte in front of i is followed.
+use Prim.Native.Nat.{◌-◌, ◌≤◌, ◌<◌}
+use native.Mathlib.Omega.{arith}
+use mathlib.Core.Path.{◌≡◌, refl}
+use mathlib.Core.Logic.{⊎_elim}
+use lib.ListN.{length}
+use Rattle.model.proofs.Tests.{impossible}
+use Rattle.piece_record.proofs.BufferedCells.{FollowedTo, followed_next, followed_whole, not_followed}
+use Rattle.piece_record.proofs.is_ed_followed.Given as goal
+
+abbrev pub invariant-loop-i : goal.invariant-loop-i
+invariant-loop-i l = (1 ≤ l.i) × FollowedTo l.s l.i
+
+abbrev pub decreases-loop-i : goal.decreases-loop-i
+decreases-loop-i l = length l.s - l.i

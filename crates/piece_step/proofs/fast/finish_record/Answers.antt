@@ -1,0 +1,59 @@
+-- `piece_step::fast::finish_record` meets its contract: the place after the record counts its text, which fits into the file.
+use Prim.Native.Nat.{ℕ, ◌+◌, ◌-◌, ◌≤◌}
+use native.Mathlib.Omega.{arith}
+use mathlib.Core.Path.{◌≡◌, refl, sym, ap, subst, ◌∙◌}
+use mathlib.Core.List.{List}
+use lib.ListN.{length, take}
+use lib.Seq.{length-take-le}
+use borrow.Author.Rules.{rules}
+use borrow.Author.Tests.{ne_eqb}
+use Rattle.model.specs.rules.Base.{choose◌then◌else◌}
+use Rattle.model.specs.rules.Text.{Value}
+use Rattle.model.specs.rules.Report.{MAXFILE}
+use Rattle.cell_decoder.specs.declared.source.Source.TheVariants.{File}
+use Rattle.cell_decoder.specs.Sources.{cells_in}
+use Rattle.piece_step.specs.FastSteps.{not_found}
+use Rattle.piece_step.proofs.FastText.{put_to, put_nowhere, written_fits, written_place}
+use Rattle.piece_step.proofs.fast.finish_record.Goals as goal
+
+pub returns-then-cells-gt-MAX_COLUMNS : goal.returns-then-cells-gt-MAX_COLUMNS
+returns-then-cells-gt-MAX_COLUMNS c = not_found refl
+
+pub slice_bounds-write_record-end : goal.slice_bounds-write_record-end
+slice_bounds-write_record-end c =
+    let m : c.args.cells ≤ 64 = c.if-cells-gt-MAX_COLUMNS.false in
+    let k : 64 ≡ length c.args.starts.now = sym c.requires.scratch.long_starts in
+    sym (length-take-le c.args.cells c.args.starts.now (omega arith))
+
+pub slice_bounds-write_record-end-2 : goal.slice_bounds-write_record-end-2
+slice_bounds-write_record-end-2 c =
+    let m : c.args.cells ≤ 64 = c.if-cells-gt-MAX_COLUMNS.false in
+    let k : 64 ≡ length c.args.stops.now = sym c.requires.scratch.long_stops in
+    sym (length-take-le c.args.cells c.args.stops.now (omega arith))
+
+pub slice_bounds-write_record-end-3 : goal.slice_bounds-write_record-end-3
+slice_bounds-write_record-end-3 c =
+    let m : c.args.cells ≤ 64 = c.if-cells-gt-MAX_COLUMNS.false in
+    let k : 64 ≡ length c.args.kinds.now = sym c.requires.scratch.long_kinds in
+    sym (length-take-le c.args.cells c.args.kinds.now (omega arith))
+
+pub write_record-requires : goal.write_record-requires
+write_record-requires c =
+    let m = c.if-cells-gt-MAX_COLUMNS.false in
+    record { cells = c.requires.cells m; clean_in = c.requires.clean_in m; before_bound = (c.requires.written_bound.0, c.requires.written_bound.3) }
+
+pub overflow_sub-result : goal.overflow_sub-result
+overflow_sub-result c = (written_fits (put_to c.write_record.ensures c.in-To.is)).0
+
+pub overflow_add-result-in-To-3 : goal.overflow_add-result-in-To-3
+overflow_add-result-in-To-3 c =
+    let l = (written_fits (put_to c.write_record.ensures c.in-To.is)).1 in
+    omega (arith, l)
+
+pub returns-in-Fallback : goal.returns-in-Fallback
+returns-in-Fallback c = not_found (put_nowhere c.write_record.ensures c.in-Fallback.is)
+
+pub returns-in-To : goal.returns-in-To
+returns-in-To c =
+    written_place c.args.n c.args.next c.args.state c.args.cells c.requires.fact c.if-cells-gt-MAX_COLUMNS.false
+    (put_to c.write_record.ensures c.in-To.is)

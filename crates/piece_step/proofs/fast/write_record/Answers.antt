@@ -1,0 +1,71 @@
+-- `piece_step::fast::write_record` meets its contract: the checks find no fault, and the text fits into the output.
+use Prim.Native.Nat.{ℕ, ◌+◌, ◌-◌, ◌≤◌}
+use native.Mathlib.Omega.{arith}
+use mathlib.Core.Path.{◌≡◌, refl, sym, ◌∙◌}
+use mathlib.Core.Bool.{true, false}
+use mathlib.Core.List.{List, ◌++◌}
+use lib.ListN.{length}
+use borrow.Author.Rules.{rules}
+use Rattle.model.specs.rules.Base.{choose◌then◌else◌, Bytes}
+use Rattle.model.specs.rules.Dialect.{into}
+use Rattle.model.proofs.Tests.{impossible}
+use Rattle.model.specs.rules.Text.{Value, record_text, ending}
+use Rattle.buffer.specs.Writes.{Room, WrittenAt, written}
+use Rattle.cell_decoder.specs.declared.source.Source.TheVariants.{File}
+use Rattle.cell_decoder.specs.Sources.{cells_in}
+use Rattle.cell_decoder.proofs.CellsIn.{cells_length}
+use Rattle.record_writer.specs.CleanRecord.{clean_data}
+use Rattle.piece_step.specs.FastSteps.{up_to, no_text}
+use Rattle.piece_step.proofs.fast.write_record.Goals as goal
+
+place_of : {old : Bytes} {o : ℕ} {w new : Bytes} {r : ℕ} → WrittenAt true old o w new r → (new ≡ written old o w) × (r ≡ o + length w)
+unfolding choose◌then◌else◌
+place_of p = (p.text, p.place)
+
+pub returns-in-Faulty : goal.returns-in-Faulty
+returns-in-Faulty c = no_text refl
+
+pub check_target-r-requires : goal.check_target-r-requires
+check_target-r-requires c = record { cells = c.requires.cells; clean_record = λ e. clean_data (c.requires.clean_in e); written_bound = c.requires.before_bound.0 }
+
+pub returns-in-Faulty-v : goal.returns-in-Faulty-v
+returns-in-Faulty-v c = no_text refl
+
+pub returns-then-out-o : goal.returns-then-out-o
+returns-then-out-o c = no_text refl
+
+pub write_line-requires : goal.write_line-requires
+write_line-requires c =
+    let a = c.args in
+    let cells = cells_in (File a.d) a.piece.now a.starts.now a.stops.now a.kinds.now in
+    let text = record_text (into a.t) false cells ++ ending a.t in
+    let fits : a.o + length text ≤ length a.out.now =
+    let l : c.check_target-r.result.length ≡ length text = c.check_target-r.ensures.length_value c.in_default-v.is in
+    let m = c.if-out-o.false in
+    let o : a.o ≤ length a.out.now = c.requires.before_bound.1 in
+    omega (arith, l) in
+    record {
+      cells = c.requires.cells;
+      clean_record = λ e. clean_data (c.requires.clean_in e);
+      room = record { measured = λ z. impossible (sym z); inside = λ z. fits };
+    }
+
+pub returns : goal.returns
+returns c =
+    let a = c.args in
+    let cells = cells_in (File a.d) a.piece.now a.starts.now a.stops.now a.kinds.now in
+    let text = record_text (into a.t) false cells ++ ending a.t in
+    let fits : a.o + length text ≤ length a.out.now =
+    let l : c.check_target-r.result.length ≡ length text = c.check_target-r.ensures.length_value c.in_default-v.is in
+    let m = c.if-out-o.false in
+    let o : a.o ≤ length a.out.now = c.requires.before_bound.1 in
+    omega (arith, l) in
+    let y = place_of c.write_line.ensures in
+    up_to
+    (sym (c.«data».ensures cells
+    (cells_length (File a.d) a.piece.now a.starts.now a.stops.now a.kinds.now c.requires.cells.with_ends c.requires.cells.with_kinds))
+    ∙ c.in_default.is)
+    (sym c.check_target-r.ensures.verdict_value ∙ c.in_default-v.is)
+    (fits)
+    y.0
+    y.1

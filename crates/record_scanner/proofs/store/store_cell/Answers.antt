@@ -1,0 +1,24 @@
+-- `record_scanner::store::store_cell` meets its contract: a store in each list, or none.
+use borrow.Author.Rules.{rules}
+use Rattle.record_scanner.proofs.StoreLaws.{not_stored, no_room, stored_there}
+use Rattle.record_scanner.proofs.store.store_cell.Goals as goal
+
+pub returns-then-k-room : goal.returns-then-k-room
+returns-then-k-room c =
+    let t = c.if-closes.true in
+    let l = c.if-k-room.true in
+    record {
+      starts_after = stored_there _ _ _ _ _ t l;
+      ends_after = stored_there _ _ _ _ _ t l;
+      kinds_after = rw (c.kind_number.ensures, c.kind_of.ensures) (stored_there _ _ _ _ _ t l);
+    }
+
+pub returns-then-closes : goal.returns-then-closes
+returns-then-closes c =
+    let t = c.if-closes.true in
+    let l = c.if-k-room.false in
+    record { starts_after = no_room _ _ _ _ _ t l; ends_after = no_room _ _ _ _ _ t l; kinds_after = no_room _ _ _ _ _ t l }
+
+pub returns : goal.returns
+returns c = let l = c.if-closes.false in
+    record { starts_after = not_stored _ _ _ _ _ l; ends_after = not_stored _ _ _ _ _ l; kinds_after = not_stored _ _ _ _ _ l }

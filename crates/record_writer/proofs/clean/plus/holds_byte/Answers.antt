@@ -1,0 +1,25 @@
+use mathlib.Core.Path.{◌≡◌, refl, sym, ◌∙◌}
+use Prim.Native.Nat.{◌-◌, ◌≤◌}
+use native.Mathlib.Omega.{arith}
+use lib.ListN.{length, drop}
+use borrow.Author.Rules.{rules}
+use Rattle.model.specs.rules.Base.{holds}
+use Rattle.swar.specs.Words.{is_byte}
+use Rattle.record_writer.proofs.ByteMembership.{word_held, word_on}
+use Rattle.record_writer.proofs.clean.plus.holds_byte.Goals as goal
+
+pub loop-i-init : goal.loop-i-init
+loop-i-init c = (omega arith, refl)
+
+pub returns-then-same-ne0 : goal.returns-then-same-ne0
+returns-then-same-ne0 c =
+    let a = c.args in
+    sym (c.loop-i.invariant.1 ∙ word_held a.p a.bs.now c.loop-i.i c.word.ensures c.other_than-same.ensures c.if-same-ne0.true)
+
+pub loop-i-preserved : goal.loop-i-preserved
+loop-i-preserved c =
+    let a = c.args in
+    (omega arith, c.loop-i.invariant.1 ∙ word_on a.p a.bs.now c.loop-i.i c.word.ensures c.other_than-same.ensures c.if-same-ne0.false)
+
+pub returns : goal.returns
+returns c = c.holds_from.ensures ∙ sym c.loop-i.invariant.1

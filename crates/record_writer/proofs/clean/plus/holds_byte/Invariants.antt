@@ -1,0 +1,16 @@
+-- The invariant: the bytes hold p exactly when those from i on do.
+use mathlib.Core.Path.{◌≡◌, refl, sym, ◌∙◌}
+use Prim.Native.Nat.{◌-◌, ◌≤◌}
+use native.Mathlib.Omega.{arith}
+use lib.ListN.{length, drop}
+use borrow.Author.Rules.{rules}
+use Rattle.model.specs.rules.Base.{holds}
+use Rattle.swar.specs.Words.{is_byte}
+use Rattle.record_writer.proofs.ByteMembership.{word_held, word_on}
+use Rattle.record_writer.proofs.clean.plus.holds_byte.Given as goal
+
+abbrev pub invariant-loop-i : goal.invariant-loop-i
+invariant-loop-i l = (l.i ≤ length l.bs) × (holds (is_byte l.p) l.bs ≡ holds (is_byte l.p) (drop l.i l.bs))
+
+abbrev pub decreases-loop-i : goal.decreases-loop-i
+decreases-loop-i l = length l.bs - l.i

@@ -1,0 +1,50 @@
+-- Bytes whose first is not a number's are no number, and others are one where they are a whole cell.
+use mathlib.Core.Path.{◌≡◌, refl, sym, ap, ◌∙◌}
+use Prim.Native.Nat.{ℕ}
+use mathlib.Core.Bool.{false}
+use borrow.Author.Rules.{rules}
+use Rattle.model.specs.declared.CellCheck.{CellCheck}
+use Rattle.model.specs.declared.CellCheck.TheVariants.{WholeCell, Unsound}
+use Rattle.model.specs.declared.Dialect.TheVariants.{Csvj}
+use Rattle.model.specs.declared.Fault.{Fault}
+use Rattle.model.specs.declared.Kind.{Kind}
+use Rattle.model.specs.declared.Kind.TheVariants.{Text, Number, True, False, Null}
+use Rattle.model.specs.rules.Decode.{kind_of, validate_cell}
+use Rattle.model.specs.rules.Api.{is_number}
+use Rattle.model.proofs.Tests.{impossible}
+use Rattle.table_writer.proofs.check.is_number.Goals as goal
+
+other-kind : (k : Kind) (j : CellCheck) → is_number k WholeCell ≡ false → is_number k j ≡ false
+other-kind Text j e = refl
+other-kind Number j e = impossible (sym e)
+other-kind True j e = refl
+other-kind False j e = refl
+other-kind Null j e = refl
+
+unsound : (k : Kind) (e : Fault) (o : ℕ) → false ≡ is_number k (Unsound e o)
+unsound Text e o = refl
+unsound Number e o = refl
+unsound True e o = refl
+unsound False e o = refl
+unsound Null e o = refl
+
+pub returns-then-not-is_number_kind : goal.returns-then-not-is_number_kind
+returns-then-not-is_number_kind c =
+    let by_kind : c.is_number_kind.result ≡ is_number (kind_of Csvj c.args.s.now) WholeCell =
+    c.is_number_kind.ensures ∙ ap (λ (k : Kind). is_number k WholeCell) c.kind_of.ensures in
+    let s = c.args.s.now in
+    sym (other-kind (kind_of Csvj s) (validate_cell Csvj s) (sym (by_kind) ∙ c.if-not-is_number_kind.true))
+
+pub returns-in-WholeCell : goal.returns-in-WholeCell
+returns-in-WholeCell c =
+    let by_kind : c.is_number_kind.result ≡ is_number (kind_of Csvj c.args.s.now) WholeCell =
+    c.is_number_kind.ensures ∙ ap (λ (k : Kind). is_number k WholeCell) c.kind_of.ensures in
+    let s = c.args.s.now in
+    sym
+    (ap (is_number (kind_of Csvj s)) (sym c.validate_cell.ensures ∙ c.in-WholeCell.is) ∙ sym (by_kind)
+    ∙ c.if-not-is_number_kind.false)
+
+pub returns-in-Unsound : goal.returns-in-Unsound
+returns-in-Unsound c =
+    let s = c.args.s.now in
+    unsound (kind_of Csvj s) _ _ ∙ ap (is_number (kind_of Csvj s)) (sym c.in-Unsound.is ∙ c.validate_cell.ensures)

@@ -1,0 +1,16 @@
+-- The invariant: the bytes up to i leave the state unchanged.
+use mathlib.Core.Bool.{false}
+use mathlib.Core.Option.{some}
+use Prim.Native.Nat.{◌-◌}
+use native.Mathlib.Omega.{arith}
+use lib.ListN.{length}
+use Rattle.model.specs.rules.Utf8.{gap}
+use Rattle.table_writer.specs.Content.{SameContentState}
+use Rattle.table_writer.proofs.Contents.{passes_none, passes_ascii}
+use Rattle.table_writer.proofs.content.ascii_end.Given as goal
+
+abbrev pub invariant-loop-i : goal.invariant-loop-i
+invariant-loop-i l = SameContentState (some (gap false)) l.s l.at l.i
+
+abbrev pub decreases-loop-i : goal.decreases-loop-i
+decreases-loop-i l = length l.s - l.i
