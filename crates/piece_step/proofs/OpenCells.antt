@@ -16,7 +16,7 @@ use Rattle.model.proofs.cell_laws.CellRuns.{all_snoc}
 use Rattle.model.proofs.file_laws.FileSteps as steps
 use Rattle.model.proofs.file_laws.FileSteps.{Rests, Around, Grown, Free, Starts, Opens, Leaves, Transition, step_transition}
 use Rattle.piece_step.specs.Types.{Dialect, FileState, Top, Begin, Ended, Bom1, Bom2, PlainBom1, PlainBom2, Comment, Blanks, ExpectCell, Inside, After}
-use Rattle.piece_step.specs.Types.{Cr, OfCell, Between, Tail, Ends, Step, To, Reject, ByteFault, Fault}
+use Rattle.piece_step.specs.Types.{Cr, Outside, Passed, OfCell, Between, Tail, Ends, Step, To, Reject, ByteFault, Fault}
 use Rattle.piece_step.specs.Invariant.{in_cell}
 
 -- ---- a byte of a record
