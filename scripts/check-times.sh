@@ -7,7 +7,8 @@ cd "$(dirname "$0")/.."
 names=("$@")
 [[ $# -gt 0 ]] || mapfile -t names < <(sed -n 's/^\([a-z][a-z0-9_]*\)[ :].*/\1/p' crates.txt)
 for name in "${names[@]}"; do
-  for below in $(sed -n "s/^$name[ :].*: *//p; s/^$name: *//p" crates.txt); do
+  read -ra uses < <(sed -n "s/^${name}\\( [a-z0-9]*\\)\\?://p" crates.txt)
+  for below in "${uses[@]}"; do
     [[ ! -d crates/$below ]] || (cd "crates/$below" && rt lib >/dev/null)
   done
   rm -rf "crates/$name/out"
