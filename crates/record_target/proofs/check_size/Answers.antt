@@ -2,7 +2,6 @@
 use mathlib.Core.Path.{refl}
 use native.Mathlib.Omega.{arith}
 use lib.ListN.{length}
-use borrow.Author.Rules.{rules}
 use Rattle.record_target.proofs.Reasons.{measure_is, measure_over, text_too_long, output_too_long, fits}
 use Rattle.record_target.proofs.check_size.Goals as goal
 
