@@ -1,13 +1,12 @@
 -- Ordinary bytes stand for themselves between quotation marks in every dialect; what follows for a verbatim cell.
 use mathlib.Core.Path.{◌≡◌, refl, sym, ap, ◌∙◌}
-use mathlib.Core.Bool.{true, false, not, ◌&&◌, or-false}
+use mathlib.Core.Bool.{true, false, or-false}
 use mathlib.Core.List.{[], ◌∷◌, ◌++◌, append-nil}
 use Prim.Native.Nat.{ℕ, suc, ◌+◌, ◌-◌, ◌≤◌}
 use native.Mathlib.Omega.{arith}
-use lib.Dec.{leb}
 use lib.ListN.{length, length-append}
 use lib.Seq.{take_at, take-length}
-use borrow.Author.Tests.{ne_eqb, eqb-false, lt-leb, leb-true, not-true}
+use borrow.Author.Tests.{ne_eqb, eqb-false, lt-leb}
 use Rattle.model.specs.declared.Dialect.{Dialect}
 use Rattle.model.specs.declared.Dialect.TheVariants.{Csvj, Tdif, CsvPlus}
 use Rattle.model.specs.declared.Kind.TheVariants.{Text}

@@ -32,8 +32,10 @@ Answers w r old new = (r ≡ text_answer w) × (new ≡ over w.text old)
 pub refuses : {w : Written} {e f : Report} {r : TextAnswer} {room : Bytes} → r ≡ text_answer (unwritten e) → e ≡ f → w ≡ unwritten f → Answers w r room room
 refuses p q e = (p ∙ ap (λ (x : Report). text_answer (unwritten x)) q ∙ ap text_answer (sym e), rw e refl)
 
-pub answers_as : {w v : Written} {r : TextAnswer} (old : Bytes) {new : Bytes} → w ≡ v → Answers v r old new → Answers w r old new
-answers_as old e p = rw e p
+pub answers_as :
+    {w v : Written} {r : TextAnswer} (old : Bytes) {new : Bytes} → w ≡ v → r ≡ text_answer v → new ≡ over v.text old
+    → Answers w r old new
+answers_as old e p q = rw e (p, q)
 
 pub writes :
     {w : Written} {e : Report} {n : ℕ} {text : Bytes} (old : Bytes) {new : Bytes} → w ≡ record { report = accepted; text = text } →

@@ -4,11 +4,10 @@ use native.Mathlib.Omega.{arith}
 use lib.ListN.{length}
 use borrow.Author.Rules.{rules}
 use Rattle.record_target.proofs.Reasons.{measure_is, measure_over, text_too_long, output_too_long, fits}
-
 use Rattle.record_target.proofs.check_size.Goals as goal
 
 pub returns-then-end-gt-MAX_RECORD : goal.returns-then-end-gt-MAX_RECORD
-returns-then-end-gt-MAX_RECORD c =
+returns-then-end-gt-MAX_RECORD c text e =
     let a = c.args in
     text_too_long a.t a.written text _ _ c.refused.ensures (measure_over (length text) a.end e (omega (arith, c.if-end-gt-MAX_RECORD.true)))
 
@@ -19,7 +18,7 @@ pub overflow_sub-written : goal.overflow_sub-written
 overflow_sub-written c = omega (arith, c.requires)
 
 pub returns-then-written-length : goal.returns-then-written-length
-returns-then-written-length c =
+returns-then-written-length c text e =
     let a = c.args in
     let short = c.if-end-gt-MAX_RECORD.false in
     let is = measure_is (length text) a.end e (omega (arith, short)) in
@@ -27,7 +26,7 @@ returns-then-written-length c =
     (omega (arith, is, c.if-written-length.true, c.with_ending-length.ensures, c.requires))
 
 pub returns : goal.returns
-returns c =
+returns c text e =
     let a = c.args in
     let short = c.if-end-gt-MAX_RECORD.false in
     let is = measure_is (length text) a.end e (omega (arith, short)) in

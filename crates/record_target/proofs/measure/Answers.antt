@@ -10,11 +10,10 @@ use Rattle.model.specs.rules.Base.{Bytes}
 use Rattle.buffer.specs.Writes.{measure}
 use Rattle.cell_decoder.specs.Sources.{cells_in}
 use Rattle.record_target.proofs.Reasons.{place_measured, room_measured}
-
 use Rattle.record_target.proofs.measure.Goals as goal
 
 pub write_text-requires : goal.write_text-requires
-write_text-requires c = (c.requires.cells, (c.requires.clean_record, room_measured _ _ _ (omega arith)))
+write_text-requires c = record { cells = c.requires.cells; clean_record = c.requires.clean_record; room = room_measured _ _ _ (omega arith) }
 
 pub returns : goal.returns
 returns c =
@@ -22,4 +21,4 @@ returns c =
     let w = text in
     let from_zero : 0 + length w ≡ length w = omega arith in
     let p = c.write_text.ensures in
-    (place_measured p.0 ∙ ap measure from_zero, p.1)
+    record { end_value = place_measured p.written_at ∙ ap measure from_zero; carries_value = p.carries_value }

@@ -9,23 +9,17 @@ use Rattle.model.specs.declared.CheckResult.{CheckResult}
 use Rattle.model.specs.rules.Records.{clash_fault}
 use Rattle.cell_decoder.specs.Sources.{cells_in}
 use Rattle.record_check.specs.Keys.{repeated_as}
-
 use Rattle.record_target.proofs.name_clash.Goals as goal
 
--- look: cites tie
--- the check result for a header or another record
-abbrev answer : tie.Start → List ℕ → Bool → CheckResult
-answer c kinds header = let a = c.args in clash_fault a.t header (cells_in a.src a.s.now a.starts.now a.ends.now kinds)
-
 pub returns-then-not-header : goal.returns-then-not-header
-returns-then-not-header c = ap (answer c kinds) (sym (c.if-not-header.true))
+returns-then-not-header c kinds k = ap (λ (header : Bool). clash_fault c.args.t header (cells_in c.args.src c.args.s.now c.args.starts.now c.args.ends.now kinds)) (sym (c.if-not-header.true))
 
 pub returns-in-NoRepeat : goal.returns-in-NoRepeat
-returns-in-NoRepeat c =
+returns-in-NoRepeat c kinds k =
     sym (ap (repeated_as Clash) c.in-NoRepeat.is) ∙ c.first_repeat.ensures Clash kinds k
-    ∙ ap (answer c kinds) (sym (c.if-not-header.false))
+    ∙ ap (λ (header : Bool). clash_fault c.args.t header (cells_in c.args.src c.args.s.now c.args.starts.now c.args.ends.now kinds)) (sym (c.if-not-header.false))
 
 pub returns-in-AtColumn : goal.returns-in-AtColumn
-returns-in-AtColumn c =
+returns-in-AtColumn c kinds k =
     sym (ap (repeated_as Clash) c.in-AtColumn.is) ∙ c.first_repeat.ensures Clash kinds k
-    ∙ ap (answer c kinds) (sym (c.if-not-header.false))
+    ∙ ap (λ (header : Bool). clash_fault c.args.t header (cells_in c.args.src c.args.s.now c.args.starts.now c.args.ends.now kinds)) (sym (c.if-not-header.false))

@@ -7,7 +7,6 @@ use borrow.Author.Rules.{rules}
 use Rattle.model.specs.rules.Text.{ending}
 use Rattle.buffer.proofs.WriteProgress.{measure_within}
 use Rattle.record_target.proofs.Reasons.{place_measured, room_measured, ending_length}
-
 use Rattle.record_target.proofs.with_ending.Goals as goal
 
 pub write_ending-requires : goal.write_ending-requires

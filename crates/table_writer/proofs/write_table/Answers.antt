@@ -8,26 +8,26 @@ use Rattle.model.specs.rules.Api.{rows_of}
 use Rattle.cell_decoder.specs.declared.source.Source.TheVariants.{Contents}
 use Rattle.cell_decoder.specs.Sources.{cells_in}
 use Rattle.table_writer.proofs.Answers.{refuses, answers_as, accepted_size, accepted_written, refused_written}
-
 use Rattle.table_writer.proofs.write_table.Goals as goal
 
 pub write_if_fits-requires : goal.write_if_fits-requires
 write_if_fits-requires c =
     let rows : List (List Value) = rows_of c.args.records c.args.columns (cells_in Contents c.args.content.now c.args.starts.now c.args.ends.now c.args.kinds.now) in
-    let told = c.length-1.given in
-    (c.requires.cells, (c.requires.starts_len, accepted_size c.args.t rows told.0.0 (sym c.measure.ensures ∙ told.1)))
+    record { cells = c.requires.cells; starts_len = c.requires.starts_len; size_value = accepted_size c.args.t rows c.in-Accepted.length (sym c.measure.ensures ∙ c.in-Accepted.is) }
 
 pub returns-in-Accepted : goal.returns-in-Accepted
 returns-in-Accepted c =
     let rows : List (List Value) = rows_of c.args.records c.args.columns (cells_in Contents c.args.content.now c.args.starts.now c.args.ends.now c.args.kinds.now) in
-    let told = c.length-1.given in
+    let told =
     answers_as c.args.room.now
-    (accepted_written c.args.t rows told.0.0 (length c.args.room.now) (sym c.measure.ensures ∙ told.1))
-    c.write_if_fits.ensures
+    (accepted_written c.args.t rows c.in-Accepted.length (length c.args.room.now) (sym c.measure.ensures ∙ c.in-Accepted.is))
+    c.write_if_fits.ensures.value c.write_if_fits.ensures.room_after in
+    record { value = told.0; room_after = told.1 }
 
 pub returns-in-Refused : goal.returns-in-Refused
 returns-in-Refused c =
     let rows : List (List Value) = rows_of c.args.records c.args.columns (cells_in Contents c.args.content.now c.args.starts.now c.args.ends.now c.args.kinds.now) in
-    let told = c.e-1.given in
-    refuses c.refusal.ensures refl
-    (refused_written c.args.t rows told.0.0 (length c.args.room.now) (sym c.measure.ensures ∙ told.1))
+    let told =
+    refuses {room = c.args.room.now} c.refusal.ensures refl
+    (refused_written c.args.t rows c.in-Refused.e (length c.args.room.now) (sym c.measure.ensures ∙ c.in-Refused.is)) in
+    record { value = told.0; room_after = told.1 }

@@ -1,10 +1,9 @@
-use Prim.Native.Nat.{ℕ, ◌+◌, ◌-◌, ◌≤◌, ◌<◌}
+use Prim.Native.Nat.{◌≤◌}
 use mathlib.Core.Path.{sym, ◌∙◌}
 use native.Mathlib.Omega.{arith}
 use lib.ListN.{length, get_or}
-use borrow.Author.Rules.{rules}
 use Rattle.model.proofs.Tests.{impossible}
-use Rattle.record_writer.proofs.CleanCells.{CleanBefore, clean_none, clean_next, clean_all}
+use Rattle.record_writer.proofs.CleanCells.{clean_none, clean_next, clean_all}
 use Rattle.record_writer.proofs.clean.is_clean.Goals as goal
 
 pub returns-then-quote_of-ne34 : goal.returns-then-quote_of-ne34

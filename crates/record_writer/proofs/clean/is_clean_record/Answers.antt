@@ -1,5 +1,4 @@
 -- A header is never clean, and a data record is by its cells.
-use borrow.Author.Rules.{rules}
 use Rattle.model.proofs.Tests.{impossible}
 use Rattle.record_writer.proofs.CleanRecords.{clean_record}
 use Rattle.record_writer.proofs.clean.is_clean_record.Goals as goal

@@ -1,5 +1,4 @@
 -- A data record of a file.
-use borrow.Author.Rules.{rules}
 use Rattle.record_writer.specs.CleanRecord.{clean_data}
 use Rattle.record_writer.proofs.line.write_data.Goals as goal
 

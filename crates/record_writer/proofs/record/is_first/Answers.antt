@@ -2,7 +2,6 @@
 use mathlib.Core.Path.{sym}
 use native.Mathlib.Omega.{arith}
 use Rattle.record_writer.proofs.Columns.{later_first}
-use borrow.Author.Rules.{rules}
 use Rattle.record_writer.proofs.record.is_first.Goals as goal
 
 pub returns : goal.returns

@@ -1,7 +1,6 @@
 -- The delimiter is written, and then the cell.
 use mathlib.Core.Path.{◌≡◌, sym, ap}
 use mathlib.Core.Bool.{Bool}
-use borrow.Author.Rules.{rules}
 use Rattle.model.specs.rules.Base.{Bytes}
 use Rattle.model.specs.rules.Text.{cell_text}
 use Rattle.buffer.proofs.WriteProgress.{Emitting, emitting, room_as, emitted_as, room_next, room_rest, put_next}

@@ -3,7 +3,6 @@ use mathlib.Core.Path.{◌≡◌, sym, ap, ◌∙◌}
 use mathlib.Core.List.{[], ◌∷◌}
 use Prim.Native.Nat.{ℕ}
 use native.Mathlib.Omega.{arith}
-use borrow.Author.Rules.{rules}
 use Rattle.buffer.proofs.WriteProgress.{room_as, emitted_as}
 use Rattle.record_writer.specs.Columns.{before_cell}
 use Rattle.record_writer.proofs.Columns.{first_written, before_later}

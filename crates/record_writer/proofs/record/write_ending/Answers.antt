@@ -1,6 +1,5 @@
 -- `record_writer::record::write_ending` meets its contract, dialect by dialect.
 use mathlib.Core.Path.{sym, ap}
-use borrow.Author.Rules.{rules}
 use Rattle.model.specs.rules.Text.{ending}
 use Rattle.buffer.proofs.WriteProgress.{room_as, emitted_as}
 use Rattle.record_writer.proofs.record.write_ending.Goals as goal

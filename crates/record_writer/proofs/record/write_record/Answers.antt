@@ -1,10 +1,9 @@
 use mathlib.Core.Path.{refl, sym, ap, ◌∙◌}
 use mathlib.Core.List.{◌++◌}
-use Prim.Native.Nat.{◌-◌, ◌+◌, ◌<◌}
+use Prim.Native.Nat.{◌+◌, ◌<◌}
 use native.Mathlib.Omega.{arith}
 use lib.ListN.{length, get_or}
 use lib.Dec.{eqb}
-use borrow.Author.Rules.{rules}
 use Rattle.model.specs.rules.Dialect.{into}
 use Rattle.model.specs.rules.Base.{Bytes}
 use Rattle.model.specs.rules.Text.{record_text}
@@ -16,7 +15,7 @@ use Rattle.buffer.proofs.WriteProgress.{Emitting, same_long, room_next, put_next
 use Rattle.cell_decoder.specs.Sources.{kind_from, content_by, cells_in, CellSpan}
 use Rattle.cell_writer.specs.Cells.{value_of}
 use Rattle.record_writer.specs.Columns.{column_text, uncarried_cell, check_of}
-use Rattle.record_writer.proofs.Columns.{WrittenUpTo, text_at, written_none, text_at_lem, text_end, says_next, uncarried_end, or_else_sound}
+use Rattle.record_writer.proofs.Columns.{text_at, written_none, text_at_lem, text_end, says_next, uncarried_end, or_else_sound}
 use Rattle.record_writer.proofs.record.write_record.Goals as goal
 
 pub loop-n-init : goal.loop-n-init

@@ -1,9 +1,6 @@
-use Prim.Native.Nat.{◌-◌}
 use native.Mathlib.Omega.{arith}
-use borrow.Author.Rules.{rules}
 use Rattle.model.proofs.Tests.{impossible}
-use Rattle.swar.specs.Words.{plain_text}
-use Rattle.swar.proofs.Spans.{CheckedTo, check_starts, check_word, check_last}
+use Rattle.swar.proofs.Spans.{check_starts, check_word, check_last}
 use Rattle.record_writer.proofs.verbatim.all_plain.Goals as goal
 
 pub loop-i-init : goal.loop-i-init

@@ -1,6 +1,5 @@
 -- `record_writer::verbatim::is_direct` meets its contract: its tests are the definition's.
 use mathlib.Core.Path.{refl, sym, ◌∙◌}
-use borrow.Author.Rules.{rules}
 use Rattle.model.proofs.Tests.{impossible}
 use Rattle.record_writer.specs.Verbatim.{is_direct}
 use Rattle.record_writer.proofs.verbatim.is_direct.Goals as goal

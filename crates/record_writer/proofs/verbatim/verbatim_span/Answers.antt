@@ -3,7 +3,6 @@ use mathlib.Core.Path.{◌≡◌, ap, ◌∙◌}
 use mathlib.Core.Bool.{true}
 use Prim.Native.Nat.{ℕ}
 use native.Mathlib.Omega.{arith}
-use borrow.Author.Rules.{rules}
 use Rattle.model.specs.rules.Text.{is_text}
 use Rattle.cell_decoder.specs.Sources.{kind_from}
 use Rattle.record_writer.specs.Verbatim.{looks_plain, looks_encoded}

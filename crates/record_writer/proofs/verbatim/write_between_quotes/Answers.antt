@@ -1,6 +1,5 @@
 -- `record_writer::verbatim::write_between_quotes` meets its contract: a quote, the bytes and a quote.
 use mathlib.Core.List.{[], ◌∷◌, ◌++◌}
-use borrow.Author.Rules.{rules}
 use Rattle.model.specs.rules.Base.{QUOTE}
 use Rattle.buffer.proofs.WriteProgress.{Emitting, emitting, room_next, room_rest, put_next}
 use Rattle.record_writer.proofs.Columns.{written_last}

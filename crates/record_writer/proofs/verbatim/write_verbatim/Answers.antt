@@ -1,6 +1,5 @@
 -- A run of ordinary bytes is written between quotes; any other cell is decoded.
 use mathlib.Core.Path.{sym}
-use borrow.Author.Rules.{rules}
 use Rattle.buffer.proofs.WriteProgress.{room_as, emitted_as}
 use Rattle.cell_decoder.specs.Sources.{kind_from}
 use Rattle.record_writer.specs.declared.verbatim.Verbatim.TheVariants.{Span}

@@ -6,7 +6,6 @@ use borrow.Author.Rules.{rules}
 use Rattle.model.specs.rules.Api.{table_cells}
 use Rattle.table_writer.specs.TableParts.{is_there}
 use Rattle.table_writer.proofs.Tables.{cells_from, cells_here, cells_next, cells_end}
-
 use Rattle.table_writer.proofs.check.are_cells.Goals as goal
 
 pub loop-n-init : goal.loop-n-init

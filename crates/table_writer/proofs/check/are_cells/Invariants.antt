@@ -7,7 +7,6 @@ use borrow.Author.Rules.{rules}
 use Rattle.model.specs.rules.Api.{table_cells}
 use Rattle.table_writer.specs.TableParts.{is_there}
 use Rattle.table_writer.proofs.Tables.{cells_from, cells_here, cells_next, cells_end}
-
 use Rattle.table_writer.proofs.check.are_cells.Given as goal
 
 abbrev pub invariant-loop-n : goal.invariant-loop-n

@@ -6,7 +6,6 @@ use lib.Dec.{eqb}
 use lib.ListN.{length}
 use borrow.Author.Tests.{ne_eqb}
 use Rattle.model.specs.rules.Base.{Bytes, is_empty}
-
 use Rattle.table_writer.proofs.check.is_empty.Goals as goal
 
 by_length : (bs : Bytes) → eqb (length bs) 0 ≡ is_empty bs

@@ -12,7 +12,6 @@ use Rattle.model.specs.declared.Kind.TheVariants.{Text, Number, True, False, Nul
 use Rattle.model.specs.rules.Decode.{kind_of, validate_cell}
 use Rattle.model.specs.rules.Api.{is_number}
 use Rattle.model.proofs.Tests.{impossible}
-
 use Rattle.table_writer.proofs.check.is_number.Goals as goal
 
 other-kind : (k : Kind) (j : CellCheck) → is_number k WholeCell ≡ false → is_number k j ≡ false
@@ -32,14 +31,14 @@ unsound Null e o = refl
 pub returns-then-not-is_number_kind : goal.returns-then-not-is_number_kind
 returns-then-not-is_number_kind c =
     let by_kind : c.is_number_kind.result ≡ is_number (kind_of Csvj c.args.s.now) WholeCell =
-        c.is_number_kind.ensures ∙ ap (λ (k : Kind). is_number k WholeCell) c.kind_of.ensures in
+    c.is_number_kind.ensures ∙ ap (λ (k : Kind). is_number k WholeCell) c.kind_of.ensures in
     let s = c.args.s.now in
     sym (other-kind (kind_of Csvj s) (validate_cell Csvj s) (sym (by_kind) ∙ c.if-not-is_number_kind.true))
 
 pub returns-in-WholeCell : goal.returns-in-WholeCell
 returns-in-WholeCell c =
     let by_kind : c.is_number_kind.result ≡ is_number (kind_of Csvj c.args.s.now) WholeCell =
-        c.is_number_kind.ensures ∙ ap (λ (k : Kind). is_number k WholeCell) c.kind_of.ensures in
+    c.is_number_kind.ensures ∙ ap (λ (k : Kind). is_number k WholeCell) c.kind_of.ensures in
     let s = c.args.s.now in
     sym
     (ap (is_number (kind_of Csvj s)) (sym c.validate_cell.ensures ∙ c.in-WholeCell.is) ∙ sym (by_kind)

@@ -3,7 +3,6 @@ use mathlib.Core.Path.{sym}
 use native.Mathlib.Omega.{arith}
 use borrow.Author.Rules.{rules}
 use Rattle.table_writer.proofs.Products.{no_columns, not_whole, by_quotient}
-
 use Rattle.table_writer.proofs.check.is_product.Goals as goal
 
 pub returns-then-columns-eq0 : goal.returns-then-columns-eq0

@@ -3,7 +3,6 @@ use mathlib.Core.Path.{sym, ◌∙◌}
 use native.Mathlib.Omega.{arith}
 use borrow.Author.Rules.{rules}
 use Rattle.table_writer.proofs.Tables.{no_ends, no_kinds, no_record, no_product, by_cells}
-
 use Rattle.table_writer.proofs.check.is_table.Goals as goal
 
 pub returns-then-starts-ends : goal.returns-then-starts-ends

@@ -3,7 +3,6 @@ use mathlib.Core.Path.{sym, ◌∙◌}
 use native.Mathlib.Omega.{arith}
 use Rattle.model.specs.rules.Base.{choose◌then◌else◌}
 use Rattle.table_writer.proofs.Contents.{ed_below, ed_character, ed_high, ed_low, ed_above}
-
 use Rattle.table_writer.proofs.content.after_ed.Goals as goal
 
 pub returns-then-b-lt128 : goal.returns-then-b-lt128

@@ -6,7 +6,6 @@ use lib.ListN.{length}
 use Rattle.model.specs.rules.Utf8.{gap}
 use Rattle.table_writer.specs.Content.{SameContentState}
 use Rattle.table_writer.proofs.Contents.{passes_none, passes_ascii}
-
 use Rattle.table_writer.proofs.content.ascii_end.Goals as goal
 
 pub loop-i-init : goal.loop-i-init

@@ -7,7 +7,6 @@ use lib.ListN.{length}
 use Rattle.model.specs.rules.Utf8.{gap}
 use Rattle.table_writer.specs.Content.{SameContentState}
 use Rattle.table_writer.proofs.Contents.{passes_none, passes_ascii}
-
 use Rattle.table_writer.proofs.content.ascii_end.Given as goal
 
 abbrev pub invariant-loop-i : goal.invariant-loop-i

@@ -4,7 +4,6 @@ use borrow.Author.Rules.{rules}
 use borrow.Author.Tests.{eq-eqb, ne_eqb}
 use Rattle.model.specs.rules.Base.{choose◌then◌else◌}
 use Rattle.model.specs.rules.Utf8.{settle, wide_step}
-
 use Rattle.table_writer.proofs.content.at_gap.Goals as goal
 
 pub returns-then-b-eq237 : goal.returns-then-b-eq237

@@ -2,7 +2,6 @@
 use Rattle.model.specs.rules.Base.{choose◌then◌else◌}
 use Rattle.model.specs.rules.Utf8.{wide_step}
 use Rattle.model.proofs.Tests.{tests}
-
 use Rattle.table_writer.proofs.content.in_lone.Goals as goal
 
 pub returns-then-b-lt128 : goal.returns-then-b-lt128

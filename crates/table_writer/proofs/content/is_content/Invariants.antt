@@ -8,7 +8,6 @@ use Rattle.model.specs.rules.Base.{Bytes}
 use Rattle.model.specs.rules.Utf8.{is_content}
 use Rattle.table_writer.specs.Content.{wide_in, content_from}
 use Rattle.table_writer.proofs.Contents.{step_passes}
-
 use Rattle.table_writer.proofs.content.is_content.Given as goal
 
 abbrev pub invariant-loop-i : goal.invariant-loop-i

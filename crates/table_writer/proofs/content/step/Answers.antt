@@ -1,6 +1,5 @@
 -- Each arm is the step from its state.
 use borrow.Author.Rules.{rules}
-
 use Rattle.table_writer.proofs.content.step.Goals as goal
 
 pub returns-in-Gap : goal.returns-in-Gap

@@ -16,7 +16,6 @@ use Rattle.record_target.specs.declared.Measurement.TheVariants.{Refused}
 use Rattle.table_writer.specs.Rows.{row_check}
 use Rattle.table_writer.proofs.Parts.{part_cells, part_stands}
 use Rattle.table_writer.proofs.Rows.{row_at, row_inside, Measuring, measuring, measured_fault, measured_next, measured_all}
-
 use Rattle.table_writer.proofs.records.measure.Given as goal
 
 abbrev pub invariant-loop-n : goal.invariant-loop-n

@@ -15,7 +15,6 @@ use Rattle.cell_decoder.specs.Sources.{cells_in}
 use Rattle.cell_decoder.proofs.CellsIn.{cells_length}
 use Rattle.table_writer.proofs.Parts.{part_cells, part_stands}
 use Rattle.table_writer.proofs.Rows.{row_at, row_inside, WritingRows, writing_rows, row_room, row_written, rows_written, rows_long}
-
 use Rattle.table_writer.proofs.records.write_records.Given as goal
 
 abbrev pub invariant-loop-n : goal.invariant-loop-n

@@ -1,11 +1,8 @@
 -- The invariant: the bytes before i are ordinary.
 use Prim.Native.Nat.{◌-◌}
-use native.Mathlib.Omega.{arith}
-use borrow.Author.Rules.{rules}
-use Rattle.model.proofs.Tests.{impossible}
 use Rattle.model.specs.rules.Base.{QUOTE}
 use Rattle.swar.specs.Words.{is_clean}
-use Rattle.swar.proofs.Spans.{CheckedTo, check_starts, check_word, check_last}
+use Rattle.swar.proofs.Spans.{CheckedTo}
 use Rattle.record_writer.proofs.clean.check.all_clean.Given as goal
 
 abbrev pub invariant-loop-i : goal.invariant-loop-i

@@ -1,7 +1,6 @@
 -- `record_writer::clean::check::is_clean` meets its contract, test by test.
 use mathlib.Core.Path.{sym, ◌∙◌}
 use native.Mathlib.Omega.{arith}
-use borrow.Author.Rules.{rules}
 use Rattle.model.proofs.Tests.{impossible}
 use Rattle.record_writer.proofs.VerbatimLaws.{quotes_inside}
 use Rattle.record_writer.proofs.CleanCells.{quotes_clean}

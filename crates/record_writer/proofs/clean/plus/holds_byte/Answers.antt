@@ -1,10 +1,5 @@
-use mathlib.Core.Path.{◌≡◌, refl, sym, ◌∙◌}
-use Prim.Native.Nat.{◌-◌, ◌≤◌}
+use mathlib.Core.Path.{refl, sym, ◌∙◌}
 use native.Mathlib.Omega.{arith}
-use lib.ListN.{length, drop}
-use borrow.Author.Rules.{rules}
-use Rattle.model.specs.rules.Base.{holds}
-use Rattle.swar.specs.Words.{is_byte}
 use Rattle.record_writer.proofs.ByteMembership.{word_held, word_on}
 use Rattle.record_writer.proofs.clean.plus.holds_byte.Goals as goal
 

@@ -1,9 +1,5 @@
-use mathlib.Core.Path.{◌≡◌, refl, sym, ◌∙◌}
-use Prim.Native.Nat.{◌-◌, ◌≤◌}
+use mathlib.Core.Path.{refl, sym, ◌∙◌}
 use native.Mathlib.Omega.{arith}
-use lib.ListN.{length, drop}
-use Rattle.model.specs.rules.Base.{holds}
-use Rattle.swar.specs.Words.{is_byte}
 use Rattle.record_writer.proofs.ByteMembership.{held_here, held_on, held_end}
 use Rattle.record_writer.proofs.clean.plus.holds_from.Goals as goal
 

@@ -1,11 +1,9 @@
 -- The invariant: the bytes from `at` on hold p exactly when those from i on do.
-use mathlib.Core.Path.{◌≡◌, refl, sym, ◌∙◌}
+use mathlib.Core.Path.{◌≡◌}
 use Prim.Native.Nat.{◌-◌, ◌≤◌}
-use native.Mathlib.Omega.{arith}
 use lib.ListN.{length, drop}
 use Rattle.model.specs.rules.Base.{holds}
 use Rattle.swar.specs.Words.{is_byte}
-use Rattle.record_writer.proofs.ByteMembership.{held_here, held_on, held_end}
 use Rattle.record_writer.proofs.clean.plus.holds_from.Given as goal
 
 abbrev pub invariant-loop-i : goal.invariant-loop-i

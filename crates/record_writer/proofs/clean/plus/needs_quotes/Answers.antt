@@ -1,6 +1,5 @@
 -- `record_writer::clean::plus::needs_quotes` meets its contract, by its tests.
 use mathlib.Core.Path.{sym, ◌∙◌}
-use borrow.Author.Rules.{rules}
 use Rattle.record_writer.proofs.ByteMembership.{needs_held, needs_only, needs_none}
 use Rattle.record_writer.proofs.clean.plus.needs_quotes.Goals as goal
 

@@ -1,11 +1,8 @@
-use Prim.Native.Nat.{◌-◌}
 use native.Mathlib.Omega.{arith}
-use lib.Dec.{eqb}
-use lib.ListN.{length, get_or}
+use lib.ListN.{get_or}
 use Rattle.buffer.proofs.WriteProgress.{same_long}
 use Rattle.record_writer.specs.Joined.{Lies}
-use Rattle.record_writer.specs.CleanCellText.{plus_cell}
-use Rattle.record_writer.proofs.Joined.{WrittenUpTo, written_none, room_cell, put_cell, put_all}
+use Rattle.record_writer.proofs.Joined.{written_none, room_cell, put_cell, put_all}
 use Rattle.record_writer.proofs.clean.plus.write_csv_plus.Goals as goal
 
 pub loop-n-init : goal.loop-n-init

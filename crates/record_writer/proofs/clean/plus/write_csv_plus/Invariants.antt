@@ -1,12 +1,9 @@
 -- The invariant: what is still to be written is the text of the cells from n on.
 use Prim.Native.Nat.{◌-◌}
-use native.Mathlib.Omega.{arith}
 use lib.Dec.{eqb}
-use lib.ListN.{length, get_or}
-use Rattle.buffer.proofs.WriteProgress.{same_long}
-use Rattle.record_writer.specs.Joined.{Lies}
+use lib.ListN.{length}
 use Rattle.record_writer.specs.CleanCellText.{plus_cell}
-use Rattle.record_writer.proofs.Joined.{WrittenUpTo, written_none, room_cell, put_cell, put_all}
+use Rattle.record_writer.proofs.Joined.{WrittenUpTo}
 use Rattle.record_writer.proofs.clean.plus.write_csv_plus.Given as goal
 
 abbrev pub invariant-loop-n : goal.invariant-loop-n

@@ -1,7 +1,6 @@
 -- A quotation mark or none is written, then the bytes, then the same again.
 use mathlib.Core.Path.{◌≡◌, sym, ap}
 use mathlib.Core.List.{◌++◌}
-use borrow.Author.Rules.{rules}
 use Rattle.model.specs.rules.Base.{Bytes}
 use Rattle.buffer.proofs.WriteProgress.{Emitting, emitting, room_as, emitted_as, room_next, room_rest, put_next}
 use Rattle.record_writer.proofs.Columns.{written_last}

@@ -1,6 +1,5 @@
 -- `record_writer::clean::quoted::cell_length` meets its contract.
 use mathlib.Core.Path.{sym, ◌∙◌}
-use borrow.Author.Rules.{rules}
 use Rattle.record_writer.proofs.Lengths.{length_own, length_two}
 use Rattle.record_writer.proofs.clean.quoted.cell_length.Goals as goal
 

@@ -2,7 +2,6 @@
 use mathlib.Core.Path.{sym, ap, ◌∙◌}
 use Prim.Native.Nat.{ℕ, ◌+◌}
 use native.Mathlib.Omega.{arith}
-use borrow.Author.Rules.{rules}
 use Rattle.record_writer.specs.CleanCellText.{quoted_cell}
 use Rattle.record_writer.proofs.Lengths.{length_cell, length_first, length_later}
 use Rattle.record_writer.proofs.clean.quoted.column_length.Goals as goal

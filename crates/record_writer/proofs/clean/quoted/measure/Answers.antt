@@ -1,16 +1,14 @@
-use Prim.Native.Nat.{ℕ, ◌+◌, ◌-◌}
+use Prim.Native.Nat.{ℕ, ◌+◌}
 use mathlib.Core.Path.{refl, ap, ◌∙◌}
 use mathlib.Core.Bool.{false}
-use mathlib.Core.List.{[]}
 use native.Mathlib.Omega.{arith}
-use lib.ListN.{length, get_or}
-use Rattle.model.specs.rules.Base.{COMMA, choose◌then◌else◌}
+use lib.ListN.{get_or}
+use Rattle.model.specs.rules.Base.{choose◌then◌else◌}
 use Rattle.model.proofs.Tests.{impossible}
 use Rattle.buffer.specs.Writes.{measure}
 use Rattle.buffer.proofs.WriteProgress.{put_measured}
 use Rattle.record_writer.specs.Joined.{Lies}
-use Rattle.record_writer.specs.CleanCellText.{quoted_cell}
-use Rattle.record_writer.proofs.Joined.{WrittenUpTo, written_none, room_cell, put_cell, put_all}
+use Rattle.record_writer.proofs.Joined.{written_none, room_cell, put_cell, put_all}
 use Rattle.record_writer.proofs.clean.quoted.measure.Goals as goal
 
 pub loop-n-init : goal.loop-n-init

@@ -1,17 +1,11 @@
 -- The invariant: what is still to be measured is the text of the cells from n on.
-use Prim.Native.Nat.{ℕ, ◌+◌, ◌-◌}
-use mathlib.Core.Path.{refl, ap, ◌∙◌}
+use Prim.Native.Nat.{◌-◌}
 use mathlib.Core.Bool.{false}
 use mathlib.Core.List.{[]}
-use native.Mathlib.Omega.{arith}
-use lib.ListN.{length, get_or}
-use Rattle.model.specs.rules.Base.{COMMA, choose◌then◌else◌}
-use Rattle.model.proofs.Tests.{impossible}
-use Rattle.buffer.specs.Writes.{measure}
-use Rattle.buffer.proofs.WriteProgress.{put_measured}
-use Rattle.record_writer.specs.Joined.{Lies}
+use lib.ListN.{length}
+use Rattle.model.specs.rules.Base.{COMMA}
 use Rattle.record_writer.specs.CleanCellText.{quoted_cell}
-use Rattle.record_writer.proofs.Joined.{WrittenUpTo, written_none, room_cell, put_cell, put_all}
+use Rattle.record_writer.proofs.Joined.{WrittenUpTo}
 use Rattle.record_writer.proofs.clean.quoted.measure.Given as goal
 
 -- nothing is written, so any buffer serves

@@ -1,12 +1,9 @@
-use Prim.Native.Nat.{◌-◌}
 use mathlib.Core.Bool.{true}
 use native.Mathlib.Omega.{arith}
-use lib.ListN.{length, get_or}
-use Rattle.model.specs.rules.Base.{COMMA}
+use lib.ListN.{get_or}
 use Rattle.buffer.proofs.WriteProgress.{same_long}
 use Rattle.record_writer.specs.Joined.{Lies}
-use Rattle.record_writer.specs.CleanCellText.{quoted_cell}
-use Rattle.record_writer.proofs.Joined.{WrittenUpTo, written_none, room_cell, put_cell, put_all}
+use Rattle.record_writer.proofs.Joined.{written_none, room_cell, put_cell, put_all}
 use Rattle.record_writer.proofs.clean.quoted.write.Goals as goal
 
 pub loop-n-init : goal.loop-n-init

@@ -1,13 +1,10 @@
 -- The invariant: what is still to be written is the text of the cells from n on.
 use Prim.Native.Nat.{◌-◌}
 use mathlib.Core.Bool.{true}
-use native.Mathlib.Omega.{arith}
-use lib.ListN.{length, get_or}
+use lib.ListN.{length}
 use Rattle.model.specs.rules.Base.{COMMA}
-use Rattle.buffer.proofs.WriteProgress.{same_long}
-use Rattle.record_writer.specs.Joined.{Lies}
 use Rattle.record_writer.specs.CleanCellText.{quoted_cell}
-use Rattle.record_writer.proofs.Joined.{WrittenUpTo, written_none, room_cell, put_cell, put_all}
+use Rattle.record_writer.proofs.Joined.{WrittenUpTo}
 use Rattle.record_writer.proofs.clean.quoted.write.Given as goal
 
 abbrev pub invariant-loop-n : goal.invariant-loop-n

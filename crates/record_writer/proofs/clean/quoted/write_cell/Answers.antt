@@ -2,7 +2,6 @@
 use mathlib.Core.Path.{◌≡◌, refl, sym, ap}
 use mathlib.Core.Bool.{Bool, true, not}
 use mathlib.Core.List.{◌++◌}
-use borrow.Author.Rules.{rules}
 use Rattle.model.specs.rules.Base.{Bytes, begins, QUOTE}
 use Rattle.buffer.proofs.WriteProgress.{Emitting, emitting, put_written, room_as, emitted_as, room_next, room_rest, put_next}
 use Rattle.record_writer.proofs.Columns.{written_last}

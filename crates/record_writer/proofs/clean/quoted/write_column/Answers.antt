@@ -1,7 +1,6 @@
 -- The delimiter is written, and then the cell.
 use mathlib.Core.Bool.{true}
 use mathlib.Core.List.{◌++◌}
-use borrow.Author.Rules.{rules}
 use Rattle.model.specs.rules.Base.{COMMA}
 use Rattle.buffer.proofs.WriteProgress.{Emitting, emitting, room_next, room_rest, put_next}
 use Rattle.record_writer.proofs.Columns.{written_last}

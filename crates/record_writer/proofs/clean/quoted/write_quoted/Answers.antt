@@ -1,6 +1,5 @@
 -- `record_writer::clean::quoted::write_quoted` meets its contract: it writes, or only measures.
 use mathlib.Core.Path.{refl}
-use borrow.Author.Rules.{rules}
 use Rattle.buffer.proofs.WriteProgress.{put_measured}
 use Rattle.record_writer.proofs.clean.quoted.write_quoted.Goals as goal
 

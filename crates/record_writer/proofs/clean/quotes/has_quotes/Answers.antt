@@ -1,6 +1,5 @@
 -- `record_writer::clean::quotes::has_quotes` meets its contract.
 use mathlib.Core.Path.{sym}
-use borrow.Author.Rules.{rules}
 use Rattle.record_writer.proofs.Lengths.{begins_none, begins_by}
 use Rattle.record_writer.proofs.clean.quotes.has_quotes.Goals as goal
 

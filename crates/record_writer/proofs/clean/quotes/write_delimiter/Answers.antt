@@ -1,7 +1,6 @@
 -- `record_writer::clean::quotes::write_delimiter` meets its contract: one byte, or nothing before the first cell.
 use mathlib.Core.Path.{◌≡◌, sym}
 use mathlib.Core.List.{[]}
-use borrow.Author.Rules.{rules}
 use Rattle.buffer.proofs.WriteProgress.{room_as, emitted_as}
 use Rattle.cell_writer.proofs.Cells.{written_nothing}
 use Rattle.record_writer.specs.Joined.{before}

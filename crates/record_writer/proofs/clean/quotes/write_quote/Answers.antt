@@ -1,6 +1,5 @@
 -- `record_writer::clean::quotes::write_quote` meets its contract: one byte or none.
 use mathlib.Core.Path.{sym}
-use borrow.Author.Rules.{rules}
 use Rattle.buffer.proofs.WriteProgress.{room_as, emitted_as}
 use Rattle.cell_writer.proofs.Cells.{written_nothing}
 use Rattle.record_writer.proofs.Lengths.{quote_is, quote_none}
