@@ -109,13 +109,13 @@ overflow_add-result c =
     let m : c.args.limit ≤ MAXFILE = c.loop-at.invariant.low in omega arith
 
 pub shape_of-starts-in-After : goal.shape_of-starts-in-After
-shape_of-starts-in-After c = ap length c.store_cell.ensures.starts_after ∙ length_stored_if true _ _ _ _ ∙ c.loop-at.invariant.long.0
+shape_of-starts-in-After c = ap length c.store_cell.ensures.starts_after ∙ length_stored_if _ _ _ _ _ ∙ c.loop-at.invariant.long.0
 
 pub shape_of-ends-in-After : goal.shape_of-ends-in-After
-shape_of-ends-in-After c = ap length c.store_cell.ensures.ends_after ∙ length_stored_if true _ _ _ _ ∙ c.loop-at.invariant.long.1
+shape_of-ends-in-After c = ap length c.store_cell.ensures.ends_after ∙ length_stored_if _ _ _ _ _ ∙ c.loop-at.invariant.long.1
 
 pub shape_of-kinds-in-After : goal.shape_of-kinds-in-After
-shape_of-kinds-in-After c = ap length c.store_cell.ensures.kinds_after ∙ length_stored_if true _ _ _ _ ∙ c.loop-at.invariant.long.2
+shape_of-kinds-in-After c = ap length c.store_cell.ensures.kinds_after ∙ length_stored_if _ _ _ _ _ ∙ c.loop-at.invariant.long.2
 
 pub returns-in-After : goal.returns-in-After
 returns-in-After c =
