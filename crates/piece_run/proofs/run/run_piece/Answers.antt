@@ -15,12 +15,12 @@ use Rattle.piece_run.proofs.PieceRun.{took_stopped}
 use Rattle.piece_run.proofs.run.run_piece.Goals as goal
 
 pub run_after_header-requires : goal.run_after_header-requires
-run_after_header-requires c = ready_later c.requires (λ e. omega (arith, c.if-place-gt0.true))
+run_after_header-requires c = ready_later c.requires (λ e. omega arith)
 
 pub returns-then-place-gt0 : goal.returns-then-place-gt0
 returns-then-place-gt0 c =
     let a = c.args in
-    let more : 0 < a.place.records = omega (arith, c.if-place-gt0.true) in
+    let more : 0 < a.place.records = omega arith in
     let r = c.run_after_header.ensures in record {
       piece_run_sound = λ before done k b.
           let h = headed_begins b more in
@@ -30,7 +30,7 @@ returns-then-place-gt0 c =
 
 pub step-requires : goal.step-requires
 step-requires c =
-    let none : c.args.place.records ≤ 0 = c.if-place-gt0.false in record {
+    record {
       step_ready = ready_header c.requires (omega arith);
       scratch = record { long_starts = search rules; long_stops = search rules; long_kinds = search rules };
     }
@@ -67,7 +67,6 @@ pub returns-in-Next : goal.returns-in-Next
 returns-in-Next c =
     let a = c.args in
     let t = c.step in
-    let left : a.place.records ≤ 0 = c.if-place-gt0.false in
     let none : a.place.records ≡ 0 = omega arith in
     let bounds = subst (StepInBounds a.piece.now a.place.offset 0 _ a.out.now) c.in-Next.is t.ensures.step_in_bounds in
     let r = c.run_steps.ensures in
@@ -96,7 +95,6 @@ pub returns-in-NeedInput : goal.returns-in-NeedInput
 returns-in-NeedInput c =
     let a = c.args in
     let t = c.step in
-    let left : a.place.records ≤ 0 = c.if-place-gt0.false in
     let none : a.place.records ≡ 0 = omega arith in
     let bounds = subst (StepInBounds a.piece.now a.place.offset 0 _ a.out.now) c.in-NeedInput.is t.ensures.step_in_bounds in
     let length-is = ap (λ (x : CallResult). x.length) c.call_result.ensures in record {
@@ -124,7 +122,6 @@ pub returns-in-Failed : goal.returns-in-Failed
 returns-in-Failed c =
     let a = c.args in
     let t = c.step in
-    let left : a.place.records ≤ 0 = c.if-place-gt0.false in
     let none : a.place.records ≡ 0 = omega arith in
     let length-is = ap (λ (x : CallResult). x.length) c.call_result-in-Failed.ensures in record {
       piece_run_sound = λ before done k b.
@@ -152,7 +149,6 @@ unfolding run_begins
 returns-in-BadState c =
     let a = c.args in
     let t = c.step in
-    let left : a.place.records ≤ 0 = c.if-place-gt0.false in
     let none : a.place.records ≡ 0 = omega arith in
     let length-is = ap (λ (x : CallResult). x.length) c.call_result-in-BadState.ensures in record {
       piece_run_sound = λ before done k b.
