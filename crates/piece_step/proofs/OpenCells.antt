@@ -16,7 +16,7 @@ use Rattle.model.proofs.cell_laws.CellRuns.{all_snoc}
 use Rattle.model.proofs.file_laws.FileSteps as steps
 use Rattle.model.proofs.file_laws.FileSteps.{Rests, Around, Grown, Free, Starts, Opens, Leaves, Transition, step_transition}
 use Rattle.piece_step.specs.Types.{Dialect, FileState, Top, Begin, Ended, Bom1, Bom2, PlainBom1, PlainBom2, Comment, Blanks, ExpectCell, Inside, After}
-use Rattle.piece_step.specs.Types.{Cr, OfCell, Between, Tail, Ends, Step, To, Reject, ByteFault, Fault}
+use Rattle.piece_step.specs.Types.{Cr, Outside, Passed, OfCell, Between, Tail, Ends, Step, To, Reject, ByteFault, Fault}
 use Rattle.piece_step.specs.Invariant.{in_cell}
 
 -- ---- a byte of a record
@@ -157,6 +157,8 @@ module _ (d : Dialect) (limit began : ℕ) where
   step_first s b bs ih i l (To g (Between k)) (go_between h u) = ih _ (then_closed h (omega arith) (closes_first k s i u)) (omega arith)
   step_first s b bs ih i l (To g (Tail k)) (go_tail h u) = ih _ (then_closed h (omega arith) (closes_first k s i u)) (omega arith)
   step_first s b bs ih i l (To g (Ends k)) (go_ends u) = first_completes (closes_first k s i u)
+  step_first s b bs ih i l (To g Outside) z = elim z [ ]
+  step_first s b bs ih i l (To g Passed) z = elim z [ ]
 
   firsts : (bs : Bytes) → Firsts bs
   unfolding scan
@@ -214,6 +216,8 @@ module _ (d : Dialect) (limit base : ℕ) where
       let m : base + (bytes_in (closing_raw k s) + 0) ≤ s.size = omega arith in
       ih _ h m
   step_grew s b bs ih l (To g (Ends k)) (go_ends u) = grew_completes (closing_grew base k s l)
+  step_grew s b bs ih l (To g Outside) z = elim z [ ]
+  step_grew s b bs ih l (To g Passed) z = elim z [ ]
 
   grow : (bs : Bytes) → Grow bs
   unfolding scan

@@ -256,6 +256,7 @@ moved_later n i (c ∷ cs) (all_cons h hs) = let g : n + i < n + c.from = omega 
 
 closed_proceeds : {k : Buffered} (n i : ℕ) (cs : List RawCell) → ClosedFirst i cs → ProceedsOn k (n + i) (map (moved_cell n) cs)
 closed_proceeds n i (c ∷ cs) (closed_first e all) = let g : n + c.from ≡ n + i = omega arith in first_proceeds_on g (moved_later n i cs all)
+closed_proceeds n i [] z = elim z [ ]
 
 -- the current record with the cells of the part
 pub joined_hand :

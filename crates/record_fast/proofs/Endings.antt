@@ -1,8 +1,6 @@
 -- Laws of the byte after a cell: the record continues after a delimiter, and an ending ends it.
-use Prim.Native.Nat.{ℕ}
 use mathlib.Core.Path.{◌≡◌, refl}
-use mathlib.Core.Bool.{Bool, true, false}
-use lib.Dec.{eqb}
+use mathlib.Core.Bool.{true, false}
 use borrow.Author.Tests.{eq-eqb}
 use Rattle.model.specs.declared.Delimiter.{Delimiter}
 use Rattle.model.specs.declared.Delimiter.TheVariants.{Comma, Semicolon, Tab, Bar}

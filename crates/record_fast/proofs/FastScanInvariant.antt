@@ -1,19 +1,17 @@
 -- The invariant of the loop over cells, and one law for each path through a step. The laws are the scanner's: a cell and the byte after
 -- it are one step of its loop.
-use Prim.Native.Nat.{ℕ, suc, ◌+◌, ◌-◌, ◌^◌, ◌≤◌, ◌<◌}
+use Prim.Native.Nat.{ℕ, ◌+◌, ◌-◌, ◌≤◌, ◌<◌}
 use native.Mathlib.Omega.{arith}
 use mathlib.Core.Path.{◌≡◌, refl, sym, ap, subst, ◌∙◌}
-use mathlib.Core.Bool.{Bool, true, false, ◌&&◌, ◌||◌}
-use mathlib.Core.List.{List, [], ◌∷◌, ◌++◌, map, append-nil}
-use lib.ListN.{length, set, drop, get_or, length-set}
+use mathlib.Core.Bool.{Bool, true, false, ◌&&◌}
+use mathlib.Core.List.{List, [], ◌++◌, map, append-nil}
+use lib.ListN.{length, drop, get_or}
 use lib.Seq.{get_or-set_same, get_or-set_other}
 use lib.Dec.{leb, ltb}
-use borrow.Author.Tests.{eqb-true, eq-eqb, lt-leb, lt-ltb, ltb-true, ltb-false}
+use borrow.Author.Tests.{eqb-true, lt-leb, lt-ltb, ltb-true, ltb-false}
 use Rattle.model.specs.declared.Dialect.{Dialect}
 use Rattle.model.specs.declared.Dialect.TheVariants.{Csvj, Tdif, CsvPlus}
-use Rattle.model.specs.declared.ByteFault.{ByteFault}
 use Rattle.model.specs.declared.ByteFault.TheVariants.{Syntax}
-use Rattle.model.specs.declared.Cell.{Cell}
 use Rattle.model.specs.declared.Cell.TheVariants.{Fresh, Quoted, Closed, Escape, Hex, InNumber, InWord, Plain, Complete}
 use Rattle.model.specs.declared.CellStep.TheVariants.{Refuse}
 use Rattle.model.specs.declared.FileState.{FileState}
@@ -27,29 +25,10 @@ use Rattle.model.specs.rules.Cell.{first_byte, cell_step}
 use Rattle.model.specs.rules.File.{is_blank, after_cell, in_cell, begin_record, file_step, counts}
 use Rattle.model.specs.rules.Decode.{kind_number, kind_of}
 use Rattle.model.specs.rules.Report.{MAXFILE, MAXRECORD}
-use Rattle.model.specs.laws.Scans.{
-  RawCell,
-  Scan,
-  ScanResult,
-  pends,
-  fails,
-  completes,
-  scan,
-  fresh,
-  Buffered,
-  joined,
-  joined_to,
-  joined_cell,
-  joined_place,
-  joined_raw,
-  Holds,
-  current,
-  nothing_current,
-}
+use Rattle.model.specs.laws.Scans.{RawCell, Scan, ScanResult, pends, fails, completes, scan, Buffered, joined, joined_to, joined_cell, joined_place, joined_raw, Holds, current, nothing_current}
 use Rattle.model.specs.rules.Api.{slice}
-use Rattle.model.proofs.Tests.{split, split_on, impossible, same_byte, and_true}
+use Rattle.model.proofs.Tests.{split, split_on, same_byte, and_true}
 use Rattle.model.proofs.piece_laws.View.{view}
-use Rattle.cell_scanner.specs.declared.CellEnd.{CellEnd}
 use Rattle.cell_scanner.specs.declared.CellEnd.TheVariants as cell-end
 use Rattle.cell_scanner.specs.Run.{cell_run}
 use Rattle.cell_scanner.proofs.Runs.{part_end, rest_refused}
@@ -59,30 +38,14 @@ use Rattle.record_scanner.specs.declared.token.Token.TheVariants.{Is, AfterCell}
 use Rattle.record_scanner.specs.declared.token.ScanOutcome.{ScanOutcome}
 use Rattle.record_scanner.specs.declared.token.ScanOutcome.TheVariants as reached
 use Rattle.record_scanner.specs.CurrentRecord.{one_more, state_after_byte, extended_by}
-use Rattle.record_scanner.specs.Parts.{Found, found_of, found_in, ScanInBounds}
+use Rattle.record_scanner.specs.Parts.{Found, found_of, found_in}
 use Rattle.record_scanner.specs.Tokens.{scan_at, outer, Free, TokenCorrect, TokenInBounds}
 use Rattle.record_scanner.specs.Stored.{store_at, store_if}
 use Rattle.record_scanner.proofs.StoreLaws.{not_stored, length_stored_if}
 use Rattle.record_scanner.proofs.TokenOutcomes.{met_of, cell_results, cell_lies, byte_results}
-use Rattle.record_scanner.proofs.ScanInvariant.{Call, Scanning, Asked, Stepping, Out, begins, by_byte, by_cell, step_on, step_over, lengths}
+use Rattle.record_scanner.proofs.ScanInvariant.{Call, Scanning, Asked, Stepping, Out, begins, by_byte, by_cell, step_on, step_over}
 use Rattle.cell_fast.specs.Ends.{EndsFrom, CleanCell}
-use Rattle.record_fast.specs.FastScan.{
-  FirstCellAt,
-  here,
-  after_cr,
-  after_pair,
-  unknown,
-  next_found,
-  StoredCells,
-  Clean,
-  FastScanSound,
-  is_found,
-  is_fallback,
-  RecordEndSound,
-  at_once,
-  by_pair,
-  nowhere,
-}
+use Rattle.record_fast.specs.FastScan.{FirstCellAt, here, after_cr, after_pair, unknown, next_found, Clean, FastScanSound, is_found, is_fallback, RecordEndSound, at_once, by_pair}
 use Rattle.record_fast.specs.declared.FastScan.TheVariants.{Record, Fallback}
 use Rattle.record_fast.specs.declared.RecordEnd.TheVariants as closing
 use Rattle.record_fast.proofs.Endings.{next_cell, after_delimiter}

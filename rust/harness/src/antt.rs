@@ -62,7 +62,7 @@ const HEAD: &str = "\
 -- Every vector as an equation that the prover computes.
 use mathlib.Core.Path.{refl}
 use Rattle.std.specs.Prelude.{ℕ, ◌≡◌, List, [], ◌∷◌, ◌++◌, replicate}
-use Rattle.model.specs.rules.Types.{Report}
+use Rattle.model.specs.declared.Report.{Report}
 use Rattle.model.specs.rules.Base.{Bytes, concat}
 use Rattle.model.specs.laws.Computes.{computes}
 use Rattle.model.specs.rules.Report.{report}

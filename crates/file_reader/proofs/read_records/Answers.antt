@@ -14,8 +14,8 @@ use Rattle.file_reader.proofs.ReaderAnswers.{unchanged, few_cells, part_room, pa
 use Rattle.file_reader.proofs.read_records.Goals as goal
 
 -- a list that was filled has the length that it had before a pass that stored nothing
-still : {room : ℕ} {xs old new first : List ℕ} → new ≡ stored_from room 0 xs old → old ≡ first → length new ≡ length first
-still {room = room} {xs = xs} {old = old} e k = ap length e ∙ length_stored_from room 0 xs old ∙ ap length k
+still : (room : ℕ) (xs : List ℕ) {old new first : List ℕ} → new ≡ stored_from room 0 xs old → old ≡ first → length new ≡ length first
+still room xs {old = old} e k = ap length e ∙ length_stored_from room 0 xs old ∙ ap length k
 
 pub data_records-requires : goal.data_records-requires
 data_records-requires c =
@@ -51,7 +51,7 @@ offset_bounds-starts-columns c =
 pub slice_bounds-data_records-count : goal.slice_bounds-data_records-count
 slice_bounds-data_records-count c =
     let kept = unchanged c.data_records.ensures in
-    let long : length c.scan_next.new.starts ≡ length c.args.starts.now = still c.scan_next.ensures.starts_after kept.0 in
+    let long : length c.scan_next.new.starts ≡ length c.args.starts.now = still _ _ c.scan_next.ensures.starts_after kept.0 in
     let room = c.requires.room_in_bounds.0 in
     let fits = c.if-room-columns.false in
     omega arith
@@ -59,7 +59,7 @@ slice_bounds-data_records-count c =
 pub slice_bounds-data_records-start : goal.slice_bounds-data_records-start
 slice_bounds-data_records-start c =
     let kept = unchanged c.data_records.ensures in
-    let long : length c.scan_next.new.starts ≡ length c.args.starts.now = still c.scan_next.ensures.starts_after kept.0 in
+    let long : length c.scan_next.new.starts ≡ length c.args.starts.now = still _ _ c.scan_next.ensures.starts_after kept.0 in
     let room = c.requires.room_in_bounds.0 in
     let fits = c.if-room-columns.false in
     omega arith
@@ -77,7 +77,7 @@ offset_bounds-ends-columns c =
 pub slice_bounds-data_records-count-in-Accepted : goal.slice_bounds-data_records-count-in-Accepted
 slice_bounds-data_records-count-in-Accepted c =
     let kept = unchanged c.data_records.ensures in
-    let long : length c.scan_next.new.ends ≡ length c.args.ends.now = still c.scan_next.ensures.ends_after kept.1 in
+    let long : length c.scan_next.new.ends ≡ length c.args.ends.now = still _ _ c.scan_next.ensures.ends_after kept.1 in
     let room = c.requires.room_in_bounds.1 in
     let fits = c.if-room-columns.false in
     omega arith
@@ -85,7 +85,7 @@ slice_bounds-data_records-count-in-Accepted c =
 pub slice_bounds-data_records-start-in-Accepted : goal.slice_bounds-data_records-start-in-Accepted
 slice_bounds-data_records-start-in-Accepted c =
     let kept = unchanged c.data_records.ensures in
-    let long : length c.scan_next.new.ends ≡ length c.args.ends.now = still c.scan_next.ensures.ends_after kept.1 in
+    let long : length c.scan_next.new.ends ≡ length c.args.ends.now = still _ _ c.scan_next.ensures.ends_after kept.1 in
     let room = c.requires.room_in_bounds.1 in
     let fits = c.if-room-columns.false in
     omega arith
@@ -93,7 +93,7 @@ slice_bounds-data_records-start-in-Accepted c =
 pub slice_bounds-data_records-count-in-Accepted-2 : goal.slice_bounds-data_records-count-in-Accepted-2
 slice_bounds-data_records-count-in-Accepted-2 c =
     let kept = unchanged c.data_records.ensures in
-    let long : length c.scan_next.new.kinds ≡ length c.args.kinds.now = still c.scan_next.ensures.kinds_after kept.2 in
+    let long : length c.scan_next.new.kinds ≡ length c.args.kinds.now = still _ _ c.scan_next.ensures.kinds_after kept.2 in
     let room = c.requires.room_in_bounds.2 in
     let fits = c.if-room-columns.false in
     omega arith
@@ -101,7 +101,7 @@ slice_bounds-data_records-count-in-Accepted-2 c =
 pub slice_bounds-data_records-start-in-Accepted-2 : goal.slice_bounds-data_records-start-in-Accepted-2
 slice_bounds-data_records-start-in-Accepted-2 c =
     let kept = unchanged c.data_records.ensures in
-    let long : length c.scan_next.new.kinds ≡ length c.args.kinds.now = still c.scan_next.ensures.kinds_after kept.2 in
+    let long : length c.scan_next.new.kinds ≡ length c.args.kinds.now = still _ _ c.scan_next.ensures.kinds_after kept.2 in
     let room = c.requires.room_in_bounds.2 in
     let fits = c.if-room-columns.false in
     omega arith
@@ -116,9 +116,9 @@ data_records-requires-in-Accepted c =
     record {
       from_in_bounds = (q.header_read.inside, q.header_read.under);
       room_in_bounds = (
-        part_room a.room a.columns l.starts (rw (still t.starts_after kept.0) q.room_in_bounds.0),
-        part_room a.room a.columns l.ends (rw (still t.ends_after kept.1) q.room_in_bounds.1),
-        part_room a.room a.columns l.kinds (rw (still t.kinds_after kept.2) q.room_in_bounds.2),
+        part_room a.room a.columns l.starts (rw (still _ _ t.starts_after kept.0) q.room_in_bounds.0),
+        part_room a.room a.columns l.ends (rw (still _ _ t.ends_after kept.1) q.room_in_bounds.1),
+        part_room a.room a.columns l.kinds (rw (still _ _ t.kinds_after kept.2) q.room_in_bounds.2),
       );
     }
 
@@ -142,19 +142,19 @@ pub shape_of-starts-else-room-columns : goal.shape_of-starts-else-room-columns
 shape_of-starts-else-room-columns c =
     let kept = unchanged c.data_records.ensures in
     let h = held_lengths c.data_records-in-Accepted.ensures.lists in
-    part_long c.args.columns c.scan_next.new.starts c.data_records-in-Accepted.new.starts h.0 ∙ still c.scan_next.ensures.starts_after kept.0
+    part_long c.args.columns c.scan_next.new.starts c.data_records-in-Accepted.new.starts h.0 ∙ still _ _ c.scan_next.ensures.starts_after kept.0
 
 pub shape_of-ends-else-room-columns : goal.shape_of-ends-else-room-columns
 shape_of-ends-else-room-columns c =
     let kept = unchanged c.data_records.ensures in
     let h = held_lengths c.data_records-in-Accepted.ensures.lists in
-    part_long c.args.columns c.scan_next.new.ends c.data_records-in-Accepted.new.ends h.1 ∙ still c.scan_next.ensures.ends_after kept.1
+    part_long c.args.columns c.scan_next.new.ends c.data_records-in-Accepted.new.ends h.1 ∙ still _ _ c.scan_next.ensures.ends_after kept.1
 
 pub shape_of-kinds-else-room-columns : goal.shape_of-kinds-else-room-columns
 shape_of-kinds-else-room-columns c =
     let kept = unchanged c.data_records.ensures in
     let h = held_lengths c.data_records-in-Accepted.ensures.lists in
-    part_long c.args.columns c.scan_next.new.kinds c.data_records-in-Accepted.new.kinds h.2 ∙ still c.scan_next.ensures.kinds_after kept.2
+    part_long c.args.columns c.scan_next.new.kinds c.data_records-in-Accepted.new.kinds h.2 ∙ still _ _ c.scan_next.ensures.kinds_after kept.2
 
 pub returns-else-room-columns : goal.returns-else-room-columns
 returns-else-room-columns c =

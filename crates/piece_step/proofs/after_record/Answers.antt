@@ -3,7 +3,6 @@ use native.Mathlib.Omega.{arith}
 use mathlib.Core.Path.{sym, ap, subst}
 use borrow.Author.Rules.{rules}
 use Rattle.piece_step.specs.Steps.{step_after, Fitting}
-
 use Rattle.piece_step.proofs.after_record.Goals as goal
 
 pub overflow_sub-result : goal.overflow_sub-result

@@ -1,7 +1,6 @@
 -- `piece_step::columns_with` meets its contract, by its test.
 use borrow.Author.Tests.{eq-eqb, ne_eqb}
 use Rattle.model.specs.rules.Base.{choose◌then◌else◌}
-
 use Rattle.piece_step.proofs.columns_with.Goals as goal
 
 pub returns-then-p-eq0 : goal.returns-then-p-eq0

@@ -2,7 +2,6 @@
 use borrow.Author.Rules.{rules}
 use borrow.Author.Tests.{eq-eqb, ne_eqb}
 use Rattle.model.specs.rules.Base.{choose◌then◌else◌}
-
 use Rattle.piece_step.proofs.record_start.Goals as goal
 
 pub returns-then-start-i : goal.returns-then-start-i

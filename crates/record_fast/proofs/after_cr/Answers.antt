@@ -1,8 +1,7 @@
 -- `record_fast::after_cr` meets its contract: an LF belongs to the ending before it.
 use mathlib.Core.Path.{refl}
-use borrow.Author.Rules.{rules}
 use borrow.Author.Tests.{ne_eqb}
-use Rattle.record_fast.specs.FastScan.{FirstCellAt, here, after_cr, after_pair, unknown}
+use Rattle.record_fast.specs.FastScan.{after_cr, after_pair, unknown}
 use Rattle.record_fast.proofs.after_cr.Goals as goal
 
 pub returns-then-part-from : goal.returns-then-part-from

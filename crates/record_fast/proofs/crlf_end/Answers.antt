@@ -1,7 +1,6 @@
 -- `record_fast::crlf_end` meets its contract: a CR is an ending only with the LF after it.
 use native.Mathlib.Omega.{arith}
-use borrow.Author.Rules.{rules}
-use Rattle.record_fast.specs.FastScan.{RecordEndSound, at_once, by_pair, nowhere}
+use Rattle.record_fast.specs.FastScan.{by_pair, nowhere}
 use Rattle.record_fast.proofs.crlf_end.Goals as goal
 
 pub returns-then-stop-e-lt2 : goal.returns-then-stop-e-lt2

@@ -2,11 +2,10 @@
 use Prim.Native.Nat.{ℕ}
 use mathlib.Core.Bool.{true}
 use mathlib.Core.Path.{ap, ◌∙◌}
-use borrow.Author.Rules.{rules}
 use Rattle.model.specs.declared.Dialect.{Dialect}
 use Rattle.model.specs.rules.Base.{CR}
 use Rattle.model.specs.rules.File.{after_cell}
-use Rattle.record_fast.specs.FastScan.{RecordEndSound, at_once, by_pair, nowhere}
+use Rattle.record_fast.specs.FastScan.{at_once, nowhere}
 use Rattle.record_fast.proofs.Endings.{after_lf, after_cr_csvj, after_cr_tdif, after_cr_plus}
 use Rattle.record_fast.proofs.record_end_at.Goals as goal
 

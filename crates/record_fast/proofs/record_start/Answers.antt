@@ -1,6 +1,5 @@
 -- `record_fast::record_start` meets its contract: the fast path begins between records only.
-use Rattle.record_fast.specs.FastScan.{FirstCellAt, here, after_cr, after_pair, unknown}
-use borrow.Author.Rules.{rules}
+use Rattle.record_fast.specs.FastScan.{here, unknown}
 use Rattle.record_fast.proofs.record_start.Goals as goal
 
 pub returns-in-Begin : goal.returns-in-Begin

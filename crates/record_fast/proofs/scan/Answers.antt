@@ -1,23 +1,18 @@
 use Prim.Native.Nat.{ℕ, ◌+◌, ◌-◌, ◌≤◌, ◌<◌}
 use native.Mathlib.Omega.{arith}
 use mathlib.Core.Path.{◌≡◌, refl, sym, ap, subst, ◌∙◌}
-use mathlib.Core.Bool.{Bool, true}
+use mathlib.Core.Bool.{true}
 use mathlib.Core.List.{[]}
 use lib.ListN.{length}
-use borrow.Author.Rules.{rules}
 use borrow.Author.Tests.{eqb-true}
-use Rattle.model.specs.rules.Base.{QUOTE}
-use Rattle.model.specs.rules.Dialect.{quote_of}
 use Rattle.model.specs.rules.Report.{MAXFILE, MAXRECORD}
 use Rattle.codes.proofs.Least.{least_first, least_second, least_above}
 use Rattle.model.specs.rules.Api.{least}
 use Rattle.record_scanner.specs.Stored.{stored_from}
 use Rattle.record_scanner.proofs.StoreLaws.{length_stored_if}
-use Rattle.model.specs.declared.Cell.TheVariants.{Fresh}
-use Rattle.cell_fast.specs.Ends.{EndsFrom}
 use Rattle.record_fast.specs.FastScan.{RecordEndSound, is_fallback}
 use Rattle.record_fast.specs.declared.RecordEnd.{RecordEnd}
-use Rattle.record_fast.proofs.FastScanInvariant.{Bounds, Row, Writes, begins_on, row_begins, cell_lies_in, next_cell_lem, last_cell_lem, odd}
+use Rattle.record_fast.proofs.FastScanInvariant.{begins_on, row_begins, cell_lies_in, next_cell_lem, last_cell_lem, odd}
 use Rattle.record_fast.proofs.scan.Goals as goal
 
 pub returns-then-most-start : goal.returns-then-most-start
@@ -114,13 +109,13 @@ overflow_add-result c =
     let m : c.args.limit ≤ MAXFILE = c.loop-at.invariant.low in omega arith
 
 pub shape_of-starts-in-After : goal.shape_of-starts-in-After
-shape_of-starts-in-After c = ap length c.store_cell.ensures.starts_after ∙ length_stored_if true _ _ _ _ ∙ c.loop-at.invariant.long.0
+shape_of-starts-in-After c = ap length c.store_cell.ensures.starts_after ∙ length_stored_if _ _ _ _ _ ∙ c.loop-at.invariant.long.0
 
 pub shape_of-ends-in-After : goal.shape_of-ends-in-After
-shape_of-ends-in-After c = ap length c.store_cell.ensures.ends_after ∙ length_stored_if true _ _ _ _ ∙ c.loop-at.invariant.long.1
+shape_of-ends-in-After c = ap length c.store_cell.ensures.ends_after ∙ length_stored_if _ _ _ _ _ ∙ c.loop-at.invariant.long.1
 
 pub shape_of-kinds-in-After : goal.shape_of-kinds-in-After
-shape_of-kinds-in-After c = ap length c.store_cell.ensures.kinds_after ∙ length_stored_if true _ _ _ _ ∙ c.loop-at.invariant.long.2
+shape_of-kinds-in-After c = ap length c.store_cell.ensures.kinds_after ∙ length_stored_if _ _ _ _ _ ∙ c.loop-at.invariant.long.2
 
 pub returns-in-After : goal.returns-in-After
 returns-in-After c =

@@ -2,7 +2,7 @@
 -- found so far, which the lists hold.
 use Prim.Native.Nat.{◌-◌}
 use lib.ListN.{length}
-use Rattle.record_scanner.proofs.ScanInvariant.{Call, Scanning}
+use Rattle.record_scanner.proofs.ScanInvariant.{Scanning}
 use Rattle.record_scanner.proofs.scan.Given as goal
 
 abbrev pub invariant-loop-i : goal.invariant-loop-i

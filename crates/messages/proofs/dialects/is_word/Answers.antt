@@ -1,10 +1,7 @@
-use mathlib.Core.Path.{◌≡◌, refl, sym, ◌∙◌}
-use Prim.Native.Nat.{◌-◌, ◌≤◌}
+use mathlib.Core.Path.{refl, sym, ◌∙◌}
 use native.Mathlib.Omega.{arith}
-use lib.ListN.{length}
-use borrow.Author.Rules.{rules}
 use Rattle.model.specs.declared.Dialect.TheVariants.{Tdif}
-use Rattle.record_check.proofs.Keys.{different_lengths, same_from, same_end, same_differs, same_next}
+use Rattle.record_check.proofs.Keys.{different_lengths, same_end, same_differs, same_next}
 use Rattle.messages.proofs.dialects.is_word.Goals as goal
 
 pub returns-then-word-name : goal.returns-then-word-name

@@ -1,12 +1,10 @@
 -- `messages::dialects::is_word` meets its contract. The invariant: the word is the name exactly if it is from here on. The laws are those
 -- of names compared by TDIF's rule.
-use mathlib.Core.Path.{◌≡◌, refl, sym, ◌∙◌}
+use mathlib.Core.Path.{◌≡◌}
 use Prim.Native.Nat.{◌-◌, ◌≤◌}
-use native.Mathlib.Omega.{arith}
 use lib.ListN.{length}
-use borrow.Author.Rules.{rules}
 use Rattle.model.specs.declared.Dialect.TheVariants.{Tdif}
-use Rattle.record_check.proofs.Keys.{different_lengths, same_from, same_end, same_differs, same_next}
+use Rattle.record_check.proofs.Keys.{same_from}
 use Rattle.messages.proofs.dialects.is_word.Given as goal
 
 abbrev pub invariant-loop-i : goal.invariant-loop-i

@@ -1,5 +1,4 @@
 -- `messages::dialects::lower_case` meets its contract: its tests are the definition's.
-use borrow.Author.Rules.{rules}
 use Rattle.model.specs.rules.Base.{choose◌then◌else◌}
 use Rattle.model.proofs.Tests.{tests}
 use Rattle.messages.proofs.dialects.lower_case.Goals as goal

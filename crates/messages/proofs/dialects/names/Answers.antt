@@ -1,6 +1,5 @@
 -- `messages::dialects::names` meets its contract: its test is the definition's first, and its result otherwise the second.
 use mathlib.Core.Path.{sym, ◌∙◌}
-use borrow.Author.Rules.{rules}
 use Rattle.messages.proofs.dialects.names.Goals as goal
 
 pub returns-then-is_word : goal.returns-then-is_word

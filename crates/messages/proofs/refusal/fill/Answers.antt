@@ -1,8 +1,5 @@
-use Prim.Native.Nat.{◌-◌, ◌≤◌}
 use native.Mathlib.Omega.{arith}
-use lib.ListN.{length, drop}
-use Rattle.buffer.proofs.WriteProgress.{Writing, start}
-use Rattle.messages.specs.Sentences.{filled}
+use Rattle.buffer.proofs.WriteProgress.{start}
 use Rattle.messages.proofs.SentenceLaws.{filled_short, fill_room, fill_next, fill_done}
 use Rattle.messages.proofs.refusal.fill.Goals as goal
 

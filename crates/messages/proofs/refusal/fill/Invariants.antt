@@ -1,10 +1,8 @@
 -- `messages::refusal::fill` meets its contract. The invariant: the text of the rest of the form is still to be written.
 use Prim.Native.Nat.{◌-◌, ◌≤◌}
-use native.Mathlib.Omega.{arith}
 use lib.ListN.{length, drop}
-use Rattle.buffer.proofs.WriteProgress.{Writing, start}
+use Rattle.buffer.proofs.WriteProgress.{Writing}
 use Rattle.messages.specs.Sentences.{filled}
-use Rattle.messages.proofs.SentenceLaws.{filled_short, fill_room, fill_next, fill_done}
 use Rattle.messages.proofs.refusal.fill.Given as goal
 
 abbrev pub invariant-loop-i : goal.invariant-loop-i

@@ -1,7 +1,6 @@
 -- `messages::refusal::write_part` meets its contract: its tests are the definition's.
 use mathlib.Core.Path.{refl}
 use native.Mathlib.Omega.{arith}
-use borrow.Author.Rules.{rules}
 use borrow.Author.Tests.{eq-eqb, ne_eqb}
 use Rattle.model.specs.rules.Base.{choose◌then◌else◌}
 use Rattle.buffer.proofs.WriteProgress.{set_written}

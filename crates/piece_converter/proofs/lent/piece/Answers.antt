@@ -6,14 +6,12 @@ use mathlib.Core.Path.{◌≡◌, sym, ap, subst, ◌∙◌}
 use mathlib.Core.List.{List}
 use lib.ListN.{length}
 use borrow.Author.Rules.{rules}
-use borrow.Author.Tests.{not-true, not-false}
 use Rattle.model.specs.declared.Report.{Report}
-use Rattle.model.specs.declared.Dialect.{Dialect}
 use Rattle.model.specs.rules.Base.{Bytes}
 use Rattle.model.specs.rules.Dialect.{into}
 use Rattle.model.specs.rules.Report.{MAXRECORD, MAXCOLUMNS}
 use Rattle.model.specs.rules.Records.{Rec}
-use Rattle.model.specs.rules.Ledger.{Call, piece}
+use Rattle.model.specs.rules.Ledger.{piece}
 use Rattle.model.specs.laws.Scans.{Buffered}
 use Rattle.model.proofs.Tests.{impossible}
 use Rattle.codes.specs.declared.TextAnswer.{TextAnswer}
@@ -25,81 +23,34 @@ use Rattle.piece_step.specs.Calls.{Begun}
 use Rattle.piece_run.specs.PieceRun.{PieceRunSound}
 use Rattle.piece_converter.specs.States.{stored_end, place_of, numbers_of}
 use Rattle.piece_converter.specs.Contract.{converter_of, CallContract}
-use Rattle.piece_converter.specs.declared.Converter.{Converter}
 use Rattle.piece_converter.proofs.Representation.{call_answer}
 use Rattle.piece_converter.proofs.Contract.{check_of, refused_called, lost_called, piece_called}
-
 use Rattle.piece_converter.proofs.lent.piece.Goals as goal
-
--- look: helper check-is
--- look: cites tie
--- ---- the checks
--- the state and the call, after the checks
-abbrev stateAt : tie.After-check-call → Converter
-stateAt u =
-    let u4 = u.before.before.before.before in
-    let a = u4.before.args in
-    converter_of a.source a.target a.numbers.now a.ends.now a.name-ends.now a.bytes.now a.names.now
-
--- look: cites tie
-abbrev call_at : tie.After-check-call → Call
-call_at u =
-    let u4 = u.before.before.before.before in
-    let a = u4.before.args in piece a.input.now (length a.out.now)
-
--- look: cites tie
--- ---- a call that is taken
--- after the check that the run stays in bounds
-abbrev checked_at : tie.After-is-in-bounds → tie.After-check-call
-checked_at v =
-    let v4 = v.before.before.before.before in
-    let v8 = v4.before.before.before.before in
-    v8.before
-
--- look: cites tie
-abbrev source : tie.After-is-in-bounds → Dialect
-source v =
-    let v4 = v.before.before.before.before in
-    v4.before.before.before.d.given.0.0
-
--- look: cites tie
-abbrev target : tie.After-is-in-bounds → Dialect
-target v =
-    let v4 = v.before.before.before.before in
-    v4.before.before.before.d.given.0.1.0
-
--- look: cites tie
-abbrev placeAt : tie.After-is-in-bounds → Place
-placeAt v =
-    let v4 = v.before.before.before.before in
-    v4.before.IsPlace-in.result
 
 pub returns-then-not-is_in_bounds : goal.returns-then-not-is_in_bounds
 returns-then-not-is_in_bounds c =
-    let check-is : c.check_call.result ≡ check_of (stateAt c) (call_at c) =
-        let a = c.args in
+    let a = c.args in
+    let s = converter_of a.source a.target a.numbers.now a.ends.now a.name_ends.now a.bytes.now a.names.now in
+    let call = piece a.input.now (length a.out.now) in
+    let told : c.check_call.result ≡ check_of s call =
     subst
     (λ (f : Report). c.check_call.result ≡ check_now a.source a.target f (stored_end a.numbers.now) (length a.input.now) (length a.out.now))
     c.stored_fault.ensures
     c.check_call.ensures in
-    let is-taken : check_of (stateAt (checked_at c)) (call_at (checked_at c)) ≡ checks.Proceed (source c) (target c) =
-        sym (check-is (checked_at c)) ∙ c.in-Proceed.is in
-    let place_is : placeAt c ≡ place_of (stateAt (checked_at c)) =
-        c.place_in-p.ensures in
-    let u = checked_at c in
-    let u4 = u.before.before.before.before in
-    let out = u4.before.args.out.now in
-    let s = stateAt u in
+    let d = c.in-Proceed.d in
+    let t = c.in-Proceed.t in
+    let taken : check_of s call ≡ checks.Proceed d t = sym told ∙ c.in-Proceed.is in
+    let place : c.place_in-p.result ≡ place_of s = c.place_in-p.ensures in
     let none = ap (λ (x : TextAnswer). x.length) c.refusal-then-not-is_in_bounds.ensures in
-    let within : c.refusal-then-not-is_in_bounds.result.length ≤ length out = omega arith in
-    lost_called s (source c) (target c) out (call_at u) c.refusal-then-not-is_in_bounds.result (is-taken) within λ inside.
-    let inside-here = subst (λ (p : Place). InBounds p (current_in p s.name_ends s.ends)) (sym (place_is)) inside in
-    impossible (sym (not-true c.is_in_bounds.result c.if-not-is_in_bounds.true) ∙ c.is_in_bounds.ensures.value inside-here)
+    let within : c.refusal-then-not-is_in_bounds.result.length ≤ length a.out.now = omega arith in
+    lost_called s d t a.out.now call c.refusal-then-not-is_in_bounds.result taken within λ inside.
+    let inside_here = subst (λ (p : Place). InBounds p (current_in p s.name_ends s.ends)) (sym place) inside in
+    impossible (sym c.if-not-is_in_bounds.true ∙ c.is_in_bounds.ensures.value inside_here)
 
 pub run_piece-r-requires : goal.run_piece-r-requires
 run_piece-r-requires c =
     record {
-      bounds = c.is_in_bounds.ensures.in_bounds (not-false c.is_in_bounds.result c.if-not-is_in_bounds.false);
+      bounds = c.is_in_bounds.ensures.in_bounds c.if-not-is_in_bounds.false;
       long_names = search rules;
       long_name_ends = search rules;
       long_bytes = search rules;
@@ -108,54 +59,52 @@ run_piece-r-requires c =
 
 pub returns-in-Refused : goal.returns-in-Refused
 returns-in-Refused c =
-    let check-is : c.check_call.result ≡ check_of (stateAt c) (call_at c) =
-        let a = c.args in
+    let a = c.args in
+    let s = converter_of a.source a.target a.numbers.now a.ends.now a.name_ends.now a.bytes.now a.names.now in
+    let call = piece a.input.now (length a.out.now) in
+    let told : c.check_call.result ≡ check_of s call =
     subst
     (λ (f : Report). c.check_call.result ≡ check_now a.source a.target f (stored_end a.numbers.now) (length a.input.now) (length a.out.now))
     c.stored_fault.ensures
     c.check_call.ensures in
-    let out = c.args.out.now in
-    let e = c.e-1.given in
     subst
-    (λ (told : TextAnswer). CallContract (stateAt c) (call_at c) out told (stateAt c) out)
+    (λ (x : TextAnswer). CallContract s call a.out.now x s a.out.now)
     (sym c.refusal.ensures)
-    (refused_called (stateAt c) (call_at c) out e.0.0 (sym (check-is) ∙ e.1))
+    (refused_called s call a.out.now c.in-Refused.e (sym told ∙ c.in-Refused.is))
 
 pub returns-else-not-is_in_bounds : goal.returns-else-not-is_in_bounds
 returns-else-not-is_in_bounds c =
-    let check-is : c.check_call.result ≡ check_of (stateAt c) (call_at c) =
-        let a = c.args in
+    let a = c.args in
+    let s = converter_of a.source a.target a.numbers.now a.ends.now a.name_ends.now a.bytes.now a.names.now in
+    let call = piece a.input.now (length a.out.now) in
+    let told : c.check_call.result ≡ check_of s call =
     subst
     (λ (f : Report). c.check_call.result ≡ check_now a.source a.target f (stored_end a.numbers.now) (length a.input.now) (length a.out.now))
     c.stored_fault.ensures
     c.check_call.ensures in
-    let is-taken : check_of (stateAt (checked_at c)) (call_at (checked_at c)) ≡ checks.Proceed (source c) (target c) =
-        sym (check-is (checked_at c)) ∙ c.in-Proceed.is in
-    let place_is : placeAt c ≡ place_of (stateAt (checked_at c)) =
-        c.place_in-p.ensures in
+    let d = c.in-Proceed.d in
+    let t = c.in-Proceed.t in
+    let taken : check_of s call ≡ checks.Proceed d t = sym told ∙ c.in-Proceed.is in
+    let place : c.place_in-p.result ≡ place_of s = c.place_in-p.ensures in
     let w = c.run_piece-r in
-    let u = checked_at c in
-    let u4 = u.before.before.before.before in
-    let a = u4.before.args in
-    let names' : List ℕ = w.new.1.1.1.1.0 in
-    let name_ends' : List ℕ = w.new.1.1.1.1.1.0 in
-    let bytes' : List ℕ = w.new.1.1.1.1.1.1.0 in
-    let ends' : List ℕ = w.new.1.1.1.1.1.1.1.0 in
-    let out' : List ℕ = w.new.1.1.1.1.1.1.1.1.0 in
+    let names' : List ℕ = w.new.names in
+    let name_ends' : List ℕ = w.new.name_ends in
+    let bytes' : List ℕ = w.new.bytes in
+    let ends' : List ℕ = w.new.ends in
+    let out' : List ℕ = w.new.out in
     let took =
     subst (λ (p : Place). (before : Bytes) (done : List Rec) (k : Buffered) →
-    Begun (source c) (into (target c)) before a.input.now p a.names.now a.name-ends.now a.bytes.now a.ends.now
-    a.out.now done k → PieceRunSound (source c) (into (target c)) before a.input.now p done k
-    a.out.now names' name_ends' bytes' ends' out' w.result) (place_is) w.ensures.0 in
-    let long_names : length names' ≡ MAXRECORD = w.auto.1.1.1.1.0 ∙ c.run_piece-arg-1.given.0.1 in
-    let long_name_ends : length name_ends' ≡ MAXCOLUMNS = w.auto.1.1.1.1.1.0 ∙ c.run_piece-arg-in-Proceed-1.given.0.1 in
-    let long_bytes : length bytes' ≡ MAXRECORD = w.auto.1.1.1.1.1.1.0 ∙ c.run_piece-arg-in-Proceed-2-1.given.0.1 in
-    let long_ends : length ends' ≡ MAXCOLUMNS = w.auto.1.1.1.1.1.1.1.0 ∙ c.run_piece-arg-in-Proceed-3-1.given.0.1 in
-    let as_long : length out' ≡ length a.out.now = w.auto.1.1.1.1.1.1.1.1.0 in
+    Begun d (into t) before a.input.now p a.names.now a.name_ends.now a.bytes.now a.ends.now a.out.now done k →
+    PieceRunSound d (into t) before a.input.now p done k a.out.now names' name_ends' bytes' ends' out' w.result) place w.ensures.piece_run_sound in
+    let long_names : length names' ≡ MAXRECORD = search rules in
+    let long_name_ends : length name_ends' ≡ MAXCOLUMNS = search rules in
+    let long_bytes : length bytes' ≡ MAXRECORD = search rules in
+    let long_ends : length ends' ≡ MAXCOLUMNS = search rules in
+    let as_long : length out' ≡ length a.out.now = search rules in
     let after : c.numbers_of-after.result ≡ numbers_of w.result.place 0 w.result.report = c.numbers_of-after.ensures in
     subst
-    (λ (n : List ℕ). CallContract (stateAt u) (call_at u) a.out.now (call_answer w.result)
+    (λ (n : List ℕ). CallContract s call a.out.now (call_answer w.result)
     (converter_of a.source a.target n ends' name_ends' bytes' names') out')
     (sym after)
-    (piece_called (stateAt u) (source c) (target c) a.out.now w.result ends' name_ends' bytes' names' out' w.ensures.1 as_long
-    a.input.now (is-taken) took long_names long_name_ends long_bytes long_ends)
+    (piece_called s d t a.out.now w.result ends' name_ends' bytes' names' out' w.ensures.length_in_bounds as_long
+    a.input.now taken took long_names long_name_ends long_bytes long_ends)

@@ -3,7 +3,6 @@ use mathlib.Core.Path.{ap}
 use borrow.Author.Rules.{rules}
 use lib.ListN.{get_or}
 use Rattle.model.specs.declared.FileState.{FileState}
-
 use Rattle.piece_converter.proofs.state.place_in.Goals as goal
 
 pub returns : goal.returns

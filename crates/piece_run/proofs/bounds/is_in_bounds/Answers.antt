@@ -2,7 +2,6 @@
 use borrow.Author.Rules.{rules}
 use borrow.Author.Tests.{eq-eqb, ne_eqb}
 use Rattle.model.specs.rules.Base.{choose◌then◌else◌}
-
 use Rattle.piece_run.proofs.bounds.is_in_bounds.Goals as goal
 
 pub returns-then-p-eq0 : goal.returns-then-p-eq0

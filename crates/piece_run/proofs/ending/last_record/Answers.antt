@@ -11,7 +11,6 @@ use Rattle.piece_step.specs.declared.CallResult.{CallResult}
 use Rattle.piece_record.specs.Completion.{CompleteSound}
 use Rattle.piece_step.proofs.BufferedParts.{order_more}
 use Rattle.piece_run.proofs.EndCases.{last_room, last_order, finish_many, finish_kept}
-
 use Rattle.piece_run.proofs.ending.last_record.Goals as goal
 
 pub fault_at-requires : goal.fault_at-requires
@@ -20,11 +19,11 @@ fault_at-requires c = let records = c.requires.step_ready.bounds.records in let 
 pub returns-then-last-ge-MAX_COLUMNS : goal.returns-then-last-ge-MAX_COLUMNS
 returns-then-last-ge-MAX_COLUMNS c =
     let a = c.args in
-    let none = ap (λ (x : CallResult). x.length) c.fault_at.ensures in (
-      λ done k b. finish_many a.d (into a.t) a.p a.bytes.now a.ends.now a.out.now done k b c.requires.state_value
-          c.if-last-ge-MAX_COLUMNS.true _ (ap (λ (x : CallResult). x.place) c.fault_at.ensures) (ap (λ (x : CallResult). x.report) c.fault_at.ensures) none,
-      omega arith,
-    )
+    let none = ap (λ (x : CallResult). x.length) c.fault_at.ensures in record {
+      finished = λ done k b. finish_many a.d (into a.t) a.p a.bytes.now a.ends.now a.out.now done k b c.requires.state_value
+          c.if-last-ge-MAX_COLUMNS.true _ (ap (λ (x : CallResult). x.place) c.fault_at.ensures) (ap (λ (x : CallResult). x.report) c.fault_at.ensures) none;
+      length_in_bounds = omega arith;
+    }
 
 pub bounds-ends-last : goal.bounds-ends-last
 bounds-ends-last c = let long : length c.args.ends.now ≡ 64 = c.requires.step_ready.long_ends in omega arith
@@ -51,13 +50,11 @@ complete-requires c =
     let fill = c.requires.step_ready.bounds.fill in
     let most = c.requires.step_ready.bounds.size in
     let n = length-set a.ends.now a.p.cells a.p.fill in
-    let m = length-take (a.p.cells + 1) (set a.ends.now a.p.cells a.p.fill) in (
-      order_more (last_order a.ends.now a.p.cells a.p.fill (c.requires.step_ready.bounds.ordered (omega arith)) (omega arith)) (omega arith),
-      (
-        (omega arith, omega arith, c.requires.step_ready.bounds.written, omega arith),
-        (search rules, search rules),
-      ),
-    )
+    let m = length-take (a.p.cells + 1) (set a.ends.now a.p.cells a.p.fill) in record {
+      in_order = order_more (last_order a.ends.now a.p.cells a.p.fill (c.requires.step_ready.bounds.ordered (omega arith)) (omega arith)) (omega arith);
+      ends_len_bound = (omega arith, omega arith, c.requires.step_ready.bounds.written, omega arith);
+      starts_len = (search rules, search rules);
+    }
 
 pub fault_at-requires-in-Refused : goal.fault_at-requires-in-Refused
 fault_at-requires-in-Refused c = let records = c.requires.step_ready.bounds.records in let offset = c.requires.step_ready.bounds.offset in omega arith
@@ -68,11 +65,11 @@ returns-in-Written c =
     let q = c.complete in
     let ruling =
     subst (CompleteSound a.d (into a.t) a.p a.bytes.now (take (a.p.cells + 1) (set a.ends.now a.p.cells a.p.fill)) 0
-    a.out.now _) c.in-Written.is q.ensures in (
-      λ done k b. finish_kept a.d (into a.t) a.p a.bytes.now a.ends.now a.out.now done k b c.requires.state_value c.if-last-ge-MAX_COLUMNS.false
-          c.requires.step_ready.long_ends (set a.ends.now a.p.cells a.p.fill) refl _ (Written _) _ ruling (c.call_report.ensures, refl, refl),
-      last_room ruling,
-    )
+    a.out.now _) c.in-Written.is q.ensures in record {
+      finished = λ done k b. finish_kept a.d (into a.t) a.p a.bytes.now a.ends.now a.out.now done k b c.requires.state_value c.if-last-ge-MAX_COLUMNS.false
+          c.requires.step_ready.long_ends (set a.ends.now a.p.cells a.p.fill) refl _ (Written _) _ ruling (c.call_report.ensures, refl, refl);
+      length_in_bounds = last_room ruling;
+    }
 
 pub returns-in-Refused : goal.returns-in-Refused
 returns-in-Refused c =
@@ -81,12 +78,12 @@ returns-in-Refused c =
     let none = ap (λ (x : CallResult). x.length) c.fault_at-in-Refused.ensures in
     let ruling =
     subst (CompleteSound a.d (into a.t) a.p a.bytes.now (take (a.p.cells + 1) (set a.ends.now a.p.cells a.p.fill)) 0
-    a.out.now _) c.in-Refused.is q.ensures in (
-      λ done k b. finish_kept a.d (into a.t) a.p a.bytes.now a.ends.now a.out.now done k b c.requires.state_value c.if-last-ge-MAX_COLUMNS.false
+    a.out.now _) c.in-Refused.is q.ensures in record {
+      finished = λ done k b. finish_kept a.d (into a.t) a.p a.bytes.now a.ends.now a.out.now done k b c.requires.state_value c.if-last-ge-MAX_COLUMNS.false
           c.requires.step_ready.long_ends (set a.ends.now a.p.cells a.p.fill) refl _ (Refused _) _ ruling
-          (ap (λ (x : CallResult). x.report) c.fault_at-in-Refused.ensures, none, ap (λ (x : CallResult). x.place) c.fault_at-in-Refused.ensures),
-      omega arith,
-    )
+          (ap (λ (x : CallResult). x.report) c.fault_at-in-Refused.ensures, none, ap (λ (x : CallResult). x.place) c.fault_at-in-Refused.ensures);
+      length_in_bounds = omega arith;
+    }
 
 pub returns-in-Invalid : goal.returns-in-Invalid
 returns-in-Invalid c =
@@ -94,8 +91,8 @@ returns-in-Invalid c =
     let q = c.complete in
     let ruling =
     subst (CompleteSound a.d (into a.t) a.p a.bytes.now (take (a.p.cells + 1) (set a.ends.now a.p.cells a.p.fill)) 0
-    a.out.now _) c.in-Invalid.is q.ensures in (
-      λ done k b. finish_kept a.d (into a.t) a.p a.bytes.now a.ends.now a.out.now done k b c.requires.state_value c.if-last-ge-MAX_COLUMNS.false
-          c.requires.step_ready.long_ends (set a.ends.now a.p.cells a.p.fill) refl _ Invalid _ ruling tt,
-      omega arith,
-    )
+    a.out.now _) c.in-Invalid.is q.ensures in record {
+      finished = λ done k b. finish_kept a.d (into a.t) a.p a.bytes.now a.ends.now a.out.now done k b c.requires.state_value c.if-last-ge-MAX_COLUMNS.false
+          c.requires.step_ready.long_ends (set a.ends.now a.p.cells a.p.fill) refl _ Invalid _ ruling tt;
+      length_in_bounds = omega arith;
+    }

@@ -12,7 +12,6 @@ use Rattle.piece_step.proofs.CallStart.{begun_header, begun_later, ready_header,
 use Rattle.piece_run.proofs.Runs.{run_begins, walk_nowhere, pended_in_bounds}
 use Rattle.piece_run.proofs.PieceRun.{begun_follows, none_current, entered_of, ready_behind, headed_begins, headed_next, took_later, took_pended}
 use Rattle.piece_run.proofs.PieceRun.{took_stopped}
-
 use Rattle.piece_run.proofs.run.run_piece.Goals as goal
 
 pub run_after_header-requires : goal.run_after_header-requires
@@ -22,30 +21,32 @@ pub returns-then-place-gt0 : goal.returns-then-place-gt0
 returns-then-place-gt0 c =
     let a = c.args in
     let more : 0 < a.place.records = omega (arith, c.if-place-gt0.true) in
-    let r = c.run_after_header.ensures in (
-      λ before done k b.
+    let r = c.run_after_header.ensures in record {
+      piece_run_sound = λ before done k b.
           let h = headed_begins b more in
-          took_later h (r.0 done k (entered_of (begun_later b (λ e. omega arith))) h.now),
-      r.1,
-    )
+          took_later h (r.steps_sound done k (entered_of (begun_later b (λ e. omega arith))) h.now);
+      length_in_bounds = r.length_in_bounds;
+    }
 
 pub step-requires : goal.step-requires
 step-requires c =
-    let none : c.args.place.records ≤ 0 = c.if-place-gt0.false in
-    (ready_header c.requires (omega arith), record { long_starts = search rules; long_stops = search rules; long_kinds = search rules })
+    let none : c.args.place.records ≤ 0 = c.if-place-gt0.false in record {
+      step_ready = ready_header c.requires (omega arith);
+      scratch = record { long_starts = search rules; long_stops = search rules; long_kinds = search rules };
+    }
 
 pub run_steps-requires : goal.run_steps-requires
 run_steps-requires c =
     let a = c.args in
-    let t = c.step in (
-      ready_behind (subst (StepInBounds a.piece.now a.place.offset 0 _ a.out.now) c.in-Next.is
-          t.ensures.0) c.requires.long_bytes c.requires.long_ends c.out-2-1.given,
-      record {
+    let t = c.step in record {
+      step_ready = ready_behind (subst (StepInBounds a.piece.now a.place.offset 0 _ a.out.now) c.in-Next.is
+          t.ensures.step_in_bounds) c.requires.long_bytes c.requires.long_ends c.out-2-1.given;
+      scratch = record {
         long_starts = c.starts-2-1.given;
         long_stops = c.stops-2-1.given;
         long_kinds = c.kinds-2-1.given;
-      },
-    )
+      };
+    }
 
 pub shape_of-names-in-Next : goal.shape_of-names-in-Next
 shape_of-names-in-Next c = c.names-1.given
@@ -68,19 +69,19 @@ returns-in-Next c =
     let t = c.step in
     let left : a.place.records ≤ 0 = c.if-place-gt0.false in
     let none : a.place.records ≡ 0 = omega arith in
-    let bounds = subst (StepInBounds a.piece.now a.place.offset 0 _ a.out.now) c.in-Next.is t.ensures.0 in
+    let bounds = subst (StepInBounds a.piece.now a.place.offset 0 _ a.out.now) c.in-Next.is t.ensures.step_in_bounds in
     let r = c.run_steps.ensures in
     let as_long = c.out-2-1.given in
-    let room = r.1 in (
-      λ before done k b.
+    let room = r.length_in_bounds in record {
+      piece_run_sound = λ before done k b.
           let begins = begun_header b none in
           let turn =
           subst (StepSound a.d (into a.t) a.piece.now 0 a.place done k 0 a.out.now _ _ _) c.in-Next.is
-          (t.ensures.1 done k begins.hold) in
+          (t.ensures.step_sound done k begins.hold) in
           let h = headed_next begins (begun_follows b none) none turn (none_current bounds) a.bytes.now a.ends.now in
-          took_later h (r.0 a.place done k a.out.now (entered_of begins) as_long h.now),
-      omega arith,
-    )
+          took_later h (r.steps_sound a.place done k a.out.now (entered_of begins) as_long h.now);
+      length_in_bounds = omega arith;
+    }
 
 pub shape_of-names-in-NeedInput : goal.shape_of-names-in-NeedInput
 shape_of-names-in-NeedInput c = c.names-1.given
@@ -97,18 +98,18 @@ returns-in-NeedInput c =
     let t = c.step in
     let left : a.place.records ≤ 0 = c.if-place-gt0.false in
     let none : a.place.records ≡ 0 = omega arith in
-    let bounds = subst (StepInBounds a.piece.now a.place.offset 0 _ a.out.now) c.in-NeedInput.is t.ensures.0 in
-    let length-is = ap (λ (x : CallResult). x.length) c.call_result.ensures in (
-      λ before done k b.
+    let bounds = subst (StepInBounds a.piece.now a.place.offset 0 _ a.out.now) c.in-NeedInput.is t.ensures.step_in_bounds in
+    let length-is = ap (λ (x : CallResult). x.length) c.call_result.ensures in record {
+      piece_run_sound = λ before done k b.
           let begins = begun_header b none in
           let turn =
           subst (StepSound a.d (into a.t) a.piece.now 0 a.place done k 0 a.out.now _ _ _) c.in-NeedInput.is
-          (t.ensures.1 done k begins.hold) in
+          (t.ensures.step_sound done k begins.hold) in
           subst (PieceRunSound a.d (into a.t) before a.piece.now a.place done k a.out.now _ _ a.bytes.now a.ends.now _)
           (sym c.call_result.ensures)
-          (took_pended begins (begun_follows b none) none turn (pended_in_bounds bounds) c.call_report.ensures a.bytes.now a.ends.now),
-      omega arith,
-    )
+          (took_pended begins (begun_follows b none) none turn (pended_in_bounds bounds) c.call_report.ensures a.bytes.now a.ends.now);
+      length_in_bounds = omega arith;
+    }
 
 pub shape_of-names-in-Failed : goal.shape_of-names-in-Failed
 shape_of-names-in-Failed c = c.names-1.given
@@ -125,17 +126,17 @@ returns-in-Failed c =
     let t = c.step in
     let left : a.place.records ≤ 0 = c.if-place-gt0.false in
     let none : a.place.records ≡ 0 = omega arith in
-    let length-is = ap (λ (x : CallResult). x.length) c.call_result-in-Failed.ensures in (
-      λ before done k b.
+    let length-is = ap (λ (x : CallResult). x.length) c.call_result-in-Failed.ensures in record {
+      piece_run_sound = λ before done k b.
           let begins = begun_header b none in
           let turn =
           subst (StepSound a.d (into a.t) a.piece.now 0 a.place done k 0 a.out.now _ _ _) c.in-Failed.is
-          (t.ensures.1 done k begins.hold) in
+          (t.ensures.step_sound done k begins.hold) in
           subst (PieceRunSound a.d (into a.t) before a.piece.now a.place done k a.out.now _ _ a.bytes.now a.ends.now _)
           (sym c.call_result-in-Failed.ensures)
-          (took_stopped begins none turn a.bytes.now a.ends.now),
-      omega arith,
-    )
+          (took_stopped begins none turn a.bytes.now a.ends.now);
+      length_in_bounds = omega arith;
+    }
 
 pub shape_of-names-in-BadState : goal.shape_of-names-in-BadState
 shape_of-names-in-BadState c = c.names-1.given
@@ -153,12 +154,12 @@ returns-in-BadState c =
     let t = c.step in
     let left : a.place.records ≤ 0 = c.if-place-gt0.false in
     let none : a.place.records ≡ 0 = omega arith in
-    let length-is = ap (λ (x : CallResult). x.length) c.call_result-in-BadState.ensures in (
-      λ before done k b.
+    let length-is = ap (λ (x : CallResult). x.length) c.call_result-in-BadState.ensures in record {
+      piece_run_sound = λ before done k b.
           let begins = begun_header b none in
           let turn =
           subst (StepSound a.d (into a.t) a.piece.now 0 a.place done k 0 a.out.now _ _ _) c.in-BadState.is
-          (t.ensures.1 done k begins.hold) in
-          walk_nowhere (run_begins begins) (entered_of begins) refl turn,
-      omega arith,
-    )
+          (t.ensures.step_sound done k begins.hold) in
+          walk_nowhere (run_begins begins) (entered_of begins) refl turn;
+      length_in_bounds = omega arith;
+    }

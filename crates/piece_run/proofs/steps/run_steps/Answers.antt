@@ -13,7 +13,6 @@ use Rattle.piece_step.specs.Steps.{StepReady, StepInBounds, StepSound}
 use Rattle.piece_run.specs.Runs.{StepsSoFar, StepsSound}
 use Rattle.piece_run.proofs.Runs.{Since, since_begins, walk_on, walk_pends, walk_stops, walk_nowhere, walk_quickly, fast_behind, fast_nothing}
 use Rattle.piece_run.proofs.Runs.{fast_ready, ready_fast, ready_still, since_still, ready_on, proceeds_forward, pended_in_bounds}
-
 use Rattle.piece_run.proofs.steps.run_steps.Goals as goal
 
 pub loop-q-init : goal.loop-q-init
@@ -22,8 +21,10 @@ loop-q-init c = (c.requires.step_ready, refl, refl, refl, refl, refl, refl, λ b
 pub data_record-requires : goal.data_record-requires
 data_record-requires c =
     let l = c.loop-q.invariant in
-    let s = c.requires.scratch in
-    (fast_ready l.0, record { long_starts = l.4 ∙ s.long_starts; long_stops = l.5 ∙ s.long_stops; long_kinds = l.6 ∙ s.long_kinds })
+    let s = c.requires.scratch in record {
+      fast_step_ready = fast_ready l.0;
+      scratch = record { long_starts = l.4 ∙ s.long_starts; long_stops = l.5 ∙ s.long_stops; long_kinds = l.6 ∙ s.long_kinds };
+    }
 
 pub loop-q-smaller-in-Next : goal.loop-q-smaller-in-Next
 loop-q-smaller-in-Next c =
@@ -36,7 +37,7 @@ loop-q-preserved-in-Next c =
     let l = c.loop-q in
     let r = c.data_record.ensures in
     let e = c.in-Next.is in
-    let b = fast_behind r.0 e in
+    let b = fast_behind r.fast_step_in_bounds e in
     let o = c.out-1.given in (
       ready_fast b o l.invariant.0,
       l.invariant.1,
@@ -48,27 +49,27 @@ loop-q-preserved-in-Next c =
       λ began done k first z.
           let s = l.invariant.7 began done k first z in
           let w = s.now in
-          walk_quickly w s.grows (r.1 _ _ w.done' w.k' w.hold) e,
+          walk_quickly w s.grows (r.by_index _ _ w.done' w.k' w.hold) e,
     )
 
 pub step-requires : goal.step-requires
 step-requires c =
     let l = c.loop-q.invariant in
-    let s = c.requires.scratch in (
-      ready_still (fast_nothing c.data_record.ensures.fast_step_in_bounds c.in-Fallback.is) l.0,
-      record {
+    let s = c.requires.scratch in record {
+      step_ready = ready_still (fast_nothing c.data_record.ensures.fast_step_in_bounds c.in-Fallback.is) l.0;
+      scratch = record {
         long_starts = c.starts-1.given ∙ l.4 ∙ s.long_starts;
         long_stops = c.stops-1.given ∙ l.5 ∙ s.long_stops;
         long_kinds = c.kinds-1.given ∙ l.6 ∙ s.long_kinds;
-      },
-    )
+      };
+    }
 
 pub loop-q-smaller : goal.loop-q-smaller
 loop-q-smaller c =
     let l = c.loop-q in
     let a = c.args in
     let t = c.step in
-    let g = proceeds_forward (subst (StepInBounds a.piece.now a.n l.i _ _) c.in-Next-step.is t.ensures.0) in
+    let g = proceeds_forward (subst (StepInBounds a.piece.now a.n l.i _ _) c.in-Next-step.is t.ensures.step_in_bounds) in
     let g0 = g.0 in let g1 = g.1 in omega arith
 
 pub loop-q-preserved : goal.loop-q-preserved
@@ -80,7 +81,7 @@ loop-q-preserved c =
     let b = c.bytes-1.given in
     let e = c.ends-1.given in
     let o = c.out-in-Fallback-1.given in (
-      ready_on _ _ _ (subst (StepInBounds a.piece.now a.n l.i _ _) c.in-Next-step.is t.ensures.0) b e o
+      ready_on _ _ _ (subst (StepInBounds a.piece.now a.n l.i _ _) c.in-Next-step.is t.ensures.step_in_bounds) b e o
           (ready_still same l.invariant.0),
       b ∙ l.invariant.1,
       e ∙ l.invariant.2,
@@ -92,7 +93,7 @@ loop-q-preserved c =
           let s = since_still same (l.invariant.7 began done k first z) in
           let w = s.now in
           walk_on w s.grows (subst (StepSound a.d (into a.t) a.piece.now l.i l.p w.done' w.k' l.o _ _ _ _)
-          c.in-Next-step.is (t.ensures.1 w.done' w.k' w.hold)),
+          c.in-Next-step.is (t.ensures.step_sound w.done' w.k' w.hold)),
     )
 
 pub shape_of-bytes-in-NeedInput : goal.shape_of-bytes-in-NeedInput
@@ -123,18 +124,18 @@ returns-in-NeedInput c =
     let a = c.args in
     let t = c.step in
     let same = fast_nothing c.data_record.ensures.fast_step_in_bounds c.in-Fallback.is in
-    let b = pended_in_bounds (subst (StepInBounds a.piece.now a.n l.i _ _) c.in-NeedInput.is t.ensures.0) in
+    let b = pended_in_bounds (subst (StepInBounds a.piece.now a.n l.i _ _) c.in-NeedInput.is t.ensures.step_in_bounds) in
     let length-is = ap (λ (x : CallResult). x.length) c.call_result.ensures in
     let room = l.invariant.0.room in
-    let as_long = l.invariant.3 in (
-      λ began done k first entered long z.
+    let as_long = l.invariant.3 in record {
+      steps_sound = λ began done k first entered long z.
           let s = since_still same (l.invariant.7 began done k first z) in
           let w = s.now in
           subst (StepsSound a.d (into a.t) a.piece.now began done k z.done' first _ _ _) (sym c.call_result.ensures)
           (walk_pends w (subst (StepSound a.d (into a.t) a.piece.now l.i l.p w.done' w.k' l.o _ _ _ _)
-          c.in-NeedInput.is (t.ensures.1 w.done' w.k' w.hold)) b c.call_report.ensures z.done' s.grows),
-      omega arith,
-    )
+          c.in-NeedInput.is (t.ensures.step_sound w.done' w.k' w.hold)) b c.call_report.ensures z.done' s.grows);
+      length_in_bounds = omega arith;
+    }
 
 pub shape_of-bytes-in-Failed : goal.shape_of-bytes-in-Failed
 shape_of-bytes-in-Failed c = c.bytes-1.given ∙ c.loop-q.invariant.1
@@ -162,15 +163,15 @@ returns-in-Failed c =
     let same = fast_nothing c.data_record.ensures.fast_step_in_bounds c.in-Fallback.is in
     let length-is = ap (λ (x : CallResult). x.length) c.call_result-in-Failed.ensures in
     let room = l.invariant.0.room in
-    let as_long = l.invariant.3 in (
-      λ began done k first entered long z.
+    let as_long = l.invariant.3 in record {
+      steps_sound = λ began done k first entered long z.
           let s = since_still same (l.invariant.7 began done k first z) in
           let w = s.now in
           subst (StepsSound a.d (into a.t) a.piece.now began done k z.done' first _ _ _) (sym c.call_result-in-Failed.ensures)
           (walk_stops w (subst (StepSound a.d (into a.t) a.piece.now l.i l.p w.done' w.k' l.o _ _ _ _)
-          c.in-Failed.is (t.ensures.1 w.done' w.k' w.hold)) z.done' s.grows),
-      omega arith,
-    )
+          c.in-Failed.is (t.ensures.step_sound w.done' w.k' w.hold)) z.done' s.grows);
+      length_in_bounds = omega arith;
+    }
 
 pub shape_of-bytes-in-BadState : goal.shape_of-bytes-in-BadState
 shape_of-bytes-in-BadState c = c.bytes-1.given ∙ c.loop-q.invariant.1
@@ -198,11 +199,11 @@ returns-in-BadState c =
     let same = fast_nothing c.data_record.ensures.fast_step_in_bounds c.in-Fallback.is in
     let length-is = ap (λ (x : CallResult). x.length) c.call_result-in-BadState.ensures in
     let room = l.invariant.0.room in
-    let as_long = l.invariant.3 in (
-      λ began done k first entered long z.
+    let as_long = l.invariant.3 in record {
+      steps_sound = λ began done k first entered long z.
           let w = (since_still same (l.invariant.7 began done k first z)).now in
           walk_nowhere w entered (c.out-1.given ∙ l.invariant.3 ∙ long)
           (subst (StepSound a.d (into a.t) a.piece.now l.i l.p w.done' w.k' l.o _ _ _ _)
-          c.in-BadState.is (t.ensures.1 w.done' w.k' w.hold)),
-      omega arith,
-    )
+          c.in-BadState.is (t.ensures.step_sound w.done' w.k' w.hold));
+      length_in_bounds = omega arith;
+    }

@@ -15,7 +15,6 @@ use Rattle.piece_step.specs.Steps.{StepReady, StepInBounds, StepSound}
 use Rattle.piece_run.specs.Runs.{StepsSoFar, StepsSound}
 use Rattle.piece_run.proofs.Runs.{Since, since_begins, walk_on, walk_pends, walk_stops, walk_nowhere, walk_quickly, fast_behind, fast_nothing}
 use Rattle.piece_run.proofs.Runs.{fast_ready, ready_fast, ready_still, since_still, ready_on, proceeds_forward, pended_in_bounds}
-
 use Rattle.piece_run.proofs.steps.run_steps.Given as goal
 
 abbrev pub invariant-loop-q : goal.invariant-loop-q

@@ -1,7 +1,7 @@
-use Prim.Native.Nat.{◌-◌, ◌≤◌}
+use Prim.Native.Nat.{◌≤◌}
 use native.Mathlib.Omega.{arith}
 use lib.ListN.{length, get_or}
-use Rattle.piece_state.proofs.BufferedLists.{Preserving, keeping, cell_fits, end_fits, kept_next, kept_all}
+use Rattle.piece_state.proofs.BufferedLists.{keeping, cell_fits, end_fits, kept_next, kept_all}
 use Rattle.piece_state.proofs.cells.buffer_cells.Goals as goal
 
 pub loop-k-init : goal.loop-k-init

@@ -1,8 +1,6 @@
 -- `piece_state::cells::buffer_cells` meets its contract. The invariant: the cells from k on are pending.
-use Prim.Native.Nat.{◌-◌, ◌≤◌}
-use native.Mathlib.Omega.{arith}
-use lib.ListN.{length, get_or}
-use Rattle.piece_state.proofs.BufferedLists.{Preserving, keeping, cell_fits, end_fits, kept_next, kept_all}
+use Prim.Native.Nat.{◌-◌}
+use Rattle.piece_state.proofs.BufferedLists.{Preserving}
 use Rattle.piece_state.proofs.cells.buffer_cells.Given as goal
 
 abbrev pub invariant-loop-k : goal.invariant-loop-k

@@ -1,10 +1,9 @@
-use Prim.Native.Nat.{◌-◌, ◌≤◌}
+use Prim.Native.Nat.{◌≤◌}
 use mathlib.Core.Path.{ap, ◌∙◌}
 use native.Mathlib.Omega.{arith}
 use lib.ListN.{length, get_or}
-use borrow.Author.Rules.{rules}
 use Rattle.model.specs.rules.Decode.{kind_number}
-use Rattle.piece_state.proofs.BufferedLists.{Sorting, sorting, kind_fits, sorted, sorted_all}
+use Rattle.piece_state.proofs.BufferedLists.{sorting, kind_fits, sorted, sorted_all}
 use Rattle.piece_state.proofs.cells.kinds_of.Goals as goal
 
 pub loop-k-init : goal.loop-k-init

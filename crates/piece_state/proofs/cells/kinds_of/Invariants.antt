@@ -1,11 +1,6 @@
 -- `piece_state::cells::kinds_of` meets its contract. The invariant: the kinds from index k on are pending.
-use Prim.Native.Nat.{◌-◌, ◌≤◌}
-use mathlib.Core.Path.{ap, ◌∙◌}
-use native.Mathlib.Omega.{arith}
-use lib.ListN.{length, get_or}
-use borrow.Author.Rules.{rules}
-use Rattle.model.specs.rules.Decode.{kind_number}
-use Rattle.piece_state.proofs.BufferedLists.{Sorting, sorting, kind_fits, sorted, sorted_all}
+use Prim.Native.Nat.{◌-◌}
+use Rattle.piece_state.proofs.BufferedLists.{Sorting}
 use Rattle.piece_state.proofs.cells.kinds_of.Given as goal
 
 abbrev pub invariant-loop-k : goal.invariant-loop-k

@@ -1,6 +1,5 @@
-use Prim.Native.Nat.{◌-◌}
 use native.Mathlib.Omega.{arith}
-use Rattle.piece_state.proofs.BufferedLists.{Starting, starting, start_fits, started, started_all}
+use Rattle.piece_state.proofs.BufferedLists.{starting, start_fits, started, started_all}
 use Rattle.piece_state.proofs.cells.starts_of.Goals as goal
 
 pub loop-k-init : goal.loop-k-init

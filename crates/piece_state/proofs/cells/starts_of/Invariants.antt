@@ -1,7 +1,6 @@
 -- `piece_state::cells::starts_of` meets its contract. The invariant: the next start is pending, and then each end from k on but the last.
 use Prim.Native.Nat.{◌-◌}
-use native.Mathlib.Omega.{arith}
-use Rattle.piece_state.proofs.BufferedLists.{Starting, starting, start_fits, started, started_all}
+use Rattle.piece_state.proofs.BufferedLists.{Starting}
 use Rattle.piece_state.proofs.cells.starts_of.Given as goal
 
 abbrev pub invariant-loop-k : goal.invariant-loop-k

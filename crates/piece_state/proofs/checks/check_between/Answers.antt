@@ -1,5 +1,4 @@
 -- `piece_state::checks::check_between` meets its contract, by its tests.
-use borrow.Author.Rules.{rules}
 use Rattle.model.specs.rules.Base.{choose◌then◌else◌}
 use Rattle.model.proofs.Tests.{tests}
 use Rattle.piece_state.specs.Checks.{check_between}

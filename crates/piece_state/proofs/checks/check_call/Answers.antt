@@ -3,7 +3,6 @@ use mathlib.Core.Path.{sym, ap, ◌∙◌}
 use Rattle.codes.specs.Named.{dialect_in}
 use Rattle.piece_state.specs.declared.checks.CallCheck.TheVariants.{Refused}
 use Rattle.piece_state.proofs.CallChecks.{unknown_source, unknown_target, both_known}
-use borrow.Author.Rules.{rules}
 use Rattle.piece_state.proofs.checks.check_call.Goals as goal
 
 pub returns-in_default : goal.returns-in_default

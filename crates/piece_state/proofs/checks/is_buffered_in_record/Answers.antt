@@ -1,7 +1,6 @@
 -- `piece_state::checks::is_buffered_in_record` meets its contract, by its tests.
 use mathlib.Core.Path.{◌≡◌, sym, ◌∙◌}
 use mathlib.Core.Bool.{true, false}
-use borrow.Author.Rules.{rules}
 use borrow.Author.Tests.{le-leb, lt-leb}
 use Rattle.model.specs.laws.Scans.{in_record}
 use Rattle.piece_state.specs.Sound.{buffered_in_record}

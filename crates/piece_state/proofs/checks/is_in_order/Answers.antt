@@ -1,9 +1,6 @@
-use Prim.Native.Nat.{◌-◌, ◌≤◌}
 use native.Mathlib.Omega.{arith}
-use mathlib.Core.Path.{◌≡◌, sym, ◌∙◌}
-use lib.ListN.{take}
-use Rattle.piece_state.specs.Sound.{in_order}
-use Rattle.piece_state.proofs.Soundness.{order_from, order_begins, order_breaks, order_goes_on, order_ends}
+use mathlib.Core.Path.{sym, ◌∙◌}
+use Rattle.piece_state.proofs.Soundness.{order_begins, order_breaks, order_goes_on, order_ends}
 use Rattle.piece_state.proofs.checks.is_in_order.Goals as goal
 
 pub loop-k-init : goal.loop-k-init

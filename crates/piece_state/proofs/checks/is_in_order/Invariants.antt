@@ -1,10 +1,9 @@
 -- `piece_state::checks::is_in_order` meets its contract. The invariant: the check of all ends equals that of the ends from k on.
 use Prim.Native.Nat.{◌-◌, ◌≤◌}
-use native.Mathlib.Omega.{arith}
-use mathlib.Core.Path.{◌≡◌, sym, ◌∙◌}
+use mathlib.Core.Path.{◌≡◌}
 use lib.ListN.{take}
 use Rattle.piece_state.specs.Sound.{in_order}
-use Rattle.piece_state.proofs.Soundness.{order_from, order_begins, order_breaks, order_goes_on, order_ends}
+use Rattle.piece_state.proofs.Soundness.{order_from}
 use Rattle.piece_state.proofs.checks.is_in_order.Given as goal
 
 abbrev pub invariant-loop-k : goal.invariant-loop-k

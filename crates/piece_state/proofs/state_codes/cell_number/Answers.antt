@@ -4,7 +4,6 @@ use native.Mathlib.Omega.{arith}
 use mathlib.Core.Path.{sym, ap, ◌∙◌}
 use Rattle.piece_state.specs.Codes.{cell_number}
 use Rattle.piece_state.proofs.Codes.{char_small, hex_small, numeral_small, word_small}
-use borrow.Author.Rules.{rules}
 use Rattle.piece_state.proofs.state_codes.cell_number.Goals as goal
 
 pub overflow_add-result : goal.overflow_add-result

@@ -2,7 +2,6 @@
 use Rattle.model.specs.rules.Base.{choose◌then◌else◌}
 use Rattle.model.proofs.Tests.{tests}
 use Rattle.piece_state.specs.Codes.{char_from}
-use borrow.Author.Rules.{rules}
 use Rattle.piece_state.proofs.state_codes.char_of.Goals as goal
 
 pub returns-then-n-eq0 : goal.returns-then-n-eq0

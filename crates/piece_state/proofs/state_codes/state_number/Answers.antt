@@ -4,7 +4,6 @@ use native.Mathlib.Omega.{arith}
 use mathlib.Core.Path.{sym, ap, ◌∙◌}
 use Rattle.piece_state.specs.Codes.{state_number}
 use Rattle.piece_state.proofs.Codes.{char_small, cell_small}
-use borrow.Author.Rules.{rules}
 use Rattle.piece_state.proofs.state_codes.state_number.Goals as goal
 
 pub overflow_add-result : goal.overflow_add-result

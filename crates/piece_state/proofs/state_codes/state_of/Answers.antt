@@ -2,7 +2,6 @@
 use Rattle.model.specs.rules.Base.{choose◌then◌else◌}
 use Rattle.model.proofs.Tests.{tests}
 use Rattle.piece_state.specs.Codes.{state_from}
-use borrow.Author.Rules.{rules}
 use Rattle.piece_state.proofs.state_codes.state_of.Goals as goal
 
 pub returns-then-n-lt16 : goal.returns-then-n-lt16

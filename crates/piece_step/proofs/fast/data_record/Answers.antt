@@ -8,17 +8,16 @@ use Rattle.model.specs.rules.Report.{MAXFILE}
 use Rattle.piece_step.specs.FastSteps.{nothing_in_bounds, nothing}
 use Rattle.piece_step.proofs.FastCells.{cells_there, clean_there}
 use Rattle.piece_step.proofs.FastSteps.{next_file, writes_bounds, writes_turns}
-
 use Rattle.piece_step.proofs.fast.data_record.Goals as goal
 
 pub overflow_sub-piece : goal.overflow_sub-piece
 overflow_sub-piece c = let inside = c.requires.fast_step_ready.inside in omega arith
 
 pub returns-then-piece-i : goal.returns-then-piece-i
-returns-then-piece-i c = (nothing_in_bounds refl, λ bytes ends done k hold. nothing)
+returns-then-piece-i c = record { fast_step_in_bounds = nothing_in_bounds refl; by_index = λ bytes ends done k hold. nothing }
 
 pub returns-then-not-is_between : goal.returns-then-not-is_between
-returns-then-not-is_between c = (nothing_in_bounds refl, λ bytes ends done k hold. nothing)
+returns-then-not-is_between c = record { fast_step_in_bounds = nothing_in_bounds refl; by_index = λ bytes ends done k hold. nothing }
 
 pub overflow_sub-n : goal.overflow_sub-n
 overflow_sub-n c =
@@ -31,46 +30,45 @@ scan-requires c =
     let l = c.requires.scratch in
     let at = r.at in
     let offset = r.offset in
-    ((r.inside, omega arith, omega arith, omega arith), (omega (arith, l.long_starts), omega (arith, l.long_stops), omega (arith, l.long_kinds)))
+    record {
+      from_in_bounds = (r.inside, omega arith, omega arith, omega arith);
+      room_in_bounds = (omega (arith, l.long_starts), omega (arith, l.long_stops), omega (arith, l.long_kinds));
+    }
 
 pub finish_record-requires : goal.finish_record-requires
 finish_record-requires c =
     let r = c.requires.fast_step_ready in
     let l = c.requires.scratch in
-    let b = c.is_between.ensures (not-false _ c.if-not-is_between.false) in
+    let b = c.is_between.ensures c.if-not-is_between.false in
     let records : c.args.p.records ≤ c.args.p.offset = r.records in
-    let offset : c.args.p.offset ≤ MAXFILE = r.offset in (
-      record {
+    let offset : c.args.p.offset ≤ MAXFILE = r.offset in
+    record {
+      scratch = record {
         long_starts = c.starts-1.given ∙ l.long_starts;
         long_stops = c.stops-1.given ∙ l.long_stops;
         long_kinds = c.kinds-1.given ∙ l.long_kinds;
-      },
-      (
-        cells_there _ _ _ _ _ b.state c.requires.fast_step_ready.inside c.scan.ensures c.requires.scratch c.in-Record.is,
-        (
-          clean_there _ _ _ _ _ b.state c.requires.fast_step_ready.inside c.scan.ensures c.requires.scratch c.in-Record.is,
-          (
-            (
-              r.before,
-              omega arith,
-              next_file c.args.t c.requires.fast_step_ready (c.is_between.ensures (not-false _ c.if-not-is_between.false))
-                  c.scan.ensures c.requires.scratch c.in-Record.is,
-              r.room,
-            ),
-            b.later,
-          ),
-        ),
-      ),
-    )
+      };
+      cells = cells_there _ _ _ _ _ b.state c.requires.fast_step_ready.inside c.scan.ensures c.requires.scratch c.in-Record.is;
+      clean_in = clean_there _ _ _ _ _ b.state c.requires.fast_step_ready.inside c.scan.ensures c.requires.scratch c.in-Record.is;
+      written_bound = (
+        r.before,
+        omega arith,
+        next_file c.args.t c.requires.fast_step_ready (c.is_between.ensures c.if-not-is_between.false)
+            c.scan.ensures c.requires.scratch c.in-Record.is,
+        r.room,
+      );
+      fact = b.later;
+    }
 
 pub returns-in-Fallback : goal.returns-in-Fallback
-returns-in-Fallback c = (nothing_in_bounds refl, λ bytes ends done k hold. nothing)
+returns-in-Fallback c = record { fast_step_in_bounds = nothing_in_bounds refl; by_index = λ bytes ends done k hold. nothing }
 
 pub returns-in-Record : goal.returns-in-Record
 returns-in-Record c =
-    let w = c.finish_record.ensures in (
-      writes_bounds c.args.t c.requires.fast_step_ready (c.is_between.ensures (not-false _ c.if-not-is_between.false)) c.scan.ensures c.requires.scratch
-          c.in-Record.is w,
-      λ bytes ends done k hold. writes_turns c.args.t c.requires.fast_step_ready
-          (c.is_between.ensures (not-false _ c.if-not-is_between.false)) c.scan.ensures c.requires.scratch c.in-Record.is hold w,
-    )
+    let w = c.finish_record.ensures in
+    record {
+      fast_step_in_bounds = writes_bounds c.args.t c.requires.fast_step_ready (c.is_between.ensures c.if-not-is_between.false) c.scan.ensures c.requires.scratch
+          c.in-Record.is w;
+      by_index = λ bytes ends done k hold. writes_turns c.args.t c.requires.fast_step_ready
+          (c.is_between.ensures c.if-not-is_between.false) c.scan.ensures c.requires.scratch c.in-Record.is hold w;
+    }

@@ -14,7 +14,6 @@ use Rattle.cell_decoder.specs.declared.source.Source.TheVariants.{File}
 use Rattle.cell_decoder.specs.Sources.{cells_in}
 use Rattle.piece_step.specs.FastSteps.{not_found}
 use Rattle.piece_step.proofs.FastText.{put_to, put_nowhere, written_fits, written_place}
-
 use Rattle.piece_step.proofs.fast.finish_record.Goals as goal
 
 pub returns-then-cells-gt-MAX_COLUMNS : goal.returns-then-cells-gt-MAX_COLUMNS
@@ -41,7 +40,7 @@ slice_bounds-write_record-end-3 c =
 pub write_record-requires : goal.write_record-requires
 write_record-requires c =
     let m = c.if-cells-gt-MAX_COLUMNS.false in
-    (c.requires.cells.0 m, (c.requires.cells.1.0 m, (c.requires.cells.1.1.0.0, c.requires.cells.1.1.0.3)))
+    record { cells = c.requires.cells m; clean_in = c.requires.clean_in m; before_bound = (c.requires.written_bound.0, c.requires.written_bound.3) }
 
 pub overflow_sub-result : goal.overflow_sub-result
 overflow_sub-result c = (written_fits (put_to c.write_record.ensures c.in-To.is)).0
@@ -56,5 +55,5 @@ returns-in-Fallback c = not_found (put_nowhere c.write_record.ensures c.in-Fallb
 
 pub returns-in-To : goal.returns-in-To
 returns-in-To c =
-    written_place c.args.n c.args.next c.args.state c.args.cells c.requires.cells.1.1.1 c.if-cells-gt-MAX_COLUMNS.false
+    written_place c.args.n c.args.next c.args.state c.args.cells c.requires.fact c.if-cells-gt-MAX_COLUMNS.false
     (put_to c.write_record.ensures c.in-To.is)

@@ -4,7 +4,6 @@ use borrow.Author.Rules.{rules}
 use Rattle.model.specs.declared.FileState.{FileState}
 use Rattle.model.proofs.Tests.{impossible}
 use Rattle.piece_step.specs.FastSteps.{Starts, begins, ends}
-
 use Rattle.piece_step.proofs.fast.is_between.Goals as goal
 
 pub returns-then-p-eq0 : goal.returns-then-p-eq0

@@ -16,16 +16,7 @@ use Rattle.cell_decoder.specs.Sources.{cells_in}
 use Rattle.cell_decoder.proofs.CellsIn.{cells_length}
 use Rattle.record_writer.specs.CleanRecord.{clean_data}
 use Rattle.piece_step.specs.FastSteps.{up_to, no_text}
-
 use Rattle.piece_step.proofs.fast.write_record.Goals as goal
-
--- look: cites tie
-abbrev cells : tie.Start → List Value
-cells c = let a = c.args in cells_in (File a.d) a.piece.now a.starts.now a.stops.now a.kinds.now
-
--- look: cites tie
-abbrev text : tie.Start → Bytes
-text c = record_text (into c.args.t) false (cells c) ++ ending c.args.t
 
 place_of : {old : Bytes} {o : ℕ} {w new : Bytes} {r : ℕ} → WrittenAt true old o w new r → (new ≡ written old o w) × (r ≡ o + length w)
 unfolding choose◌then◌else◌
@@ -35,7 +26,7 @@ pub returns-in-Faulty : goal.returns-in-Faulty
 returns-in-Faulty c = no_text refl
 
 pub check_target-r-requires : goal.check_target-r-requires
-check_target-r-requires c = (c.requires.cells, (λ e. clean_data (c.requires.clean_in.0 e), c.requires.clean_in.1.0))
+check_target-r-requires c = record { cells = c.requires.cells; clean_record = λ e. clean_data (c.requires.clean_in e); written_bound = c.requires.before_bound.0 }
 
 pub returns-in-Faulty-v : goal.returns-in-Faulty-v
 returns-in-Faulty-v c = no_text refl
@@ -45,24 +36,33 @@ returns-then-out-o c = no_text refl
 
 pub write_line-requires : goal.write_line-requires
 write_line-requires c =
-    let fits : c.args.o + length (text c) ≤ length c.args.out.now =
-        let l = c.check_target-r.ensures.length_value c.in_default-v.is in
+    let a = c.args in
+    let cells = cells_in (File a.d) a.piece.now a.starts.now a.stops.now a.kinds.now in
+    let text = record_text (into a.t) false cells ++ ending a.t in
+    let fits : a.o + length text ≤ length a.out.now =
+    let l : c.check_target-r.result.length ≡ length text = c.check_target-r.ensures.length_value c.in_default-v.is in
     let m = c.if-out-o.false in
-    let o : c.args.o ≤ length c.args.out.now = c.requires.clean_in.1.1 in
+    let o : a.o ≤ length a.out.now = c.requires.before_bound.1 in
     omega (arith, l) in
-    (c.requires.cells, (λ e. clean_data (c.requires.clean_in.0 e), record { measured = λ z. impossible (sym z); inside = λ z. fits }))
+    record {
+      cells = c.requires.cells;
+      clean_record = λ e. clean_data (c.requires.clean_in e);
+      room = record { measured = λ z. impossible (sym z); inside = λ z. fits };
+    }
 
 pub returns : goal.returns
 returns c =
-    let fits : c.args.o + length (text c) ≤ length c.args.out.now =
-        let l = c.check_target-r.ensures.length_value c.in_default-v.is in
-    let m = c.if-out-o.false in
-    let o : c.args.o ≤ length c.args.out.now = c.requires.clean_in.1.1 in
-    omega (arith, l) in
     let a = c.args in
+    let cells = cells_in (File a.d) a.piece.now a.starts.now a.stops.now a.kinds.now in
+    let text = record_text (into a.t) false cells ++ ending a.t in
+    let fits : a.o + length text ≤ length a.out.now =
+    let l : c.check_target-r.result.length ≡ length text = c.check_target-r.ensures.length_value c.in_default-v.is in
+    let m = c.if-out-o.false in
+    let o : a.o ≤ length a.out.now = c.requires.before_bound.1 in
+    omega (arith, l) in
     let y = place_of c.write_line.ensures in
     up_to
-    (sym (c.«data».ensures (cells c)
+    (sym (c.«data».ensures cells
     (cells_length (File a.d) a.piece.now a.starts.now a.stops.now a.kinds.now c.requires.cells.with_ends c.requires.cells.with_kinds))
     ∙ c.in_default.is)
     (sym c.check_target-r.ensures.verdict_value ∙ c.in_default-v.is)

@@ -6,7 +6,6 @@ use borrow.Author.Rules.{rules}
 use Rattle.model.proofs.Tests.{impossible}
 use Rattle.swar.specs.Words.{ordinary}
 use Rattle.swar.proofs.Spans.{CheckedTo, check_starts, check_word, check_last}
-
 use Rattle.piece_step.proofs.in_cell.all_ordinary.Given as goal
 
 abbrev pub invariant-loop-i : goal.invariant-loop-i

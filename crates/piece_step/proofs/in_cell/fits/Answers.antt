@@ -2,17 +2,16 @@
 use native.Mathlib.Omega.{arith}
 use borrow.Author.Rules.{rules}
 use Rattle.model.proofs.Tests.{impossible}
-
 use Rattle.piece_step.proofs.in_cell.fits.Goals as goal
 
 pub returns-then-p-gt-MAX_COLUMNS : goal.returns-then-p-gt-MAX_COLUMNS
-returns-then-p-gt-MAX_COLUMNS c = impossible e
+returns-then-p-gt-MAX_COLUMNS c = λ e. impossible e
 
 pub returns-then-p-size : goal.returns-then-p-size
-returns-then-p-size c = impossible e
+returns-then-p-size c = λ e. impossible e
 
 pub returns-then-p-size-2 : goal.returns-then-p-size-2
-returns-then-p-size-2 c = impossible e
+returns-then-p-size-2 c = λ e. impossible e
 
 pub returns : goal.returns
-returns c = record { columns = omega arith; in_record_lem = omega arith; in_file = omega arith }
+returns c = λ e. record { columns = omega arith; in_record_lem = omega arith; in_file = omega arith }

@@ -6,10 +6,8 @@ use borrow.Author.Rules.{rules}
 use borrow.Author.Tests.{not-false}
 use Rattle.piece_step.specs.InCell.{not_found}
 use Rattle.piece_step.proofs.InCell.{piece_kept}
-
 use Rattle.piece_step.proofs.in_cell.step.Goals as goal
 
--- look: fits2.ensures
 pub returns-then-not-fits : goal.returns-then-not-fits
 returns-then-not-fits c = not_found refl
 
@@ -24,22 +22,22 @@ returns-then-not-all_ordinary c = not_found refl
 
 pub buffer_open-fill-requires : goal.buffer_open-fill-requires
 buffer_open-fill-requires c =
-    let fits = c.fits2.ensures (not-false _ c.if-not-fits.false) in
+    let fits = c.fits.ensures c.if-not-fits.false in
     omega (arith, fits.in_record_lem, c.requires.in_bounds.fill, c.requires.bytes_len.0)
 
 pub overflow_add-result-2 : goal.overflow_add-result-2
 overflow_add-result-2 c =
-    let fits = c.fits2.ensures (not-false _ c.if-not-fits.false) in
+    let fits = c.fits.ensures c.if-not-fits.false in
     let size = fits.in_record_lem in
     record { fits = omega arith }
 
 pub returns : goal.returns
 returns c =
     let a = c.args in
-    let fits = c.fits2.ensures (not-false _ c.if-not-fits.false) in
+    let fits = c.fits.ensures c.if-not-fits.false in
     let state = c.in-Inside.is in
     let stops = sym c.run_stop.ensures ∙ c.in-At.is in
-    let all = c.all_ordinary.ensures (not-false _ c.if-not-all_ordinary.false) in
+    let all = c.all_ordinary.ensures c.if-not-all_ordinary.false in
     let kept = c.buffer_open-fill.ensures in
     piece_kept a.d a.piece.now a.p a.bytes.now a.ends.now c.requires.in_bounds c.requires.bytes_len.0 c.requires.bytes_len.1 _ _ state stops
     (rw c.quote_of.ensures at all) fits _ kept.1 kept.0

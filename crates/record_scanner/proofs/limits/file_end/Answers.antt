@@ -1,7 +1,6 @@
 -- `record_scanner::limits::file_end` meets its contract: each arm is the definition's for its state.
 use Rattle.model.proofs.Tests.{tests}
 use Rattle.model.specs.rules.File.{file_end}
-use borrow.Author.Rules.{rules}
 use Rattle.record_scanner.proofs.limits.file_end.Goals as goal
 
 pub returns-in-Top : goal.returns-in-Top

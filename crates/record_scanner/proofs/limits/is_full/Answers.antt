@@ -1,6 +1,5 @@
 -- `record_scanner::limits::is_full` meets its contract, by its test.
 use Rattle.model.proofs.Tests.{tests}
-use borrow.Author.Rules.{rules}
 use Rattle.record_scanner.proofs.limits.is_full.Goals as goal
 
 pub returns-then-size-lt-MAX_RECORD : goal.returns-then-size-lt-MAX_RECORD

@@ -1,6 +1,5 @@
 -- `record_scanner::limits::last_cell` meets its contract, dialect by dialect.
 use Rattle.model.proofs.Tests.{tests}
-use borrow.Author.Rules.{rules}
 use Rattle.record_scanner.proofs.limits.last_cell.Goals as goal
 
 pub returns-in-CsvPlus : goal.returns-in-CsvPlus

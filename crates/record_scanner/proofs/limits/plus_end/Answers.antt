@@ -1,7 +1,6 @@
 -- `record_scanner::limits::plus_end` meets its contract, by its test.
 use Rattle.model.proofs.Tests.{tests}
 use Rattle.model.specs.rules.Base.{choose◌then◌else◌}
-use borrow.Author.Rules.{rules}
 use Rattle.record_scanner.proofs.limits.plus_end.Goals as goal
 
 pub returns-then-is_whole : goal.returns-then-is_whole

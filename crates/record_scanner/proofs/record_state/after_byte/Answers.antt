@@ -1,5 +1,4 @@
 -- `record_scanner::record_state::after_byte` meets its contract, arm by arm.
-use borrow.Author.Rules.{rules}
 use Rattle.model.proofs.Tests.{tests}
 use Rattle.record_scanner.specs.CurrentRecord.{one_more}
 use Rattle.record_scanner.proofs.record_state.after_byte.Goals as goal

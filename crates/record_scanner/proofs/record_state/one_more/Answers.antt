@@ -1,5 +1,4 @@
 -- `record_scanner::record_state::one_more` meets its contract, by its test.
-use borrow.Author.Rules.{rules}
 use Rattle.model.proofs.Tests.{tests}
 use Rattle.model.specs.rules.Base.{choose◌then◌else◌}
 use Rattle.record_scanner.specs.CurrentRecord.{one_more}

@@ -1,5 +1,4 @@
 -- `record_scanner::store::store_cell` meets its contract: a store in each list, or none.
-use borrow.Author.Rules.{rules}
 use Rattle.record_scanner.proofs.StoreLaws.{not_stored, no_room, stored_there}
 use Rattle.record_scanner.proofs.store.store_cell.Goals as goal
 

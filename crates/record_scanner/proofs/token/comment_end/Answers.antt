@@ -1,5 +1,4 @@
 -- `record_scanner::token::comment_end` meets its contract: no state but `Comment` is within a comment.
-use borrow.Author.Rules.{rules}
 use Prim.Native.Nat.{ℕ, ◌<◌}
 use native.Mathlib.Omega.{arith}
 use mathlib.Core.Path.{◌≡◌, refl}

@@ -1,5 +1,4 @@
 -- `record_scanner::token::limit_end` meets its contract, by its test.
-use borrow.Author.Rules.{rules}
 use Rattle.record_scanner.proofs.TokenOutcomes.{many_free}
 use Rattle.record_scanner.proofs.token.limit_end.Goals as goal
 

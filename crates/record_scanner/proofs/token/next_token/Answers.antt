@@ -1,6 +1,5 @@
 -- `record_scanner::token::next_token` meets its contract, by the result of `dispatch` and the end of the cell.
 use mathlib.Core.Path.{sym, ◌∙◌}
-use borrow.Author.Rules.{rules}
 use Rattle.record_scanner.proofs.TokenOutcomes.{met_skipped, met_byte, met_after, met_cell}
 use Rattle.record_scanner.proofs.token.next_token.Goals as goal
 
