@@ -1,7 +1,5 @@
 -- `file_converter::convert_in` meets its contract, by the result of the first pass and the length of the room.
-use borrow.Author.Rules.{rules}
 use Rattle.file_converter.proofs.ConverterAnswers.{conversion_refused, conversion_crowded, conversion_accepts, conversion_roomy, long_filled}
-
 use Rattle.file_converter.proofs.convert_in.Goals as goal
 
 pub returns-then-room-length : goal.returns-then-room-length

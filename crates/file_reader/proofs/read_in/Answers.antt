@@ -1,11 +1,9 @@
 -- `file_reader::read_in` meets its contract, by the cursor's result for the header.
 use mathlib.Core.Path.{refl}
 use lib.ListN.{length}
-use borrow.Author.Rules.{rules}
 use Rattle.file_cursor.specs.declared.Aim.TheVariants.{Reading}
 use Rattle.file_cursor.proofs.Traversal.{sets_out, walk_bounds, full_long}
 use Rattle.file_reader.proofs.ReaderAnswers.{from_start, begins, no_header, no_records, shortest}
-
 use Rattle.file_reader.proofs.read_in.Goals as goal
 
 pub next_record-requires : goal.next_record-requires

@@ -1,16 +1,14 @@
 -- `file_reader::read_records` meets its contract. The first pass stores nothing, so that a refusal leaves the lists as they were; then the
 -- header fills its places, and a second pass those that follow.
 use native.Mathlib.Omega.{arith}
-use Prim.Native.Nat.{ℕ, ◌≤◌}
+use Prim.Native.Nat.{ℕ}
 use mathlib.Core.List.{List}
 use mathlib.Core.Path.{◌≡◌, ap, ◌∙◌}
 use lib.ListN.{length}
-use borrow.Author.Rules.{rules}
 use Rattle.record_scanner.specs.Stored.{stored_from}
 use Rattle.record_scanner.proofs.StoreLaws.{length_stored_from}
 use Rattle.file_reader.proofs.PassInvariant.{held_lengths}
 use Rattle.file_reader.proofs.ReaderAnswers.{unchanged, few_cells, part_room, part_long, data_refused, data_crowded, data_roomy}
-
 use Rattle.file_reader.proofs.read_records.Goals as goal
 
 -- a list that was filled has the length that it had before a pass that stored nothing

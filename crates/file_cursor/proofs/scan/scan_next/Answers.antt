@@ -1,5 +1,4 @@
 -- `scan_next` meets its contract, by the scanner's result; where that needs input, the file ends.
-use borrow.Author.Rules.{rules}
 use Rattle.record_scanner.proofs.StoreLaws.{still_room}
 use Rattle.file_cursor.proofs.WholeFile.{at_record, at_fault, at_end, in_hand}
 use Rattle.file_cursor.proofs.scan.scan_next.Goals as goal
