@@ -9,28 +9,24 @@ folder=$(realpath -m "${2:-target/fuzz}")
 cd "$(dirname "$0")/.."
 archive=$PWD/target/staticlib/libhemakuliwi.a
 crates=(c_files c_convert c_pieces c_ends c_cells)
-mkdir -p "$folder"/{kit,covered,corpus,findings}
+mkdir -p "$folder"/{toolchain/bin,covered,corpus,findings}
 [[ -f $archive ]] || { echo "fuzz: no $archive: run make"; exit 2; }
 
-# A copy of the kit, of links, whose clang compiles each module twice: as it is to be, and with counters at its branches.
+# A copy of the kit's toolchain, of links, whose clang compiles each module twice: as it is to be, and with counters at its branches.
 covered_objects() {
-  local kit machine crate
-  kit=${RATTLE_HOME:-$(dirname "$(dirname "$(readlink -f "$(command -v rt)")")")}
-  machine=$(uname -m)
-  mkdir -p "$folder/kit/on/$machine/toolchain/bin"
-  find "$kit" -mindepth 1 -maxdepth 1 ! -name on -exec ln -sfn -t "$folder/kit" {} +
-  find "$kit/on/$machine" -mindepth 1 -maxdepth 1 ! -name toolchain -exec ln -sfn -t "$folder/kit/on/$machine" {} +
-  find "$kit/on/$machine/toolchain" -mindepth 1 -maxdepth 1 ! -name bin -exec ln -sfn -t "$folder/kit/on/$machine/toolchain" {} +
-  find "$kit/on/$machine/toolchain/bin" -mindepth 1 ! -name clang -exec ln -sfn -t "$folder/kit/on/$machine/toolchain/bin" {} +
-  cat >"$folder/kit/on/$machine/toolchain/bin/clang" <<STAND_IN
+  local kit crate
+  kit=$(dirname "$(rt doc)")
+  find "$kit/toolchain" -mindepth 1 -maxdepth 1 ! -name bin -exec ln -sfn -t "$folder/toolchain" {} +
+  find "$kit/toolchain/bin" -mindepth 1 ! -name clang -exec ln -sfn -t "$folder/toolchain/bin" {} +
+  cat >"$folder/toolchain/bin/clang" <<STAND_IN
 #!/usr/bin/env bash
-real=$kit/on/$machine/toolchain/bin/clang
+real=$kit/toolchain/bin/clang
 "\$real" "\$@" && exec "\$real" "\$@" -fsanitize-coverage=inline-8bit-counters,pc-table,trace-cmp -o "$folder/covered/module.o"
 STAND_IN
-  chmod +x "$folder/kit/on/$machine/toolchain/bin/clang"
+  chmod +x "$folder/toolchain/bin/clang"
   for crate in "${crates[@]}"; do
     rm -f "$folder/covered/module.o"
-    RATTLE_HOME=$folder/kit rt staticlib "$crate" >"$folder/covered/$crate.log" 2>&1
+    (cd "crates/$crate" && ../../scripts/archive.sh "$folder/covered/$crate.a" "$folder/toolchain") >"$folder/covered/$crate.log" 2>&1
     mv "$folder/covered/module.o" "$folder/covered/$crate.o"
   done
 }

@@ -18,7 +18,7 @@ pub mod state;
 
 // All fields are plain, so that a state may be copied and stored, and any bytes are a state. Zeros are a converter of no dialect.
 #[repr(C)]
-#[derive(Drop)]
+#[derive(Clone, Copy)]
 pub struct Converter {
     // The dialect numbers that it was made with.
     pub source: u32,
@@ -49,7 +49,7 @@ pub struct Converter {
 
 // What a call returns, and the state for the next one.
 #[repr(C)]
-#[derive(Drop)]
+#[derive(Clone, Copy)]
 pub struct PieceAnswer {
     pub answer: TextAnswer,
     pub next: Converter,

@@ -17,7 +17,6 @@ use Rattle.model.specs.declared.Kind.{Kind}
 use Rattle.model.specs.declared.Kind.TheVariants.{Text, Number, True, False, Null}
 use Rattle.model.proofs.Tests.{split_on, impossible}
 use Rattle.buffer.specs.Writes.{Room}
-use Rattle.cell_decoder.specs.declared.source.Source.{Source}
 use Rattle.cell_decoder.specs.declared.source.Source.TheVariants.{File}
 use Rattle.cell_decoder.specs.Followed.{EdFollows, EdFollowed}
 use Rattle.cell_decoder.specs.Sources.{kind_from, cells_in, Encoded, in_file, Cells}

@@ -1,8 +1,8 @@
 -- The cells of a record that lies whole in a part of a file: the spans in the lists are theirs, and each is a whole cell.
-use Prim.Native.Nat.{ℕ, suc, ◌+◌, ◌-◌, ◌≤◌, ◌<◌}
+use Prim.Native.Nat.{ℕ, ◌+◌, ◌-◌, ◌≤◌, ◌<◌}
 use native.Mathlib.Omega.{arith}
 use mathlib.Core.Path.{◌≡◌, refl, sym, ap, subst, ◌∙◌}
-use mathlib.Core.Bool.{Bool, true, false}
+use mathlib.Core.Bool.{Bool, true}
 use mathlib.Core.List.{List, [], ◌∷◌, map, map-map}
 use lib.ListN.{length, take, drop, length-map, length-drop}
 use lib.Seq.{length-take-le}
@@ -12,7 +12,7 @@ use Rattle.model.specs.declared.Cell.TheVariants.{Fresh}
 use Rattle.model.specs.rules.Base.{Bytes}
 use Rattle.model.specs.rules.Decode.{kind_of, content_of, kind_number, validate_cell}
 use Rattle.model.specs.rules.Text.{Value}
-use Rattle.model.specs.rules.Report.{MAXFILE, MAXRECORD, MAXCOLUMNS}
+use Rattle.model.specs.rules.Report.{MAXRECORD, MAXCOLUMNS}
 use Rattle.model.specs.laws.Laws.{All, all_none, all_cons}
 use Rattle.model.specs.laws.Scans.{RawCell, Scan, ScanResult, completes, scan, fresh, value_of, nothing_current, bytes_in, SizedTo, sized_completes}
 use Rattle.model.specs.laws.Places.{SpanIn, ScanResultIn, completes_in}
@@ -21,13 +21,12 @@ use Rattle.model.proofs.cell_laws.CellRuns.{here}
 use Rattle.model.proofs.cell_laws.Cells.{cell_at}
 use Rattle.model.proofs.piece_laws.ScanSize.{scan_size}
 use Rattle.model.proofs.piece_laws.PlaceLaws.{stretches}
-use Rattle.record_scanner.specs.declared.token.ScanOutcome.TheVariants as reached
 use Rattle.record_scanner.specs.Parts.{Found, found_of, raw_starts, raw_ends, raw_kinds}
 use Rattle.record_scanner.specs.Stored.{stored_from}
 use Rattle.cell_fast.specs.Ends.{CleanIn}
 use Rattle.record_fast.specs.declared.FastScan.{FastScan}
 use Rattle.record_fast.specs.declared.FastScan.TheVariants.{Record}
-use Rattle.record_fast.specs.FastScan.{Clean, FastScanSound, is_found, is_fallback}
+use Rattle.record_fast.specs.FastScan.{Clean, FastScanSound, is_found}
 use Rattle.record_fast.specs.CellLists.{LiesIn}
 use Rattle.cell_decoder.specs.declared.source.Source.TheVariants.{File}
 use Rattle.cell_decoder.specs.Sources.{cells_in, Cells}

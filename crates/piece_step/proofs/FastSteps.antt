@@ -1,23 +1,22 @@
 -- A data record that the fast path found and wrote is a step of the run.
-use Prim.Native.Nat.{ℕ, suc, ◌+◌, ◌-◌, ◌≤◌, ◌<◌}
+use Prim.Native.Nat.{ℕ, ◌+◌, ◌-◌, ◌≤◌}
 use native.Mathlib.Omega.{arith}
 use mathlib.Core.Path.{◌≡◌, refl, sym, ap, subst, ◌∙◌}
-use mathlib.Core.Bool.{Bool, true, false}
+use mathlib.Core.Bool.{Bool, false}
 use mathlib.Core.Option.{some}
 use mathlib.Core.List.{List, [], ◌∷◌, ◌++◌, map}
 use lib.ListN.{length, take, drop}
 use borrow.Author.Tests.{ne_eqb}
 use Rattle.model.specs.declared.Dialect.{Dialect}
 use Rattle.model.specs.declared.FileState.{FileState}
-use Rattle.model.specs.declared.CheckResult.{CheckResult}
 use Rattle.model.specs.declared.CheckResult.TheVariants.{Sound}
-use Rattle.model.specs.rules.Base.{choose◌then◌else◌, ◌is◌, Bytes, is_empty}
+use Rattle.model.specs.rules.Base.{choose◌then◌else◌, ◌is◌, Bytes}
 use Rattle.model.specs.rules.Dialect.{into}
 use Rattle.model.specs.rules.Decode.{kind_of, content_of}
 use Rattle.model.specs.rules.Text.{Value, record_text, ending}
 use Rattle.model.specs.rules.Report.{MAXFILE, MAXCOLUMNS}
-use Rattle.model.specs.rules.Records.{Rec, going, read_from, ◌or_else◌, header_fault, data_fault, target_fault}
-use Rattle.model.specs.laws.Scans.{RawCell, Scan, ScanResult, completes, scan, fresh, value_of, moved_cell, joined_cell, joined_cells, Buffered, Holds, current}
+use Rattle.model.specs.rules.Records.{Rec, going, read_from, ◌or_else◌, data_fault, target_fault}
+use Rattle.model.specs.laws.Scans.{RawCell, completes, scan, fresh, value_of, moved_cell, joined_cell, Buffered, Holds, current}
 use Rattle.model.specs.laws.Scans.{nothing_current}
 use Rattle.model.specs.laws.RoundTrips.{SameCells, no_cells, and_cell}
 use Rattle.model.proofs.Tests.{split, impossible}

@@ -1,7 +1,7 @@
 -- The text that the fast path wrote, by its result: the record has no fault, and the text fits.
 use Prim.Native.Nat.{ℕ, ◌+◌, ◌-◌, ◌≤◌}
 use native.Mathlib.Omega.{arith}
-use mathlib.Core.Path.{◌≡◌, refl, sym, ap, subst, ◌∙◌}
+use mathlib.Core.Path.{◌≡◌, subst}
 use mathlib.Core.Bool.{false}
 use mathlib.Core.List.{List, ◌++◌}
 use lib.ListN.{length}
@@ -9,7 +9,7 @@ use borrow.Author.Tests.{ne_eqb}
 use Rattle.model.specs.declared.Dialect.{Dialect}
 use Rattle.model.specs.declared.FileState.{FileState}
 use Rattle.model.specs.declared.CheckResult.TheVariants.{Sound}
-use Rattle.model.specs.rules.Base.{choose◌then◌else◌, ◌is◌}
+use Rattle.model.specs.rules.Base.{choose◌then◌else◌}
 use Rattle.model.specs.rules.Dialect.{into}
 use Rattle.model.specs.rules.Text.{Value, record_text, ending}
 use Rattle.model.specs.rules.Report.{MAXFILE, MAXCOLUMNS}
@@ -20,8 +20,8 @@ use Rattle.piece_state.specs.declared.place.Place.{Place}
 use Rattle.piece_step.specs.Invariant.{columns_with}
 use Rattle.piece_step.specs.declared.fast.FastText.{FastText}
 use Rattle.piece_step.specs.declared.fast.FastText.TheVariants as put
-use Rattle.piece_step.specs.declared.fast.FastStep.TheVariants.{Next, Fallback}
-use Rattle.piece_step.specs.FastSteps.{FastTextSound, up_to, no_text, FastStepWrites, at_next, not_found}
+use Rattle.piece_step.specs.declared.fast.FastStep.TheVariants.{Next}
+use Rattle.piece_step.specs.FastSteps.{FastTextSound, up_to, no_text, FastStepWrites, at_next}
 
 other : {A : Type 0} → ◌≡◌ {A = ℕ} 0 1 → A
 other z = absurd (omega arith)

@@ -30,24 +30,24 @@ Generated from the sources, as a whole. Do not edit it: run
 
     cargo run --release --offline -p harness --no-default-features --bin figures -- --write
 
-The test `documents` compares it with the sources. Check times can't be counted: they are in `docs/check-times.txt`, taken from a log of `rt check`, `rt prove` or `rt ci`:
+The test `documents` compares it with the sources. Check times can't be counted: they are in `docs/check-times.txt`, taken from what `scripts/check-times.sh` prints, and all but that of case_fold are of the older kit 5b:
 
-    rt prove | tee LOG
+    scripts/check-times.sh [NAME..] | tee LOG
     cargo run --release --offline -p harness --no-default-features --bin figures -- --times LOG
 
-`rt check` skips a crate that is unchanged since it was proved, and such a crate keeps its time.
+A crate that is not named keeps its time.
 ";
 
 /// The sections of the generated document: heading, explanation, table.
 const SECTIONS: [(&str, &str, &str); 6] = [
     (
         "Crates by layer",
-        "*Depends on* leaves out what another crate named there depends on; nearly all depend on `model`. `io`, `libc` and `os` are Rattle's own.",
+        "*Depends on* leaves out what another crate named there depends on; nearly all depend on `model`. `io` is Rattle's own.",
         "layers",
     ),
     (
         "Sizes and check times",
-        "Lines are counted without blank ones and without those that are all comment. *Check* is the time of `rt check` for the crate alone, *prove again* the sum for it and all crates above it. Crates that do not depend on each other are proved side by side, so on two processors the wait is shorter than the sum. Each edit costs about its crate's check once more, in `rt must-fail` and `rt ci` only.",
+        "Lines are counted without blank ones and without those that are all comment. *Check* is the time of a check of the crate alone, but for case_fold with the older kit 5b, *prove again* the sum for it and all crates above it. Crates that do not depend on each other are proved side by side, so on several processors the wait is shorter than the sum. Each edit costs a check of its crate once more, in `rt must-fail` and `rt ci` only.",
         "costs",
     ),
     ("In all", "", "sizes"),

@@ -2,7 +2,6 @@
 use native.Mathlib.Omega.{arith}
 use mathlib.Core.Path.{sym, ap, ◌∙◌}
 use lib.ListN.{length}
-use borrow.Author.Rules.{rules}
 use Rattle.piece_record.proofs.BufferedCells.{starts_made, starts_count}
 use Rattle.piece_record.proofs.complete.Goals as goal
 

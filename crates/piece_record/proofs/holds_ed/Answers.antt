@@ -1,8 +1,5 @@
-use Prim.Native.Nat.{ℕ, ◌-◌, ◌≤◌, ◌<◌}
 use native.Mathlib.Omega.{arith}
-use mathlib.Core.Path.{◌≡◌, sym, ◌∙◌}
-use mathlib.Core.Bool.{false}
-use lib.ListN.{length, get_or}
+use mathlib.Core.Path.{sym, ◌∙◌}
 use Rattle.model.proofs.Tests.{impossible}
 use Rattle.piece_record.proofs.BufferedCells.{no_ed_next}
 use Rattle.piece_record.proofs.holds_ed.Goals as goal

@@ -1,9 +1,7 @@
-use Prim.Native.Nat.{◌-◌, ◌≤◌, ◌<◌}
 use native.Mathlib.Omega.{arith}
-use mathlib.Core.Path.{◌≡◌, refl}
-use lib.ListN.{length}
+use mathlib.Core.Path.{refl}
 use Rattle.model.proofs.Tests.{impossible}
-use Rattle.piece_record.proofs.BufferedCells.{FollowedTo, followed_next, followed_whole, not_followed}
+use Rattle.piece_record.proofs.BufferedCells.{followed_next, followed_whole, not_followed}
 use Rattle.piece_record.proofs.is_ed_followed.Goals as goal
 use Rattle.piece_record.proofs.is_ed_followed.Goals.{then-s-i+else-s-i-lt128+else-s-i-gt159, else-s-i}
 

@@ -1,11 +1,7 @@
 -- `piece_record::is_ed_followed` meets its contract. The invariant: each ED before the byte in front of i is followed.
-use Prim.Native.Nat.{◌-◌, ◌≤◌, ◌<◌}
-use native.Mathlib.Omega.{arith}
-use mathlib.Core.Path.{◌≡◌, refl}
-use mathlib.Core.Logic.{⊎_elim}
+use Prim.Native.Nat.{◌-◌, ◌≤◌}
 use lib.ListN.{length}
-use Rattle.model.proofs.Tests.{impossible}
-use Rattle.piece_record.proofs.BufferedCells.{FollowedTo, followed_next, followed_whole, not_followed}
+use Rattle.piece_record.proofs.BufferedCells.{FollowedTo}
 use Rattle.piece_record.proofs.is_ed_followed.Given as goal
 
 abbrev pub invariant-loop-i : goal.invariant-loop-i

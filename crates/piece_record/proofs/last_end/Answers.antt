@@ -2,7 +2,6 @@
 use native.Mathlib.Omega.{arith}
 use mathlib.Core.Path.{refl}
 use lib.ListN.{length}
-use borrow.Author.Rules.{rules}
 use Rattle.piece_record.proofs.BufferedCells.{end_none, end_some}
 use Rattle.piece_record.proofs.last_end.Goals as goal
 

@@ -3,7 +3,6 @@ use native.Mathlib.Omega.{arith}
 use Prim.Native.Nat.{ℕ}
 use mathlib.Core.Path.{refl, sym, subst}
 use lib.ListN.{take, length-take}
-use borrow.Author.Rules.{rules}
 use Rattle.cell_decoder.specs.Followed.{EdFollowed}
 use Rattle.piece_record.proofs.BufferedCells.{end_inside, no_ed_followed}
 use Rattle.piece_record.proofs.may_be_written.Goals as goal

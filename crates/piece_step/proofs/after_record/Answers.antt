@@ -1,7 +1,6 @@
 -- `piece_step::after_record` meets its contract: each result on the record is one of the step.
 use native.Mathlib.Omega.{arith}
 use mathlib.Core.Path.{sym, ap, subst}
-use borrow.Author.Rules.{rules}
 use Rattle.piece_step.specs.Steps.{step_after, Fitting}
 use Rattle.piece_step.proofs.after_record.Goals as goal
 

@@ -2,7 +2,6 @@
 use Prim.Native.Nat.{◌+◌, ◌-◌, ◌≤◌}
 use native.Mathlib.Omega.{arith}
 use lib.ListN.{length, drop, length-take, length-drop}
-use borrow.Author.Rules.{rules}
 use Rattle.model.specs.laws.Places.{buffered_ends}
 use Rattle.piece_state.specs.CurrentRecord.{raw_cells_at}
 use Rattle.piece_step.proofs.BufferedParts.{written_behind}

@@ -3,7 +3,6 @@ use mathlib.Core.Path.{◌≡◌, ap, ◌∙◌}
 use Prim.Native.Nat.{◌+◌, ◌-◌, ◌≤◌}
 use native.Mathlib.Omega.{arith}
 use lib.ListN.{length, drop, length-take, length-drop}
-use borrow.Author.Rules.{rules}
 use Rattle.model.specs.laws.Places.{buffered_bytes}
 use Rattle.buffer.proofs.WriteProgress.{length_written}
 use Rattle.piece_state.specs.CurrentRecord.{raw_cells_at}

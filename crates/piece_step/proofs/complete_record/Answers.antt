@@ -4,7 +4,6 @@ use mathlib.Core.Path.{◌≡◌, refl, sym, ap, ◌∙◌}
 use Prim.Native.Nat.{◌+◌, ◌≤◌}
 use native.Mathlib.Omega.{arith}
 use lib.ListN.{length}
-use borrow.Author.Rules.{rules}
 use Rattle.model.specs.laws.Places.{buffered_bytes}
 use Rattle.buffer.proofs.WriteProgress.{length_written}
 use Rattle.piece_state.specs.CurrentRecord.{raw_cells_at}

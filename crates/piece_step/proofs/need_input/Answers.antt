@@ -1,5 +1,4 @@
 -- `piece_step::need_input` meets its contract: each field is that of the definition.
-use borrow.Author.Rules.{rules}
 use Rattle.piece_step.proofs.need_input.Goals as goal
 
 pub returns : goal.returns

@@ -1,5 +1,4 @@
 -- `piece_step::record_start` meets its contract, by its test.
-use borrow.Author.Rules.{rules}
 use borrow.Author.Tests.{eq-eqb, ne_eqb}
 use Rattle.model.specs.rules.Base.{choose◌then◌else◌}
 use Rattle.piece_step.proofs.record_start.Goals as goal

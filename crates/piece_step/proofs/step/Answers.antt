@@ -3,7 +3,6 @@ use Prim.Native.Nat.{◌≤◌}
 use native.Mathlib.Omega.{arith}
 use mathlib.Core.Path.{sym, subst, ◌∙◌}
 use lib.ListN.{length}
-use borrow.Author.Rules.{rules}
 use Rattle.model.specs.rules.Dialect.{into}
 use Rattle.model.specs.rules.Report.{MAXCOLUMNS}
 use Rattle.piece_step.specs.Steps.{StepInBounds, stopped_bounds, StepSound}

@@ -2,14 +2,13 @@
 use mathlib.Core.Path.{refl}
 use native.Mathlib.Omega.{arith}
 use lib.ListN.{length}
-use borrow.Author.Rules.{rules}
 use Rattle.record_target.proofs.Reasons.{measure_is, measure_over, text_too_long, output_too_long, fits}
 use Rattle.record_target.proofs.check_size.Goals as goal
 
 pub returns-then-end-gt-MAX_RECORD : goal.returns-then-end-gt-MAX_RECORD
 returns-then-end-gt-MAX_RECORD c text e =
     let a = c.args in
-    text_too_long a.t a.written text _ _ c.refused.ensures (measure_over (length text) a.end e (omega (arith, c.if-end-gt-MAX_RECORD.true)))
+    text_too_long a.t a.written text _ _ c.refused.ensures (measure_over (length text) a.end e (omega arith))
 
 pub with_ending-length-requires : goal.with_ending-length-requires
 with_ending-length-requires c = omega (arith, c.if-end-gt-MAX_RECORD.false)

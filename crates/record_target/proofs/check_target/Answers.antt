@@ -3,7 +3,6 @@ use mathlib.Core.Path.{◌≡◌, sym, ◌∙◌}
 use mathlib.Core.Bool.{false, not, ◌&&◌}
 use mathlib.Core.List.{List}
 use lib.ListN.{length}
-use borrow.Author.Rules.{rules}
 use Rattle.model.specs.declared.CheckResult.TheVariants.{Sound}
 use Rattle.model.specs.rules.Base.{is_empty}
 use Rattle.model.specs.rules.Dialect.{is_csvj, into}

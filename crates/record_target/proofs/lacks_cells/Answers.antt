@@ -2,7 +2,6 @@
 use mathlib.Core.Path.{sym, ap, ◌∙◌}
 use mathlib.Core.Bool.{not}
 use native.Mathlib.Omega.{arith}
-use borrow.Author.Rules.{rules}
 use Rattle.model.specs.declared.Dialect.{Dialect}
 use Rattle.model.specs.rules.Dialect.{is_csvj}
 use Rattle.record_target.proofs.Reasons.{no_header, has_cells_lem, empty_header}

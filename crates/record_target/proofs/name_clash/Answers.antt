@@ -1,11 +1,7 @@
 -- `record_target::name_clash` meets its contract: it is the first repeated name of a header, with this fault.
-use mathlib.Core.Path.{◌≡◌, sym, ap, ◌∙◌}
+use mathlib.Core.Path.{sym, ap, ◌∙◌}
 use mathlib.Core.Bool.{Bool}
-use mathlib.Core.List.{List}
-use Prim.Native.Nat.{ℕ}
-use borrow.Author.Rules.{rules}
 use Rattle.model.specs.declared.Fault.TheVariants.{Clash}
-use Rattle.model.specs.declared.CheckResult.{CheckResult}
 use Rattle.model.specs.rules.Records.{clash_fault}
 use Rattle.cell_decoder.specs.Sources.{cells_in}
 use Rattle.record_check.specs.Keys.{repeated_as}

@@ -3,7 +3,6 @@ use mathlib.Core.Path.{◌∙◌}
 use Prim.Native.Nat.{◌+◌}
 use native.Mathlib.Omega.{arith}
 use lib.ListN.{length}
-use borrow.Author.Rules.{rules}
 use Rattle.model.specs.rules.Text.{ending}
 use Rattle.buffer.proofs.WriteProgress.{measure_within}
 use Rattle.record_target.proofs.Reasons.{place_measured, room_measured, ending_length}

@@ -1,5 +1,5 @@
 //! The figures of the documents: `figures` prints them, `figures --write` writes `docs/FIGURES.md` and the figures of the other documents,
-//! and `figures --times LOG` takes the seconds that each proof took from what `rt check` printed.
+//! and `figures --times LOG` takes the seconds that each proof took from what `scripts/check-times.sh` printed.
 
 use harness::figures::{count, crates, documents, FILE};
 use harness::repository;

@@ -5,6 +5,9 @@ use super::{read, Table};
 use std::fs;
 use std::path::Path;
 
+/// How a path into a library of Rattle's own begins.
+const OF_KIT: [&str; 3] = ["core.", "io.", "std."];
+
 /// A public function: its path from the crate on, whether it requires something, and the definitions that it ensures.
 #[derive(Debug, PartialEq)]
 struct Contract {
@@ -115,12 +118,13 @@ fn public_function(line: &str) -> Option<&str> {
     )
 }
 
-/// The names of definitions that a source imports; types that the code declares are none.
+/// The names of definitions that a source imports from crates of this repository; types that the code declares are none.
 fn imported(source: &str) -> Vec<String> {
     let uses = source
         .lines()
-        .filter_map(|line| line.strip_prefix("ghost use Rattle·"));
+        .filter_map(|line| line.strip_prefix("ghost use Rattle."));
     let lists = uses
+        .filter(|path| !OF_KIT.iter().any(|library| path.starts_with(library)))
         .filter(|path| !path.contains(".declared."))
         .filter_map(|path| path.split_once(".{")?.1.strip_suffix("};"));
     let names = lists.flat_map(|list| list.split(", "));
@@ -130,7 +134,7 @@ fn imported(source: &str) -> Vec<String> {
 }
 
 fn is_of_name(c: char) -> bool {
-    c.is_alphanumeric() || matches!(c, '_' | '-' | '′')
+    c.is_alphanumeric() || matches!(c, '_' | '-' | '\'')
 }
 
 #[cfg(test)]
@@ -139,14 +143,14 @@ mod tests {
 
     #[test]
     fn contracts_are_taken_from_sources() {
-        let source = "ghost use mathlib.Core.Path.{_≡_};\nghost use Rattle·model.specs.declared.Kind.{Kind};\nghost use Rattle·a.specs.B.{Good, step as next-step};\n\n// A.\npub fn one(x: u8) -> u8\n    requires { ⌜ Good x ⌝ }\n    ensures { λ r. ⌜ Kind × (r ≡ next-step x) \n        × Good r × Good x ⌝ }\n{\n    fn ensures\n}\n\nfn two()\n    ensures { ⌜ Good 1 ⌝ }\n{\n}\n\nimpl C {\n    pub extern \"C\" fn three()\n    {\n    }\n}\n";
+        let source = "ghost use Rattle.std.specs.Prelude.{◌≡◌, length};\nghost use Rattle.model.specs.declared.Kind.{Kind};\nghost use Rattle.a.specs.B.{Good, step as next_step};\n\n// A.\npub fn one(x: u8) -> u8\n    requires { Good x }\n    ensures kind { Kind × (length result ≡ next_step x)\n        × Good result × Good x }\n{\n    fn ensures\n}\n\nfn two()\n    ensures { Good 1 }\n{\n}\n\nimpl C {\n    pub extern \"C\" fn three()\n    {\n    }\n}\n";
         let contract = |function: &str, requires, names: &[&str]| Contract {
             function: function.to_string(),
             requires,
             names: names.iter().map(|name| name.to_string()).collect(),
         };
         let expected = [
-            contract("a::b::one", true, &["next-step", "Good"]),
+            contract("a::b::one", true, &["next_step", "Good"]),
             contract("a::b::C::three", false, &[]),
         ];
         assert_eq!(in_source("a::b", source), expected);

@@ -5,11 +5,12 @@ use std::collections::{BTreeMap, BTreeSet};
 use std::fs;
 use std::path::Path;
 
-/// The file of the seconds that `rt check` took for each crate.
+/// The file of the seconds that a check took for each crate.
 pub const TIMES: &str = "docs/check-times.txt";
 
 const HEAD_OF_TIMES: &str = "\
-# The seconds that `rt check` took for each crate, written from what it printed:
+# The seconds that a check took for each crate, but for case_fold with the older kit 5b. scripts/check-times.sh measures them:
+#   scripts/check-times.sh [NAME..] | tee LOG
 #   cargo run --release --offline -p harness --no-default-features --bin figures -- --times LOG
 ";
 
@@ -49,7 +50,7 @@ pub fn load(root: &Path) -> Result<Vec<Crate>, String> {
         let name = &one.name;
         one.seconds = times
             .remove(name)
-            .ok_or(format!("{TIMES} has no time of {name}: `figures --times LOG` takes it from a log of `rt check`"))?;
+            .ok_or(format!("{TIMES} has no time of {name}: `figures --times LOG` takes it from a log of `scripts/check-times.sh`"))?;
     }
     match times.keys().next() {
         None => Ok(crates),
@@ -66,7 +67,9 @@ fn listed(list: &str) -> Vec<Crate> {
             comment.clear();
         } else if let Some(more) = line.strip_prefix('#') {
             comment += more;
-        } else if let Some((name, dependencies)) = line.split_once(':') {
+        } else if let Some((head, dependencies)) = line.split_once(':') {
+            // A static library has that word after its name.
+            let name = head.split_whitespace().next().unwrap_or_default();
             crates.push(Crate {
                 name: name.to_string(),
                 role: first_sentence(comment.trim()).to_string(),
@@ -103,7 +106,7 @@ fn times(text: &str) -> Result<BTreeMap<String, usize>, String> {
         .collect()
 }
 
-/// The file of times, renewed from what `rt check`, `rt prove` or `rt ci` printed. A crate that was not proved in this run keeps its time.
+/// The file of times, renewed from what `scripts/check-times.sh` printed. A crate that was not proved in this run keeps its time.
 pub fn renewed_times(root: &Path, log: &str) -> Result<String, String> {
     let crates = listed(&read(&root.join("crates.txt"))?);
     let names: Vec<&str> = crates.iter().map(|one| one.name.as_str()).collect();
@@ -128,9 +131,9 @@ fn renewed(
     Ok(HEAD_OF_TIMES.to_string() + &lines.collect::<String>())
 }
 
-/// The crate that a line of a log reports as proved, and in how many seconds: `rt: NAME proved (N s)`.
+/// The crate that a line of a log reports as proved, and in how many seconds: `NAME proved (N s)`.
 fn proved(line: &str) -> Option<(String, usize)> {
-    let (name, rest) = line.strip_prefix("rt: ")?.split_once(" proved (")?;
+    let (name, rest) = line.split_once(" proved (")?;
     let seconds = rest.strip_suffix(" s)")?.parse().ok()?;
     Some((name.to_string(), seconds))
 }
@@ -217,7 +220,7 @@ pub fn nearest(crates: &[Crate], one: &Crate) -> Vec<String> {
 mod tests {
     use super::*;
 
-    const LIST: &str = "# Head. Of all.\n\n# The first of\n# all. More.\na:\n\n# Two.\nb: a\nc: a b io\n\n# Last\nd: a c\n";
+    const LIST: &str = "# Head. Of all.\n\n# The first of\n# all. More.\na:\n\n# Two.\nb: a\nc: a b io\n\n# Last\nd staticlib: a c\n";
 
     #[test]
     fn a_list_is_taken_apart() {
@@ -255,13 +258,13 @@ mod tests {
 
     #[test]
     fn times_are_taken_from_a_log() {
-        let log = "struct a::B: proved\nrt: b proved (12 s)\nrt: c proved (unchanged since it was last proved)\nrt: ok, 2 crates proved\n";
+        let log = "fn a::b: proved\nb proved (12 s)\nrt: c proved\n2 crates proved\n";
         let old = times("# Head.\na 3\nb 4\nd 5\n").unwrap();
         let file = renewed(&["b", "a", "c"], old.clone(), log).unwrap();
         assert_eq!(file, format!("{HEAD_OF_TIMES}b 12\na 3\n"));
         let expected = BTreeMap::from([("a".to_string(), 3), ("b".to_string(), 12)]);
         assert_eq!(times(&file), Ok(expected));
-        assert!(renewed(&["a"], old, "rt: a is not proved\n").is_err());
+        assert!(renewed(&["a"], old, "a is not proved\n").is_err());
         assert!(times("a\n").is_err() && times("a b\n").is_err());
     }
 }

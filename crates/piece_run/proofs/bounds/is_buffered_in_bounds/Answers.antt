@@ -3,8 +3,6 @@ use Prim.Native.Nat.{◌≤◌, ◌<◌}
 use native.Mathlib.Omega.{arith}
 use mathlib.Core.Path.{refl, sym, ◌∙◌}
 use lib.ListN.{take}
-use borrow.Author.Rules.{rules}
-use borrow.Author.Tests.{not-true, not-false}
 use Rattle.model.specs.rules.Report.{MAXCOLUMNS}
 use Rattle.model.proofs.Tests.{impossible}
 use Rattle.piece_state.proofs.Soundness.{ordered, is_ordered, buffered_outside, is_buffered}

@@ -1,5 +1,4 @@
 -- `piece_run::bounds::is_in_bounds` meets its contract: the current ends are the first list until the header is complete.
-use borrow.Author.Rules.{rules}
 use borrow.Author.Tests.{eq-eqb, ne_eqb}
 use Rattle.model.specs.rules.Base.{choose◌then◌else◌}
 use Rattle.piece_run.proofs.bounds.is_in_bounds.Goals as goal

@@ -1,6 +1,5 @@
 -- `piece_run::ending::end_file` meets its contract: the current record is in the first arrays until the header is complete.
 use mathlib.Core.Path.{sym, ◌∙◌}
-use borrow.Author.Rules.{rules}
 use Rattle.piece_step.proofs.BufferedSpans.{named_none}
 use Rattle.piece_step.proofs.CallStart.{begun_header, begun_later, ready_header, ready_later}
 use Rattle.piece_run.proofs.ending.end_file.Goals as goal

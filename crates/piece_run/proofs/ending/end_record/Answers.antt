@@ -1,7 +1,6 @@
 -- `piece_run::ending::end_record` meets its contract: the lexer state decides which case of the end it is.
 use native.Mathlib.Omega.{arith}
 use mathlib.Core.Path.{refl, sym, ap, ◌∙◌}
-use borrow.Author.Rules.{rules}
 use Rattle.model.specs.rules.Dialect.{into}
 use Rattle.piece_step.specs.Types.{NoRecord, CutShort}
 use Rattle.piece_step.specs.declared.CallResult.{CallResult}

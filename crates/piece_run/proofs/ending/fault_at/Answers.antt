@@ -1,5 +1,4 @@
 -- `piece_run::ending::fault_at` meets its contract: each field is that of the definition.
-use borrow.Author.Rules.{rules}
 use Rattle.piece_run.proofs.ending.fault_at.Goals as goal
 
 pub returns : goal.returns

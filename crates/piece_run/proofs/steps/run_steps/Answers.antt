@@ -1,17 +1,10 @@
-use Prim.Native.Nat.{ℕ, ◌-◌}
 use native.Mathlib.Omega.{arith}
-use mathlib.Core.Path.{◌≡◌, refl, sym, ap, subst, ◌∙◌}
-use mathlib.Core.List.{List}
-use lib.ListN.{length}
-use borrow.Author.Rules.{rules}
+use mathlib.Core.Path.{refl, sym, ap, subst, ◌∙◌}
 use Rattle.model.specs.rules.Dialect.{into}
-use Rattle.model.specs.rules.Records.{Rec}
-use Rattle.model.specs.laws.Scans.{Buffered}
-use Rattle.piece_state.specs.declared.place.Place.{Place}
 use Rattle.piece_step.specs.declared.CallResult.{CallResult}
-use Rattle.piece_step.specs.Steps.{StepReady, StepInBounds, StepSound}
-use Rattle.piece_run.specs.Runs.{StepsSoFar, StepsSound}
-use Rattle.piece_run.proofs.Runs.{Since, since_begins, walk_on, walk_pends, walk_stops, walk_nowhere, walk_quickly, fast_behind, fast_nothing}
+use Rattle.piece_step.specs.Steps.{StepInBounds, StepSound}
+use Rattle.piece_run.specs.Runs.{StepsSound}
+use Rattle.piece_run.proofs.Runs.{since_begins, walk_on, walk_pends, walk_stops, walk_nowhere, walk_quickly, fast_behind, fast_nothing}
 use Rattle.piece_run.proofs.Runs.{fast_ready, ready_fast, ready_still, since_still, ready_on, proceeds_forward, pended_in_bounds}
 use Rattle.piece_run.proofs.steps.run_steps.Goals as goal
 

@@ -1,9 +1,7 @@
 -- `piece_step::fast::data_record` meets its contract: a record of the fast scan is one of the reader, and all else falls back.
-use Prim.Native.Nat.{◌-◌, ◌≤◌}
+use Prim.Native.Nat.{◌≤◌}
 use native.Mathlib.Omega.{arith}
 use mathlib.Core.Path.{refl, ◌∙◌}
-use borrow.Author.Rules.{rules}
-use borrow.Author.Tests.{not-false}
 use Rattle.model.specs.rules.Report.{MAXFILE}
 use Rattle.piece_step.specs.FastSteps.{nothing_in_bounds, nothing}
 use Rattle.piece_step.proofs.FastCells.{cells_there, clean_there}

@@ -1,17 +1,9 @@
 -- `piece_step::fast::finish_record` meets its contract: the place after the record counts its text, which fits into the file.
-use Prim.Native.Nat.{ℕ, ◌+◌, ◌-◌, ◌≤◌}
+use Prim.Native.Nat.{◌≤◌}
 use native.Mathlib.Omega.{arith}
-use mathlib.Core.Path.{◌≡◌, refl, sym, ap, subst, ◌∙◌}
-use mathlib.Core.List.{List}
-use lib.ListN.{length, take}
+use mathlib.Core.Path.{◌≡◌, refl, sym}
+use lib.ListN.{length}
 use lib.Seq.{length-take-le}
-use borrow.Author.Rules.{rules}
-use borrow.Author.Tests.{ne_eqb}
-use Rattle.model.specs.rules.Base.{choose◌then◌else◌}
-use Rattle.model.specs.rules.Text.{Value}
-use Rattle.model.specs.rules.Report.{MAXFILE}
-use Rattle.cell_decoder.specs.declared.source.Source.TheVariants.{File}
-use Rattle.cell_decoder.specs.Sources.{cells_in}
 use Rattle.piece_step.specs.FastSteps.{not_found}
 use Rattle.piece_step.proofs.FastText.{put_to, put_nowhere, written_fits, written_place}
 use Rattle.piece_step.proofs.fast.finish_record.Goals as goal

@@ -1,7 +1,5 @@
 -- `piece_step::fast::is_between` meets its contract, by its tests.
 use mathlib.Core.Path.{sym, subst}
-use borrow.Author.Rules.{rules}
-use Rattle.model.specs.declared.FileState.{FileState}
 use Rattle.model.proofs.Tests.{impossible}
 use Rattle.piece_step.specs.FastSteps.{Starts, begins, ends}
 use Rattle.piece_step.proofs.fast.is_between.Goals as goal

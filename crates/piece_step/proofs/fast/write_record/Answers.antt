@@ -1,16 +1,15 @@
 -- `piece_step::fast::write_record` meets its contract: the checks find no fault, and the text fits into the output.
-use Prim.Native.Nat.{ℕ, ◌+◌, ◌-◌, ◌≤◌}
+use Prim.Native.Nat.{ℕ, ◌+◌, ◌≤◌}
 use native.Mathlib.Omega.{arith}
 use mathlib.Core.Path.{◌≡◌, refl, sym, ◌∙◌}
 use mathlib.Core.Bool.{true, false}
-use mathlib.Core.List.{List, ◌++◌}
+use mathlib.Core.List.{◌++◌}
 use lib.ListN.{length}
-use borrow.Author.Rules.{rules}
 use Rattle.model.specs.rules.Base.{choose◌then◌else◌, Bytes}
 use Rattle.model.specs.rules.Dialect.{into}
 use Rattle.model.proofs.Tests.{impossible}
-use Rattle.model.specs.rules.Text.{Value, record_text, ending}
-use Rattle.buffer.specs.Writes.{Room, WrittenAt, written}
+use Rattle.model.specs.rules.Text.{record_text, ending}
+use Rattle.buffer.specs.Writes.{WrittenAt, written}
 use Rattle.cell_decoder.specs.declared.source.Source.TheVariants.{File}
 use Rattle.cell_decoder.specs.Sources.{cells_in}
 use Rattle.cell_decoder.proofs.CellsIn.{cells_length}

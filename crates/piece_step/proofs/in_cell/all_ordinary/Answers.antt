@@ -1,10 +1,6 @@
-use Prim.Native.Nat.{◌-◌}
 use native.Mathlib.Omega.{arith}
-use lib.ListN.{length}
-use borrow.Author.Rules.{rules}
 use Rattle.model.proofs.Tests.{impossible}
-use Rattle.swar.specs.Words.{ordinary}
-use Rattle.swar.proofs.Spans.{CheckedTo, check_starts, check_word, check_last}
+use Rattle.swar.proofs.Spans.{check_starts, check_word, check_last}
 use Rattle.piece_step.proofs.in_cell.all_ordinary.Goals as goal
 
 pub loop-i-init : goal.loop-i-init

@@ -1,11 +1,8 @@
 -- `piece_step::in_cell::all_ordinary` meets its contract. The invariant: the bytes before i are ordinary.
 use Prim.Native.Nat.{◌-◌}
-use native.Mathlib.Omega.{arith}
 use lib.ListN.{length}
-use borrow.Author.Rules.{rules}
-use Rattle.model.proofs.Tests.{impossible}
 use Rattle.swar.specs.Words.{ordinary}
-use Rattle.swar.proofs.Spans.{CheckedTo, check_starts, check_word, check_last}
+use Rattle.swar.proofs.Spans.{CheckedTo}
 use Rattle.piece_step.proofs.in_cell.all_ordinary.Given as goal
 
 abbrev pub invariant-loop-i : goal.invariant-loop-i

@@ -1,6 +1,5 @@
 -- `piece_step::in_cell::fits` meets its contract, by its tests.
 use native.Mathlib.Omega.{arith}
-use borrow.Author.Rules.{rules}
 use Rattle.model.proofs.Tests.{impossible}
 use Rattle.piece_step.proofs.in_cell.fits.Goals as goal
 

@@ -2,8 +2,6 @@
 -- falls back.
 use native.Mathlib.Omega.{arith}
 use mathlib.Core.Path.{refl, sym, ◌∙◌}
-use borrow.Author.Rules.{rules}
-use borrow.Author.Tests.{not-false}
 use Rattle.piece_step.specs.InCell.{not_found}
 use Rattle.piece_step.proofs.InCell.{piece_kept}
 use Rattle.piece_step.proofs.in_cell.step.Goals as goal
