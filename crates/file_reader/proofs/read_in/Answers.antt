@@ -38,8 +38,7 @@ returns-in-End c =
     let q = c.at_start.ensures in
     let a = c.args in
     let n = from_start q c.next_record.ensures.next_record_sound in
-    let o
-    = no_records n _ a.starts.now a.ends.now a.kinds.now _ _ c.refused.ensures
+    let o = no_records n _ a.starts.now a.ends.now a.kinds.now _ _ c.refused.ensures
     c.in-End.is c.call_report.ensures in
     record { value = o.answer; starts_after = o.at_starts; ends_after = o.at_ends; kinds_after = o.at_kinds }
 
