@@ -1,13 +1,12 @@
 -- `piece_converter::state::place_in` meets its contract: each number is read, and the lexer state is decoded from its own.
 use mathlib.Core.Path.{ap}
-use borrow.Author.Rules.{rules}
 use lib.ListN.{get_or}
 use Rattle.model.specs.declared.FileState.{FileState}
 use Rattle.piece_converter.proofs.state.place_in.Goals as goal
 
 pub returns : goal.returns
 returns c =
-    let n = c.args.t1 in
+    let n = c.args.n in
     ap
     (λ (f : FileState). record {
       state = f;
