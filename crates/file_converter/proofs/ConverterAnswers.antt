@@ -1,5 +1,5 @@
 -- The answer, by the result of the first pass and by the dialects that the numbers name.
-use Prim.Native.Nat.{ℕ, ◌-◌, ◌≤◌, ◌<◌}
+use Prim.Native.Nat.{ℕ, ◌≤◌, ◌<◌}
 use native.Mathlib.Omega.{arith}
 use mathlib.Core.Path.{◌≡◌, refl, sym, ap, ◌∙◌}
 use mathlib.Core.Option.{none, some}
@@ -9,7 +9,7 @@ use Rattle.model.specs.declared.Dialect.{Dialect}
 use Rattle.model.specs.declared.Report.{Report}
 use Rattle.model.specs.rules.Base.{Bytes, over, choose◌then◌else◌}
 use Rattle.model.specs.rules.Dialect.{dialect_of}
-use Rattle.model.specs.rules.Report.{accepted, refusal}
+use Rattle.model.specs.rules.Report.{refusal}
 use Rattle.model.specs.rules.Records.{fault_report}
 use Rattle.model.specs.rules.Api.{Written, unwritten, converter, converter_leaves}
 use Rattle.codes.specs.declared.TextAnswer.{TextAnswer}

@@ -18,14 +18,14 @@ use Rattle.model.specs.rules.Records.{Rec, rows, Read, Progress, going, stopped,
 use Rattle.model.proofs.round_trip.TableText.{table_grows, table_snoc}
 use Rattle.model.proofs.TargetLaws.{file_alone}
 use Rattle.buffer.specs.Writes.{written, Room, WrittenAt}
-use Rattle.buffer.proofs.WriteProgress.{Emitting, emitting, room_next, room_rest, put_next, put_whole, same_long, written_first}
+use Rattle.buffer.proofs.WriteProgress.{Emitting, emitting, room_rest, put_next, put_whole, same_long, written_first}
 use Rattle.cell_decoder.specs.declared.source.Source.TheVariants.{File}
 use Rattle.cell_decoder.specs.Sources.{cells_in}
 use Rattle.file_cursor.specs.declared.Aim.TheVariants.{Reading, Into}
 use Rattle.file_cursor.specs.declared.Cursor.{Cursor}
 use Rattle.file_cursor.specs.declared.NextRecord.{NextRecord}
 use Rattle.file_cursor.specs.declared.NextRecord.TheVariants as outcomes
-use Rattle.file_cursor.specs.NextRecord.{at_start, Next, NextRecordSound, refused}
+use Rattle.file_cursor.specs.NextRecord.{at_start, Next, NextRecordSound}
 use Rattle.file_cursor.proofs.RecordChecks.{empty_none}
 use Rattle.file_cursor.proofs.Traversal.{Walking, sets_out, sets_rs, walks_on, walks_rs, grows, at_end, at_fault}
 use Rattle.file_converter.specs.declared.Measurement.TheVariants.{Accepted, Refused}

@@ -10,8 +10,6 @@ use lib.Dec.{leb, ltb}
 use Rattle.model.specs.declared.Dialect.{Dialect}
 use Rattle.model.specs.declared.FileState.{FileState}
 use Rattle.model.specs.declared.Step.{Step}
-use Rattle.model.specs.declared.Step.TheVariants.{To, Reject}
-use Rattle.model.specs.declared.ByteRole.TheVariants.{Outside, Passed, OfCell, Between, Tail, Ends}
 use Rattle.model.specs.rules.Base.{choose◌then◌else◌, Bytes}
 use Rattle.model.specs.rules.File.{file_step, file_end, counts}
 use Rattle.model.specs.rules.Report.{MAXFILE, MAXRECORD}
@@ -19,7 +17,7 @@ use Rattle.model.specs.declared.Ending.{Ending}
 use Rattle.model.specs.declared.Ending.TheVariants.{Clean, Final, Cut}
 use Rattle.model.specs.rules.Text.{Value}
 use Rattle.model.specs.rules.Records.{between_records, closing}
-use Rattle.model.specs.laws.Scans.{RawCell, Scan, ScanResult, pends, fails, completes, closing_raw, scan_step, scan, fresh, read_of, value_of}
+use Rattle.model.specs.laws.Scans.{RawCell, Scan, ScanResult, pends, fails, completes, scan_step, scan, fresh, read_of, value_of}
 use Rattle.model.proofs.Tests.{split, impossible}
 use Rattle.record_scanner.specs.declared.token.ScanOutcome.TheVariants as reached
 use Rattle.record_scanner.specs.Parts.{Found, found_of, raw_starts, raw_ends, raw_kinds}

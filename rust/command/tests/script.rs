@@ -216,7 +216,7 @@ fn the_first_run_builds_and_says_so_and_the_next_one_starts_at_once() {
     );
     let lines: Vec<&str> = first.said.lines().collect();
     assert!(
-        lines[0].contains("proved and the command built first; this takes many minutes"),
+        lines[0].contains("proved and the command built first; this takes about 7 minutes"),
         "{}",
         first.said
     );

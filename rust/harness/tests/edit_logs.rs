@@ -76,7 +76,7 @@ const GOOD: [(&str, &str); 6] = [
 ];
 
 /// Lines by which nothing is said of the edit's fact, and what the command says of each.
-const BAD: [(&str, &str, &str); 12] = [
+const BAD: [(&str, &str, &str); 13] = [
     (
         "names_only",
         "refused, as it must be (only because a proof file names what the edit took away, so this says little of the contract: change a \
@@ -108,6 +108,11 @@ const BAD: [(&str, &str, &str); 12] = [
         "in_the_code",
         "refused, as it must be: src/lib.rt:3:1: error: the clause has no plain reading",
         "its error has no place in a proof or a law: src/lib.rt:3:1",
+    ),
+    (
+        "elsewhere",
+        "refused, as it must be: /elsewhere/made/proofs/f/Answers.antt:3:1: error: `f_spec`: expected type `1 ≡ 2`",
+        "its error has no place in a proof or a law: /elsewhere/made/proofs/f/Answers.antt:3:1",
     ),
     (
         "no_line",
@@ -165,7 +170,7 @@ fn each_other_edit_is_named_with_its_reason() {
     let (mut printed, passed) = checked(&root, &lines);
     assert!(!passed);
     let closing = printed.pop().expect("a closing line");
-    assert_eq!(closing, "6 of 18 edits refused by a law or a proof's fact");
+    assert_eq!(closing, "6 of 19 edits refused by a law or a proof's fact");
     assert_eq!(printed.len(), BAD.len(), "{printed:?}");
     for (edit, _, reason) in BAD {
         let begin = format!("c/{edit}: {reason}");

@@ -1,9 +1,7 @@
 -- `file_converter::convert` meets its contract, by the dialects that the numbers name.
 use mathlib.Core.Path.{sym, ap, ◌∙◌}
-use borrow.Author.Rules.{rules}
 use Rattle.codes.specs.Named.{dialect_in}
 use Rattle.file_converter.proofs.ConverterAnswers.{both_known, source_unknown, target_unknown}
-
 use Rattle.file_converter.proofs.convert.Goals as goal
 
 pub returns-in-Known-dialect_of : goal.returns-in-Known-dialect_of

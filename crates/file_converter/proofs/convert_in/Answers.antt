@@ -1,14 +1,11 @@
 -- `file_converter::convert_in` meets its contract, by the result of the first pass and the length of the room.
-use borrow.Author.Rules.{rules}
 use Rattle.file_converter.proofs.ConverterAnswers.{conversion_refused, conversion_crowded, conversion_accepts, conversion_roomy, long_filled}
-
 use Rattle.file_converter.proofs.convert_in.Goals as goal
 
 pub returns-then-room-length : goal.returns-then-room-length
 returns-then-room-length c =
     let a = c.args in
-    let o
-    = conversion_crowded a.d a.t a.file.now a.room.now c.measure.ensures _
+    let o = conversion_crowded a.d a.t a.file.now a.room.now c.measure.ensures _
     c.in-Accepted.is c.if-room-length.true _ c.call_report.ensures _
     c.refusal-then-room-length.ensures in
     record { value = o.answer; room_after = o.left }
@@ -22,8 +19,7 @@ write_records-requires c =
 pub returns-in-Refused : goal.returns-in-Refused
 returns-in-Refused c =
     let a = c.args in
-    let o
-    = conversion_refused a.d a.t a.file.now a.room.now c.measure.ensures _
+    let o = conversion_refused a.d a.t a.file.now a.room.now c.measure.ensures _
     c.in-Refused.is _ c.refusal.ensures in
     record { value = o.answer; room_after = o.left }
 

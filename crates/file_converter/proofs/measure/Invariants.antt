@@ -1,14 +1,8 @@
 -- The invariant: the file is what is left from the cursor on, after the records that it counts, whose text has the length that it says.
 use Prim.Native.Nat.{◌-◌}
 use lib.ListN as lists
-use mathlib.Core.Path.{refl}
-use native.Mathlib.Omega.{arith}
-use borrow.Author.Rules.{rules}
 use Rattle.file_cursor.specs.declared.Aim.TheVariants.{Into}
-use Rattle.file_cursor.proofs.Traversal.{Walking, by_fields, sets_out, walks_on, walk_bounds, walk_less, came, Full, full_long, full_kept}
-use Rattle.file_cursor.proofs.FastNext.{data_came}
-use Rattle.file_converter.proofs.Passes.{measured_all, measured_refused}
-
+use Rattle.file_cursor.proofs.Traversal.{Walking, Full}
 use Rattle.file_converter.proofs.measure.Given as goal
 
 abbrev pub invariant-loop-v : goal.invariant-loop-v

@@ -1,6 +1,5 @@
 -- `write_record` meets its contract: the record's text, and its ending after it.
 use Rattle.record_writer.proofs.TextWithEnding.{room_first, room_second, put_both, long_both}
-
 use Rattle.file_converter.proofs.write_record.Goals as goal
 
 pub write_record-text-requires : goal.write_record-text-requires

@@ -1,13 +1,9 @@
-use Prim.Native.Nat.{◌-◌}
-use lib.ListN.{length}
 use lib.Seq.{length-take-le}
 use mathlib.Core.Path.{refl, sym}
 use native.Mathlib.Omega.{arith}
-use borrow.Author.Rules.{rules}
-use Rattle.file_cursor.proofs.Traversal.{by_fields, walk_bounds, walk_less, came, Full, full_long, full_kept}
+use Rattle.file_cursor.proofs.Traversal.{by_fields, walk_bounds, walk_less, came, full_long, full_kept}
 use Rattle.file_cursor.proofs.FastNext.{data_came}
-use Rattle.file_converter.proofs.Passes.{lie_in, Filling, fills, room_there, fills_on, room_data, fills_data, filled_all, never_refused}
-
+use Rattle.file_converter.proofs.Passes.{lie_in, fills, room_there, fills_on, room_data, fills_data, filled_all, never_refused}
 use Rattle.file_converter.proofs.write_records.Goals as goal
 
 pub loop-v-init : goal.loop-v-init

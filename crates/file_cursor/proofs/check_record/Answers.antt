@@ -1,5 +1,4 @@
 -- `file_cursor::check_record` meets its contract: the source's check result first, then the target's.
-use borrow.Author.Rules.{rules}
 use Rattle.model.proofs.Tests.{impossible}
 use Rattle.file_cursor.proofs.RecordChecks.{source_checked, asked_reading, asked_both}
 use Rattle.file_cursor.proofs.check_record.Goals as goal

@@ -1,5 +1,4 @@
 -- `file_cursor::finish_file` meets its contract: a file without a record is refused.
-use borrow.Author.Rules.{rules}
 use Rattle.file_cursor.proofs.RecordChecks.{ends_first, ends_later}
 use Rattle.file_cursor.proofs.finish_file.Goals as goal
 

@@ -4,7 +4,6 @@ use mathlib.Core.Path.{sym}
 use Prim.Native.Nat.{◌+◌, ◌≤◌}
 use lib.ListN.{length}
 use lib.Seq.{length-take-le}
-use borrow.Author.Rules.{rules}
 use Rattle.file_cursor.proofs.RecordChecks.{too_many, ruled_faulty, ruled_sound}
 use Rattle.file_cursor.proofs.finish_record.Goals as goal
 

@@ -1,7 +1,6 @@
 -- `file_cursor::next_record` meets its contract, by the event of the scanner.
 use native.Mathlib.Omega.{arith}
 use Prim.Native.Nat.{◌≤◌}
-use borrow.Author.Rules.{rules}
 use Rattle.file_cursor.proofs.NextRecords.{met, now_kept, now_long, now_stand, now_shown, record_counts, last_counts, record_visited}
 use Rattle.file_cursor.proofs.NextRecords.{last_visited, fault_visited, end_visited}
 use Rattle.file_cursor.proofs.next_record.Goals as goal

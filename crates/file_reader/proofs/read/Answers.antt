@@ -1,9 +1,7 @@
 -- `file_reader::read` meets its contract, by the dialect that the number names.
 use mathlib.Core.Path.{sym, ap, ◌∙◌}
-use borrow.Author.Rules.{rules}
 use Rattle.codes.specs.Named.{dialect_in}
 use Rattle.file_reader.proofs.ReaderAnswers.{known, unknown}
-
 use Rattle.file_reader.proofs.read.Goals as goal
 
 pub returns-in-Known : goal.returns-in-Known

@@ -1,11 +1,9 @@
 -- `file_reader::read_in` meets its contract, by the cursor's result for the header.
 use mathlib.Core.Path.{refl}
 use lib.ListN.{length}
-use borrow.Author.Rules.{rules}
 use Rattle.file_cursor.specs.declared.Aim.TheVariants.{Reading}
 use Rattle.file_cursor.proofs.Traversal.{sets_out, walk_bounds, full_long}
 use Rattle.file_reader.proofs.ReaderAnswers.{from_start, begins, no_header, no_records, shortest}
-
 use Rattle.file_reader.proofs.read_in.Goals as goal
 
 pub next_record-requires : goal.next_record-requires
@@ -40,8 +38,7 @@ returns-in-End c =
     let q = c.at_start.ensures in
     let a = c.args in
     let n = from_start q c.next_record.ensures.next_record_sound in
-    let o
-    = no_records n _ a.starts.now a.ends.now a.kinds.now _ _ c.refused.ensures
+    let o = no_records n _ a.starts.now a.ends.now a.kinds.now _ _ c.refused.ensures
     c.in-End.is c.call_report.ensures in
     record { value = o.answer; starts_after = o.at_starts; ends_after = o.at_ends; kinds_after = o.at_kinds }
 

@@ -1,16 +1,14 @@
 -- `file_reader::read_records` meets its contract. The first pass stores nothing, so that a refusal leaves the lists as they were; then the
 -- header fills its places, and a second pass those that follow.
 use native.Mathlib.Omega.{arith}
-use Prim.Native.Nat.{ℕ, ◌≤◌}
+use Prim.Native.Nat.{ℕ}
 use mathlib.Core.List.{List}
 use mathlib.Core.Path.{◌≡◌, ap, ◌∙◌}
 use lib.ListN.{length}
-use borrow.Author.Rules.{rules}
 use Rattle.record_scanner.specs.Stored.{stored_from}
 use Rattle.record_scanner.proofs.StoreLaws.{length_stored_from}
 use Rattle.file_reader.proofs.PassInvariant.{held_lengths}
 use Rattle.file_reader.proofs.ReaderAnswers.{unchanged, few_cells, part_room, part_long, data_refused, data_crowded, data_roomy}
-
 use Rattle.file_reader.proofs.read_records.Goals as goal
 
 -- a list that was filled has the length that it had before a pass that stored nothing
@@ -25,28 +23,20 @@ data_records-requires c =
 pub overflow_add-columns : goal.overflow_add-columns
 overflow_add-columns c =
     let few = few_cells c.data_records.ensures c.in-Accepted.is in
-    let columns
-    = c.requires.header_read.few in
+    let columns = c.requires.header_read.few in
     record { fits = omega arith }
 
 pub returns-then-room-columns : goal.returns-then-room-columns
 returns-then-room-columns c =
     let kept = unchanged c.data_records.ensures in
-    let o
-    = data_crowded c.args.room c.requires.header_read c.data_records.ensures kept
+    let o = data_crowded c.args.room c.requires.header_read c.data_records.ensures kept
     c.in-Accepted.is c.if-room-columns.true _ c.call_report.ensures _
     c.refused-then-room-columns.ensures in
     record { value = o.answer; starts_after = o.at_starts; ends_after = o.at_ends; kinds_after = o.at_kinds }
 
 pub offset_bounds-starts-columns : goal.offset_bounds-starts-columns
 offset_bounds-starts-columns c =
-    record {
-      fits =
-          omega (
-            arith,
-            c.requires.header_read.few,
-          );
-    }
+    record { fits = omega (arith, c.requires.header_read.few) }
 
 pub slice_bounds-data_records-count : goal.slice_bounds-data_records-count
 slice_bounds-data_records-count c =
@@ -66,13 +56,7 @@ slice_bounds-data_records-start c =
 
 pub offset_bounds-ends-columns : goal.offset_bounds-ends-columns
 offset_bounds-ends-columns c =
-    record {
-      fits =
-          omega (
-            arith,
-            c.requires.header_read.few,
-          );
-    }
+    record { fits = omega (arith, c.requires.header_read.few) }
 
 pub slice_bounds-data_records-count-in-Accepted : goal.slice_bounds-data_records-count-in-Accepted
 slice_bounds-data_records-count-in-Accepted c =
@@ -124,12 +108,8 @@ data_records-requires-in-Accepted c =
 
 pub overflow_add-result : goal.overflow_add-result
 overflow_add-result c =
-    let few
-    = few_cells
-    c.data_records.ensures
-    c.in-Accepted.is in
-    let columns
-    = c.requires.header_read.few in
+    let few = few_cells c.data_records.ensures c.in-Accepted.is in
+    let columns = c.requires.header_read.few in
     record { fits = omega arith }
 
 pub returns-in-Refused : goal.returns-in-Refused
@@ -160,8 +140,7 @@ pub returns-else-room-columns : goal.returns-else-room-columns
 returns-else-room-columns c =
     let kept = unchanged c.data_records.ensures in
     let n = c.scan_next.ensures in
-    let o
-    = data_roomy c.args.room c.requires.header_read c.data_records.ensures kept
+    let o = data_roomy c.args.room c.requires.header_read c.data_records.ensures kept
     c.in-Accepted.is c.requires.room_in_bounds
     c.if-room-columns.false n.starts_after n.ends_after n.kinds_after
     c.data_records-in-Accepted.ensures _ c.call_report-in-Accepted.ensures in

@@ -8,7 +8,7 @@ use Rattle.record_target.proofs.check_size.Goals as goal
 pub returns-then-end-gt-MAX_RECORD : goal.returns-then-end-gt-MAX_RECORD
 returns-then-end-gt-MAX_RECORD c text e =
     let a = c.args in
-    text_too_long a.t a.written text _ _ c.refused.ensures (measure_over (length text) a.end e (omega (arith, c.if-end-gt-MAX_RECORD.true)))
+    text_too_long a.t a.written text _ _ c.refused.ensures (measure_over (length text) a.end e (omega arith))
 
 pub with_ending-length-requires : goal.with_ending-length-requires
 with_ending-length-requires c = omega (arith, c.if-end-gt-MAX_RECORD.false)

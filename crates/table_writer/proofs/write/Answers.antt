@@ -1,7 +1,6 @@
 -- Error 11 for a number that is no dialect's, and otherwise the answer in the dialect.
 use mathlib.Core.Path.{sym, ap, ◌∙◌}
 use lib.ListN.{length}
-use borrow.Author.Rules.{rules}
 use Rattle.model.specs.rules.Api.{Table, writer_leaves}
 use Rattle.codes.specs.Named.{dialect_in}
 use Rattle.table_writer.specs.TableParts.{given}

@@ -1,5 +1,4 @@
 -- Error 10 where the text is longer than the room, and otherwise the text.
-use borrow.Author.Rules.{rules}
 use native.Mathlib.Omega.{arith}
 use lib.ListN.{length}
 use Rattle.model.specs.rules.Base.{Bytes}

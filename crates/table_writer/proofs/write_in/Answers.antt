@@ -1,7 +1,6 @@
 -- Error 12 where the lists are no table, and otherwise the answer for its records.
 use mathlib.Core.Path.{sym, ap, ◌∙◌}
 use lib.ListN.{length}
-use borrow.Author.Rules.{rules}
 use Rattle.model.specs.rules.Api.{Table}
 use Rattle.table_writer.specs.TableParts.{given}
 use Rattle.table_writer.proofs.Tables.{Tabled, tabled}

@@ -2,7 +2,6 @@
 use mathlib.Core.Path.{refl, sym, ◌∙◌}
 use mathlib.Core.List.{List}
 use lib.ListN.{length}
-use borrow.Author.Rules.{rules}
 use Rattle.model.specs.rules.Text.{Value}
 use Rattle.model.specs.rules.Api.{rows_of}
 use Rattle.cell_decoder.specs.declared.source.Source.TheVariants.{Contents}

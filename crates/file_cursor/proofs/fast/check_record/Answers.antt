@@ -1,21 +1,16 @@
 -- The checks of a data record are those of the cursor: after some records the next is no header.
-use mathlib.Core.Path.{◌≡◌, refl, sym, ap, ◌∙◌}
+use mathlib.Core.Path.{◌≡◌, sym, ap, ◌∙◌}
 use mathlib.Core.Bool.{Bool, false}
-use mathlib.Core.Option.{none}
-use mathlib.Core.List.{List, ◌++◌}
-use Prim.Native.Nat.{ℕ}
+use mathlib.Core.List.{◌++◌}
 use lib.ListN.{length}
 use lib.Dec.{eqb}
-use borrow.Author.Rules.{rules}
-use borrow.Author.Tests.{ne_eqb}
 use Rattle.model.specs.rules.Dialect.{into}
-use Rattle.model.specs.rules.Text.{Value, record_text, ending}
-use Rattle.model.specs.rules.Records.{Rec, record_fault, target_fault}
+use Rattle.model.specs.rules.Text.{record_text, ending}
+use Rattle.model.specs.rules.Records.{target_fault}
 use Rattle.cell_decoder.specs.declared.source.Source.TheVariants.{File}
 use Rattle.cell_decoder.specs.Sources.{cells_in}
 use Rattle.cell_decoder.proofs.CellsIn.{cells_length}
 use Rattle.record_writer.specs.CleanRecord.{clean_data}
-use Rattle.file_cursor.specs.NextRecord.{Columns}
 use Rattle.file_cursor.proofs.RecordChecks.{data_checked, asked_faulty, asked_reading, asked_into}
 use Rattle.file_cursor.proofs.FastNext.{no_header}
 use Rattle.file_cursor.proofs.fast.check_record.Goals as goal

@@ -4,9 +4,8 @@ use native.Mathlib.Omega.{arith}
 use mathlib.Core.Path.{sym}
 use lib.ListN.{length}
 use lib.Seq.{length-take-le}
-use borrow.Author.Rules.{rules}
 use Rattle.file_cursor.proofs.RecordChecks.{ruled_sound}
-use Rattle.file_cursor.specs.FastNext.{FastCheckSound, sound, unsure}
+use Rattle.file_cursor.specs.FastNext.{sound, unsure}
 use Rattle.file_cursor.proofs.fast.finish_record.Goals as goal
 
 pub returns-then-cells-gt-MAX_COLUMNS : goal.returns-then-cells-gt-MAX_COLUMNS

@@ -2,7 +2,6 @@
 use Prim.Native.Nat.{◌≤◌}
 use native.Mathlib.Omega.{arith}
 use mathlib.Core.Path.{refl}
-use borrow.Author.Rules.{rules}
 use Rattle.file_cursor.proofs.NextRecords.{now_long, now_stand, now_shown, record_counts}
 use Rattle.file_cursor.specs.FastNext.{nothing}
 use Rattle.file_cursor.proofs.FastNext.{met, kept, clean_cells, tells}

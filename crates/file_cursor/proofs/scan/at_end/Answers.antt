@@ -1,7 +1,6 @@
 -- `at_end` meets its contract, by what the file's end is to the state.
 use mathlib.Core.Path.{sym, ap, ◌∙◌}
 use lib.ListN.{length}
-use borrow.Author.Rules.{rules}
 use Rattle.model.specs.declared.Ending.{Ending}
 use Rattle.file_cursor.specs.Ends.{is_final, end_event}
 use Rattle.record_scanner.proofs.StoreLaws.{not_stored, same_stored}

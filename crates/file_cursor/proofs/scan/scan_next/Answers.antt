@@ -1,5 +1,4 @@
 -- `scan_next` meets its contract, by the scanner's result; where that needs input, the file ends.
-use borrow.Author.Rules.{rules}
 use Rattle.record_scanner.proofs.StoreLaws.{still_room}
 use Rattle.file_cursor.proofs.WholeFile.{at_record, at_fault, at_end, in_hand}
 use Rattle.file_cursor.proofs.scan.scan_next.Goals as goal
@@ -8,8 +7,7 @@ pub at_end-requires : goal.at_end-requires
 at_end-requires c =
     let a = c.args in
     let t = c.scan.ensures in
-    let h
-    = in_hand a.d a.file.now a.first a.from a.room a.base a.starts.now a.ends.now a.kinds.now
+    let h = in_hand a.d a.file.now a.first a.from a.room a.base a.starts.now a.ends.now a.kinds.now
     c.requires.from_in_bounds.0 _ _ _ _ (t.value, (t.starts_after, (t.ends_after, (t.kinds_after, t.scan_in_bounds)))) _ _ c.in-NeedInput.is in
     let q = c.requires.room_in_bounds in
     record {
@@ -25,8 +23,7 @@ pub returns-in-Completed : goal.returns-in-Completed
 returns-in-Completed c =
     let a = c.args in
     let t = c.scan.ensures in
-    let o
-    = at_record a.d a.file.now a.first a.from a.room a.base a.starts.now a.ends.now a.kinds.now
+    let o = at_record a.d a.file.now a.first a.from a.room a.base a.starts.now a.ends.now a.kinds.now
     c.requires.from_in_bounds.0 _ _ _ _ (t.value, (t.starts_after, (t.ends_after, (t.kinds_after, t.scan_in_bounds)))) _ _ _ _ c.in-Completed.is in
     record { value = o.event; starts_after = o.at_starts; ends_after = o.at_ends; kinds_after = o.at_kinds; event_in_bounds = o.bounds }
 
@@ -34,8 +31,7 @@ pub returns-in-Failed : goal.returns-in-Failed
 returns-in-Failed c =
     let a = c.args in
     let t = c.scan.ensures in
-    let o
-    = at_fault a.d a.file.now a.first a.from a.room a.base a.starts.now a.ends.now a.kinds.now
+    let o = at_fault a.d a.file.now a.first a.from a.room a.base a.starts.now a.ends.now a.kinds.now
     c.requires.from_in_bounds.0 _ _ _ _ (t.value, (t.starts_after, (t.ends_after, (t.kinds_after, t.scan_in_bounds)))) _ _ c.in-Failed.is in
     record { value = o.event; starts_after = o.at_starts; ends_after = o.at_ends; kinds_after = o.at_kinds; event_in_bounds = o.bounds }
 
@@ -44,8 +40,7 @@ returns-in-NeedInput c =
     let a = c.args in
     let t = c.scan.ensures in
     let e = c.at_end.ensures in
-    let o
-    = at_end a.d a.file.now a.first a.from a.room a.base a.starts.now a.ends.now a.kinds.now
+    let o = at_end a.d a.file.now a.first a.from a.room a.base a.starts.now a.ends.now a.kinds.now
     c.requires.from_in_bounds.0 _ _ _ _ (t.value, (t.starts_after, (t.ends_after, (t.kinds_after, t.scan_in_bounds)))) _ _ c.in-NeedInput.is _ _ _
     _ (e.value, (e.starts_after, (e.ends_after, e.kinds_after))) in
     record { value = o.event; starts_after = o.at_starts; ends_after = o.at_ends; kinds_after = o.at_kinds; event_in_bounds = o.bounds }

@@ -1,12 +1,8 @@
-use Prim.Native.Nat.{◌-◌, ◌≤◌, ◌+◌, ◌<◌}
+use Prim.Native.Nat.{◌≤◌}
 use native.Mathlib.Omega.{arith}
-use mathlib.Core.Path.{◌≡◌, refl, ◌∙◌}
-use lib.ListN.{length}
-use borrow.Author.Rules.{rules}
 use Rattle.model.specs.rules.Report.{MAXFILE}
-use Rattle.file_reader.proofs.PassInvariant.{Going, goes, now_held, held_lengths, few_here, fits_here, record_on, record_refused}
+use Rattle.file_reader.proofs.PassInvariant.{goes, now_held, held_lengths, few_here, fits_here, record_on, record_refused}
 use Rattle.file_reader.proofs.PassInvariant.{last_accepted, fault_refused, finish_accepted}
-
 use Rattle.file_reader.proofs.pass.data_records.Goals as goal
 
 pub loop-start-init : goal.loop-start-init

@@ -1,13 +1,7 @@
 -- The invariant: after the header and this number of data records, with the cells that the lists hold, reading is at i.
-use Prim.Native.Nat.{◌-◌, ◌≤◌, ◌+◌, ◌<◌}
-use native.Mathlib.Omega.{arith}
-use mathlib.Core.Path.{◌≡◌, refl, ◌∙◌}
+use Prim.Native.Nat.{◌-◌}
 use lib.ListN.{length}
-use borrow.Author.Rules.{rules}
-use Rattle.model.specs.rules.Report.{MAXFILE}
-use Rattle.file_reader.proofs.PassInvariant.{Going, goes, now_held, held_lengths, few_here, fits_here, record_on, record_refused}
-use Rattle.file_reader.proofs.PassInvariant.{last_accepted, fault_refused, finish_accepted}
-
+use Rattle.file_reader.proofs.PassInvariant.{Going}
 use Rattle.file_reader.proofs.pass.data_records.Given as goal
 
 abbrev pub invariant-loop-start : goal.invariant-loop-start

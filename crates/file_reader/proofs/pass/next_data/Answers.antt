@@ -1,9 +1,7 @@
 -- `next_data` meets its contract: the fast scan's record is the next one, and after a fallback the scanner's event is.
 use mathlib.Core.Path.{refl}
-use borrow.Author.Rules.{rules}
 use Rattle.file_cursor.proofs.FastRecords.{told_record, told_nothing}
 use Rattle.file_reader.proofs.NextData.{as_data}
-
 use Rattle.file_reader.proofs.pass.next_data.Goals as goal
 
 pub returns-in-Record : goal.returns-in-Record

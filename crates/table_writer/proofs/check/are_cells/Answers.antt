@@ -1,11 +1,6 @@
-use mathlib.Core.Path.{◌≡◌, refl, sym, ◌∙◌}
-use Prim.Native.Nat.{◌-◌, ◌≤◌}
+use mathlib.Core.Path.{refl, sym, ◌∙◌}
 use native.Mathlib.Omega.{arith}
-use lib.ListN.{length}
-use borrow.Author.Rules.{rules}
-use Rattle.model.specs.rules.Api.{table_cells}
-use Rattle.table_writer.specs.TableParts.{is_there}
-use Rattle.table_writer.proofs.Tables.{cells_from, cells_here, cells_next, cells_end}
+use Rattle.table_writer.proofs.Tables.{cells_here, cells_next, cells_end}
 use Rattle.table_writer.proofs.check.are_cells.Goals as goal
 
 pub loop-n-init : goal.loop-n-init

@@ -1,12 +1,10 @@
 -- The invariant: all cells are valid exactly when those from n on are.
-use mathlib.Core.Path.{◌≡◌, refl, sym, ◌∙◌}
+use mathlib.Core.Path.{◌≡◌}
 use Prim.Native.Nat.{◌-◌, ◌≤◌}
-use native.Mathlib.Omega.{arith}
 use lib.ListN.{length}
-use borrow.Author.Rules.{rules}
 use Rattle.model.specs.rules.Api.{table_cells}
 use Rattle.table_writer.specs.TableParts.{is_there}
-use Rattle.table_writer.proofs.Tables.{cells_from, cells_here, cells_next, cells_end}
+use Rattle.table_writer.proofs.Tables.{cells_from}
 use Rattle.table_writer.proofs.check.are_cells.Given as goal
 
 abbrev pub invariant-loop-n : goal.invariant-loop-n

@@ -1,6 +1,5 @@
 -- The kind is checked, then the span, then the bytes.
 use mathlib.Core.Path.{sym, ap, ◌∙◌}
-use borrow.Author.Rules.{rules}
 use Rattle.codes.specs.Named.{kind_in}
 use Rattle.table_writer.proofs.Tables.{cell_unknown, cell_known, cell_backward, cell_beyond}
 use Rattle.table_writer.proofs.check.is_cell.Goals as goal

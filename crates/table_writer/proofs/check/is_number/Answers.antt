@@ -2,7 +2,6 @@
 use mathlib.Core.Path.{◌≡◌, refl, sym, ap, ◌∙◌}
 use Prim.Native.Nat.{ℕ}
 use mathlib.Core.Bool.{false}
-use borrow.Author.Rules.{rules}
 use Rattle.model.specs.declared.CellCheck.{CellCheck}
 use Rattle.model.specs.declared.CellCheck.TheVariants.{WholeCell, Unsound}
 use Rattle.model.specs.declared.Dialect.TheVariants.{Csvj}

@@ -1,7 +1,6 @@
 -- A product is checked by its quotient.
 use mathlib.Core.Path.{sym}
 use native.Mathlib.Omega.{arith}
-use borrow.Author.Rules.{rules}
 use Rattle.table_writer.proofs.Products.{no_columns, not_whole, by_quotient}
 use Rattle.table_writer.proofs.check.is_product.Goals as goal
 

@@ -1,7 +1,6 @@
 -- Lists of one length, at least one record, as many cells as the records have, and each of them valid.
 use mathlib.Core.Path.{sym, ◌∙◌}
 use native.Mathlib.Omega.{arith}
-use borrow.Author.Rules.{rules}
 use Rattle.table_writer.proofs.Tables.{no_ends, no_kinds, no_record, no_product, by_cells}
 use Rattle.table_writer.proofs.check.is_table.Goals as goal
 

@@ -1,5 +1,4 @@
 -- `table_writer::check::is_value` meets its contract: each arm is the definition's.
-use borrow.Author.Rules.{rules}
 use Rattle.table_writer.proofs.check.is_value.Goals as goal
 
 pub returns-in-Text : goal.returns-in-Text

@@ -1,5 +1,4 @@
 -- `table_writer::content::after_advance` meets its contract: each arm is the definition's.
-use borrow.Author.Rules.{rules}
 use Rattle.table_writer.proofs.content.after_advance.Goals as goal
 
 pub returns-in-Whole : goal.returns-in-Whole

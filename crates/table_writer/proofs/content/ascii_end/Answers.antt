@@ -1,10 +1,3 @@
-use mathlib.Core.Bool.{false}
-use mathlib.Core.Option.{some}
-use Prim.Native.Nat.{◌-◌}
-use native.Mathlib.Omega.{arith}
-use lib.ListN.{length}
-use Rattle.model.specs.rules.Utf8.{gap}
-use Rattle.table_writer.specs.Content.{SameContentState}
 use Rattle.table_writer.proofs.Contents.{passes_none, passes_ascii}
 use Rattle.table_writer.proofs.content.ascii_end.Goals as goal
 

@@ -1,6 +1,5 @@
 -- The byte is a step of UTF-8.
 use mathlib.Core.Path.{ap, ◌∙◌}
-use borrow.Author.Rules.{rules}
 use Rattle.model.specs.rules.Utf8.{settle, wide_step}
 use Rattle.table_writer.proofs.content.in_character.Goals as goal
 

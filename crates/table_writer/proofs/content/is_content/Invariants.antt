@@ -1,13 +1,9 @@
 -- The invariant: the bytes are content exactly when the rest is, from the current state.
-use mathlib.Core.Path.{◌≡◌, sym, ap, ◌∙◌}
+use mathlib.Core.Path.{◌≡◌}
 use Prim.Native.Nat.{◌-◌, ◌≤◌}
-use native.Mathlib.Omega.{arith}
-use lib.ListN.{length, drop, drop_of_length-le}
-use borrow.Author.Rules.{rules}
-use Rattle.model.specs.rules.Base.{Bytes}
+use lib.ListN.{length, drop}
 use Rattle.model.specs.rules.Utf8.{is_content}
 use Rattle.table_writer.specs.Content.{wide_in, content_from}
-use Rattle.table_writer.proofs.Contents.{step_passes}
 use Rattle.table_writer.proofs.content.is_content.Given as goal
 
 abbrev pub invariant-loop-i : goal.invariant-loop-i

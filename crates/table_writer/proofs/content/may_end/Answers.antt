@@ -1,5 +1,4 @@
 -- `table_writer::content::may_end` meets its contract: content ends between characters only.
-use borrow.Author.Rules.{rules}
 use Rattle.model.specs.rules.Utf8.{wide_from}
 use Rattle.table_writer.proofs.content.may_end.Goals as goal
 

@@ -1,5 +1,4 @@
 -- A run of ASCII is passed over between characters, except directly after a high surrogate.
-use borrow.Author.Rules.{rules}
 use Rattle.table_writer.proofs.content.run_on.Goals as goal
 
 pub returns : goal.returns

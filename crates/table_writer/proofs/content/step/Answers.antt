@@ -1,5 +1,4 @@
 -- Each arm is the step from its state.
-use borrow.Author.Rules.{rules}
 use Rattle.table_writer.proofs.content.step.Goals as goal
 
 pub returns-in-Gap : goal.returns-in-Gap

@@ -1,7 +1,6 @@
 -- `table_writer::records::check_record` meets its contract: a header's own fault comes first.
 use mathlib.Core.Path.{sym, ◌∙◌}
 use mathlib.Core.List.{List}
-use borrow.Author.Rules.{rules}
 use Rattle.model.specs.rules.Text.{Value}
 use Rattle.model.proofs.Tests.{impossible}
 use Rattle.model.proofs.file_laws.CheckResults.{fault_sound}

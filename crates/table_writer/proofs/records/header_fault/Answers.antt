@@ -1,5 +1,4 @@
 -- `table_writer::records::header_fault` meets its contract: only a header has one.
-use borrow.Author.Rules.{rules}
 use Rattle.table_writer.proofs.records.header_fault.Goals as goal
 
 pub returns-then-not-header : goal.returns-then-not-header

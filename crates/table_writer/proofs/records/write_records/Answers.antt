@@ -1,6 +1,6 @@
 use mathlib.Core.Path.{◌≡◌, sym, ap, ◌∙◌}
 use mathlib.Core.List.{List, ◌++◌}
-use Prim.Native.Nat.{◌+◌, ◌-◌, ◌≤◌}
+use Prim.Native.Nat.{◌+◌, ◌≤◌}
 use native.Mathlib.Omega.{arith}
 use lib.ListN.{length}
 use lib.Dec.{eqb}
@@ -13,7 +13,7 @@ use Rattle.cell_decoder.specs.declared.source.Source.TheVariants.{Contents}
 use Rattle.cell_decoder.specs.Sources.{cells_in}
 use Rattle.cell_decoder.proofs.CellsIn.{cells_length}
 use Rattle.table_writer.proofs.Parts.{part_cells, part_stands}
-use Rattle.table_writer.proofs.Rows.{row_at, row_inside, WritingRows, writing_rows, row_room, row_written, rows_written, rows_long}
+use Rattle.table_writer.proofs.Rows.{row_at, row_inside, writing_rows, row_room, row_written, rows_written, rows_long}
 use Rattle.table_writer.proofs.records.write_records.Goals as goal
 
 pub loop-n-init : goal.loop-n-init
