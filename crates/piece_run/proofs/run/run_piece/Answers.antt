@@ -1,6 +1,6 @@
 -- `piece_run::run::run_piece` meets its contract: until the header is complete a step uses its arrays; the steps after it use the others,
 -- and do not change the names.
-use Prim.Native.Nat.{◌≤◌, ◌<◌}
+use Prim.Native.Nat.{◌<◌}
 use native.Mathlib.Omega.{arith}
 use mathlib.Core.Path.{◌≡◌, refl, sym, ap, subst, ◌∙◌}
 use borrow.Author.Rules.{rules}
