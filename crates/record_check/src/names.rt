@@ -114,7 +114,8 @@ fn is_among(
     false
 }
 
-// Whether the name of cell n of a file, which is raw, repeats an earlier one.
+// Whether the name of cell n of a file, which is raw, repeats an earlier one. It has a room, which names given as contents do not need.
+#[inline(never)]
 fn repeats_in_file(
     d: Dialect,
     rule: Dialect,

@@ -71,7 +71,9 @@ fn lacks_cells(t: Dialect, header: bool, cells: usize) -> bool
     }
 }
 
-// How long the record's text is, and the first cell that the target can't represent.
+// How long the record's text is, and the first cell that the target can't represent. Below it lies a room for a cell, which the search
+// for a repeated name does not need as well.
+#[inline(never)]
 fn measure(
     src: Source,
     t: Dialect,
