@@ -1,6 +1,7 @@
-// Whether two TDIF names are the same, with upper and lower case folded one code point at a time (§4.10). In: the contents of two names.
-// Out: whether their keys are equal. Definitions: `fold_name` of model's specs/rules/Names.antt, and byte by byte `fold_at` of its
-// specs/laws/Folding.antt: a folded name is as long as the name, and each of its bytes depends on three bytes of the name.
+// Whether two names are the same, with upper and lower case folded one code point at a time, as is meant for TDIF (§4.10); no call uses it
+// yet. In: the contents of two names. Out: whether their keys are equal. Definitions: `fold_name` of model's specs/rules/Names.antt, and
+// byte by byte `fold_at` of its specs/laws/Folding.antt: a folded name is as long as the name, and each of its bytes depends on three bytes
+// of the name.
 //
 // Names in ASCII are compared without the table. For others it is copied once for each comparison, not at each look-up, which would build
 // it on the stack again.

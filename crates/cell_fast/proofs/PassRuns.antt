@@ -39,13 +39,13 @@ pass_byte {passes} {s} {at} {i} {stop} x h k e =
 
 -- the word at i, and its flags
 module _ {passes : ℕ → Bool} {s : Bytes} {at i stop w flags : ℕ} (x : PassRun passes s at stop i) (h : i + 8 ≤ stop)
-    (is_Is_word : Word (slice s i (i + 8)) w) (told : Flags passes w flags) where
+    (is_word : Word (slice s i (i + 8)) w) (told : Flags passes w flags) where
   pub pass_word : flags ≡ 0 → PassRun passes s at stop (i + 8)
-  pass_word e = pass_join x (record { from = omega arith; upto = h; each = word_all is_Is_word told e })
+  pass_word e = pass_join x (record { from = omega arith; upto = h; each = word_all is_word told e })
 
   pub pass_flag : (n : ℕ) → ¬ (flags ≡ 0) → n ≡ zero_bytes (bytes_of 8 flags) → (n < 8) × PassRun passes s at stop (i + n)
   pass_flag n e z =
-      let ends = slice_stops s i is_Is_word told stop h e in
+      let ends = slice_stops s i is_word told stop h e in
       let same : n ≡ passing passes (slice s i stop) = z ∙ ends.0 in
       let less : passing passes (slice s i stop) < 8 = ends.1 in
       let small : n < 8 = omega arith in

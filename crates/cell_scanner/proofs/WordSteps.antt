@@ -9,11 +9,11 @@ use Rattle.swar.proofs.FlaggedPrefix.{slice_passes, slice_stops}
 use Rattle.cell_scanner.specs.Run.{leading}
 
 -- the word at i, and its flags
-module _ (s : Bytes) (i stop p q w flags : ℕ) (h : i + 8 ≤ stop) (is_Is_word : Word (slice s i (i + 8)) w) (told : Flags (ordinary p q) w flags) where
+module _ (s : Bytes) (i stop p q w flags : ℕ) (h : i + 8 ≤ stop) (is_word : Word (slice s i (i + 8)) w) (told : Flags (ordinary p q) w flags) where
   pub run_goes_on : flags ≡ 0 → leading p q (slice s i stop) ≡ 8 + leading p q (slice s (i + 8) stop)
   unfolding leading
-  run_goes_on e = slice_passes s i is_Is_word told stop h e
+  run_goes_on e = slice_passes s i is_word told stop h e
 
   pub run_ends : ¬ (flags ≡ 0) → (zero_bytes (bytes_of 8 flags) ≡ leading p q (slice s i stop)) × (leading p q (slice s i stop) < 8)
   unfolding leading
-  run_ends e = slice_stops s i is_Is_word told stop h e
+  run_ends e = slice_stops s i is_word told stop h e

@@ -72,13 +72,13 @@ module _ (p q r : ℕ) (s : Bytes) (i : ℕ) where
   run_ends h = rw (drop_of_length-le s h) (omega arith)
 
   -- the word at i, and its flags
-  module _ {w flags : ℕ} (is_Is_word : Word (slice s i (i + 8)) w) (told : Flags (is_plain p q r) w flags) where
+  module _ {w flags : ℕ} (is_word : Word (slice s i (i + 8)) w) (told : Flags (is_plain p q r) w flags) where
     -- no flag: the run passes the word
     pub word_on : flags ≡ 0 → i + plain_run p q r (drop i s) ≡ (i + 8) + plain_run p q r (drop (i + 8) s)
     unfolding plain_run
-    word_on e = let on = rest_passes s i is_Is_word told e in omega arith
+    word_on e = let on = rest_passes s i is_word told e in omega arith
 
     -- a flag: the run ends before it
     pub word_ends : ¬ (flags ≡ 0) → (zero_bytes (bytes_of 8 flags) ≡ plain_run p q r (drop i s)) × (plain_run p q r (drop i s) < 8)
     unfolding plain_run
-    word_ends e = rest_stops s i is_Is_word told e
+    word_ends e = rest_stops s i is_word told e

@@ -46,12 +46,12 @@ module _ (p : ℕ) where
 
     -- ---- a word, of whose bytes each other than p is flagged
 
-    module _ {w flags : ℕ} (is_Is_word : Word (slice bs i (i + 8)) w) (told : Flags (is_byte p) w flags) where
+    module _ {w flags : ℕ} (is_word : Word (slice bs i (i + 8)) w) (told : Flags (is_byte p) w flags) where
       word_next : drop i bs ≡ slice bs i (i + 8) ++ drop (i + 8) bs
       word_next = let m : i + 8 - i ≡ 8 = omega arith in sym (take-append-drop 8 (drop i bs)) ∙ rw (m, drop-drop)
 
       other_told : (bit_xor flags 0x8080808080808080 is 0) ≡ all_pass (λ b. not (is_byte p b)) (slice bs i (i + 8))
-      other_told = (flags_other told).exact ∙ rw is_Is_word.bytes
+      other_told = (flags_other told).exact ∙ rw is_word.bytes
 
       pub word_held : (bit_xor flags 0x8080808080808080 ≡ 0 → ⊥) → holds (is_byte p) (drop i bs) ≡ true
       word_held h = rw word_next (some_held (slice bs i (i + 8)) (drop (i + 8) bs) (sym other_told ∙ ne_eqb _ 0 h))

@@ -24,7 +24,7 @@ use Rattle.record_writer.proofs.Records.{stretches, record_quoted, record_plus, 
 
 pub clean_record : {d : Dialect} {s : Bytes} {starts ends : List ℕ} {header : Bool} → header ≡ false → CleanIn d s starts ends
     → CleanRecord s starts ends (File d) header
-clean_record no_Header clean = rw no_Header (clean_data clean)
+clean_record no_header clean = rw no_header (clean_data clean)
 
 module _ (t : Dialect) (s : Bytes) (starts ends kinds : List ℕ) where
   pub clean_spans : {src : Source} {header : Bool} → Cells src s starts ends kinds → CleanRecord s starts ends src header → Spans s starts ends

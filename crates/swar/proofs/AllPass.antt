@@ -27,4 +27,4 @@ module _ (passes : ℕ → Bool) where
   all_weaker other f (b ∷ bs) e = let k = and_true (passes b) (all_pass passes bs) e in rw (f b k.0, all_weaker other f bs k.1)
 
 pub word_all : {passes : ℕ → Bool} {bs : Bytes} {w flags : ℕ} → Word bs w → Flags passes w flags → flags ≡ 0 → all_pass passes bs ≡ true
-word_all {flags} is_Is_word told e = sym (told.exact ∙ rw is_Is_word.bytes) ∙ eq-eqb flags 0 e
+word_all {flags} is_word told e = sym (told.exact ∙ rw is_word.bytes) ∙ eq-eqb flags 0 e

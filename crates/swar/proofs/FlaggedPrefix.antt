@@ -64,16 +64,16 @@ module _ (passes : ℕ → Bool) where
         go false h ih = (refl, omega arith)
 
 -- a word, its flags, and the bytes after it
-module _ {passes : ℕ → Bool} {bs : Bytes} {w flags : ℕ} (is_Is_word : Word bs w) (told : Flags passes w flags) (cs : Bytes) where
+module _ {passes : ℕ → Bool} {bs : Bytes} {w flags : ℕ} (is_word : Word bs w) (told : Flags passes w flags) (cs : Bytes) where
   eight : length bs ≡ 8
   unfolding bytes_of
-  eight = ap length (sym is_Is_word.bytes)
+  eight = ap length (sym is_word.bytes)
 
   flags_of : flags ≡ word_of (map (flag_of passes) bs)
-  flags_of = told.bytewise ∙ rw is_Is_word.bytes
+  flags_of = told.bytewise ∙ rw is_word.bytes
 
   all_told : (flags is 0) ≡ all_pass passes bs
-  all_told = told.exact ∙ rw is_Is_word.bytes
+  all_told = told.exact ∙ rw is_word.bytes
 
   -- no flag: all eight pass
   pub word_passes : flags ≡ 0 → passing passes (bs ++ cs) ≡ 8 + passing passes cs
@@ -102,16 +102,16 @@ slice_word s i stop h =
 rest_word : (s : Bytes) (i : ℕ) → drop i s ≡ slice s i (i + 8) ++ drop (i + 8) s
 rest_word s i = let m : i + 8 - i ≡ 8 = omega arith in sym (take-append-drop 8 (drop i s)) ∙ rw (m, drop-drop)
 
-module _ {passes : ℕ → Bool} (s : Bytes) (i : ℕ) {w flags : ℕ} (is_Is_word : Word (slice s i (i + 8)) w) (told : Flags passes w flags) where
+module _ {passes : ℕ → Bool} (s : Bytes) (i : ℕ) {w flags : ℕ} (is_word : Word (slice s i (i + 8)) w) (told : Flags passes w flags) where
   pub slice_passes : (stop : ℕ) → i + 8 ≤ stop → flags ≡ 0 → passing passes (slice s i stop) ≡ 8 + passing passes (slice s (i + 8) stop)
-  slice_passes stop h e = rw (slice_word s i stop h) (word_passes is_Is_word told (slice s (i + 8) stop) e)
+  slice_passes stop h e = rw (slice_word s i stop h) (word_passes is_word told (slice s (i + 8) stop) e)
 
   pub slice_stops : (stop : ℕ) → i + 8 ≤ stop → ¬ (flags ≡ 0)
       → (zero_bytes (bytes_of 8 flags) ≡ passing passes (slice s i stop)) × (passing passes (slice s i stop) < 8)
-  slice_stops stop h e = rw (slice_word s i stop h) (word_stops is_Is_word told (slice s (i + 8) stop) e)
+  slice_stops stop h e = rw (slice_word s i stop h) (word_stops is_word told (slice s (i + 8) stop) e)
 
   pub rest_passes : flags ≡ 0 → passing passes (drop i s) ≡ 8 + passing passes (drop (i + 8) s)
-  rest_passes e = rw (rest_word s i) (word_passes is_Is_word told (drop (i + 8) s) e)
+  rest_passes e = rw (rest_word s i) (word_passes is_word told (drop (i + 8) s) e)
 
   pub rest_stops : ¬ (flags ≡ 0) → (zero_bytes (bytes_of 8 flags) ≡ passing passes (drop i s)) × (passing passes (drop i s) < 8)
-  rest_stops e = rw (rest_word s i) (word_stops is_Is_word told (drop (i + 8) s) e)
+  rest_stops e = rw (rest_word s i) (word_stops is_word told (drop (i + 8) s) e)

@@ -84,10 +84,10 @@ in_none s at = record { each = λ k h l. absurd (omega arith) }
 
 module _ {passes : ℕ → Bool} {s : Bytes} {from i w flags : ℕ} (x : AllIn passes s from i) (told : Flags passes w flags) (e : flags ≡ 0) where
   pub in_word : i + 8 ≤ length s → Word (slice s i (i + 8)) w → AllIn passes s from (i + 8)
-  in_word h is_Is_word =
+  in_word h is_word =
       record {
         each =
-            λ k l m. split_on (ltb k i) (λ t. x.each k l (ltb-true k i t)) λ t. part_all passes s i (i + 8) h (word_all is_Is_word told e) k (ltb-false k i t) m;
+            λ k l m. split_on (ltb k i) (λ t. x.each k l (ltb-true k i t)) λ t. part_all passes s i (i + 8) h (word_all is_word told e) k (ltb-false k i t) m;
       }
 
   -- and the last bytes
@@ -110,9 +110,9 @@ check_starts s {from} h = record { begins = omega arith; inside = h; each = in_n
 
 module _ {passes : ℕ → Bool} {s : Bytes} {from upto i w flags : ℕ} (x : CheckedTo passes s from upto i) (told : Flags passes w flags) where
   pub check_word : upto ≤ length s → i + 8 ≤ upto → Word (slice s i (i + 8)) w → flags ≡ 0 → CheckedTo passes s from upto (i + 8)
-  check_word l h is_Is_word e =
+  check_word l h is_word e =
       let b : from ≤ i = x.begins in
-      record { begins = omega arith; inside = h; each = in_word x.each told e (omega arith) is_Is_word }
+      record { begins = omega arith; inside = h; each = in_word x.each told e (omega arith) is_word }
 
   pub check_last : upto ≤ i + 8 → LastBytes s from upto w → (flags is 0) ≡ true → AllIn passes s from upto
   check_last h is_last e = in_last x.each told (eqb-true flags 0 e) h is_last
@@ -121,10 +121,10 @@ module _ {passes : ℕ → Bool} {s : Bytes} {from upto i w flags : ℕ} (x : Ch
 
 module _ (s : Bytes) (from upto w : ℕ) (o : from ≤ upto) (inside : upto ≤ length s) where
   pub last_eight : 8 ≤ upto - from → Word (slice s (upto - 8) (upto - 8 + 8)) w → LastBytes s from upto w
-  last_eight h is_Is_word =
+  last_eight h is_word =
       let n : upto - 8 + 8 ≡ upto = omega arith in
       record {
-        each = λ passes e k l m r. part_all passes s (upto - 8) (upto - 8 + 8) (omega arith) (rw is_Is_word.bytes at e) k (omega arith) (omega arith);
+        each = λ passes e k l m r. part_all passes s (upto - 8) (upto - 8 + 8) (omega arith) (rw is_word.bytes at e) k (omega arith) (omega arith);
       }
 
   pub last_fours : upto - from < 8 → 4 ≤ upto - from → bytes_of 8 w ≡ slice s from (from + 4) ++ slice s (upto - 4) (upto - 4 + 4) → LastBytes s from upto w

@@ -72,7 +72,7 @@ pub record Mistakes : Type 0 where
   pub lone_cr : (read 1 (ascii "\"a\"\r") ≡ report 4 1 0 4) × (read 1 (ascii "\r") ≡ report 4 1 0 1)
   -- header names are compared by content: the second is an a written as an escape (§18.2)
   pub raw_names : read 1 (ascii "\"a\",\"\\u0061\"\n") ≡ report 6 1 2 0
-  -- the borders of the capital letters, and what is no capital between them (§4.10)
+  -- the borders of the capital letters in the fold that no call uses yet, and what is no capital between them (§4.10)
   pub fold_borders :
       map fold_point
       (0x40 ∷ 0x41 ∷ 0x5A ∷ 0x5B ∷ 0xBF ∷ 0xC0 ∷ 0xD6 ∷ 0xD7 ∷ 0xD8 ∷ 0xDE ∷ 0xDF ∷ 0x390 ∷ 0x391 ∷ 0x3A1 ∷ 0x3A2 ∷ 0x3A3 ∷ 0x3A9 ∷ 0x3AA

@@ -1,5 +1,5 @@
--- Folding a name, as laws: one code point at a time, once for all, and byte for byte, as the code goes; and what a table of folded code
--- points has to be. They are proved in proofs/AllFolding.antt.
+-- Folding a name by Names.antt, which no call uses yet, as laws: one code point at a time, once for all, and byte for byte, as the code
+-- goes; and what a table of folded code points has to be. They are proved in proofs/AllFolding.antt.
 use Rattle.std.specs.Prelude.{ℕ, suc, ◌+◌, ◌<◌, ◌≤◌, ◌≡◌, Bool, true, ◌&&◌, List, [], ◌∷◌, map, length, get_or, T}
 use Rattle.model.specs.rules.Base.{choose◌then◌else◌, ◌is◌, Bytes}
 use Rattle.model.specs.rules.Utf8.{pack, packed, is_content}

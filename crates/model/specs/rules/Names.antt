@@ -1,4 +1,5 @@
--- Upper and lower case of names: what a code point is folded to, and a name folded one code point at a time.
+-- Upper and lower case of names: what a code point is folded to, and a name folded one code point at a time. It is the fold that is
+-- meant for TDIF (§4.10), where names are compared by `lower` of Records.antt so far: no call uses it yet.
 use Rattle.std.specs.Prelude.{ℕ, ◌+◌, ◌-◌, ◌*◌, Bool, ◌&&◌, [], ◌∷◌, ◌++◌, leb}
 use Rattle.model.specs.rules.Base.{choose◌then◌else◌, ◌is◌, within, Bytes}
 use Rattle.model.specs.rules.Utf8.{pack, is_later}
