@@ -4,7 +4,7 @@
 #
 # It looks only whether they are there, and not whether a source has changed since: ./test.sh calls it right after `rt ci`, which leaves them
 # so in a fresh checkout, and fuzz/run.sh after `make`. `rt lib` looks, and proves again what has changed, or what only `rt ci` has proved.
-# TOOLCHAIN stands for the kit's.
+# TOOLCHAIN is used in place of the kit's.
 set -euo pipefail
 name=${PWD##*/}
 file=${1:-out/lib$name.a}

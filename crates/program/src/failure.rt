@@ -1,4 +1,4 @@
-// What is said on standard error of a read or a write that the system refused.
+// A read or a write that the system refused, in words on standard error.
 use std::io;
 use std::io::{Cursor, Write};
 
@@ -10,8 +10,8 @@ fn words_of(text: &str) -> &str {
     }
 }
 
-// Says what failed, and why.
-pub fn tell(rt: &HostRuntime, what: &str, e: io::Error) {
+// Writes what failed, and why.
+pub fn report(rt: &HostRuntime, what: &str, e: io::Error) {
     let mut room = Cursor::new([0u8; 512]);
     let _ = write!(room, "{e}");
     let text = str::from_utf8(room.get_ref()).unwrap_or("");

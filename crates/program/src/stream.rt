@@ -27,7 +27,7 @@ fn say(rt: &HostRuntime, e: Report) {
 fn deliver(rt: &HostRuntime, answer: TextAnswer, out: &[u8]) -> bool {
     let n = written_length(answer.length, out);
     if let Err(e) = rt.stdout().write_all(&out[..n]) {
-        failure::tell(rt, "standard output could not be written in full", e);
+        failure::report(rt, "standard output could not be written in full", e);
         return false;
     }
     let e = answer.report;
@@ -54,7 +54,7 @@ fn step(
     let n = match rt.stdin().read(&mut input) {
         Ok(n) => n,
         Err(e) => {
-            failure::tell(rt, "standard input could not be read to its end", e);
+            failure::report(rt, "standard input could not be read to its end", e);
             return false;
         }
     };

@@ -48,11 +48,11 @@ pub fn verdicts(root: &Path, printed: &str) -> Result<Vec<Verdict>, String> {
         let labels = files.filter_map(|file| file.strip_suffix(".edit").map(str::to_string));
         edits.extend(labels.map(|label| format!("{name}/{label}")));
     }
-    let told: BTreeMap<&str, &str> = printed.lines().filter_map(line_of_edit).collect();
-    let printed_of = told.keys().map(|name| (*name).to_string());
+    let outcomes: BTreeMap<&str, &str> = printed.lines().filter_map(line_of_edit).collect();
+    let printed_of = outcomes.keys().map(|name| (*name).to_string());
     let names: BTreeSet<String> = edits.iter().cloned().chain(printed_of).collect();
     let verdict = |name: String| {
-        let refused = match told.get(name.as_str()) {
+        let refused = match outcomes.get(name.as_str()) {
             _ if !edits.contains(&name) => Err("something was printed of it, and there is no edit".to_string()),
             Some(outcome) => refused_by(outcome),
             None => Err("nothing was printed of it".to_string()),
@@ -110,7 +110,7 @@ pub fn refused_by(outcome: &str) -> Result<String, String> {
     }
 }
 
-/// The message after what stands in brackets before it.
+/// The message after the words in brackets.
 fn after_bracket(why: &str) -> &str {
     why.split_once("): ").map_or(why, |(_, message)| message)
 }
